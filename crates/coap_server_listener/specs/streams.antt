@@ -1,4 +1,6 @@
--- Runs of `serve_door`: progress, turns and recorded interests, silent connections, and the definition of a run.
+-- Runs of `serve_door`: histories, progress, turns and recorded interests, silent connections, and the definition of a
+-- run.
+pub mod Histories
 pub mod Turns
 pub mod RecordedInterests
 pub mod Sleepers

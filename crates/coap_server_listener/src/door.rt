@@ -1,10 +1,8 @@
 //! Runs a server over the connections that a listener (`Door`) accepts.
 
-ghost use Rattle.coap_server_listener.specs.Prelude.{AnswersMore, FollowsMore, IsMemoryOrTurns, IsRun, Resting, Silent};
-ghost use Rattle.coap_server_listener.specs.Prelude.{Unlimited};
-ghost use Rattle.coap_server_listener.specs.Prelude.{TellsMore, clock_and_door, plain_config, run_tells, trace_by};
-ghost use Rattle.coap_server_listener.specs.Prelude.{waited_behind};
-ghost use Rattle.std.specs.Prelude.{◌≡◌, false};
+ghost use Rattle.coap_server_listener.specs.Prelude.{environment, known_by, known_of_run, some_waits, IsMemoryOrTurns};
+ghost use Rattle.coap_server_listener.specs.Prelude.{IsRun, Resting, Silent, Unlimited, TellsMore, clock_and_door};
+ghost use Rattle.coap_server_listener.specs.Prelude.{plain_config, views_of, waited_behind};
 
 mod awake;
 mod next_wakeup;
@@ -88,10 +86,9 @@ pub fn serve_door<D: Door, C: Clock>(
     ensures fault { IsMemoryOrTurns result }
     // The run consists of whole turns, as the traces of the clock and of the listener record them. They are all allowed
     // turns, or those before an allocation failed. No application responds.
-    ensures run { IsRun Silent Resting Unlimited D.Wire.readable D.Wire.writable
-        (trace_by D.Wire.given D.Wire.written D.Wire.answers D.Wire.rooms) (plain_config config)
-        (clock_and_door (TellsMore (C.moments clock.old) (C.moments clock.new))
-        (TellsMore (D.calls door.old) (D.calls door.new))) result }
+    ensures run { IsRun (environment Silent Resting (some_waits Unlimited) (views_of D.Wire.readable D.Wire.writable D.Wire.given
+        D.Wire.written D.Wire.answers D.Wire.rooms)) (plain_config config) (clock_and_door (TellsMore
+        (C.moments clock.old) (C.moments clock.new)) (TellsMore (D.calls door.old) (D.calls door.new))) result }
 {
     let config = ServiceConfig::new(config);
     run(
@@ -123,12 +120,11 @@ pub fn serve_door_with<D: Door, C: Clock, U: Clock, A: Application, M: Monitor<D
     ensures fault { IsMemoryOrTurns result }
     // The monitor received exactly the events of the run. The application had exactly its exchanges: the requests that
     // the server handed over, in order, and the responses that it gave.
-    ensures run { IsRun A.follows A.idle A.waits D.Wire.readable D.Wire.writable
-        (trace_by D.Wire.given D.Wire.written D.Wire.answers D.Wire.rooms) config
-        (run_tells (TellsMore (C.moments clocks.old.time) (C.moments clocks.new.time))
-        (TellsMore (U.moments clocks.old.uptime) (U.moments clocks.new.uptime))
-        (TellsMore (D.calls door.old) (D.calls door.new)) (FollowsMore (M.follows monitor.old) (M.follows monitor.new))
-        (AnswersMore (A.follows application.old) (A.follows application.new))) result }
+    ensures run { IsRun (environment A.follows A.idle (some_waits A.waits) (views_of D.Wire.readable D.Wire.writable
+        D.Wire.given D.Wire.written D.Wire.answers D.Wire.rooms)) config (known_of_run (TellsMore
+        (C.moments clocks.old.time) (C.moments clocks.new.time)) (TellsMore (U.moments clocks.old.uptime)
+        (U.moments clocks.new.uptime)) (TellsMore (D.calls door.old) (D.calls door.new)) (known_by M.follows A.follows
+        monitor.old monitor.new application.old application.new)) result }
 {
     run(
         alloc,
@@ -152,12 +148,11 @@ fn run<D: Door, C: Clock, U: Clock, A: Application, M: Monitor<D::Wire>>(
     monitor: &mut M,
 ) -> Result<(), IoFault>
     ensures fault { IsMemoryOrTurns result }
-    ensures run { IsRun A.follows A.idle A.waits D.Wire.readable D.Wire.writable
-        (trace_by D.Wire.given D.Wire.written D.Wire.answers D.Wire.rooms) config
-        (run_tells (TellsMore (C.moments clock.old) (C.moments clock.new))
+    ensures run { IsRun (environment A.follows A.idle (some_waits A.waits)
+        (views_of D.Wire.readable D.Wire.writable D.Wire.given D.Wire.written D.Wire.answers D.Wire.rooms)) config
+        (known_of_run (TellsMore (C.moments clock.old) (C.moments clock.new))
         (TellsMore (U.moments uptime.old) (U.moments uptime.new)) (TellsMore (D.calls door.old) (D.calls door.new))
-        (FollowsMore (M.follows monitor.old) (M.follows monitor.new))
-        (AnswersMore (A.follows application.old) (A.follows application.new))) result }
+        (known_by M.follows A.follows monitor.old monitor.new application.old application.new)) result }
 {
     let turns = config.config.turns();
     let Ok(mut service) = Service::new(alloc, config) else {

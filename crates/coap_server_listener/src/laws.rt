@@ -1,13 +1,12 @@
 //! Theorems on an event loop that skips idle connections, and on the calls of a run. Each is the contract of a function
 //! with an empty body.
 
-ghost use Rattle.std.specs.Prelude.{◌≡◌, ℕ, Bool, ◌+◌, ◌≤◌, List, All, false};
-ghost use Rattle.coap_server_listener.specs.Prelude.{AcceptedCall, ConfigValues, ServerValue, AreSettled, LiesAt};
-ghost use Rattle.coap_server_listener.specs.Prelude.{server_opened, server_ticked, server_dropped, IsNoOp};
-ghost use Rattle.coap_server_listener.specs.Prelude.{IsServedOnce, can_go_on};
-ghost use Rattle.coap_server_listener.specs.Prelude.{is_over_in, wants_of, IsNoEarlier, KeepsNotes, WhilePassedOver};
-ghost use Rattle.coap_server_listener.specs.Prelude.{AreRunSteps, Exchange, IsRunCall};
-ghost use Rattle.coap_server_listener.specs.Prelude.{WireTrace, PeerOutcome, ChangeStamp, outlook_of, stamp_of};
+ghost use Rattle.std.specs.Prelude.{ℕ, ◌≡◌, ◌+◌, ◌≤◌, List, All, false};
+ghost use Rattle.coap_server_listener.specs.Prelude.{AreSteps, History, IsRunStep, Readiness, VisitState, AcceptedCall};
+ghost use Rattle.coap_server_listener.specs.Prelude.{ServerValue, AreSettled, LiesAt, server_opened, server_ticked};
+ghost use Rattle.coap_server_listener.specs.Prelude.{server_dropped, IsNoOp, IsServedOnce, can_go_on, is_over_in};
+ghost use Rattle.coap_server_listener.specs.Prelude.{wants_of, IsNoEarlier, KeepsNotes, WhilePassedOver, IsRunCall};
+ghost use Rattle.coap_server_listener.specs.Prelude.{PeerOutcome, ChangeStamp, outlook_of, stamp_of};
 
 /// States that an idle connection may be skipped.
 ///
@@ -17,9 +16,9 @@ ghost use Rattle.coap_server_listener.specs.Prelude.{WireTrace, PeerOutcome, Cha
 /// its wire unchanged, and the connection stays open. The only call is a take that accepts none of the bytes left, if
 /// there are some.
 pub fn idle_connections_may_be_skipped()
-    ensures { (v : ServerValue) (id i : ℕ) (rest : List ℕ) (may_read may_write : Bool) → LiesAt id i v.sessions →
-        AreSettled v.host v.sessions → can_go_on (wants_of v id rest) may_read may_write ≡ false →
-        is_over_in (outlook_of v id) ≡ false → IsNoOp may_read may_write v id rest }
+    ensures { (v : ServerValue) (id i : ℕ) (rest : List ℕ) (ready : Readiness) → LiesAt id i v.sessions → AreSettled
+        v.host v.sessions → can_go_on (wants_of v id rest) ready ≡ false → is_over_in (outlook_of v id) ≡ false → IsNoOp
+        ready v id rest }
 {}
 
 /// States that a stamp never repeats after it has changed.
@@ -33,10 +32,9 @@ pub fn stamps_do_not_repeat()
     ensures same { (one other : ChangeStamp) → IsNoEarlier one other → IsNoEarlier other one → one ≡ other }
     ensures back { (one other third : ChangeStamp) → IsNoEarlier one other → IsNoEarlier other third → third ≡ one →
         other ≡ one }
-    ensures served { (v after : ServerValue) (id : ℕ) (rest left : List ℕ) (wire wire_after : WireTrace)
-        (may_read may_write : Bool) (course : PeerOutcome) (events : List AcceptedCall) →
-        IsServedOnce may_read may_write v id rest wire after left wire_after course events →
-        IsNoEarlier (stamp_of v.host) (stamp_of after.host) }
+    ensures served { (ready : Readiness) (id : ℕ) (before after : VisitState) (outcome : PeerOutcome)
+        (events : List AcceptedCall) → IsServedOnce ready id before after outcome events → IsNoEarlier
+        (stamp_of before.server.host) (stamp_of after.server.host) }
     ensures dropped { (v : ServerValue) (id : ℕ) → stamp_of (server_dropped v id).host ≡ stamp_of v.host }
     ensures opened { (v : ServerValue) → stamp_of (server_opened v).host ≡ stamp_of v.host }
     ensures ticked { (v : ServerValue) (later : ℕ) → v.host.now ≤ later →
@@ -50,10 +48,9 @@ pub fn stamps_do_not_repeat()
 /// is the same, the whole server is unchanged. The interest is also the same after any sequence of these. An idle
 /// connection may therefore be skipped without a look at the server: to serve it would have no effect.
 pub fn recorded_interests_stay_valid()
-    ensures served { (v after : ServerValue) (id : ℕ) (rest left : List ℕ) (wire wire_after : WireTrace)
-        (may_read may_write : Bool) (course : PeerOutcome) (events : List AcceptedCall) →
-        AreSettled v.host v.sessions → IsServedOnce may_read may_write v id rest wire after left wire_after course events →
-        KeepsNotes id v after }
+    ensures served { (ready : Readiness) (id : ℕ) (before after : VisitState) (outcome : PeerOutcome)
+        (events : List AcceptedCall) → AreSettled before.server.host before.server.sessions → IsServedOnce ready id
+        before after outcome events → KeepsNotes id before.server after.server }
     ensures dropped { (v : ServerValue) (id : ℕ) → AreSettled v.host v.sessions →
         KeepsNotes id v (server_dropped v id) }
     ensures opened { (v : ServerValue) → AreSettled v.host v.sessions → KeepsNotes (v.ids + 1) v (server_opened v) }
@@ -62,15 +59,14 @@ pub fn recorded_interests_stay_valid()
     ensures throughout { (v after : ServerValue) (id : ℕ) (rest : List ℕ) → AreSettled v.host v.sessions →
         WhilePassedOver id v after → stamp_of after.host ≡ stamp_of v.host →
         wants_of after id rest ≡ wants_of v id rest }
-    ensures passed_over { (v after : ServerValue) (id i : ℕ) (rest : List ℕ) (may_read may_write : Bool) →
-        AreSettled v.host v.sessions → WhilePassedOver id v after → stamp_of after.host ≡ stamp_of v.host →
-        LiesAt id i after.sessions → can_go_on (wants_of v id rest) may_read may_write ≡ false →
-        is_over_in (outlook_of v id) ≡ false → IsNoOp may_read may_write after id rest }
+    ensures passed_over { (v after : ServerValue) (id i : ℕ) (rest : List ℕ) (ready : Readiness) → AreSettled v.host
+        v.sessions → WhilePassedOver id v after → stamp_of after.host ≡ stamp_of v.host → LiesAt id i after.sessions →
+        can_go_on (wants_of v id rest) ready ≡ false → is_over_in (outlook_of v id) ≡ false → IsNoOp ready after id
+        rest }
 {}
 
 /// States that a run stores and removes no resource for the embedding program, and announces no message size. So a script
 /// makes each call of a run again, from its line in a record alone.
 pub fn a_run_announces_no_size()
-    ensures { (v after : ServerValue) (events : List AcceptedCall) (exchanges : List Exchange) →
-        AreRunSteps v after events exchanges → All IsRunCall events }
+    ensures { (v after : ServerValue) (h : History) → AreSteps IsRunStep v after h → All IsRunCall h.events }
 {}

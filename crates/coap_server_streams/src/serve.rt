@@ -1,13 +1,13 @@
 //! Serves one connection over one input and one output.
 
 ghost use Rattle.std.specs.Prelude.{◌≡◌, ◌+◌, ◌<◌, ◌≤◌, ◌^◌, ℕ, false, List, [], ◌++◌, length, Option, Some, IfOk};
-ghost use Rattle.coap_server_streams.specs.Prelude.{AllByRecursion, end_reason, AreInRange, ConfigValues, session_of};
-ghost use Rattle.coap_server_streams.specs.Prelude.{stop_on, count_of, is_cut, HasGiven, AddsBytes, only_id, stream_of};
+ghost use Rattle.std.specs.Prelude.{OnOk};
+ghost use Rattle.coap_server_streams.specs.Prelude.{AllByRecursion, end_reason, ConfigValues};
+ghost use Rattle.coap_server_streams.specs.Prelude.{count_of, is_cut, HasGiven, AddsBytes, stream_of};
 ghost use Rattle.coap_server_streams.specs.Prelude.{stdio_output, IsRunningAt, IsTurn, IsStdioRun, is_read_fault};
-ghost use Rattle.coap_server_streams.specs.Prelude.{is_write_fault, AcceptedCall, FollowsMore, IsReportedRun};
+ghost use Rattle.coap_server_streams.specs.Prelude.{is_write_fault, FollowsMore, IsReportedRun};
 ghost use Rattle.coap_server_streams.specs.Prelude.{HasReportedEnd};
 ghost use Rattle.coap_server_streams.specs.streams.StdioProgress.{IsServed};
-ghost use Rattle.std.specs.Prelude.{OnOk};
 
 use crate::output::{flush_at, greet, stop_in};
 use coap_conn::Reason;

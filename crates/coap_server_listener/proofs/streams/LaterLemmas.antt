@@ -3,8 +3,7 @@ use Rattle.std.proofs.Common.{◌≡◌, ℕ, ◌+◌, ◌≤◌, ◌==◌, Bool
 use Rattle.std.proofs.lemmas.List.{append-nil}
 use Rattle.std.proofs.lemmas.List.Elements.{All-from_recursion, recursion_from_All}
 use Rattle.coap_server_listener.specs.Prelude.{All, AcceptedCall, AreAskedLater, AreRecorded, AreSettled, Following, FollowsMore, Answering, AnswersMore, IsAskedLater, IsNoted, Peer, ServerValue, ShowsMore, recorded, recorded_on, unrecorded}
-use Rattle.coap_server_engine.specs.values.Exchanges.{Exchange}
-use Rattle.coap_server_engine.specs.values.ApplicationCalls.{AreGivenLater, NothingGiven, OneMoreGiven}
+use Rattle.coap_server_engine.specs.Prelude.{Exchange, AreGivenLater, NothingGiven, OneMoreGiven}
 use Rattle.coap_server_engine.proofs.scripting.ShownLemmas.{shows_same, shows_then}
 use Rattle.coap_server_engine.proofs.scripting.FollowLemmas.{followed_none, followed_then}
 use Rattle.coap_server_listener.proofs.streams.NoteLemmas.{offers_sparing, stays_noted}
@@ -20,18 +19,18 @@ pub record HasGivenLater (v : ServerValue) (number : ℕ) (after : ServerValue) 
   pub tells : monitor events
   pub exchanged : asks exchanges
 
-pub none_given : (a : Following) (p : Answering) (v : ServerValue) → HasGivenLater v 0 v (FollowsMore a a) (AnswersMore p p)
-none_given a p v = record { events = []; exchanges = []; given = NothingGiven; shows = shows_same v v refl; tells = followed_none a; exchanged = answered_none p }
+pub none_given : (a : Following) (p : Answering) {v : ServerValue} → HasGivenLater v 0 v (FollowsMore a a) (AnswersMore p p)
+none_given a p {v = v} = record { events = []; exchanges = []; given = NothingGiven; shows = shows_same v v refl; tells = followed_none a; exchanged = answered_none p }
 
 -- The application was not asked.
-pub not_asked : (a : Following) (p : Answering) (v : ServerValue) → AreAskedLater v 256 false v (FollowsMore a a) (AnswersMore p p)
-not_asked a p v = record { number = 0; events = []; exchanges = []; given = NothingGiven; within = omega arith; over = refl; shows = shows_same v v refl; tells = followed_none a; exchanged = answered_none p }
+pub not_asked : (a : Following) (p : Answering) {v : ServerValue} → AreAskedLater v 256 false v (FollowsMore a a) (AnswersMore p p)
+not_asked a p {v = v} = record { number = 0; events = []; exchanges = []; given = NothingGiven; within = omega arith; over = refl; shows = shows_same v v refl; tells = followed_none a; exchanged = answered_none p }
 
 -- One more response was given.
-pub one_more_given : (a b c : Following) (p q r : Answering) (v u w : ServerValue) (n : ℕ) (id : Option ℕ) (is_one : Bool) → HasGivenLater v n u (FollowsMore a b) (AnswersMore p q) → is_one ≡ is_some id → IsAskedLater u id w (FollowsMore b c) (AnswersMore q r) → is_one ≡ true
+pub one_more_given : (a b c : Following) (p q r : Answering) {v u w : ServerValue} {n : ℕ} (id : Option ℕ) {is_one : Bool} → HasGivenLater v n u (FollowsMore a b) (AnswersMore p q) → is_one ≡ is_some id → IsAskedLater u id w (FollowsMore b c) (AnswersMore q r) → is_one ≡ true
     → HasGivenLater v (n + 1) w (FollowsMore a c) (AnswersMore p r)
-one_more_given a b c p q r v u w n None is_one so_far is asked one = absurd (cc (is, one))
-one_more_given a b c p q r v u w n (Some id) is_one so_far is asked one = record {
+one_more_given a b c p q r None so_far is asked one = absurd (cc (is, one))
+one_more_given a b c p q r {v = v} {u = u} {w = w} {n = n} (Some id) so_far is asked one = record {
   events = so_far.events ++ _;
   exchanges = so_far.exchanges ++ _;
   given = rw (add-one n, asked.server) (OneMoreGiven n u so_far.events so_far.exchanges id asked.bytes asked.outcome so_far.given asked.refused asked.reply);
@@ -41,10 +40,10 @@ one_more_given a b c p q r v u w n (Some id) is_one so_far is asked one = record
 }
 
 -- The application had no more.
-pub no_more_given : (a b c : Following) (p q r : Answering) (v u w : ServerValue) (n most : ℕ) (id : Option ℕ) (is_one : Bool) → HasGivenLater v n u (FollowsMore a b) (AnswersMore p q) → is_one ≡ is_some id → IsAskedLater u id w (FollowsMore b c) (AnswersMore q r) → is_one ≡ false
+pub no_more_given : (a b c : Following) (p q r : Answering) {v u w : ServerValue} {n most : ℕ} (id : Option ℕ) {is_one : Bool} → HasGivenLater v n u (FollowsMore a b) (AnswersMore p q) → is_one ≡ is_some id → IsAskedLater u id w (FollowsMore b c) (AnswersMore q r) → is_one ≡ false
     → n ≤ most → AreAskedLater v most (n == most) w (FollowsMore a c) (AnswersMore p r)
-no_more_given a b c p q r v u w n most (Some id) is_one so_far is asked none within = absurd (cc (is, none))
-no_more_given a b c p q r v u w n most None is_one so_far is asked none within = record {
+no_more_given a b c p q r (Some id) so_far is asked none within = absurd (cc (is, none))
+no_more_given a b c p q r {v = v} {u = u} {w = w} {n = n} None so_far is asked none within = record {
   number = n;
   events = so_far.events ++ [];
   exchanges = so_far.exchanges ++ [];
@@ -67,12 +66,12 @@ recorded_aside v id (e ∷ es) =
       | false ↦ ap (λ xs. unrecorded e ∷ xs) (recorded_aside v id es)
     ]
 
-pub recorded_once : {W : Type 0} (v : ServerValue) (id : ℕ) (es now : List (ℕ × Peer W)) → now ≡ recorded_on v id es → AreRecorded es now
-recorded_once v id es now is = rw is (recorded_aside v id es)
+pub recorded_once : {W : Type 0} (v : ServerValue) (id : ℕ) (es : List (ℕ × Peer W)) {now : List (ℕ × Peer W)} → now ≡ recorded_on v id es → AreRecorded es now
+recorded_once v id es is = rw is (recorded_aside v id es)
 
 -- The interest of the connection with a later response was recorded anew, and all others stay correct.
-pub noted_where_given : {W : Type 0} (monitor : List AcceptedCall → Type 0) (asks : List Exchange → Type 0) (v after : ServerValue) (id : ℕ) (es now : List (ℕ × Peer W)) → AreSettled v.host v.sessions → IsAskedLater v (Some id) after monitor asks → now ≡ recorded_on after id es
+pub noted_where_given : {W : Type 0} (monitor : List AcceptedCall → Type 0) (asks : List Exchange → Type 0) (v after : ServerValue) (id : ℕ) (es : List (ℕ × Peer W)) {now : List (ℕ × Peer W)} → AreSettled v.host v.sessions → IsAskedLater v (Some id) after monitor asks → now ≡ recorded_on after id es
     → All (IsNoted v) es → All (IsNoted after) now
-noted_where_given monitor asks v after id es now settled asked is noted =
+noted_where_given monitor asks v after id es settled asked is noted =
     rw is (All-from_recursion (IsNoted after) (recorded_on after id es)
-    (all_noted_on (recorded after) v after id (stays_noted (offers_sparing v after id asked.bytes asked.server) settled) (recorded_noted after) es (recursion_from_All (IsNoted v) es noted)))
+    (all_noted_on (recorded after) v after id (stays_noted (offers_sparing v id asked.bytes asked.server) settled) (recorded_noted after) es (recursion_from_All (IsNoted v) es noted)))

@@ -1,31 +1,16 @@
 -- Recorded interests of connections stay correct while the stamp is the same, and a stamp that has changed never
 -- repeats.
-use Rattle.std.proofs.Common.{◌≡◌, ◌≢◌, ℕ, zero, suc, ◌+◌, ◌≤◌, Bool, true, false, List, [], ◌∷◌, ◌++◌, length, map, filter, drop, Option, Some, None, refl, sym, ap, ◌∙◌, arith, ◌==◌, ◌||◌, option_map, if◌then◌else◌, Result, Ok, Err, nat_eq, is_ok, slice_get, remove, IfOk, OnOk, OnErr, is_none}
+use Rattle.std.proofs.Common.{ℕ, ◌≡◌, ◌≢◌, zero, suc, ◌+◌, ◌≤◌, Bool, true, false, List, [], ◌∷◌, ◌++◌, length, map, filter, drop, Option, Some, None, refl, sym, ap, ◌∙◌, arith, ◌==◌, ◌||◌, option_map, if◌then◌else◌, Result, Ok, Err, nat_eq, is_ok, slice_get, remove, IfOk, OnOk, OnErr, is_none}
 use Rattle.std.proofs.lemmas.Bool.{eq-eqb, eqb-true, eqb-false}
 use Rattle.std.proofs.lemmas.Bool.Decides.{nat_tests}
 use Rattle.std.proofs.lemmas.Cmp.{nat_eq_equiv}
 use Rattle.std.proofs.lemmas.Map.{NonePasses, lookup-none}
 use Rattle.std.proofs.lemmas.Map.Entries.{none_past_head, lookup_from_place}
-use Rattle.coap_server_listener.specs.Prelude.{Path, Resource, removed_at, Change, Nothing, Put, Delete, ServerState, ChangeStamp, ConnectionWork}
-use Rattle.coap_server_listener.specs.Prelude.{PeerOutcome, PeerInterest, Got, Bytes, End, SessionValue, taking, host_changed}
-use Rattle.coap_server_listener.specs.Prelude.{session_written, session_ended, session_released, session_settled, ServerValue}
-use Rattle.coap_server_listener.specs.Prelude.{LiesAt, server_released}
-use Rattle.coap_server_listener.specs.Prelude.{AreSettled, session_of, session_becomes, settled_entry, server_settled}
-use Rattle.coap_server_listener.specs.Prelude.{server_opened, server_ticked, server_taken, server_taken_on, server_dropped}
-use Rattle.coap_server_listener.specs.Prelude.{is_there, stamp_of, outlook_of, InResult, fed_turns, in_result, fed_more, IsServedOnce, IsTakenAlone, Exchange, AcceptedCall}
-use Rattle.coap_server_listener.specs.Prelude.{IsCarriedOn, IsNoOp, server_heard, server_wrote, has_failed, is_over_in}
-use Rattle.coap_server_listener.specs.Prelude.{wants_in, wants_of, can_go_on, end_of, IsNoEarlier, PeerStatus, CanAnyGoOn}
-use Rattle.coap_server_listener.specs.Prelude.{NextWakeup, IsAgendaOf, IsWaitAfter, agenda_with, wait_of, wait_for, least_with}
-use Rattle.coap_server_listener.specs.Prelude.{WireTrace}
-use Rattle.coap_server_listener.specs.streams.Turns.{wait_until}
-use Rattle.coap_server_listener.specs.Prelude.{KeepsNotes, WhilePassedOver, AtFirst, Served, Follows, GoesOnSparing, But, IsNoted, AreNoted, true_end}
-use Rattle.coap_server_listener.specs.Prelude.{AllByRecursion, IsDistinct, keys_of, set_value_at, insert_entry, Peer, IoFault}
-use Rattle.coap_server_listener.specs.Prelude.{No}
+use Rattle.coap_server_listener.specs.Prelude.{Path, Resource, removed_at, Change, Nothing, Put, Delete, ServerState, ChangeStamp, ConnectionWork, PeerOutcome, PeerInterest, Got, Bytes, End, SessionValue, taking, host_changed, session_written, session_ended, session_released, session_settled, ServerValue, LiesAt, server_released, AreSettled, session_of, session_becomes, settled_entry, server_settled, server_opened, server_ticked, server_taken, server_taken_on, server_dropped, is_there, stamp_of, outlook_of, InResult, fed_turns, in_result, fed_more, IsServedOnce, IsTakenAlone, Exchange, AcceptedCall, IsCarriedOn, IsNoOp, server_heard, server_wrote, has_failed, is_over_in, wants_in, wants_of, can_go_on, end_of, IsNoEarlier, PeerStatus, CanAnyGoOn, NextWakeup, IsAgendaOf, IsWaitAfter, agenda_with, wait_of, wait_for, least_with, KeepsNotes, WhilePassedOver, AtFirst, Served, Follows, GoesOnSparing, But, IsNoted, AreNoted, true_end, AllByRecursion, IsDistinct, keys_of, set_value_at, insert_entry, Peer, IoFault, No}
+use Rattle.coap_server_listener.specs.streams.Turns.{IsTakenAndWritten, Readiness, VisitResult, VisitState, visit_state, wait_until}
 use Rattle.coap_wire.specs.Reading.{message_of}
 use Rattle.coap_server_engine.specs.values.InResults.{goes_on}
-use Rattle.coap_server_engine.specs.values.Servers.{server_given, session_given_by}
-use Rattle.coap_server_engine.specs.values.ServerAnswers.{responded_refusal}
-use Rattle.coap_server_engine.specs.values.HandedRequests.{handed_by}
+use Rattle.coap_server_engine.specs.Prelude.{server_given, session_given_by, responded_refusal, handed_by}
 use Rattle.coap_server_engine.specs.values.ApplicationCalls.{server_offered, asked_by, asking, message_limit, response_for, served, IsServed as IsServedWith}
 use Rattle.coap_server_listener.specs.streams.RecordedInterests.{Dropped, Opened, Ticked}
 use Rattle.coap_server_listener.proofs.streams.PassedLemmas.{passed_over}
@@ -39,20 +24,20 @@ use Rattle.coap_server_listener.proofs.streams.AgendaLemmas.{stamp_in, an_answer
 pub no_earlier_itself : (one : ChangeStamp) → IsNoEarlier one one
 no_earlier_itself one = omega arith
 
-pub no_earlier_on : (one other third : ChangeStamp) → IsNoEarlier one other → IsNoEarlier other third → IsNoEarlier one third
-no_earlier_on one other third first later = omega arith
+pub no_earlier_on : {one other third : ChangeStamp} → IsNoEarlier one other → IsNoEarlier other third → IsNoEarlier one third
+no_earlier_on first later = omega arith
 
-pub no_earlier_either_way : (one other : ChangeStamp) → IsNoEarlier one other → IsNoEarlier other one → one ≡ other
-no_earlier_either_way one other on back = grind arith
+pub no_earlier_either_way : {one other : ChangeStamp} → IsNoEarlier one other → IsNoEarlier other one → one ≡ other
+no_earlier_either_way on back = grind arith
 
 -- A stamp never repeats after it has changed.
-pub never_back : (one other third : ChangeStamp) → IsNoEarlier one other → IsNoEarlier other third → third ≡ one → other ≡ one
-never_back one other third first later back = no_earlier_either_way other one (rw back at later) first
+pub never_back : (one other : ChangeStamp) {third : ChangeStamp} → IsNoEarlier one other → IsNoEarlier other third → third ≡ one → other ≡ one
+never_back one other first later back = no_earlier_either_way (rw back at later) first
 
 -- ---- the host
 
-follows_itself : (host : ServerState) → Follows host host
-follows_itself host = record { no_earlier = omega arith; same = λ e. refl }
+follows_itself : {host : ServerState} → Follows host host
+follows_itself = record { no_earlier = omega arith; same = λ e. refl }
 
 pub moment_follows : (host : ServerState) (later : ℕ) → host.now ≤ later → Follows host (record host { now = later })
 moment_follows host later on = record { no_earlier = omega arith; same = λ e. ap (λ (s : ChangeStamp). record host { now = s.moment }) e }
@@ -64,10 +49,10 @@ none_removed [] path as_many = refl
 none_removed (r ∷ rs) path as_many = grind (arith, none_removed rs path)
 
 -- A change of the store either makes the stamp later or changes nothing.
-pub change_follows : (host : ServerState) (c : Change) → Follows host (host_changed host c)
-change_follows host Nothing = follows_itself host
-change_follows host (Put path format bytes) = record { no_earlier = omega arith; same = λ e. absurd (omega (arith, ap (λ (s : ChangeStamp). s.versions) e)) }
-change_follows host (Delete path) = record {
+pub change_follows : {host : ServerState} (c : Change) → Follows host (host_changed host c)
+change_follows {host = host} Nothing = follows_itself
+change_follows (Put path format bytes) = record { no_earlier = omega arith; same = λ e. absurd (omega (arith, ap (λ (s : ChangeStamp). s.versions) e)) }
+change_follows {host = host} (Delete path) = record {
   no_earlier = omega (arith, removed_few host.store.resources path);
   same = λ e. rw (none_removed host.store.resources path (ap (λ (s : ChangeStamp). s.resources) e)) refl;
 }
@@ -97,15 +82,15 @@ each_settles other host (e ∷ es) = grind (arith, each_settles other host es)
 -- ---- a server after some events
 
 nothing_happens : {Spared : ℕ → Type 0} {v : ServerValue} → GoesOnSparing Spared v v
-nothing_happens {v = v} = record { follows = follows_itself v.host; settled = λ all. all; spared = λ other is all e. refl }
+nothing_happens {v = v} = record { follows = follows_itself; settled = λ all. all; spared = λ other is all e. refl }
 
 one_then_another : {Spared : ℕ → Type 0} {v w after : ServerValue} → GoesOnSparing Spared v w → GoesOnSparing Spared w after → GoesOnSparing Spared v after
 one_then_another {v = v} {w = w} {after = after} first later =
-    let between : stamp_of after.host ≡ stamp_of v.host → stamp_of w.host ≡ stamp_of v.host = never_back _ _ _ first.follows.no_earlier later.follows.no_earlier in
+    let between : stamp_of after.host ≡ stamp_of v.host → stamp_of w.host ≡ stamp_of v.host = never_back _ _ first.follows.no_earlier later.follows.no_earlier in
     let behind : stamp_of after.host ≡ stamp_of v.host → stamp_of after.host ≡ stamp_of w.host = λ e. e ∙ sym (between e) in
     record {
       follows = record {
-        no_earlier = no_earlier_on _ _ _ first.follows.no_earlier later.follows.no_earlier;
+        no_earlier = no_earlier_on first.follows.no_earlier later.follows.no_earlier;
         same = λ e. later.follows.same (behind e) ∙ first.follows.same (between e);
       };
       settled = λ all. later.settled (first.settled all);
@@ -113,28 +98,28 @@ one_then_another {v = v} {w = w} {after = after} first later =
     }
 
 -- Another host follows, and all connections settle on it.
-entries_settle : (Spared : ℕ → Type 0) (v : ServerValue) (host : ServerState) (ids : ℕ) (es : Entries) → Follows v.host host
+entries_settle : (Spared : ℕ → Type 0) (v : ServerValue) {host : ServerState} (ids : ℕ) (es : Entries) → Follows v.host host
     → ((other : ℕ) → Spared other → session_of other es ≡ session_of other v.sessions)
     → GoesOnSparing Spared v (record v { host = host; ids = ids; sessions = map (settled_entry host) es })
-entries_settle Spared v host ids es follows same = record {
+entries_settle Spared v {host = host} ids es follows same = record {
   follows = follows;
   settled = λ all. all_are_settled host es;
   spared = λ other is all e.
       rw (each_settles other host es, same other is, follows.same e, ← each_settles other v.host v.sessions, all_settled_stay v.host v.sessions all) refl;
 }
 
-pub another_host : (Spared : ℕ → Type 0) (v : ServerValue) (host : ServerState) → Follows v.host host → GoesOnSparing Spared v (server_settled (record v { host = host }))
-another_host Spared v host follows = entries_settle Spared v host v.ids v.sessions follows (λ other is. refl)
+pub another_host : (Spared : ℕ → Type 0) (v : ServerValue) {host : ServerState} → Follows v.host host → GoesOnSparing Spared v (server_settled (record v { host = host }))
+another_host Spared v {host = host} follows = entries_settle Spared v v.ids v.sessions follows (λ other is. refl)
 
 -- One connection changes, and another host follows.
-one_happens : (v : ServerValue) (id : ℕ) (f : SessionValue → SessionValue) (host : ServerState) → Follows v.host host → GoesOnSparing (But id) v (record v { host = host; sessions = map (settled_entry host) (map (session_becomes id f) v.sessions) })
-one_happens v id f host follows = entries_settle (But id) v host v.ids (map (session_becomes id f) v.sessions) follows (λ other. other_stays other id f v.sessions)
+one_happens : (v : ServerValue) (id : ℕ) (f : SessionValue → SessionValue) {host : ServerState} → Follows v.host host → GoesOnSparing (But id) v (record v { host = host; sessions = map (settled_entry host) (map (session_becomes id f) v.sessions) })
+one_happens v id f {host = host} follows = entries_settle (But id) v v.ids (map (session_becomes id f) v.sessions) follows (λ other. other_stays other id f v.sessions)
 
-takes_once : (v : ServerValue) (id : ℕ) (piece : List ℕ) → GoesOnSparing (But id) v (server_taken v id piece)
+takes_once : {v : ServerValue} (id : ℕ) (piece : List ℕ) → GoesOnSparing (But id) v (server_taken v id piece)
 unfolding server_taken
-takes_once v id piece = elim (session_of id v.sessions) as (λ o. GoesOnSparing (But id) v (server_taken_on v id piece o)) [
+takes_once {v = v} id piece = elim (session_of id v.sessions) as (λ o. GoesOnSparing (But id) v (server_taken_on v id piece o)) [
   | None ↦ nothing_happens
-  | Some s ↦ one_happens v id (λ _. (taking v.host s piece).session) _ (change_follows v.host (taking v.host s piece).change)
+  | Some s ↦ one_happens v id (λ _. (taking v.host s piece).session) (change_follows (taking v.host s piece).change)
 ]
 
 takes_sparing : (turns : ℕ) (v : ServerValue) (id : ℕ) (bytes : List ℕ) → GoesOnSparing (But id) v (fed_turns turns v id bytes).server
@@ -144,35 +129,35 @@ takes_sparing (suc turns) v id bytes =
     let f : InResult = fed_turns turns v id bytes in
     let so_far = takes_sparing turns v id bytes in
     elim (goes_on bytes f) as (λ b. GoesOnSparing (But id) v (if b then fed_more id (drop f.count bytes) f else f).server) [
-      | true ↦ one_then_another so_far (takes_once f.server id (drop f.count bytes))
+      | true ↦ one_then_another so_far (takes_once id (drop f.count bytes))
       | false ↦ so_far
     ]
 
 -- ---- serving one connection
 
-takes_input : (v : ServerValue) (id : ℕ) (heard : Got) → GoesOnSparing (But id) v (server_heard v id heard)
-takes_input v id End = one_happens v id session_ended v.host (follows_itself v.host)
-takes_input v id heard = nothing_happens
+takes_input : {v : ServerValue} (id : ℕ) (heard : Got) → GoesOnSparing (But id) v (server_heard v id heard)
+takes_input {v = v} id End = one_happens v id session_ended (follows_itself)
+takes_input id heard = nothing_happens
 
-writes : (v : ServerValue) (id : ℕ) (wrote : Got) → GoesOnSparing (But id) v (server_wrote v id wrote)
-writes v id (Bytes n) = one_happens v id (λ s. session_written s n) v.host (follows_itself v.host)
-writes v id wrote = nothing_happens
+writes : {v : ServerValue} (id : ℕ) (wrote : Got) → GoesOnSparing (But id) v (server_wrote v id wrote)
+writes {v = v} id (Bytes n) = one_happens v id (λ s. session_written s n) (follows_itself)
+writes id wrote = nothing_happens
 
-pub alone_spares : (v after : ServerValue) (id : ℕ) (bytes : List ℕ) → after ≡ (in_result v id bytes).server → GoesOnSparing (But id) v after
-alone_spares v after id bytes took = rw took (takes_sparing (length bytes) v id bytes)
+pub alone_spares : {v after : ServerValue} (id : ℕ) (bytes : List ℕ) → after ≡ (in_result v id bytes).server → GoesOnSparing (But id) v after
+alone_spares {v = v} id bytes took = rw took (takes_sparing (length bytes) v id bytes)
 
-gives_once : (v : ServerValue) (id : ℕ) (bytes : List ℕ) → GoesOnSparing (But id) v (server_offered v id bytes)
-gives_once v id bytes =
+gives_once : {v : ServerValue} (id : ℕ) (bytes : List ℕ) → GoesOnSparing (But id) v (server_offered v id bytes)
+gives_once {v = v} id bytes =
     elim (is_none (responded_refusal v id bytes)) as (λ b. GoesOnSparing (But id) v (if b then server_given v id bytes else v)) [
-      | true ↦ one_happens v id (session_given_by (message_of bytes)) v.host (follows_itself v.host)
+      | true ↦ one_happens v id (session_given_by (message_of bytes)) (follows_itself)
       | false ↦ nothing_happens
     ]
 
-asks_once : (v : ServerValue) (id : ℕ) (left response : List ℕ) → GoesOnSparing (But id) v (asked_by v id left response).server
-asks_once v id left response =
+asks_once : {v : ServerValue} (id : ℕ) (left response : List ℕ) → GoesOnSparing (But id) v (asked_by v id left response).server
+asks_once {v = v} id left response =
     elim (handed_by v id left) as (λ o. GoesOnSparing (But id) v (asking (server_taken v id left) id (message_limit v id) response o).server) [
-      | None ↦ takes_once v id left
-      | Some m ↦ one_then_another (takes_once v id left) (gives_once (server_taken v id left) id (response_for (server_taken v id left) id m.token response))
+      | None ↦ takes_once id left
+      | Some m ↦ one_then_another (takes_once id left) (gives_once id (response_for (server_taken v id left) id m.token response))
     ]
 
 -- Takes and responses on one connection spare the others.
@@ -180,46 +165,46 @@ pub serves_sparing : (v : ServerValue) (id : ℕ) (bytes : List ℕ) (responses 
 unfolding served
 serves_sparing v id bytes [] = nothing_happens
 serves_sparing v id bytes (response ∷ responses) =
-    one_then_another (serves_sparing v id bytes responses) (asks_once (served v id bytes responses).fed.server id (drop (served v id bytes responses).fed.count bytes) response)
+    one_then_another (serves_sparing v id bytes responses) (asks_once id (drop (served v id bytes responses).fed.count bytes) response)
 
 pub with_spares : (monitor : List AcceptedCall → Type 0) (asks : List Exchange → Type 0) (v after : ServerValue) (id count : ℕ) (bytes : List ℕ) → IsServedWith v id bytes count after monitor asks → GoesOnSparing (But id) v after
 with_spares monitor asks v after id count bytes took = rw took.server (serves_sparing v id bytes took.responses)
 
 -- A later response spares the other connections.
-pub offers_sparing : (v after : ServerValue) (id : ℕ) (bytes : List ℕ) → after ≡ server_offered v id bytes → GoesOnSparing (But id) v after
-offers_sparing v after id bytes is = rw is (gives_once v id bytes)
+pub offers_sparing : (v : ServerValue) {after : ServerValue} (id : ℕ) (bytes : List ℕ) → after ≡ server_offered v id bytes → GoesOnSparing (But id) v after
+offers_sparing v id bytes is = rw is (gives_once id bytes)
 
-is_carried_on : (failed may_write : Bool) (v : ServerValue) (id : ℕ) (bytes : List ℕ) (wire : WireTrace) (after : ServerValue) (left : List ℕ) (wire_after : WireTrace) (course : PeerOutcome) (events : List AcceptedCall) (exchanges : List Exchange) → IsCarriedOn IsTakenAlone failed may_write v id bytes wire after left wire_after course events exchanges → GoesOnSparing (But id) v after
-is_carried_on true may_write v id bytes wire after left wire_after course events exchanges carried = rw carried.0 nothing_happens
-is_carried_on false may_write v id bytes wire after left wire_after course events exchanges carried =
-    rw carried.server (one_then_another (alone_spares v carried.taken id bytes carried.part.took.0) (writes carried.taken id carried.wrote))
+is_carried_on : (failed may_write : Bool) (id : ℕ) (before after : VisitState) (r : VisitResult) → IsCarriedOn failed (IsTakenAndWritten IsTakenAlone may_write id) before after r → GoesOnSparing (But id) before.server after.server
+is_carried_on true may_write id before after r carried = rw carried.0 nothing_happens
+is_carried_on false may_write id before after r carried =
+    rw carried.server (one_then_another (alone_spares id before.rest carried.took.0) (writes id carried.wrote))
 
-served_on : (may_read may_write : Bool) (v : ServerValue) (id : ℕ) (rest : List ℕ) {wire : WireTrace} (after : ServerValue) (left : List ℕ) {wire_after : WireTrace} (course : PeerOutcome) {events : List AcceptedCall} → IsServedOnce may_read may_write v id rest wire after left wire_after course events → GoesOnSparing (But id) v after
-served_on may_read may_write v id rest after left {wire_after} course part =
-    one_then_another (takes_input v id part.heard) (is_carried_on (has_failed part.heard) may_write _ id part.bytes part.between after left wire_after course part.later [] part.carried)
+served_on : {ready : Readiness} (id : ℕ) {before : VisitState} (after : VisitState) {outcome : PeerOutcome} {events : List AcceptedCall} → IsServedOnce ready id before after outcome events → GoesOnSparing (But id) before.server after.server
+served_on {ready = ready} id {before = before} after part =
+    one_then_another (takes_input id part.heard) (is_carried_on (has_failed part.heard) ready.write id (visit_state (server_heard before.server id part.heard) part.bytes part.between) after _ part.carried)
 
 -- A read that did not fail, then bytes that are passed, then a write.
-pub part_spares : (v heard_by taken after : ServerValue) (id : ℕ) (heard wrote : Got) → heard_by ≡ server_heard v id heard → GoesOnSparing (But id) heard_by taken → after ≡ server_wrote taken id wrote → GoesOnSparing (But id) v after
-part_spares v heard_by taken after id heard wrote heard_so spared wrote_so =
-    rw wrote_so (one_then_another (takes_input v id heard) (one_then_another (rw heard_so at spared) (writes taken id wrote)))
+pub part_spares : {v heard_by taken after : ServerValue} (id : ℕ) (heard wrote : Got) → heard_by ≡ server_heard v id heard → GoesOnSparing (But id) heard_by taken → after ≡ server_wrote taken id wrote → GoesOnSparing (But id) v after
+part_spares {v = v} {taken = taken} id heard wrote heard_so spared wrote_so =
+    rw wrote_so (one_then_another (takes_input id heard) (one_then_another (rw heard_so at spared) (writes id wrote)))
 
 -- A read that failed.
-pub heard_spares : (v after : ServerValue) (id : ℕ) (heard : Got) → after ≡ server_heard v id heard → GoesOnSparing (But id) v after
-heard_spares v after id heard is = rw is (takes_input v id heard)
+pub heard_spares : {v after : ServerValue} (id : ℕ) (heard : Got) → after ≡ server_heard v id heard → GoesOnSparing (But id) v after
+heard_spares {v = v} id heard is = rw is (takes_input id heard)
 
-pub served_no_earlier : (may_read may_write : Bool) (v : ServerValue) (id : ℕ) (rest : List ℕ) {wire : WireTrace} (after : ServerValue) (left : List ℕ) {wire_after : WireTrace} (course : PeerOutcome) {events : List AcceptedCall} → IsServedOnce may_read may_write v id rest wire after left wire_after course events → IsNoEarlier (stamp_of v.host) (stamp_of after.host)
-served_no_earlier may_read may_write v id rest after left course part = (served_on may_read may_write v id rest after left course part).follows.no_earlier
+pub served_no_earlier : (ready : Readiness) (id : ℕ) (before after : VisitState) (outcome : PeerOutcome) (events : List AcceptedCall) → IsServedOnce ready id before after outcome events → IsNoEarlier (stamp_of before.server.host) (stamp_of after.server.host)
+served_no_earlier ready id before after outcome events part = (served_on id after part).follows.no_earlier
 
 -- ---- opening, dropping, and the time
 
-pub dropped_on : (v : ServerValue) (id : ℕ) → GoesOnSparing (But id) v (server_dropped v id)
-dropped_on v id = entries_settle (But id) v v.host v.ids (filter (is_other id) v.sessions) (follows_itself v.host) (λ other. other_is_kept other id v.sessions)
+pub dropped_on : {v : ServerValue} (id : ℕ) → GoesOnSparing (But id) v (server_dropped v id)
+dropped_on {v = v} id = entries_settle (But id) v v.ids (filter (is_other id) v.sessions) (follows_itself) (λ other. other_is_kept other id v.sessions)
 
 pub released_on_it : (v : ServerValue) (id : ℕ) → GoesOnSparing (But id) v (server_released v id)
-released_on_it v id = one_happens v id session_released v.host (follows_itself v.host)
+released_on_it v id = one_happens v id session_released (follows_itself)
 
 opened_on : (v : ServerValue) → GoesOnSparing (But (v.ids + 1)) v (server_opened v)
-opened_on v = entries_settle (But (v.ids + 1)) v v.host (v.ids + 1) _ (follows_itself v.host) (λ other. other_is_there other (v.ids + 1) _ v.sessions)
+opened_on v = entries_settle (But (v.ids + 1)) v (v.ids + 1) _ (follows_itself) (λ other. other_is_there other (v.ids + 1) _ v.sessions)
 
 pub ticked_no_earlier : (v : ServerValue) (later : ℕ) → v.host.now ≤ later → IsNoEarlier (stamp_of v.host) (stamp_of (server_ticked v later).host)
 ticked_no_earlier v later on = (moment_follows v.host later on).no_earlier
@@ -242,9 +227,9 @@ module _ {Spared : ℕ → Type 0} {v after : ServerValue} (on : GoesOnSparing S
 
   pub stays_noted : {W : Type 0} (e : ℕ × Peer W) → Spared e.0 → IsNoted v e → IsNoted after e
   stays_noted e is noted = record {
-    no_earlier = no_earlier_on _ _ _ noted.no_earlier on.follows.no_earlier;
+    no_earlier = no_earlier_on noted.no_earlier on.follows.no_earlier;
     truth = λ same.
-        let between : stamp_of v.host ≡ e.1.wants.stamp = never_back _ _ _ noted.no_earlier on.follows.no_earlier (sym same) in
+        let between : stamp_of v.host ≡ e.1.wants.stamp = never_back _ _ noted.no_earlier on.follows.no_earlier (sym same) in
         noted.truth (sym between) ∙ sym (wants_stay e.0 is (sym same ∙ sym between) e.1.rest);
   }
 
@@ -252,11 +237,11 @@ keeps_notes : {id : ℕ} {v after : ServerValue} → AreSettled v.host v.session
 keeps_notes settled on =
     record { settled = on.settled settled; no_earlier = on.follows.no_earlier; noted = λ other rest apart same. wants_stay on settled other apart same rest }
 
-pub noted_where_served : (may_read may_write : Bool) (v : ServerValue) (id : ℕ) (rest : List ℕ) {wire : WireTrace} (after : ServerValue) (left : List ℕ) {wire_after : WireTrace} (course : PeerOutcome) {events : List AcceptedCall} → AreSettled v.host v.sessions → IsServedOnce may_read may_write v id rest wire after left wire_after course events → KeepsNotes id v after
-noted_where_served may_read may_write v id rest after left course settled part = keeps_notes settled (served_on may_read may_write v id rest after left course part)
+pub noted_where_served : (ready : Readiness) (id : ℕ) (before after : VisitState) (outcome : PeerOutcome) (events : List AcceptedCall) → AreSettled before.server.host before.server.sessions → IsServedOnce ready id before after outcome events → KeepsNotes id before.server after.server
+noted_where_served ready id before after outcome events settled part = keeps_notes settled (served_on id after part)
 
 pub noted_where_dropped : (v : ServerValue) (id : ℕ) → AreSettled v.host v.sessions → KeepsNotes id v (server_dropped v id)
-noted_where_dropped v id settled = keeps_notes settled (dropped_on v id)
+noted_where_dropped v id settled = keeps_notes settled (dropped_on id)
 
 pub noted_where_opened : (v : ServerValue) → AreSettled v.host v.sessions → KeepsNotes (v.ids + 1) v (server_opened v)
 noted_where_opened v settled = keeps_notes settled (opened_on v)
@@ -272,23 +257,23 @@ spares_one id other apart on = record { follows = on.follows; settled = on.settl
 
 passed_on_sparing : {id : ℕ} {v after : ServerValue} → WhilePassedOver id v after → GoesOnSparing (Only id) v after
 passed_on_sparing AtFirst = nothing_happens
-passed_on_sparing {id} (Served before now other rest left wire received may_read may_write course events so_far apart part) =
-    one_then_another (passed_on_sparing so_far) (spares_one id other apart (served_on may_read may_write before other rest now left course part))
-passed_on_sparing {id} (Dropped before other so_far apart) = one_then_another (passed_on_sparing so_far) (spares_one id other apart (dropped_on before other))
+passed_on_sparing {id} (Served ready other before now outcome events so_far apart part) =
+    one_then_another (passed_on_sparing so_far) (spares_one id other apart (served_on other now part))
+passed_on_sparing {id} (Dropped before other so_far apart) = one_then_another (passed_on_sparing so_far) (spares_one id other apart (dropped_on other))
 passed_on_sparing {id} (Opened before so_far apart) = one_then_another (passed_on_sparing so_far) (spares_one id (before.ids + 1) apart (opened_on before))
 passed_on_sparing {id} (Ticked before later so_far on) =
-    one_then_another (passed_on_sparing so_far) (another_host (Only id) before (record before.host { now = later }) (moment_follows before.host later on))
+    one_then_another (passed_on_sparing so_far) (another_host (Only id) before (moment_follows before.host later on))
 
 module _ (id : ℕ) (v after : ServerValue) (rest : List ℕ) (settled : AreSettled v.host v.sessions) (passed : WhilePassedOver id v after) (same : stamp_of after.host ≡ stamp_of v.host) where
   pub noted_throughout : wants_of after id rest ≡ wants_of v id rest
   noted_throughout = wants_stay (passed_on_sparing passed) settled id refl same rest
 
   -- If nothing could be done then, nothing can be done now.
-  pub still_nothing_to_do : (i : ℕ) (may_read may_write : Bool) → LiesAt id i after.sessions → can_go_on (wants_of v id rest) may_read may_write ≡ false → is_over_in (outlook_of v id) ≡ false → IsNoOp may_read may_write after id rest
-  still_nothing_to_do i may_read may_write lies idle on =
+  pub still_nothing_to_do : (i : ℕ) (ready : Readiness) → LiesAt id i after.sessions → can_go_on (wants_of v id rest) ready ≡ false → is_over_in (outlook_of v id) ≡ false → IsNoOp ready after id rest
+  still_nothing_to_do i ready lies idle on =
       let spared = passed_on_sparing passed in
-      passed_over after id i rest may_read may_write lies (spared.settled settled)
-      (ap (λ (w : PeerInterest). can_go_on w may_read may_write) noted_throughout ∙ idle)
+      passed_over after id i rest ready lies (spared.settled settled)
+      (ap (λ (w : PeerInterest). can_go_on w ready) noted_throughout ∙ idle)
       (ap is_over_in (outlook_stays spared settled id refl same) ∙ on)
 
 -- ---- recorded interests of other connections
@@ -320,9 +305,9 @@ module _ {W : Type 0} (P Q : ℕ × Peer W → Type 0) (id : ℕ) (each : (e : �
       ] refl distinct
 
 -- An interest that was just recorded is correct.
-pub noted_now : {W : Type 0} (v : ServerValue) (id : ℕ) (p : Peer W) → p.wants ≡ wants_of v id p.rest → IsNoted v (id, p)
-noted_now v id p is = record {
-  no_earlier = rw (ap (λ (w : PeerInterest). w.stamp) is ∙ stamp_in (outlook_of v id) _ (stamp_of v.host)) (no_earlier_itself (stamp_of v.host));
+pub noted_now : {W : Type 0} {v : ServerValue} (id : ℕ) (p : Peer W) → p.wants ≡ wants_of v id p.rest → IsNoted v (id, p)
+noted_now {v = v} id p is = record {
+  no_earlier = rw (ap (λ (w : PeerInterest). w.stamp) is ∙ stamp_in (outlook_of v id) _) (no_earlier_itself (stamp_of v.host));
   truth = λ same. is;
 }
 
@@ -345,7 +330,7 @@ module _ {W : Type 0} (v : ServerValue) (id : ℕ) (after : ServerValue) (es : L
   -- All are correct, if the connection stays open.
   pub all_noted : (r : Result PeerOutcome IoFault) → OnOk r (GoesOnSparing (But id) v after) → IfOk r (λ course. course ≡ Open → q.wants ≡ wants_of after id q.rest)
       → IfOk r (λ course. course ≡ Open → AreNoted after (set_value_at es i q))
-  all_noted (Ok course) on wants = λ open_now. noted_with after es i id p q at (beside_served on) (noted_now after id q (wants open_now))
+  all_noted (Ok course) on wants = λ open_now. noted_with after es i id p q at (beside_served on) (noted_now id q (wants open_now))
   all_noted (Err fault) on wants = tt
 
 -- ---- opening and dropping
@@ -356,16 +341,16 @@ others_only id [] none = refl
 others_only id (e ∷ es) none = grind (arith, others_only id es)
 
 -- A connection was dropped, whether it existed or not.
-pub dropped_so : {T E : Type 0} (r : Result T E) (v after : ServerValue) (id : ℕ) → AreSettled v.host v.sessions → is_ok r ≡ is_there (session_of id v.sessions) → OnOk r (after ≡ server_dropped v id) → OnErr r (after ≡ v) → after ≡ server_dropped v id
-dropped_so (Ok x) v after id settled answer ok err = ok
-dropped_so (Err e) v after id settled answer ok err = rw (err, others_only id v.sessions (sym answer), all_settled_stay v.host v.sessions settled) refl
+pub dropped_so : {T E : Type 0} (r : Result T E) (v : ServerValue) {after : ServerValue} (id : ℕ) → AreSettled v.host v.sessions → is_ok r ≡ is_there (session_of id v.sessions) → OnOk r (after ≡ server_dropped v id) → OnErr r (after ≡ v) → after ≡ server_dropped v id
+dropped_so (Ok x) v id settled answer ok err = ok
+dropped_so (Err e) v id settled answer ok err = rw (err, others_only id v.sessions (sym answer), all_settled_stay v.host v.sessions settled) refl
 
 -- A connection was opened, and its interest was recorded.
-pub noted_with_one_more : {W : Type 0} (v after : ServerValue) (id : ℕ) (p : Peer W) (es now : List (ℕ × Peer W)) → AreSettled v.host v.sessions → AreNoted v es → id ≡ v.ids + 1 → after ≡ server_opened v
+pub noted_with_one_more : {W : Type 0} (v after : ServerValue) {id : ℕ} (p : Peer W) (es : List (ℕ × Peer W)) {now : List (ℕ × Peer W)} → AreSettled v.host v.sessions → AreNoted v es → id ≡ v.ids + 1 → after ≡ server_opened v
     → p.wants ≡ wants_of after id p.rest → now ≡ insert_entry nat_eq es id p → IsDistinct nat_eq (keys_of now) → AreNoted after now
-noted_with_one_more v after id p es now settled noted given opened wants is distinct =
+noted_with_one_more v after {id = id} p es settled noted given opened wants is distinct =
     let on : GoesOnSparing (But id) v after = rw (opened, given) (opened_on v) in
-    rw is (with_one_more (IsNoted v) (IsNoted after) id (stays_noted on settled) p es (noted_now after id p wants) (rw is at distinct) noted)
+    rw is (with_one_more (IsNoted v) (IsNoted after) id (stays_noted on settled) p es (noted_now id p wants) (rw is at distinct) noted)
 
 -- ---- the wait of the listener
 
@@ -392,13 +377,13 @@ ends_are_true readable writable v [] noted fresh = refl
 ends_are_true readable writable v (e ∷ es) noted fresh = rw (noted.0.truth fresh.0, ends_are_true readable writable v es noted.1 fresh.1) refl
 
 -- The wait that the agenda computes from recorded interests is the wait for the present ones.
-pub wait_so : {W : Type 0} (readable writable : W → Option Bool) (v : ServerValue) (es : List (ℕ × Peer W)) (a b : NextWakeup) (opens changed : Bool) → AreNoted v es
+pub wait_so : {W : Type 0} (readable writable : W → Option Bool) (v : ServerValue) (es : List (ℕ × Peer W)) {a b : NextWakeup} (opens changed : Bool) → AreNoted v es
     → IsAgendaOf a changed (stamp_of v.host) (map (λ e. end_of readable writable e.1) es) → b ≡ agenda_with a opens None
     → IsWaitAfter (opens || changed) (map (λ e. true_end readable writable v e) es) (wait_of b)
-wait_so readable writable v es a b opens true noted of is =
+wait_so readable writable v es {a = a} opens true noted of is =
     let far = map (λ e. true_end readable writable v e) es in
     let some = some_answer far in
     record { ready = some.0; can = some.1; is = rw is (wait_where_changed a opens some.0 of.ready far of.at_once) }
-wait_so readable writable v es a b opens false noted of is =
+wait_so readable writable v es {a = a} opens false noted of is =
     let same = ends_are_true readable writable v es noted (of.fresh refl) in
     record { ready = of.ready; can = rw same at of.can; is = rw is (rw same at (wait_where_fresh a opens of.ready (map (λ e. end_of readable writable e.1) es) of.at_once of.due)) }

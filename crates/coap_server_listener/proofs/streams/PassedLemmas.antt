@@ -1,16 +1,11 @@
 -- To serve a connection on which nothing can be done has no effect.
-use Rattle.std.proofs.Common.{◌≡◌, ℕ, zero, suc, Bool, true, false, ◌&&◌, List, [], ◌∷◌, ◌++◌, length, drop, Some, None, refl, sym, ap, ◌∙◌, arith, ◌||◌, ◌==◌, nat_lt, option_map, if◌then◌else◌}
+use Rattle.std.proofs.Common.{ℕ, ◌≡◌, zero, suc, Bool, true, false, ◌&&◌, List, [], ◌∷◌, ◌++◌, length, drop, Some, None, refl, sym, ap, ◌∙◌, arith, ◌||◌, ◌==◌, nat_lt, option_map, if◌then◌else◌}
 use Rattle.std.proofs.Math.Bool.{and-false}
 use Rattle.std.proofs.Math.Dec.{eqb-suc-zero}
 use Rattle.std.proofs.lemmas.Bool.{or_parts}
 use Rattle.std.proofs.lemmas.Bool.Decides.{nat_tests}
 use Rattle.std.proofs.lemmas.List.{append-nil, nil_from_length}
-use Rattle.coap_server_listener.specs.Prelude.{stop_of, is_over, Later, SessionValue, session_takes, ServerValue, LiesAt}
-use Rattle.coap_server_listener.specs.Prelude.{AreSettled, session_of, server_taken, count_taken, count_on, stop_on, InResult}
-use Rattle.coap_server_listener.specs.Prelude.{fed_turns, in_result, fed_more, IsTakenAndWritten, IsTakenAlone, IsNoOp, is_heard}
-use Rattle.coap_server_listener.specs.Prelude.{waiting_once, server_wrote, is_over_in, left_behind, rest_behind, rest_left, wants_of}
-use Rattle.coap_server_listener.specs.Prelude.{can_go_on, session_outlook, outlook_of, PeerInterest, PeerOutcome, WireTrace, course_of}
-use Rattle.coap_server_listener.specs.Prelude.{AcceptedCall, Took, heard_events, refused_events, took, took_turns, wrote_events}
+use Rattle.coap_server_listener.specs.Prelude.{stop_of, is_over, Later, SessionValue, session_takes, ServerValue, LiesAt, AreSettled, session_of, server_taken, count_taken, count_on, stop_on, InResult, fed_turns, in_result, fed_more, IsTakenAndWritten, IsTakenAlone, IsNoOp, Readiness, VisitState, is_heard, visit_state, waiting_once, server_wrote, is_over_in, left_behind, rest_behind, wants_of, can_go_on, session_outlook, outlook_of, PeerInterest, PeerOutcome, calls_only, course_of, AcceptedCall, Took, heard_events, refused_events, took, took_turns, wrote_events}
 use Rattle.coap_server_engine.specs.values.InResults.{goes_on, unfed}
 use Rattle.coap_server_listener.specs.declared.door.peer.PeerOutcome.TheVariants.{Open}
 use Rattle.coap_server_engine.proofs.values.ServerLemmas.{changed_one, written_at_index, written_back, all_settled_stay}
@@ -18,6 +13,10 @@ use Rattle.coap_model.proofs.OptionLemmas.{there_is_none}
 use Rattle.coap_server_engine.proofs.world.ShowLaws.{taking_stopped}
 
 -- ---- accepting bytes
+
+-- The bytes that are kept after the connection accepted all that it accepts of these.
+abbrev rest_left : ServerValue → ℕ → List ℕ → List ℕ
+rest_left v id rest = rest_behind (in_result v id rest).server id (in_result v id rest).count rest
 
 untouched : (v : ServerValue) (id i : ℕ) (s : SessionValue) (piece : List ℕ) → LiesAt id i v.sessions → session_of id v.sessions ≡ Some s → AreSettled v.host v.sessions → session_takes s ≡ false → server_taken v id piece ≡ v
 unfolding server_taken
@@ -93,33 +92,37 @@ not_heard may_read is_empty takes e = grind arith
 not_written : (may_write : Bool) (waiting : List ℕ) → (nat_lt 0 (length waiting) && may_write) ≡ false → (if may_write then waiting else []) ≡ []
 not_written may_write waiting e = grind (arith, nat_tests, nil_from_length)
 
+same_state : (a b : VisitState) → a.server ≡ b.server → a.rest ≡ b.rest → a.wire ≡ b.wire → a ≡ b
+same_state a b server rest wire =
+    ap (λ x. visit_state x a.rest a.wire) server ∙ ap (λ x. visit_state b.server x a.wire) rest ∙ ap (λ x. visit_state b.server b.rest x) wire
+
 -- If nothing is accepted and nothing is queued, nothing changes.
-nothing_carried : (may_write : Bool) (v : ServerValue) (id : ℕ) (rest : List ℕ) (wire : WireTrace) (after : ServerValue) (left : List ℕ) (wire_after : WireTrace) (course : PeerOutcome) (events : List AcceptedCall)
-    → (in_result v id rest).server ≡ v → took v id rest ≡ refused_events id rest → rest_left v id rest ≡ rest → waiting_once may_write id v ≡ [] → is_over_in (outlook_of v id) ≡ false
-    → IsTakenAndWritten IsTakenAlone may_write v id rest wire after left wire_after course events [] → (after ≡ v) × (left ≡ rest) × (wire_after ≡ wire) × (course ≡ Open) × (events ≡ refused_events id rest)
-nothing_carried may_write v id rest wire after left wire_after course events same refused left_so unwritten on carried =
-    let took = carried.part.took in
-    let taken_so : carried.taken ≡ v = took.0 ∙ same in
+nothing_carried : (may_write : Bool) (id : ℕ) (before after : VisitState) (outcome : PeerOutcome) (events : List AcceptedCall)
+    → IsUnaffected before.server (in_result before.server id before.rest) → took before.server id before.rest ≡ refused_events id before.rest → rest_left before.server id before.rest ≡ before.rest → waiting_once may_write id before.server ≡ []
+    → is_over_in (outlook_of before.server id) ≡ false
+    → IsTakenAndWritten IsTakenAlone may_write id before after (record { outcome = outcome; history = calls_only events }) → (after ≡ before) × (outcome ≡ Open) × (events ≡ refused_events id before.rest)
+nothing_carried may_write id before after outcome events same refused left_so unwritten on carried =
+    let v = before.server in
+    let taken_so : carried.taken.server ≡ v = carried.took.0 ∙ same.server in
     let wrote = carried.offered.idle (ap (λ w. waiting_once may_write id w) taken_so ∙ unwritten) in
-    let server : after ≡ v = carried.server ∙ ap (server_wrote carried.taken id) wrote.0 ∙ taken_so in
-    let kept : rest_behind carried.taken id carried.part.count rest ≡ rest_left v id rest =
-    ap (λ w. rest_behind w id carried.part.count rest) took.0 ∙ ap (λ n. rest_behind (in_result v id rest).server id n rest) took.1 in
-    let none_written : wrote_events id carried.wrote ≡ [] = ap (wrote_events id) wrote.0 in (
-      server,
-      carried.part.rest ∙ kept ∙ left_so,
-      wrote.1,
-      carried.outcome ∙ ap (λ w. course_of w (is_over_in (outlook_of after id))) wrote.0 ∙ ap (λ u. course_of Later (is_over_in (outlook_of u id))) server ∙ ap (course_of Later) on,
-      carried.all ∙ ap (λ es. carried.takes ++ es) none_written ∙ append-nil carried.takes ∙ took.2 ∙ refused,
+    let server : after.server ≡ v = carried.server ∙ ap (server_wrote carried.taken.server id) wrote.0 ∙ taken_so in
+    let kept : rest_behind carried.taken.server id carried.taken.count before.rest ≡ rest_left v id before.rest =
+    ap (λ w. rest_behind w id carried.taken.count before.rest) carried.took.0 ∙ ap (λ n. rest_behind (in_result v id before.rest).server id n before.rest) carried.took.1 in
+    let none_written : wrote_events id carried.wrote ≡ [] = ap (wrote_events id) wrote.0 in
+    let events_so : events ≡ carried.taken.history.events ++ wrote_events id carried.wrote = ap (λ h. h.events) carried.history in (
+      same_state after before server (carried.rest ∙ kept ∙ left_so) wrote.1,
+      carried.outcome ∙ ap (λ w. course_of w (is_over_in (outlook_of after.server id))) wrote.0 ∙ ap (λ u. course_of Later (is_over_in (outlook_of u id))) server ∙ ap (course_of Later) on,
+      events_so ∙ ap (λ es. carried.taken.history.events ++ es) none_written ∙ append-nil carried.taken.history.events ∙ ap (λ h. h.events) carried.took.2 ∙ refused,
     )
 
-nothing_done : (v : ServerValue) (id i : ℕ) (s : SessionValue) (rest : List ℕ) (may_read may_write : Bool) → LiesAt id i v.sessions → session_of id v.sessions ≡ Some s → AreSettled v.host v.sessions
-    → can_go_on (wants_of v id rest) may_read may_write ≡ false → is_over_in (outlook_of v id) ≡ false → IsNoOp may_read may_write v id rest
-nothing_done v id i s rest may_read may_write lies here settled idle on =
+nothing_done : (v : ServerValue) (id i : ℕ) (s : SessionValue) (rest : List ℕ) (ready : Readiness) → LiesAt id i v.sessions → session_of id v.sessions ≡ Some s → AreSettled v.host v.sessions
+    → can_go_on (wants_of v id rest) ready ≡ false → is_over_in (outlook_of v id) ≡ false → IsNoOp ready v id rest
+nothing_done v id i s rest ready lies here settled idle on =
     let w : PeerInterest = wants_of v id rest in
-    let write = or_parts (w.take || (w.read && may_read)) (w.write && may_write) idle in
-    let read = or_parts w.take (w.read && may_read) write.0 in
-    let unread : is_heard may_read v id rest ≡ false = rw here (not_heard may_read (length rest == 0) (session_takes s) (rw here at read.1)) in
-    let unwritten : waiting_once may_write id v ≡ [] = rw here (not_written may_write s.link.waiting (rw here at write.1)) in
+    let write = or_parts (w.take || (w.read && ready.read)) (w.write && ready.write) idle in
+    let read = or_parts w.take (w.read && ready.read) write.0 in
+    let unread : is_heard ready.read v id rest ≡ false = rw here (not_heard ready.read (length rest == 0) (session_takes s) (rw here at read.1)) in
+    let unwritten : waiting_once ready.write id v ≡ [] = rw here (not_written ready.write s.link.waiting (rw here at write.1)) in
     let same = still_fed v id i s rest lies here settled read.0 in
     let refused : took v id rest ≡ refused_events id rest = still_refused v id i s rest lies here settled read.0 in
     let left_so : rest_left v id rest ≡ rest = rw (same.server, same.count) (left_as_it_is v id s rest here read.0) in
@@ -131,30 +134,30 @@ nothing_done v id i s rest may_read may_write lies here settled idle on =
         bytes = rest;
         between = wire;
         laid = rw unread (refl, refl, refl);
-        later = refused_events id rest;
+        later = calls_only (refused_events id rest);
         carried = record {
-          taken = (in_result v id rest).server;
-          takes = took v id rest;
-          part = record { count = (in_result v id rest).count; took = (refl, refl, refl, refl); rest = sym left_so };
+          taken = record { server = (in_result v id rest).server; count = (in_result v id rest).count; history = calls_only (took v id rest) };
+          took = (refl, refl, refl);
+          rest = sym left_so;
           wrote = Later;
           offered = rw same.server (record { idle = λ e. (refl, refl); busy = λ some. absurd (some unwritten) });
           server = sym same.server;
           outcome = rw on refl;
-          all = sym (append-nil (took v id rest) ∙ refused);
+          history = ap calls_only (sym (append-nil (took v id rest) ∙ refused));
         };
-        all = refl;
+        history = refl;
       };
-      always = λ wire after left received course events part.
+      always = λ wire after outcome events part.
           let laid : (part.heard ≡ Later) × (part.bytes ≡ rest) × (part.between ≡ wire) = rw unread at part.laid in
-          let carried : IsTakenAndWritten IsTakenAlone may_write v id rest wire after left received course part.later [] = rw (laid.0, laid.1, laid.2) at part.carried in
-          let same_events : events ≡ part.later = part.all ∙ ap (λ got. heard_events id got ++ part.later) laid.0 in
-          rw same_events (nothing_carried may_write v id rest wire after left received course part.later same.server refused left_so unwritten on carried);
+          let carried : IsTakenAndWritten IsTakenAlone ready.write id (visit_state v rest wire) after (record { outcome = outcome; history = part.later }) = rw (laid.0, laid.1, laid.2) at part.carried in
+          let all : calls_only events ≡ part.later = part.history ∙ ap (λ got. record (part.later) { events = heard_events id got ++ part.later.events }) laid.0 in
+          nothing_carried ready.write id (visit_state v rest wire) after outcome events same refused left_so unwritten on (rw (← all) at carried);
     }
 
 -- A connection on which nothing can be done may be skipped.
-pub passed_over : (v : ServerValue) (id i : ℕ) (rest : List ℕ) (may_read may_write : Bool) → LiesAt id i v.sessions → AreSettled v.host v.sessions → can_go_on (wants_of v id rest) may_read may_write ≡ false → is_over_in (outlook_of v id) ≡ false → IsNoOp may_read may_write v id rest
-passed_over v id i rest may_read may_write lies settled idle on =
-    elim (session_of id v.sessions) as (λ o. session_of id v.sessions ≡ o → is_over_in (option_map (session_outlook v.host.now) o) ≡ false → IsNoOp may_read may_write v id rest) [
+pub passed_over : (v : ServerValue) (id i : ℕ) (rest : List ℕ) (ready : Readiness) → LiesAt id i v.sessions → AreSettled v.host v.sessions → can_go_on (wants_of v id rest) ready ≡ false → is_over_in (outlook_of v id) ≡ false → IsNoOp ready v id rest
+passed_over v id i rest ready lies settled idle on =
+    elim (session_of id v.sessions) as (λ o. session_of id v.sessions ≡ o → is_over_in (option_map (session_outlook v.host.now) o) ≡ false → IsNoOp ready v id rest) [
       | None ↦ λ here over. absurd cc
-      | Some s ↦ λ here over. nothing_done v id i s rest may_read may_write lies here settled idle on
+      | Some s ↦ λ here over. nothing_done v id i s rest ready lies here settled idle on
     ] refl on

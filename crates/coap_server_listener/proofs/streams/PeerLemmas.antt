@@ -1,19 +1,13 @@
 -- The steps of serving a connection, and a value written at an index of a map whose keys are numbers.
-use Rattle.std.proofs.Common.{◌≡◌, ◌≢◌, ℕ, zero, suc, Bool, true, false, List, [], ◌∷◌, ◌++◌, length, take, Option, Some, None, IfSome, is_some, is_none, option_map, refl, sym, ap, ◌∙◌, ◌||◌, ◌&&◌, ◌==◌, if◌then◌else◌, nat_lt, slice_get, remove, arith}
+use Rattle.std.proofs.Common.{ℕ, ◌≡◌, ◌≢◌, zero, suc, Bool, true, false, List, [], ◌∷◌, ◌++◌, length, take, Option, Some, None, IfSome, is_some, is_none, option_map, refl, sym, ap, ◌∙◌, ◌||◌, ◌&&◌, ◌==◌, if◌then◌else◌, nat_lt, slice_get, remove, arith}
 use Rattle.std.proofs.lemmas.Bool.{and_parts}
-use Rattle.coap_conn.specs.declared.reason.Reason.{Reason}
+use Rattle.coap_server_engine.specs.Prelude.{Reason, stop_of, takes_messages, can_take_on}
 use Rattle.coap_server_listener.specs.declared.door.peer.PeerOutcome.TheVariants.{Open}
-use Rattle.coap_conn.specs.Phases.{stop_of, takes_messages}
 use Rattle.coap_server_session.specs.values.Sessions.{session_ready}
-use Rattle.coap_server_engine.specs.values.ServerAnswers.{can_take_on}
-use Rattle.coap_server_listener.specs.Prelude.{ConnectionWork, IsCourseFor, IsReasonFor, SessionValue, session_of, session_outlook, waiting_at, waiting_in}
-use Rattle.coap_server_listener.specs.Prelude.{set_value_at, AcceptedCall, ServerValue, WireTrace, Got, Bytes, End, Failed, Later, PeerOutcome, Taking, is_heard}
-use Rattle.coap_server_listener.specs.Prelude.{server_heard, server_wrote, has_failed, course_of, is_over_in, outlook_of}
-use Rattle.coap_server_listener.specs.Prelude.{waiting_once, IsLaidOut, IsOffered, IsServedOnceBy}
-use Rattle.coap_server_listener.specs.Prelude.{Answering, AnswersMore, AreCallsBetween, Following, FollowsMore, HasAccepted, Over, heard_events, wrote_events}
+use Rattle.coap_server_listener.specs.Prelude.{ConnectionWork, IsCourseFor, IsReasonFor, SessionValue, session_of, session_outlook, waiting_at, waiting_in, set_value_at, AcceptedCall, ServerValue, WireTrace, Got, Bytes, End, Failed, Later, PeerOutcome, Taking, is_heard, server_heard, server_wrote, has_failed, course_of, is_over_in, outlook_of, waiting_once, IsLaidOut, IsOffered, IsServedOnceBy, Readiness, VisitState, Answering, AreCallsBetween, Continues, Following, HasAccepted, Over, calls_only, heard_events, journal, no_history, wrote_events}
 use Rattle.std.proofs.lemmas.List.{append-nil}
-use Rattle.coap_server_listener.proofs.streams.ServingLemmas.{accepted_then, answered_none, moved_then}
-use Rattle.coap_server_listener.specs.streams.Turns.{IsTakenInPartOf, activity_after, have_moved, has_written}
+use Rattle.coap_server_listener.proofs.streams.ServingLemmas.{accepted_then, calls_accepted, moved_then}
+use Rattle.coap_server_listener.specs.streams.Turns.{IsTakenInPart, activity_after, have_moved, has_written}
 use Rattle.coap_server_engine.specs.declared.monitor.DropReason.TheVariants as drop
 use Rattle.coap_server_listener.specs.declared.door.silence.Activity.{Activity}
 use Rattle.std.proofs.Math.Bool.{or-false}
@@ -41,60 +35,58 @@ all_moved id heard wrote takes n moved =
 -- ---- the steps of a visit
 
 -- A read that did not fail, then the processing of its bytes, then a write.
-pub steps_are_a_part : (Takes : Taking) (may_read may_write : Bool) (v heard_by taken after : ServerValue) (id : ℕ) (rest bytes left : List ℕ) (wire between wire_after : WireTrace) (heard wrote : Got) (course : PeerOutcome) (a b c d : Following) (p q : Answering) (second n : ℕ) (times later : Activity)
-    → heard_by ≡ server_heard v id heard → IsLaidOut (is_heard may_read v id rest) rest wire heard bytes between → has_failed heard ≡ false
-    → HasAccepted (IsTakenInPartOf Takes heard_by id bytes taken left n) (FollowsMore b c) (AnswersMore p q) heard_by taken → IsOffered (waiting_once may_write id taken) between wrote wire_after
-    → after ≡ server_wrote taken id wrote → course ≡ course_of wrote (is_over_in (outlook_of after id))
-    → AreCallsBetween (FollowsMore a b) v heard_by (heard_events id heard) → AreCallsBetween (FollowsMore c d) taken after (wrote_events id wrote)
+pub steps_are_a_part : (takes : Taking) (ready : Readiness) (id : ℕ) (before after : VisitState) {heard_by taken : ServerValue} (bytes : List ℕ) (between : WireTrace) (heard wrote : Got) (outcome : PeerOutcome) {a b c d : Following} (p q : Answering) (second n : ℕ) (times : Activity) {later : Activity}
+    → heard_by ≡ server_heard before.server id heard → IsLaidOut (is_heard ready.read before.server id before.rest) before.rest before.wire heard bytes between → has_failed heard ≡ false
+    → HasAccepted (λ h. IsTakenInPart takes heard_by id bytes after.rest (record { server = taken; count = n; history = h })) (Continues (journal b p) (journal c q)) heard_by taken → IsOffered (waiting_once ready.write id taken) between wrote after.wire
+    → after.server ≡ server_wrote taken id wrote → outcome ≡ course_of wrote (is_over_in (outlook_of after.server id))
+    → AreCallsBetween a b before.server heard_by (heard_events id heard) → AreCallsBetween c d taken after.server (wrote_events id wrote)
     → later ≡ activity_after second (nat_lt 0 n || has_written wrote) times
-    → HasAccepted (λ events exchanges. IsServedOnceBy Takes may_read may_write v id rest wire after left wire_after course events exchanges × (later ≡ activity_after second (have_moved events) times)) (FollowsMore a d) (AnswersMore p q) v after
-steps_are_a_part Takes may_read may_write v heard_by taken after id rest bytes left wire between wire_after heard wrote course a b c d p q second n times later heard_so laid works part offered wrote_so outcome heard_accepted wrote_accepted after_so = record {
-  events = heard_events id heard ++ (part.events ++ wrote_events id wrote);
-  exchanges = part.exchanges;
+    → HasAccepted (λ h. IsServedOnceBy takes ready id before after (record { outcome = outcome; history = h }) × (later ≡ activity_after second (have_moved h.events) times)) (Continues (journal a p) (journal d q)) before.server after.server
+steps_are_a_part takes ready id before after {taken = taken} bytes between heard wrote outcome p q second n times {later = later} heard_so laid works part offered wrote_so outcome_so heard_made wrote_made after_so = record {
+  history = record { events = heard_events id heard ++ (part.history.events ++ wrote_events id wrote); exchanges = part.history.exchanges };
   made = (
     record {
       heard = heard;
       bytes = bytes;
       between = between;
       laid = laid;
-      later = part.events ++ wrote_events id wrote;
+      later = record { events = part.history.events ++ wrote_events id wrote; exchanges = part.history.exchanges };
       carried = rw works (record {
-        taken = taken;
-        takes = part.events;
-        part = rw (← heard_so) part.made.part;
+        taken = record { server = taken; count = n; history = part.history };
+        took = rw (← heard_so) part.made.took;
+        rest = part.made.rest;
         wrote = wrote;
         offered = offered;
         server = wrote_so;
-        outcome = outcome;
-        all = refl;
+        outcome = outcome_so;
+        history = refl;
       });
-      all = refl;
+      history = refl;
     },
-    after_so ∙ ap (λ moved. activity_after second moved times) (sym (all_moved id heard wrote part.events n part.made.moved)),
+    after_so ∙ ap (λ moved. activity_after second moved times) (sym (all_moved id heard wrote part.history.events n part.made.moved)),
   );
-  accepted = accepted_then a b d v heard_by after (heard_events id heard) (part.events ++ wrote_events id wrote) heard_accepted
-      (accepted_then b c d heard_by taken after part.events (wrote_events id wrote) part.accepted wrote_accepted);
-  exchanged = part.exchanged;
+  accepted = accepted_then (calls_accepted p heard_made) (rw (append-nil part.history.exchanges) at (accepted_then part.accepted (calls_accepted q wrote_made)));
 }
 
 -- A read that failed.
-pub failed_read_is_a_part : (Takes : Taking) (may_read may_write : Bool) (v after : ServerValue) (id : ℕ) (rest bytes left : List ℕ) (wire between : WireTrace) (heard : Got) (a b : Following) (p : Answering) (second : ℕ) (times : Activity)
-    → after ≡ server_heard v id heard → IsLaidOut (is_heard may_read v id rest) rest wire heard bytes between → has_failed heard ≡ true → AreCallsBetween (FollowsMore a b) v after (heard_events id heard)
-    → HasAccepted (λ events exchanges. IsServedOnceBy Takes may_read may_write v id rest wire after left between (Over drop.Failed) events exchanges × (times ≡ activity_after second (have_moved events) times)) (FollowsMore a b) (AnswersMore p p) v after
-failed_read_is_a_part Takes may_read may_write v after id rest bytes left wire between heard a b p second times heard_so laid fails accepted = record {
-  events = heard_events id heard ++ [];
-  exchanges = [];
-  made = (record { heard = heard; bytes = bytes; between = between; laid = laid; later = []; carried = rw fails (heard_so, refl, refl, refl, refl); all = refl }, sym (ap (λ moved. activity_after second moved times) (all_moved id heard Later [] 0 refl)));
-  accepted = rw append-nil accepted;
-  exchanged = answered_none p;
+pub failed_read_is_a_part : (takes : Taking) (ready : Readiness) (id : ℕ) (before after : VisitState) (bytes : List ℕ) (heard : Got) {a b : Following} (p : Answering) (second : ℕ) {times later : Activity}
+    → after.server ≡ server_heard before.server id heard → IsLaidOut (is_heard ready.read before.server id before.rest) before.rest before.wire heard bytes after.wire → has_failed heard ≡ true → AreCallsBetween a b before.server after.server (heard_events id heard) → later ≡ times
+    → HasAccepted (λ h. IsServedOnceBy takes ready id before after (record { outcome = Over drop.Failed; history = h }) × (later ≡ activity_after second (have_moved h.events) times)) (Continues (journal a p) (journal b p)) before.server after.server
+failed_read_is_a_part takes ready id before after bytes heard p second {times = times} {later = later} heard_so laid fails made same = record {
+  history = calls_only (heard_events id heard ++ []);
+  made = (
+    record { heard = heard; bytes = bytes; between = after.wire; laid = laid; later = no_history; carried = rw fails (heard_so, refl, refl); history = refl },
+    same ∙ sym (ap (λ moved. activity_after second moved times) (all_moved id heard Later [] 0 refl)),
+  );
+  accepted = rw append-nil (calls_accepted p made);
 }
 
 -- ---- the reason of a drop
 
-last_true : (a b c : Bool) → (a && b && c) ≡ true → c ≡ true
-last_true true true c all = all
-last_true true false c all = absurd cc
-last_true false b c all = absurd cc
+last_true : (a b : Bool) {c : Bool} → (a && b && c) ≡ true → c ≡ true
+last_true true true all = all
+last_true true false all = absurd cc
+last_true false b all = absurd cc
 
 not_over : (stop : Option Reason) (b : Bool) → is_none stop ≡ true → (is_some stop && b) ≡ false
 not_over None b live = refl
@@ -110,13 +102,13 @@ laid_failed true rest bytes wire between laid = refl
 laid_failed false rest bytes wire between laid = let never : Failed ≡ Later = laid.0 in absurd cc
 
 -- A read that failed was due.
-pub read_failed : (may_read : Bool) (v after : ServerValue) (id : ℕ) (rest bytes : List ℕ) (wire between : WireTrace) (heard : Got) → after ≡ server_heard v id heard → IsLaidOut (is_heard may_read v id rest) rest wire heard bytes between → has_failed heard ≡ true
+pub read_failed : (may_read : Bool) (v : ServerValue) {after : ServerValue} (id : ℕ) (rest bytes : List ℕ) (wire between : WireTrace) (heard : Got) → after ≡ server_heard v id heard → IsLaidOut (is_heard may_read v id rest) rest wire heard bytes between → has_failed heard ≡ true
     → IfSome (outlook_of after id) (IsReasonFor drop.Failed)
-read_failed may_read v after id rest bytes wire between (Bytes n) is laid fails = absurd cc
-read_failed may_read v after id rest bytes wire between Later is laid fails = absurd cc
-read_failed may_read v after id rest bytes wire between End is laid fails = absurd cc
-read_failed may_read v after id rest bytes wire between Failed is laid fails =
-    rw is (takes_on v.host.now (session_of id v.sessions) (last_true may_read (length rest == 0) (can_take_on (session_of id v.sessions)) (laid_failed (is_heard may_read v id rest) rest bytes wire between laid)))
+read_failed may_read v id rest bytes wire between (Bytes n) is laid fails = absurd cc
+read_failed may_read v id rest bytes wire between Later is laid fails = absurd cc
+read_failed may_read v id rest bytes wire between End is laid fails = absurd cc
+read_failed may_read v id rest bytes wire between Failed is laid fails =
+    rw is (takes_on v.host.now (session_of id v.sessions) (last_true may_read (length rest == 0) (laid_failed (is_heard may_read v id rest) rest bytes wire between laid)))
 
 some_queued : (over held : Bool) (waiting : List ℕ) → waiting ≢ [] → (over && (held && (length waiting == 0))) ≡ false
 some_queued over held [] some = absurd (some refl)
@@ -140,12 +132,12 @@ none_offered true waiting none = none
 none_offered false waiting none = refl
 
 -- A write that failed leaves bytes queued. After another result, the connection may have finished.
-pub write_reason : (may_write : Bool) (taken after : ServerValue) (id : ℕ) (wrote : Got) → after ≡ server_wrote taken id wrote → (waiting_once may_write id taken ≡ [] → wrote ≡ Later)
+pub write_reason : (may_write : Bool) (taken : ServerValue) {after : ServerValue} (id : ℕ) (wrote : Got) → after ≡ server_wrote taken id wrote → (waiting_once may_write id taken ≡ [] → wrote ≡ Later)
     → IsCourseFor (course_of wrote (is_over_in (outlook_of after id))) (outlook_of after id)
-write_reason may_write taken after id (Bytes n) is idle = over_reason (outlook_of after id)
-write_reason may_write taken after id Later is idle = over_reason (outlook_of after id)
-write_reason may_write taken after id End is idle = over_reason (outlook_of after id)
-write_reason may_write taken after id Failed is idle =
+write_reason may_write taken {after = after} id (Bytes n) is idle = over_reason (outlook_of after id)
+write_reason may_write taken {after = after} id Later is idle = over_reason (outlook_of after id)
+write_reason may_write taken {after = after} id End is idle = over_reason (outlook_of after id)
+write_reason may_write taken id Failed is idle =
     rw is (queue_left taken.host.now (session_of id taken.sessions) (λ none. let never : Failed ≡ Later = idle (none_offered may_write (waiting_at id taken) none) in absurd cc))
 
 -- ---- entries

@@ -7,8 +7,7 @@ use Rattle.std.proofs.lemmas.Map.Entries.{none_past_head, lookup_from_place}
 use Rattle.std.proofs.lemmas.List.Quantifiers.{position-Some}
 use Rattle.std.proofs.lemmas.List.Elements.{All-from_recursion, recursion_from_All}
 use Rattle.std.proofs.lemmas.Option.{slice_get-map, slice_get_cases, get_or_from_slice_get}
-use Rattle.coap_server_listener.specs.Prelude.{AllByRecursion, All, IsDistinct, keys_of, set_value_at, shift_remove_entry, Peer}
-use Rattle.coap_server_listener.specs.Prelude.{ServerValue, AreSettled, server_released, server_dropped, IsNoted, recorded, released_at, released_on}
+use Rattle.coap_server_listener.specs.Prelude.{AllByRecursion, All, IsDistinct, keys_of, set_value_at, shift_remove_entry, Peer, ServerValue, AreSettled, server_released, server_dropped, IsNoted, recorded, released_at, released_on}
 use Rattle.coap_server_listener.proofs.streams.NoteLemmas.{stays_noted, released_on_it, dropped_on, others_become, noted_now}
 
 -- The entry at the place of a number has that number.
@@ -37,8 +36,8 @@ module _ {W : Type 0} (f : ℕ × Peer W → Peer W) where
   changed_nowhere id (e ∷ es) none = rw (none.0, changed_nowhere id es none.1) refl
 
   -- No connection has the number.
-  pub changed_without : (id : ℕ) (es : List (ℕ × Peer W)) → NonePasses (nat_eq id) es → es ≡ changed_on id es
-  changed_without id es none = sym (changed_nowhere id es none)
+  pub changed_without : (id : ℕ) {es : List (ℕ × Peer W)} → NonePasses (nat_eq id) es → es ≡ changed_on id es
+  changed_without id {es = es} none = sym (changed_nowhere id es none)
 
   -- The value is recorded at the index of the number.
   pub changed_there : (id : ℕ) (es : List (ℕ × Peer W)) (i : ℕ) (p : Peer W) → IsDistinct nat_eq (keys_of es) → slice_get es i ≡ Some (id, p) → set_value_at es i (f (id, p)) ≡ changed_on id es
@@ -56,9 +55,9 @@ module _ {W : Type 0} (f : ℕ × Peer W → Peer W) where
       ] refl
 
   -- The same for a place that was looked up.
-  pub changed_found : (id : ℕ) (es now : List (ℕ × Peer W)) (i : ℕ) → IsDistinct nat_eq (keys_of es) → Some i ≡ position (nat_eq id) (keys_of es) → i < length es
+  pub changed_found : (id : ℕ) (es : List (ℕ × Peer W)) {now : List (ℕ × Peer W)} {i : ℕ} → IsDistinct nat_eq (keys_of es) → Some i ≡ position (nat_eq id) (keys_of es) → i < length es
       → IfSome (slice_get es i) (λ e. now ≡ set_value_at es i (f e)) → now ≡ changed_on id es
-  changed_found id es now i distinct there within set = elim (slice_get_cases es i).1 as (λ _. now ≡ changed_on id es) [
+  changed_found id es {now = now} {i = i} distinct there within set = elim (slice_get_cases es i).1 as (λ _. now ≡ changed_on id es) [
     | inl h ↦ let e : ℕ × Peer W = h.0 in let same : e.0 ≡ id = number_at id es i e.0 e.1 there h.2 in rw h.2 at set ∙ rw (← same) (changed_there e.0 es i e.1 distinct h.2)
     | inr h ↦ absurd (omega (arith, within, h.0))
   ]
@@ -77,21 +76,21 @@ module _ {W : Type 0} (f : ℕ × Peer W → Peer W) where
 
 -- The interest that is recorded is correct.
 pub recorded_noted : {W : Type 0} (after : ServerValue) (e : ℕ × Peer W) → IsNoted after (e.0, recorded after e)
-recorded_noted after e = noted_now after e.0 (recorded after e) refl
+recorded_noted after e = noted_now e.0 (recorded after e) refl
 
-pub released_noted : {W : Type 0} (now : ℕ) (after : ServerValue) (e : ℕ × Peer W) → IsNoted after (e.0, released_at now (recorded after e))
-released_noted now after e = noted_now after e.0 (released_at now (recorded after e)) refl
+pub released_noted : {W : Type 0} (now : ℕ) {after : ServerValue} (e : ℕ × Peer W) → IsNoted after (e.0, released_at now (recorded after e))
+released_noted now {after = after} e = noted_now e.0 (released_at now (recorded after e)) refl
 
 left_all : {X : Type 0} (P : ℕ × X → Type 0) (test : ℕ → Bool) (es : List (ℕ × X)) → AllByRecursion P es → AllByRecursion P (shift_remove_entry test es)
 left_all P test [] all = tt
 left_all P test (e ∷ es) all = grind (arith, left_all P test es all.1)
 
-pub noted_where_released : {W : Type 0} (now : ℕ) (v after : ServerValue) (id : ℕ) (es left : List (ℕ × Peer W)) → AreSettled v.host v.sessions → after ≡ server_released v id → left ≡ released_on now after id es → All (IsNoted v) es → All (IsNoted after) left
-noted_where_released now v after id es left settled released is noted =
+pub noted_where_released : {W : Type 0} (now : ℕ) (v : ServerValue) {after : ServerValue} (id : ℕ) (es : List (ℕ × Peer W)) {left : List (ℕ × Peer W)} → AreSettled v.host v.sessions → after ≡ server_released v id → left ≡ released_on now after id es → All (IsNoted v) es → All (IsNoted after) left
+noted_where_released now v id es settled released is noted =
     rw (is, released) (All-from_recursion (IsNoted (server_released v id)) (released_on now (server_released v id) id es)
-    (all_noted_on (λ e. released_at now (recorded (server_released v id) e)) v (server_released v id) id (stays_noted (released_on_it v id) settled) (released_noted now (server_released v id)) es (recursion_from_All (IsNoted v) es noted)))
+    (all_noted_on (λ e. released_at now (recorded (server_released v id) e)) v (server_released v id) id (stays_noted (released_on_it v id) settled) (released_noted now) es (recursion_from_All (IsNoted v) es noted)))
 
-pub noted_where_left : {W : Type 0} (v after : ServerValue) (id : ℕ) (es now : List (ℕ × Peer W)) → AreSettled v.host v.sessions → after ≡ server_dropped v id → now ≡ shift_remove_entry (nat_eq id) es → NonePasses (nat_eq id) now → All (IsNoted v) es → All (IsNoted after) now
-noted_where_left v after id es now settled dropped is apart noted =
+pub noted_where_left : {W : Type 0} (v : ServerValue) {after : ServerValue} (id : ℕ) (es : List (ℕ × Peer W)) {now : List (ℕ × Peer W)} → AreSettled v.host v.sessions → after ≡ server_dropped v id → now ≡ shift_remove_entry (nat_eq id) es → NonePasses (nat_eq id) now → All (IsNoted v) es → All (IsNoted after) now
+noted_where_left v id es {now = now} settled dropped is apart noted =
     rw dropped (All-from_recursion (IsNoted (server_dropped v id)) now
-    (others_become (IsNoted v) (IsNoted (server_dropped v id)) id (stays_noted (dropped_on v id) settled) now apart (rw is (left_all (IsNoted v) (nat_eq id) es (recursion_from_All (IsNoted v) es noted)))))
+    (others_become (IsNoted v) (IsNoted (server_dropped v id)) id (stays_noted (dropped_on id) settled) now apart (rw is (left_all (IsNoted v) (nat_eq id) es (recursion_from_All (IsNoted v) es noted)))))

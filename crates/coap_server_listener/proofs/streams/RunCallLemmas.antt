@@ -1,17 +1,13 @@
 -- The calls of a run: a script can make each of them again.
-use Rattle.std.proofs.Common.{ℕ, Bool, true, false, List, [], ◌∷◌, ◌++◌, Option, Some, None, Result, Ok, Err, is_none, nat_le, ◌==◌, ◌+◌, if◌then◌else◌, inl, inr}
+use Rattle.std.proofs.Common.{ℕ, Bool, true, false, List, [], ◌∷◌, Option, Some, None, Result, Ok, Err, is_none, nat_le, ◌==◌, ◌+◌, if◌then◌else◌, inl, inr}
 use Rattle.std.specs.Prelude.{All}
 use Rattle.std.proofs.lemmas.List.Elements.{All-append, All-cons, All-nil, All-push}
-use Rattle.coap_wire.specs.Message.{Message}
+use Rattle.coap_server_engine.specs.Prelude.{Message, FormatFault, AcceptedCall, Opened, Took, Wrote, Ticked, Ended, Released, Responded, Dropped, Exchange, responded_refusal, response_event, ServerValue}
 use Rattle.coap_wire.specs.Reading.{message_of}
-use Rattle.coap_wire.specs.declared.fault.FormatFault.{FormatFault}
-use Rattle.coap_model.specs.world.Events.{AcceptedCall, Opened, Took, Wrote, Ticked, Ended, Released, Responded, Dropped}
 use Rattle.coap_server_engine.specs.values.ApplicationCalls.{AreGivenLater, NothingGiven, OneMoreGiven, asking, offered_events, served}
-use Rattle.coap_server_engine.specs.values.Exchanges.{Exchange}
-use Rattle.coap_server_engine.specs.values.ServerAnswers.{responded_refusal, response_event}
-use Rattle.coap_server_engine.specs.values.Servers.{ServerValue}
-use Rattle.coap_server_listener.specs.streams.Run.{AreRunSteps, IsRunCall, LaterGiven, NoneRun, SilentDropped, SilentReleased, TimeSet, TurnMade, moved_calls, ticked_calls}
-use Rattle.coap_server_listener.specs.streams.Serving.{AreStepsBy, AreTakenWith, NoStep, OneDropped, OneEnded, OneTaken, OneWrote, opening}
+use Rattle.coap_server_listener.specs.streams.Histories.{AreSteps, History, NoStep, OneMore}
+use Rattle.coap_server_listener.specs.streams.Run.{IsRunCall, IsRunStep, LaterGiven, SilentDropped, SilentReleased, TimeSet, TurnMade, moved_calls, ticked_calls}
+use Rattle.coap_server_listener.specs.streams.Serving.{AreTakenWith, BytesTaken, BytesWritten, ConnectionDropped, InputEnded, IsVisitStep, opening}
 
 -- ---- responses
 
@@ -42,20 +38,25 @@ served_made v id bytes (response ∷ responses) =
     All-append IsRunCall (served v id bytes responses).events _ (served_made v id bytes responses)
     (All-cons IsRunCall (Took id _) _ tt (asked_made _ id _ response _))
 
-taken_made : {v after : ServerValue} {events : List AcceptedCall} {exchanges : List Exchange} → AreTakenWith v after events exchanges → All IsRunCall events
+taken_made : {v after : ServerValue} {h : History} → AreTakenWith v after h → All IsRunCall h.events
 taken_made {v} step = elim step.how [
   | inl whole ↦ rw whole.1.tells (served_made v step.id step.bytes whole.1.responses)
   | inr part ↦ rw part.tells (All-push IsRunCall (served v step.id step.bytes part.responses).events _ (served_made v step.id step.bytes part.responses) tt)
 ]
 
--- ---- a turn
+-- ---- steps
 
-steps_made : {v w : ServerValue} {events : List AcceptedCall} {exchanges : List Exchange} → AreStepsBy AreTakenWith v w events exchanges → All IsRunCall events
-steps_made NoStep = All-nil IsRunCall
-steps_made (OneTaken w after events more exchanges others so_far step) = All-append IsRunCall events more (steps_made so_far) (taken_made step)
-steps_made (OneEnded w events exchanges id so_far) = All-push IsRunCall events (Ended id) (steps_made so_far) tt
-steps_made (OneWrote w events exchanges id n so_far) = All-push IsRunCall events (Wrote id n) (steps_made so_far) tt
-steps_made (OneDropped w events exchanges id so_far) = All-push IsRunCall events (Dropped id) (steps_made so_far) tt
+all_made : {Step : ServerValue → ServerValue → History → Type 0} → ((v after : ServerValue) (h : History) → Step v after h → All IsRunCall h.events) → {v after : ServerValue} {h : History} → AreSteps Step v after h → All IsRunCall h.events
+all_made each NoStep = All-nil IsRunCall
+all_made each (OneMore w after h more so_far step) = All-append IsRunCall h.events more.events (all_made each so_far) (each w after more step)
+
+visit_made : {v w : ServerValue} {h : History} → IsVisitStep v w h → All IsRunCall h.events
+visit_made (BytesTaken after h step) = taken_made step
+visit_made (InputEnded id) = All-cons IsRunCall (Ended id) [] tt (All-nil IsRunCall)
+visit_made (BytesWritten id n) = All-cons IsRunCall (Wrote id n) [] tt (All-nil IsRunCall)
+visit_made (ConnectionDropped id) = All-cons IsRunCall (Dropped id) [] tt (All-nil IsRunCall)
+
+-- ---- a turn
 
 opening_made : (v : ServerValue) (opens : Bool) → All IsRunCall (opening v opens)
 opening_made v true = All-cons IsRunCall (Opened (v.ids + 1)) [] tt (All-nil IsRunCall)
@@ -75,12 +76,12 @@ moved_made v moment = elim (nat_le v.host.now moment) as (λ later. All IsRunCal
 
 -- ---- a run
 
-pub run_made : {v w : ServerValue} {events : List AcceptedCall} {exchanges : List Exchange} → AreRunSteps v w events exchanges → All IsRunCall events
-run_made NoneRun = All-nil IsRunCall
-run_made (SilentReleased w events exchanges id so_far) = All-push IsRunCall events (Released id) (run_made so_far) tt
-run_made (SilentDropped w events exchanges id so_far) = All-push IsRunCall events (Dropped id) (run_made so_far) tt
-run_made (TimeSet w events exchanges moment so_far) = All-append IsRunCall events (moved_calls w moment) (run_made so_far) (moved_made w moment)
-run_made (LaterGiven w after events more exchanges others is_full so_far asked) = All-append IsRunCall events more (run_made so_far) (rw asked.tells (later_made asked.given))
-run_made (TurnMade w after events more exchanges others opens so_far steps) =
-    All-append IsRunCall events (opening w opens ++ more) (run_made so_far)
-    (All-append IsRunCall (opening w opens) more (opening_made w opens) (steps_made steps))
+step_made : {v w : ServerValue} {h : History} → IsRunStep v w h → All IsRunCall h.events
+step_made (SilentReleased id) = All-cons IsRunCall (Released id) [] tt (All-nil IsRunCall)
+step_made (SilentDropped id) = All-cons IsRunCall (Dropped id) [] tt (All-nil IsRunCall)
+step_made {v} (TimeSet moment) = moved_made v moment
+step_made (LaterGiven after h is_full asked) = rw asked.tells (later_made asked.given)
+step_made {v} (TurnMade after h turn) = rw turn.all (All-append IsRunCall (opening v turn.opens) turn.visits.events (opening_made v turn.opens) (all_made (λ v w h step. visit_made step) turn.steps))
+
+pub run_made : {v w : ServerValue} {h : History} → AreSteps IsRunStep v w h → All IsRunCall h.events
+run_made steps = all_made (λ v w h step. step_made step) steps

@@ -1,18 +1,16 @@
--- The events of the parts of a turn.
-use Rattle.std.proofs.Common.{◌≡◌, ◌≢◌, ℕ, ◌+◌, ◌<◌, ◌||◌, not, nat_lt, true, false, List, [], ◌∷◌, ◌++◌, length, take, drop, Option, Some, None, IfSome, Result, append_assoc, arith, option_map, refl, sym, ap, ◌∙◌, inl, inr}
+-- The histories of the parts of a turn.
+use Rattle.std.proofs.Common.{ℕ, is_some, ◌≡◌, ◌≢◌, ◌+◌, ◌<◌, ◌||◌, not, nat_lt, true, false, List, [], ◌∷◌, ◌++◌, length, take, drop, Option, Some, None, IfSome, append_assoc, arith, option_map, refl, sym, ap, ◌∙◌, inl, inr}
 use Rattle.std.proofs.lemmas.Bool.{and_parts, ltb-true}
 use Rattle.std.proofs.lemmas.Bool.Decides.{nat_tests}
 use Rattle.std.proofs.lemmas.List.{append-nil, length-drop, length-take}
 use Rattle.std.proofs.Math.Bool.{or_assoc}
-use Rattle.coap_server_listener.specs.Prelude.{where_there, ShowsMore, FollowsMore, Following, opening, ServerValue, session_of, count_taken, server_taken}
-use Rattle.coap_server_listener.specs.Prelude.{ConnectionWork, IsReasonFor, SessionValue, session_outlook, AcceptedCall, Opened, Took, Ended, Wrote, Dropped, server_dropped, server_opened}
-use Rattle.coap_server_listener.specs.Prelude.{Answering, AnswersMore, Exchange, Gone, HasServedBy, HasTurnedBy, HasOpened, TakingSteps, AreTakenWith, NoneTaken, AreStepsBy, IsTakenWith}
-use Rattle.coap_server_listener.specs.Prelude.{AreCallsBetween, HasAccepted, Got, Bytes, End, Failed, Later, dropped_events, gone_exchanges, gone_on, heard_events, is_ok, is_there, server_heard, server_wrote, wrote_events}
-use Rattle.coap_server_listener.specs.streams.Turns.{IsTakenInPartOf, have_moved, moves, rest_behind}
-use Rattle.coap_server_listener.specs.streams.Serving.{NoStep, OneTaken, OneEnded, OneWrote, OneDropped}
+use Rattle.coap_server_engine.specs.Prelude.{Reason, handed_by}
+use Rattle.coap_server_listener.specs.Prelude.{ShowsMore, FollowsMore, Following, opening, ServerValue, session_of, count_taken, server_taken, ConnectionWork, IsReasonFor, SessionValue, session_outlook, AcceptedCall, Opened, Took, Dropped, server_dropped, server_opened, Answering, AnswersMore, Exchange, Gone, HasServed, HasTurned, HasOpened, AreSteps, IsTakenWith, opening_then, AreCallsBetween, Continues, HasAccepted, History, IsAccepted, Journal, calls_only, drop_history, drop_on, history_then, journal, no_history, one_drop, Got, Bytes, End, heard_events, is_there, server_heard, server_wrote, wrote_events}
+use Rattle.coap_server_listener.specs.streams.Histories.{NoStep, OneMore}
+use Rattle.coap_server_listener.specs.streams.Turns.{IsTakenInPart, have_moved, left_behind, moves, rest_behind}
+use Rattle.coap_server_listener.specs.streams.Serving.{BytesTaken, BytesWritten, ConnectionDropped, InputEnded}
 use Rattle.coap_server_engine.specs.Prelude.{Message}
 use Rattle.coap_server_engine.specs.declared.monitor.DropReason.{DropReason}
-use Rattle.coap_server_engine.specs.values.HandedRequests.{handed_by}
 use Rattle.coap_server_engine.specs.values.ApplicationCalls.{AreMade, asked_by, asking, message_limit, offered_events, response_for, served, IsPartlyServed, IsServed as IsServedWith}
 use Rattle.coap_server_engine.proofs.scripting.ShownLemmas.{shows_same, shows_then}
 use Rattle.coap_server_engine.proofs.scripting.FollowLemmas.{followed_none, followed_then}
@@ -27,113 +25,110 @@ pub answered_then : (p q r : Answering) (xs ys : List Exchange) → AnswersMore 
 unfolding AnswersMore
 answered_then p q r xs ys one two earlier so_far = rw (← append_assoc earlier xs ys) (two (earlier ++ xs) (one earlier so_far))
 
+-- ---- histories one after another
+
+pub then_none : {h : History} → history_then h no_history ≡ h
+then_none = rw (append-nil, append-nil) refl
+
+pub continued_none : (a : Journal) → Continues a a no_history
+continued_none a = record { calls = followed_none a.calls; exchanged = answered_none a.exchanges }
+
+pub continued_then : {a b c : Journal} (h more : History) → Continues a b h → Continues b c more → Continues a c (history_then h more)
+continued_then {a} {b} {c} h more one two = record {
+  calls = followed_then a.calls b.calls c.calls h.events more.events one.calls two.calls;
+  exchanged = answered_then a.exchanges b.exchanges c.exchanges h.exchanges more.exchanges one.exchanged two.exchanged;
+}
+
+pub accepted_none : (a : Journal) (v after : ServerValue) → after ≡ v → IsAccepted (Continues a a) v after no_history
+accepted_none a v after is = record { shows = shows_same v after is; known = continued_none a }
+
+pub accepted_then : {a b c : Journal} {u v w : ServerValue} {h more : History} → IsAccepted (Continues a b) u v h → IsAccepted (Continues b c) v w more → IsAccepted (Continues a c) u w (history_then h more)
+accepted_then {u = u} {v = v} {w = w} {h = h} {more = more} one two = record { shows = shows_then u v w h.events more.events one.shows two.shows; known = continued_then h more one.known two.known }
+
+-- The application was not called.
+pub calls_accepted : {a b : Following} (p : Answering) {v after : ServerValue} {events : List AcceptedCall} → AreCallsBetween a b v after events → IsAccepted (Continues (journal a p) (journal b p)) v after (calls_only events)
+calls_accepted p made = record { shows = made.shows; known = record { calls = made.follows; exchanged = answered_none p } }
+
 -- ---- steps one after the other
 
-module _ (S : TakingSteps) where
-  steps_then : {u v w : ServerValue} {es fs : List AcceptedCall} {xs ys : List Exchange} → AreStepsBy S u v es xs → AreStepsBy S v w fs ys → AreStepsBy S u w (es ++ fs) (xs ++ ys)
-  steps_then {es = es} {xs = xs} one NoStep = rw (append-nil, append-nil) one
-  steps_then {es = es} {xs = xs} one (OneTaken w after events more exchanges others so_far step) =
-      rw (← append_assoc es events more, ← append_assoc xs exchanges others) (OneTaken w after (es ++ events) more (xs ++ exchanges) others (steps_then one so_far) step)
-  steps_then {es = es} {xs = xs} one (OneEnded w events exchanges id so_far) =
-      rw (← append_assoc es events (Ended id ∷ [])) (OneEnded w (es ++ events) (xs ++ exchanges) id (steps_then one so_far))
-  steps_then {es = es} {xs = xs} one (OneWrote w events exchanges id n so_far) =
-      rw (← append_assoc es events (Wrote id n ∷ [])) (OneWrote w (es ++ events) (xs ++ exchanges) id n (steps_then one so_far))
-  steps_then {es = es} {xs = xs} one (OneDropped w events exchanges id so_far) =
-      rw (← append_assoc es events (Dropped id ∷ []), ← append_assoc xs exchanges (Gone id ∷ [])) (OneDropped w (es ++ events) (xs ++ exchanges) id (steps_then one so_far))
+pub steps_then : {Step : ServerValue → ServerValue → History → Type 0} {u v w : ServerValue} {h k : History} → AreSteps Step u v h → AreSteps Step v w k → AreSteps Step u w (history_then h k)
+steps_then {h = h} one NoStep = rw (append-nil, append-nil) one
+steps_then {h = h} one (OneMore w after g more so_far step) =
+    rw (← append_assoc h.events g.events more.events, ← append_assoc h.exchanges g.exchanges more.exchanges) (OneMore w after (history_then h g) more (steps_then one so_far) step)
 
-  -- Steps without a take are steps by any way of taking.
-  any_steps : {v w : ServerValue} {es : List AcceptedCall} {xs : List Exchange} → AreStepsBy NoneTaken v w es xs → AreStepsBy S v w es xs
-  any_steps NoStep = NoStep
-  any_steps (OneTaken w after events more exchanges others so_far step) = absurd step
-  any_steps (OneEnded w events exchanges id so_far) = OneEnded w events exchanges id (any_steps so_far)
-  any_steps (OneWrote w events exchanges id n so_far) = OneWrote w events exchanges id n (any_steps so_far)
-  any_steps (OneDropped w events exchanges id so_far) = OneDropped w events exchanges id (any_steps so_far)
+pub one_step : {Step : ServerValue → ServerValue → History → Type 0} {v after : ServerValue} {h : History} → Step v after h → AreSteps Step v after h
+one_step {v = v} {after = after} {h = h} step = OneMore v after no_history h NoStep step
 
-  pub served_further : (a b c : Following) (p q r : Answering) {u v w : ServerValue} → HasServedBy S (FollowsMore a b) (AnswersMore p q) u v → HasServedBy S (FollowsMore b c) (AnswersMore q r) v w → HasServedBy S (FollowsMore a c) (AnswersMore p r) u w
-  served_further a b c p q r {u} {v} {w} one two = record {
-    events = one.events ++ two.events;
-    exchanges = one.exchanges ++ two.exchanges;
-    steps = steps_then one.steps two.steps;
-    shows = shows_then u v w one.events two.events one.shows two.shows;
-    tells = followed_then a b c one.events two.events one.tells two.tells;
-    exchanged = answered_then p q r one.exchanges two.exchanges one.exchanged two.exchanged;
-  }
+pub both_made : {Step : ServerValue → ServerValue → History → Type 0} {a b c : Journal} {u v w : ServerValue} → HasAccepted (AreSteps Step u v) (Continues a b) u v → HasAccepted (AreSteps Step v w) (Continues b c) v w → HasAccepted (AreSteps Step u w) (Continues a c) u w
+both_made one two = record { history = history_then one.history two.history; made = steps_then one.made two.made; accepted = accepted_then one.accepted two.accepted }
 
-  -- The application was not called.
-  pub served_aside : (a b : Following) (p : Answering) {v w : ServerValue} → HasServedBy NoneTaken (FollowsMore a b) (λ xs. xs ≡ []) v w → HasServedBy S (FollowsMore a b) (AnswersMore p p) v w
-  served_aside a b p one = record {
-    events = one.events;
-    exchanges = one.exchanges;
-    steps = any_steps one.steps;
-    shows = one.shows;
-    tells = one.tells;
-    exchanged = rw one.exchanged (answered_none p);
-  }
+pub none_made : {Step : ServerValue → ServerValue → History → Type 0} (a : Journal) {v after : ServerValue} → after ≡ v → HasAccepted (AreSteps Step v after) (Continues a a) v after
+none_made a {v = v} {after = after} is = record { history = no_history; made = rw is NoStep; accepted = accepted_none a v after is }
 
-  -- Nothing happened.
-  pub none_served : (a : Following) (p : Answering) (v after : ServerValue) → after ≡ v → HasServedBy S (FollowsMore a a) (AnswersMore p p) v after
-  none_served a p v after is = record { events = []; exchanges = []; steps = rw is NoStep; shows = shows_same v after is; tells = followed_none a; exchanged = answered_none p }
+-- Steps without an exchange.
+pub calls_made : {Step : ServerValue → ServerValue → History → Type 0} {a b : Following} {p : Answering} {v after : ServerValue} {events : List AcceptedCall} → AreSteps Step v after (calls_only events) → AreCallsBetween a b v after events
+    → HasAccepted (AreSteps Step v after) (Continues (journal a p) (journal b p)) v after
+calls_made {p = p} steps made = record { history = _; made = steps; accepted = calls_accepted p made }
 
-  -- The connection was dropped.
-  pub dropped_served : (a b : Following) (p q : Answering) (v after : ServerValue) (id : ℕ) → after ≡ server_dropped v id → ShowsMore v after (Dropped id ∷ []) → FollowsMore a b (Dropped id ∷ []) → AnswersMore p q (Gone id ∷ []) → HasServedBy S (FollowsMore a b) (AnswersMore p q) v after
-  dropped_served a b p q v after id is shows received gone =
-      record { events = Dropped id ∷ []; exchanges = Gone id ∷ []; steps = rw is (OneDropped v [] [] id NoStep); shows = shows; tells = received; exchanged = gone }
-
--- ---- calls one after the other
-
-pub none_accepted : (a : Following) (v after : ServerValue) → after ≡ v → AreCallsBetween (FollowsMore a a) v after []
-none_accepted a v after is = (shows_same v after is, followed_none a)
-
-pub accepted_then : (a b c : Following) (u v w : ServerValue) (xs ys : List AcceptedCall) → AreCallsBetween (FollowsMore a b) u v xs → AreCallsBetween (FollowsMore b c) v w ys → AreCallsBetween (FollowsMore a c) u w (xs ++ ys)
-accepted_then a b c u v w xs ys one two = (shows_then u v w xs ys one.0 two.0, followed_then a b c xs ys one.1 two.1)
+-- The connection was dropped.
+pub dropped_served : (a b : Following) (p q : Answering) (v : ServerValue) {after : ServerValue} (id : ℕ) → after ≡ server_dropped v id → ShowsMore v after (Dropped id ∷ []) → FollowsMore a b (Dropped id ∷ []) → AnswersMore p q (Gone id ∷ []) → HasServed (Continues (journal a p) (journal b q)) v after
+dropped_served a b p q v id is shows received gone =
+    record { history = one_drop id; made = rw is (one_step (ConnectionDropped id)); accepted = record { shows = shows; known = record { calls = received; exchanged = gone } } }
 
 -- ---- reads and writes
 
+pub none_called : {a : Following} {v after : ServerValue} → after ≡ v → AreCallsBetween a a v after []
+none_called {a = a} {v = v} {after = after} is = record { shows = shows_same v after is; follows = followed_none a }
+
 -- A read that did not find the end.
-pub read_accepted : (a : Following) (v after : ServerValue) (id : ℕ) (heard : Got) → heard ≢ End → after ≡ v → AreCallsBetween (FollowsMore a a) v after (heard_events id heard)
-read_accepted a v after id (Bytes n) apart is = none_accepted a v after is
-read_accepted a v after id Later apart is = none_accepted a v after is
-read_accepted a v after id End apart is = absurd (apart refl)
-read_accepted a v after id Failed apart is = none_accepted a v after is
+pub read_called : {a : Following} {v after : ServerValue} (id : ℕ) (heard : Got) → heard ≢ End → after ≡ v → AreCallsBetween a a v after (heard_events id heard)
+read_called id End apart is = absurd (apart refl)
+read_called {a = a} {v = v} {after = after} id heard apart is = none_called is
 
-nothing_served : (a b : Following) (v after : ServerValue) → after ≡ v → AreCallsBetween (FollowsMore a b) v after [] → HasServedBy NoneTaken (FollowsMore a b) (λ xs. xs ≡ []) v after
-nothing_served a b v after is accepted = record { events = []; exchanges = []; steps = rw is NoStep; shows = accepted.0; tells = accepted.1; exchanged = refl }
+pub heard_served : {a b : Following} {p : Answering} {v after : ServerValue} (id : ℕ) (heard : Got) → after ≡ server_heard v id heard → AreCallsBetween a b v after (heard_events id heard) → HasServed (Continues (journal a p) (journal b p)) v after
+heard_served id End is made = calls_made (rw is (one_step (InputEnded id))) made
+heard_served id heard is made = calls_made (rw is NoStep) made
 
-pub heard_served : (a b : Following) (v after : ServerValue) (id : ℕ) (heard : Got) → after ≡ server_heard v id heard → AreCallsBetween (FollowsMore a b) v after (heard_events id heard) → HasServedBy NoneTaken (FollowsMore a b) (λ xs. xs ≡ []) v after
-heard_served a b v after id (Bytes n) is accepted = nothing_served a b v after is accepted
-heard_served a b v after id Later is accepted = nothing_served a b v after is accepted
-heard_served a b v after id End is accepted = record { events = Ended id ∷ []; exchanges = []; steps = rw is (OneEnded v [] [] id NoStep); shows = accepted.0; tells = accepted.1; exchanged = refl }
-heard_served a b v after id Failed is accepted = nothing_served a b v after is accepted
-
-pub wrote_served : (a b : Following) (v after : ServerValue) (id : ℕ) (wrote : Got) → after ≡ server_wrote v id wrote → AreCallsBetween (FollowsMore a b) v after (wrote_events id wrote) → HasServedBy NoneTaken (FollowsMore a b) (λ xs. xs ≡ []) v after
-wrote_served a b v after id (Bytes n) is accepted = record { events = Wrote id n ∷ []; exchanges = []; steps = rw is (OneWrote v [] [] id n NoStep); shows = accepted.0; tells = accepted.1; exchanged = refl }
-wrote_served a b v after id Later is accepted = nothing_served a b v after is accepted
-wrote_served a b v after id End is accepted = nothing_served a b v after is accepted
-wrote_served a b v after id Failed is accepted = nothing_served a b v after is accepted
+pub wrote_served : {a b : Following} {p : Answering} {v after : ServerValue} (id : ℕ) (wrote : Got) → after ≡ server_wrote v id wrote → AreCallsBetween a b v after (wrote_events id wrote) → HasServed (Continues (journal a p) (journal b p)) v after
+wrote_served id (Bytes n) is made = calls_made (rw is (one_step (BytesWritten id n))) made
+wrote_served id wrote is made = calls_made (rw is NoStep) made
 
 -- ---- dropped connections
 
-there_called : (call : AcceptedCall) (o : Option SessionValue) → is_there o ≡ true → where_there o (λ s. call) ≡ call ∷ []
-there_called call None there = absurd cc
-there_called call (Some s) there = refl
+-- The history of a drop of a connection that exists, or does not.
+drop_there : (id : ℕ) (o : Option SessionValue) → is_there o ≡ true → drop_on o id ≡ one_drop id
+drop_there id None there = absurd cc
+drop_there id (Some s) there = refl
 
-not_there_called : (call : AcceptedCall) (o : Option SessionValue) → is_there o ≡ false → where_there o (λ s. call) ≡ []
-not_there_called call None there = refl
-not_there_called call (Some s) there = absurd cc
+drop_nowhere : (id : ℕ) (o : Option SessionValue) → is_there o ≡ false → drop_on o id ≡ no_history
+drop_nowhere id None there = refl
+drop_nowhere id (Some s) there = absurd cc
 
--- The connection existed, or it did not.
-pub drop_accepted : {T E : Type 0} (a b : Following) (v after : ServerValue) (id : ℕ) (r : Result T E) → is_ok r ≡ is_there (session_of id v.sessions) → is_ok r ≡ true → ShowsMore v after (Dropped id ∷ []) → FollowsMore a b (dropped_events v id) → AreCallsBetween (FollowsMore a b) v after (dropped_events v id)
-drop_accepted a b v after id r answer ok shows received = (rw (there_called (Dropped id) (session_of id v.sessions) (sym answer ∙ ok)) shows, received)
+-- A drop was made if the connection exists.
+pub drop_made : (a b : Following) (p q : Answering) (v after : ServerValue) (id : ℕ) → is_there (session_of id v.sessions) ≡ true → ShowsMore v after (Dropped id ∷ []) → FollowsMore a b (drop_history v id).events → AnswersMore p q (Gone id ∷ []) → IsAccepted (Continues (journal a p) (journal b q)) v after (drop_history v id)
+drop_made a b p q v after id there shows received gone =
+    let is = drop_there id (session_of id v.sessions) there in
+    record { shows = rw (ap (λ h. h.events) is) shows; known = record { calls = received; exchanged = rw (ap (λ h. h.exchanges) is) gone } }
 
-pub drop_received : {T E : Type 0} (a b : Following) (v : ServerValue) (id : ℕ) (r : Result T E) → is_ok r ≡ is_there (session_of id v.sessions) → is_ok r ≡ true → FollowsMore a b (dropped_events v id) → FollowsMore a b (Dropped id ∷ [])
-drop_received a b v id r answer ok received = rw (there_called (Dropped id) (session_of id v.sessions) (sym answer ∙ ok)) at received
+pub drop_served : (a b : Following) (p q : Answering) {v after : ServerValue} (id : ℕ) → is_there (session_of id v.sessions) ≡ true → after ≡ server_dropped v id → ShowsMore v after (Dropped id ∷ []) → FollowsMore a b (drop_history v id).events → AnswersMore p q (Gone id ∷ [])
+    → HasServed (Continues (journal a p) (journal b q)) v after
+drop_served a b p q {v = v} {after = after} id there is shows received gone = dropped_served a b p q v id is shows (rw (ap (λ h. h.events) (drop_there id (session_of id v.sessions) there)) at received) gone
+
+pub no_drop_made : (a b : Following) (p : Answering) {v after : ServerValue} (id : ℕ) → is_there (session_of id v.sessions) ≡ false → after ≡ v → FollowsMore a b (drop_history v id).events → IsAccepted (Continues (journal a p) (journal b p)) v after (drop_history v id)
+no_drop_made a b p {v = v} {after = after} id there is received =
+    let none = drop_nowhere id (session_of id v.sessions) there in
+    record { shows = rw (ap (λ h. h.events) none) (shows_same v after is); known = record { calls = received; exchanged = rw (ap (λ h. h.exchanges) none) (answered_none p) } }
+
+pub no_drop_served : (a b : Following) (p : Answering) {v after : ServerValue} (id : ℕ) → is_there (session_of id v.sessions) ≡ false → after ≡ v → FollowsMore a b (drop_history v id).events → HasServed (Continues (journal a p) (journal b p)) v after
+no_drop_served a b p {v = v} {after = after} id there is received =
+    calls_made (rw is NoStep) (record { shows = shows_same v after is; follows = rw (ap (λ h. h.events) (drop_nowhere id (session_of id v.sessions) there)) at received })
 
 -- The drop is reported if the connection exists.
-pub drop_reported : (a b : Following) (v : ServerValue) (id : ℕ) → is_there (session_of id v.sessions) ≡ true → FollowsMore a b (Dropped id ∷ []) → FollowsMore a b (dropped_events v id)
-drop_reported a b v id there received = rw (there_called (Dropped id) (session_of id v.sessions) there) received
+pub drop_reported : (a b : Following) (v : ServerValue) (id : ℕ) → is_there (session_of id v.sessions) ≡ true → FollowsMore a b (Dropped id ∷ []) → FollowsMore a b (drop_history v id).events
+drop_reported a b v id there received = rw (ap (λ h. h.events) (drop_there id (session_of id v.sessions) there)) received
 
-pub no_drop_reported : (a : Following) (v : ServerValue) (id : ℕ) → is_there (session_of id v.sessions) ≡ false → FollowsMore a a (dropped_events v id)
-no_drop_reported a v id none = rw (not_there_called (Dropped id) (session_of id v.sessions) none) (followed_none a)
+pub no_drop_reported : (a : Following) (v : ServerValue) (id : ℕ) → is_there (session_of id v.sessions) ≡ false → FollowsMore a a (drop_history v id).events
+no_drop_reported a v id none = rw (ap (λ h. h.events) (drop_nowhere id (session_of id v.sessions) none)) (followed_none a)
 
 pub reason_left : (now : ℕ) (o : Option SessionValue) (why : DropReason) → is_there o ≡ true → IfSome (option_map (session_outlook now) o) (IsReasonFor why) → (work : ConnectionWork) × (option_map (session_outlook now) o ≡ Some work) × IsReasonFor why work
 reason_left now None why there is = absurd cc
@@ -143,33 +138,6 @@ reason_left now (Some s) why there is = (session_outlook now s, refl, is)
 pub work_left : (now : ℕ) (o : Option SessionValue) → is_there o ≡ true → (work : ConnectionWork) × (option_map (session_outlook now) o ≡ Some work) × Unit {0}
 work_left now None there = absurd cc
 work_left now (Some s) there = (session_outlook now s, refl, tt)
-
-there_gone : (id : ℕ) (o : Option SessionValue) → is_there o ≡ true → gone_on o id ≡ Gone id ∷ []
-there_gone id None there = absurd cc
-there_gone id (Some s) there = refl
-
-not_there_gone : (id : ℕ) (o : Option SessionValue) → is_there o ≡ false → gone_on o id ≡ []
-not_there_gone id None there = refl
-not_there_gone id (Some s) there = absurd cc
-
-pub gone_answered : {T E : Type 0} (p q : Answering) (v : ServerValue) (id : ℕ) (r : Result T E) → is_ok r ≡ is_there (session_of id v.sessions) → is_ok r ≡ true → AnswersMore p q (Gone id ∷ []) → AnswersMore p q (gone_exchanges v id)
-gone_answered p q v id r answer ok gone = rw (there_gone id (session_of id v.sessions) (sym answer ∙ ok)) gone
-
-pub none_gone_answered : {T E : Type 0} (p : Answering) (v : ServerValue) (id : ℕ) (r : Result T E) → is_ok r ≡ is_there (session_of id v.sessions) → is_ok r ≡ false → AnswersMore p p (gone_exchanges v id)
-none_gone_answered p v id r answer err = rw (not_there_gone id (session_of id v.sessions) (sym answer ∙ err)) (answered_none p)
-
-pub no_drop_accepted : {T E : Type 0} (a b : Following) (v after : ServerValue) (id : ℕ) (r : Result T E) → is_ok r ≡ is_there (session_of id v.sessions) → is_ok r ≡ false → after ≡ v → FollowsMore a b (dropped_events v id) → AreCallsBetween (FollowsMore a b) v after (dropped_events v id)
-no_drop_accepted a b v after id r answer err is received = (rw (not_there_called (Dropped id) (session_of id v.sessions) (sym answer ∙ err)) (shows_same v after is), received)
-
-pub no_drop_served : {T E : Type 0} (S : TakingSteps) (a b : Following) (p : Answering) (v after : ServerValue) (id : ℕ) (r : Result T E) → is_ok r ≡ is_there (session_of id v.sessions) → is_ok r ≡ false → after ≡ v → FollowsMore a b (dropped_events v id) → HasServedBy S (FollowsMore a b) (AnswersMore p p) v after
-no_drop_served S a b p v after id r answer err is received =
-    record { events = []; exchanges = []; steps = rw is NoStep; shows = shows_same v after is; tells = rw (not_there_called (Dropped id) (session_of id v.sessions) (sym answer ∙ err)) at received; exchanged = answered_none p }
-
--- ---- calls of take
-
--- One call that passes bytes.
-one_taken : (S : TakingSteps) (v after : ServerValue) (es : List AcceptedCall) (xs : List Exchange) → S v after es xs → AreStepsBy S v after es xs
-one_taken S v after es xs step = OneTaken v after [] es [] xs NoStep step
 
 -- ---- transfers
 
@@ -205,48 +173,42 @@ served_moved v id bytes (response ∷ responses) made =
 
 -- ---- calls of take for an application
 
-pub with_accepted : {A : Type 0} (follows : A → Answering) (one other : A) (a b : Following) (v after : ServerValue) (id count : ℕ) (bytes : List ℕ) → IsServedWith v id bytes count after (FollowsMore a b) (AnswersMore (follows one) (follows other)) → HasAccepted (IsTakenWith follows v id bytes after count) (FollowsMore a b) (AnswersMore (follows one) (follows other)) v after
-with_accepted follows one other a b v after id count bytes part = record {
-  events = (served v id bytes part.responses).events;
-  exchanges = (served v id bytes part.responses).exchanges;
+-- The bytes that are kept, if the connection processes further messages.
+pub rest_kept : (stop : Option Reason) {left rest : List ℕ} → is_some stop ≡ false → left ≡ rest → left ≡ left_behind stop rest
+rest_kept None going is = is
+rest_kept (Some why) going is = absurd cc
+
+pub none_kept : (stop : Option Reason) {left : List ℕ} (rest : List ℕ) → is_some stop ≡ true → left ≡ [] → left ≡ left_behind stop rest
+none_kept None rest stopped is = absurd cc
+none_kept (Some why) rest stopped is = is
+
+pub taken_in_part : {A : Type 0} (follows : A → Answering) (one other : A) (a b : Following) {v after : ServerValue} (id count : ℕ) (bytes : List ℕ) {left : List ℕ}
+    → IsServedWith v id bytes count after (FollowsMore a b) (AnswersMore (follows one) (follows other)) → left ≡ rest_behind after id count bytes
+    → HasAccepted (λ h. IsTakenInPart (IsTakenWith follows) v id bytes left (record { server = after; count = count; history = h })) (Continues (journal a (follows one)) (journal b (follows other))) v after
+taken_in_part follows one other a b {v = v} id count bytes part rest = record {
+  history = record { events = (served v id bytes part.responses).events; exchanges = (served v id bytes part.responses).exchanges };
   made = record {
-    responses = part.responses;
-    made = part.made;
-    over = part.over;
-    nobody = part.nobody;
-    counted = part.counted;
-    server = part.server;
-    shows = part.shows;
-    tells = refl;
-    exchanged = (refl, one, other, part.exchanged);
+    took = record {
+      responses = part.responses;
+      made = part.made;
+      over = part.over;
+      nobody = part.nobody;
+      counted = part.counted;
+      server = part.server;
+      shows = part.shows;
+      tells = refl;
+      exchanged = (refl, one, other, part.exchanged);
+    };
+    rest = rest;
+    moved = served_moved v id bytes part.responses part.made ∙ ap (λ n. nat_lt 0 n) (sym part.counted);
   };
-  accepted = (part.shows, part.tells);
-  exchanged = part.exchanged;
+  accepted = record { shows = part.shows; known = record { calls = part.tells; exchanged = part.exchanged } };
 }
 
--- The bytes that are kept.
-pub taken_in_part : {A : Type 0} (follows : A → Answering) (one other : A) (a b : Following) (v after : ServerValue) (id count : ℕ) (bytes left : List ℕ)
-    → IsServedWith v id bytes count after (FollowsMore a b) (AnswersMore (follows one) (follows other)) → left ≡ rest_behind after id count bytes
-    → HasAccepted (IsTakenInPartOf (IsTakenWith follows) v id bytes after left count) (FollowsMore a b) (AnswersMore (follows one) (follows other)) v after
-unfolding with_accepted served
-taken_in_part follows one other a b v after id count bytes left part rest =
-    let taken = with_accepted follows one other a b v after id count bytes part in
-    record {
-      events = taken.events;
-      exchanges = taken.exchanges;
-      made = record {
-        part = record { count = count; took = taken.made; rest = rest };
-        moved = served_moved v id bytes part.responses part.made ∙ ap (λ n. nat_lt 0 n) (sym part.counted);
-      };
-      accepted = taken.accepted;
-      exchanged = taken.exchanged;
-    }
-
-pub with_served : (a b : Following) (p q : Answering) (v after : ServerValue) (id count : ℕ) (bytes : List ℕ) → IsServedWith v id bytes count after (FollowsMore a b) (AnswersMore p q) → HasServedBy AreTakenWith (FollowsMore a b) (AnswersMore p q) v after
+pub with_served : (a b : Following) (p q : Answering) (v after : ServerValue) (id count : ℕ) (bytes : List ℕ) → IsServedWith v id bytes count after (FollowsMore a b) (AnswersMore p q) → HasServed (Continues (journal a p) (journal b q)) v after
 with_served a b p q v after id count bytes part = record {
-  events = (served v id bytes part.responses).events;
-  exchanges = (served v id bytes part.responses).exchanges;
-  steps = one_taken AreTakenWith v after _ _ (record {
+  history = record { events = (served v id bytes part.responses).events; exchanges = (served v id bytes part.responses).exchanges };
+  made = one_step (BytesTaken after _ (record {
     id = id;
     bytes = bytes;
     how = inl (
@@ -263,65 +225,54 @@ with_served a b p q v after id count bytes part = record {
         exchanged = refl;
       },
     );
-  });
-  shows = part.shows;
-  tells = part.tells;
-  exchanged = part.exchanged;
+  }));
+  accepted = record { shows = part.shows; known = record { calls = part.tells; exchanged = part.exchanged } };
 }
 
-pub with_part_served : (a b : Following) (p q : Answering) (v after : ServerValue) (id : ℕ) (bytes : List ℕ) → IsPartlyServed v id bytes after (FollowsMore a b) (AnswersMore p q) → HasServedBy AreTakenWith (FollowsMore a b) (AnswersMore p q) v after
-with_part_served a b p q v after id bytes part = record {
-  events = (served v id bytes part.responses).events ++ Took id (take part.count (drop (served v id bytes part.responses).fed.count bytes)) ∷ [];
-  exchanges = (served v id bytes part.responses).exchanges;
-  steps = one_taken AreTakenWith v after _ _ (record {
-    id = id;
-    bytes = bytes;
-    how = inr (record {
-      responses = part.responses;
-      made = part.made;
-      going = part.going;
-      count = part.count;
-      refused = part.refused;
-      shows = part.shows;
-      tells = refl;
-      exchanged = refl;
-    });
-  });
-  shows = part.shows;
-  tells = part.tells;
-  exchanged = part.exchanged;
-}
+pub with_part_served : (a b : Following) (p q : Answering) (v after : ServerValue) (id : ℕ) (bytes : List ℕ) → IsPartlyServed v id bytes after (FollowsMore a b) (AnswersMore p q) → HasServed (Continues (journal a p) (journal b q)) v after
+with_part_served a b p q v after id bytes part =
+    let so_far = served v id bytes part.responses in
+    record {
+      history = record { events = so_far.events ++ Took id (take part.count (drop so_far.fed.count bytes)) ∷ []; exchanges = so_far.exchanges };
+      made = one_step (BytesTaken after _ (record {
+        id = id;
+        bytes = bytes;
+        how = inr (record {
+          responses = part.responses;
+          made = part.made;
+          going = part.going;
+          count = part.count;
+          refused = part.refused;
+          shows = part.shows;
+          tells = refl;
+          exchanged = refl;
+        });
+      }));
+      accepted = record { shows = part.shows; known = record { calls = part.tells; exchanged = part.exchanged } };
+    }
 
 -- ---- a turn
 
-pub none_opened : (a : Following) (v after : ServerValue) → after ≡ v → HasOpened (FollowsMore a a) v after
-none_opened a v after is = record { opens = false; server = is; shows = shows_same v after is; tells = followed_none a }
+pub none_opened : (a : Following) (v after : ServerValue) → after ≡ v → HasOpened a a v after
+none_opened a v after is = record { opens = false; server = is; calls = none_called is }
 
-pub one_opened : (a b : Following) (v after : ServerValue) (id : ℕ) → id ≡ v.ids + 1 → after ≡ server_opened v → ShowsMore v after (Opened id ∷ []) → FollowsMore a b (Opened id ∷ []) → HasOpened (FollowsMore a b) v after
-one_opened a b v after id is opened shows received = record { opens = true; server = opened; shows = rw is at shows; tells = rw is at received }
+pub opening_called : (a b : Following) (v : ServerValue) {after : ServerValue} (id : ℕ) → id ≡ v.ids + 1 → ShowsMore v after (Opened id ∷ []) → FollowsMore a b (Opened id ∷ []) → AreCallsBetween a b v after (opening v true)
+opening_called a b v id is shows received = record { shows = rw is at shows; follows = rw is at received }
 
-pub opening_accepted : (a b : Following) (v after : ServerValue) (id : ℕ) → id ≡ v.ids + 1 → ShowsMore v after (Opened id ∷ []) → FollowsMore a b (Opened id ∷ []) → AreCallsBetween (FollowsMore a b) v after (opening v true)
-opening_accepted a b v after id is shows received = (rw is at shows, rw is at received)
+pub one_opened : (a b : Following) (v after : ServerValue) (id : ℕ) → id ≡ v.ids + 1 → after ≡ server_opened v → ShowsMore v after (Opened id ∷ []) → FollowsMore a b (Opened id ∷ []) → HasOpened a b v after
+one_opened a b v after id is opened shows received = record { opens = true; server = opened; calls = opening_called a b v id is shows received }
 
-pub turned_further : (S : TakingSteps) (a b c : Following) (p q : Answering) {u v w : ServerValue} → HasOpened (FollowsMore a b) u v → HasServedBy S (FollowsMore b c) (AnswersMore p q) v w → HasTurnedBy S (FollowsMore a c) (AnswersMore p q) u w
-turned_further S a b c p q {u} {v} {w} one two = record {
-  opens = one.opens;
-  events = two.events;
-  exchanges = two.exchanges;
-  steps = rw one.server at two.steps;
-  shows = shows_then u v w (opening u one.opens) two.events one.shows two.shows;
-  tells = followed_then a b c (opening u one.opens) two.events one.tells two.tells;
-  exchanged = two.exchanged;
+pub turned_further : {a b c : Following} {p q : Answering} {u v w : ServerValue} → HasOpened a b u v → HasServed (Continues (journal b p) (journal c q)) v w → HasTurned (Continues (journal a p) (journal c q)) u w
+turned_further {p = p} {u = u} one two = record {
+  history = opening_then u one.opens two.history;
+  made = record { opens = one.opens; visits = two.history; steps = rw one.server at two.made; all = refl };
+  accepted = accepted_then (calls_accepted p one.calls) two.accepted;
 }
 
 -- A turn that was cut before a connection was served.
-pub turned_so_far : (S : TakingSteps) (a b : Following) (p : Answering) {v w : ServerValue} → HasOpened (FollowsMore a b) v w → HasTurnedBy S (FollowsMore a b) (AnswersMore p p) v w
-turned_so_far S a b p {v} {w} one = record {
-  opens = one.opens;
-  events = [];
-  exchanges = [];
-  steps = rw one.server NoStep;
-  shows = rw append-nil one.shows;
-  tells = rw append-nil one.tells;
-  exchanged = answered_none p;
+pub turned_so_far : {a b : Following} {p : Answering} {v w : ServerValue} → HasOpened a b v w → HasTurned (Continues (journal a p) (journal b p)) v w
+turned_so_far {p = p} {v = v} one = record {
+  history = opening_then v one.opens no_history;
+  made = record { opens = one.opens; visits = no_history; steps = rw one.server NoStep; all = refl };
+  accepted = rw append-nil (calls_accepted p one.calls);
 }

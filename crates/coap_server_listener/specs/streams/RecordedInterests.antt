@@ -1,13 +1,10 @@
 -- Defined by this project: the recorded I/O interest of a connection, and how long it is correct.
-use Rattle.std.specs.Prelude.{◌≡◌, ◌≢◌, ◌≤◌, ◌+◌, ℕ, Bool, List, Option, Some, map, nat_eq, if◌then◌else◌}
+use Rattle.std.specs.Prelude.{ℕ, ◌≡◌, ◌≢◌, ◌≤◌, ◌+◌, Bool, List, Option, Some, map, nat_eq, if◌then◌else◌}
 use Rattle.std.specs.List.{AllByRecursion}
-use Rattle.coap_model.specs.world.Events.{AcceptedCall}
+use Rattle.coap_server_engine.specs.Prelude.{AcceptedCall, stamp_of, ServerState}
 use Rattle.coap_server_engine.specs.values.Servers.{ServerValue, AreSettled, session_of, server_opened, server_ticked, server_dropped}
-use Rattle.coap_server_engine.specs.values.ServerDeadlines.{stamp_of}
 use Rattle.coap_server_listener.specs.declared.door.silence.Activity.{Activity}
-use Rattle.coap_server_listener.specs.streams.Turns.{IsServedOnce, wants_of, PeerStatus}
-use Rattle.coap_server_session.specs.declared.server_state.ServerState.{ServerState}
-use Rattle.coap_io.specs.streams.Wires.{WireTrace}
+use Rattle.coap_server_listener.specs.streams.Turns.{IsServedOnce, PeerStatus, Readiness, VisitState, wants_of}
 use Rattle.coap_server_listener.specs.declared.door.peer.PeerOutcome.{PeerOutcome}
 use Rattle.coap_server_listener.specs.declared.door.peer.Peer.{Peer}
 use Rattle.coap_server_engine.specs.declared.server.ChangeStamp.{ChangeStamp}
@@ -70,7 +67,7 @@ pub record KeepsNotes (id : ℕ) (v after : ServerValue) : Type 0 where
 -- Then, in any order, other connections are served, dropped and opened, and the time advances.
 pub data WhilePassedOver (id : ℕ) (v : ServerValue) : ServerValue → Type 0 where
   AtFirst : WhilePassedOver id v v
-  Served : (before after : ServerValue) (other : ℕ) (rest left : List ℕ) (wire wire_after : WireTrace) (may_read may_write : Bool) (course : PeerOutcome) (events : List AcceptedCall) → WhilePassedOver id v before → id ≢ other → IsServedOnce may_read may_write before other rest wire after left wire_after course events → WhilePassedOver id v after
+  Served : (ready : Readiness) (other : ℕ) (before after : VisitState) (outcome : PeerOutcome) (events : List AcceptedCall) → WhilePassedOver id v before.server → id ≢ other → IsServedOnce ready other before after outcome events → WhilePassedOver id v after.server
   Dropped : (before : ServerValue) (other : ℕ) → WhilePassedOver id v before → id ≢ other → WhilePassedOver id v (server_dropped before other)
   Opened : (before : ServerValue) → WhilePassedOver id v before → id ≢ before.ids + 1 → WhilePassedOver id v (server_opened before)
   Ticked : (before : ServerValue) (later : ℕ) → WhilePassedOver id v before → before.host.now ≤ later → WhilePassedOver id v (server_ticked before later)

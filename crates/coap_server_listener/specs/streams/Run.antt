@@ -1,27 +1,22 @@
 -- Defined by this project: a run over the connections of a listener, as whole turns, and its history.
-use Rattle.std.specs.Prelude.{◌≡◌, ◌≤◌, ◌⊎◌, ℕ, ◌+◌, ◌^◌, ◌-◌, ◌==◌, min, nat_le, nat_lt, Bool, false, List, [], ◌∷◌, ◌++◌, length, map, Option, Some, None, Result, Ok, Err, is_none, if◌then◌else◌}
+use Rattle.std.specs.Prelude.{ℕ, ◌≡◌, ◌≤◌, ◌⊎◌, ◌+◌, ◌^◌, ◌-◌, ◌==◌, min, nat_le, nat_lt, Bool, false, List, [], ◌∷◌, ◌++◌, length, map, Option, Some, None, Result, Ok, Err, is_none, if◌then◌else◌}
 use Rattle.coap_io.specs.declared.wire.Wait.{Wait}
 use Rattle.coap_io.specs.declared.wire.Wait.TheVariants.{No, Until, Forever}
 use Rattle.coap_io.specs.streams.DeviceTraces.{DoorCall, Waited}
-use Rattle.coap_io.specs.streams.Wires.{WireTrace, wait_at_most}
-use Rattle.coap_model.specs.Configs.{ConfigValues}
+use Rattle.coap_io.specs.streams.Wires.{wait_at_most}
+use Rattle.coap_server_engine.specs.Prelude.{ConfigValues, AcceptedCall, Ticked, Stored, Removed, Released, Announced, AreAskedLater, open_refusal, ServerValue, config_with, new_server, server_dropped, server_released, server_ticked}
 use Rattle.coap_model.specs.declared.config.Config.{Config}
-use Rattle.coap_model.specs.world.Events.{AcceptedCall, Opened, Took, Wrote, Ticked, Stored, Removed, Ended, Released, Announced, Responded, Dropped}
 use Rattle.coap_server_engine.specs.declared.io_fault.IoFault.{IoFault}
-use Rattle.coap_server_engine.specs.declared.io_fault.IoFault.TheVariants.{Read, Write, Memory, Turns}
-use Rattle.coap_server_engine.specs.values.ApplicationCalls.{AreAskedLater}
+use Rattle.coap_server_engine.specs.declared.io_fault.IoFault.TheVariants.{Memory, Turns}
 use Rattle.coap_server_engine.specs.declared.application.NoApplication.{NoApplication}
-use Rattle.coap_server_engine.specs.values.Exchanges.{Answering, AnswersMore, AreUnanswered, Exchange, Gone}
-use Rattle.coap_server_engine.specs.values.InResults.{ShowsMore}
-use Rattle.coap_server_engine.specs.values.ServerAnswers.{open_refusal}
-use Rattle.coap_server_engine.specs.values.Servers.{ServerValue, config_with, new_server, server_dropped, server_released, server_ticked}
+use Rattle.coap_server_engine.specs.values.Exchanges.{Answering, AnswersMore, AreUnanswered}
 use Rattle.coap_server_listener.specs.declared.door.peer.Peer.{Peer}
 use Rattle.coap_server_listener.specs.declared.door.service.ServiceConfig.{ServiceConfig}
 use Rattle.coap_server_listener.specs.declared.door.service.Times.{Times}
+use Rattle.coap_server_listener.specs.streams.Histories.{AreSteps, HasAccepted, History, calls_only, history_then, no_history, one_call, one_drop}
 use Rattle.coap_server_listener.specs.streams.RecordedInterests.{AreRecorded}
-use Rattle.coap_server_listener.specs.streams.Serving.{AreStepsBy, AreTakenWith, HasTurnedBy, IsAskedOnce, IsTurnBy, opened_if, opening}
+use Rattle.coap_server_listener.specs.streams.Serving.{AreTurnSteps, HasTurned, IsAskedOnce, IsTurnBy, KnownOfTurn, LoopState, Views, loop_state, way}
 use Rattle.coap_server_listener.specs.streams.Silence.{Sweep, due_sweep}
-use Rattle.coap_server_listener.specs.streams.Turns.{IsTakenWith}
 
 -- ---- the time of the server
 
@@ -39,42 +34,26 @@ moved_calls v moment = if nat_le v.host.now moment then ticked_calls v moment el
 
 -- ---- the history of a run
 
--- The events of a run and its exchanges with the application, from the server `v` on. Silent connections are released or
--- dropped, the time is set, the application gives later responses, and connections are opened and served.
-pub data AreRunSteps (v : ServerValue) : ServerValue → List AcceptedCall → List Exchange → Type 0 where
-  NoneRun : AreRunSteps v v [] []
-  SilentReleased : (w : ServerValue) (events : List AcceptedCall) (exchanges : List Exchange) (id : ℕ) → AreRunSteps v w events exchanges → AreRunSteps v (server_released w id) (events ++ Released id ∷ []) exchanges
-  SilentDropped : (w : ServerValue) (events : List AcceptedCall) (exchanges : List Exchange) (id : ℕ) → AreRunSteps v w events exchanges → AreRunSteps v (server_dropped w id) (events ++ Dropped id ∷ []) (exchanges ++ Gone id ∷ [])
-  TimeSet : (w : ServerValue) (events : List AcceptedCall) (exchanges : List Exchange) (moment : ℕ) → AreRunSteps v w events exchanges → AreRunSteps v (moved_to w moment) (events ++ moved_calls w moment) exchanges
-  LaterGiven : (w after : ServerValue) (events more : List AcceptedCall) (exchanges others : List Exchange) (is_full : Bool) → AreRunSteps v w events exchanges
-      → AreAskedLater w 256 is_full after (λ all. more ≡ all) (λ all. others ≡ all) → AreRunSteps v after (events ++ more) (exchanges ++ others)
-  TurnMade : (w after : ServerValue) (events more : List AcceptedCall) (exchanges others : List Exchange) (opens : Bool) → AreRunSteps v w events exchanges
-      → AreStepsBy AreTakenWith (opened_if w opens) after more others → AreRunSteps v after (events ++ (opening w opens ++ more)) (exchanges ++ others)
+-- A step of a run. A silent connection is released or dropped, the time is set, or the application gives later
+-- responses. Or a turn is made, in full or in part.
+pub data IsRunStep (v : ServerValue) : ServerValue → History → Type 0 where
+  SilentReleased : (id : ℕ) → IsRunStep v (server_released v id) (one_call (Released id))
+  SilentDropped : (id : ℕ) → IsRunStep v (server_dropped v id) (one_drop id)
+  TimeSet : (moment : ℕ) → IsRunStep v (moved_to v moment) (calls_only (moved_calls v moment))
+  LaterGiven : (after : ServerValue) (h : History) (is_full : Bool) → AreAskedLater v 256 is_full after (λ all. h.events ≡ all) (λ all. h.exchanges ≡ all) → IsRunStep v after h
+  TurnMade : (after : ServerValue) (h : History) → AreTurnSteps v after h → IsRunStep v after h
 
--- A call that a run makes. It stores and removes no resource for the embedding program, and announces no message size. So
--- a script can make each of these calls again, from its line in a record alone.
+-- A call that a run makes. It stores and removes no resource for the embedding program, and announces no message size.
+-- So a script can make each of these calls again, from its line in a record alone.
 abbrev pub IsRunCall : AcceptedCall → Type 0
-IsRunCall (Opened id) = Unit {0}
-IsRunCall (Took id bytes) = Unit {0}
-IsRunCall (Wrote id n) = Unit {0}
-IsRunCall (Ticked now) = Unit {0}
 IsRunCall (Stored path format bytes) = ⊥
 IsRunCall (Removed path) = ⊥
-IsRunCall (Ended id) = Unit {0}
-IsRunCall (Released id) = Unit {0}
 IsRunCall (Announced id size) = ⊥
-IsRunCall (Responded id m) = Unit {0}
-IsRunCall (Dropped id) = Unit {0}
+IsRunCall call = Unit {0}
 
--- These steps were made, and nothing else happened. If the server showed some events before, it now shows them followed
--- by those of the steps. `monitor` holds of these events, and `asks` of the exchanges.
-pub record HasRun (monitor : List AcceptedCall → Type 0) (asks : List Exchange → Type 0) (v after : ServerValue) : Type 0 where
-  pub events : List AcceptedCall
-  pub exchanges : List Exchange
-  pub steps : AreRunSteps v after events exchanges
-  pub shows : ShowsMore v after events
-  pub tells : monitor events
-  pub exchanged : asks exchanges
+-- The server made such steps, and nothing else happened.
+abbrev pub HasRun : (Known : History → Type 0) (v after : ServerValue) → Type 0
+HasRun Known v after = HasAccepted (AreSteps IsRunStep v after) Known v after
 
 -- ---- the wait after a turn
 
@@ -97,57 +76,72 @@ short_wait (Some idle) moment (e ∷ es) wait = wait_at_most (min (moment + 1) (
 
 -- ---- a turn
 
--- A service between two turns: its server, its connections, the time of its last turn, and its limit of silence.
+-- A service between two turns: its server and connections, the time of its last turn, and its limit of silence.
 pub record ServiceValue (W : Type 0) : Type 0 where
-  pub server : ServerValue
-  pub entries : List (ℕ × Peer W)
+  pub state : LoopState W
   pub second : ℕ
   pub idle : Option ℕ
 
 abbrev pub service_of : {W : Type 0} → ServerValue → List (ℕ × Peer W) → (second : ℕ) → (idle : Option ℕ) → ServiceValue W
-service_of server entries second idle = record { server = server; entries = entries; second = second; idle = idle }
+service_of server entries second idle = record { state = loop_state server entries; second = second; idle = idle }
 
--- The parts of a turn before its visits, at these times. Silent connections are released or dropped, the time is set, and
--- later responses are given. The application is asked for them until it has none (`rests`), or until it has given 256.
--- `answered` is the server after these parts. The events and exchanges are those of the parts, in order.
-pub record IsBegun {A W : Type 0} (follows : A → Answering) (rests : A → Type 0) (times : Times) (s : ServiceValue W) (answered : ServerValue) (is_full : Bool) (events : List AcceptedCall) (exchanges : List Exchange) : Type 0 where
-  pub sweep : Sweep W
-  pub is_swept : sweep ≡ due_sweep s.idle s.second times.second s.server s.entries
-  pub later : List AcceptedCall
-  pub others : List Exchange
-  pub given : AreAskedLater (moved_to sweep.server times.now) 256 is_full answered (λ all. later ≡ all) (λ all. (others ≡ all) × (one other : A) × (is_full ≡ false → rests other) × AnswersMore (follows one) (follows other) all)
-  pub all : events ≡ sweep.events ++ (moved_calls sweep.server times.now ++ later)
-  pub exchanged : exchanges ≡ sweep.exchanges ++ others
+-- The environment of a run. `follows` states the exchanges that the application may have, and `rests` when it has no
+-- later response. `waits` states how long it lets the listener wait at a time. `views` are the records of the wires.
+pub record Environment (A W : Type 0) : Type 1 where
+  pub follows : A → Answering
+  pub rests : A → Type 0
+  pub waits : ℕ → Wait → Type 0
+  pub views : Views W
 
--- One turn at these times. After the parts before its visits, a connection may be opened, and each one is served. `allows`
--- states how long the application lets the listener wait. `door` states which calls the listener had. `monitor` holds of
--- the events of all parts in order, and `asks` of the exchanges.
-pub record IsTurnFor {A W : Type 0} (follows : A → Answering) (rests : A → Type 0) (allows : Wait → Type 0) (readable writable : W → Option Bool) (trace : W → WireTrace) (times : Times) (door : List (DoorCall W) → Type 0) (monitor : List AcceptedCall → Type 0) (asks : List Exchange → Type 0) (s after : ServiceValue W) (wait : Wait) : Type 0 where
-  pub answered : ServerValue
+abbrev pub environment : {A W : Type 0} (follows : A → Answering) (rests : A → Type 0) (waits : ℕ → Wait → Type 0) (views : Views W) → Environment A W
+environment follows rests waits views = record { follows = follows; rests = rests; waits = waits; views = views }
+
+-- An application lets the listener wait this long, at this time.
+abbrev pub some_waits : {A : Type 0} (waits : A → ℕ → Wait → Type 0) → ℕ → Wait → Type 0
+some_waits {A} waits now limit = (one : A) × waits one now limit
+
+-- The result of the parts of a turn before its visits.
+pub record TurnStart : Type 0 where
+  pub server : ServerValue
   pub is_full : Bool
-  pub events : List AcceptedCall
-  pub exchanges : List Exchange
-  pub begun : IsBegun follows rests times s answered is_full events exchanges
+  pub history : History
+
+-- The parts of a turn before its visits, at these times. Silent connections are released or dropped, the time is set,
+-- and later responses are given. The application is asked for them until it has none (`rests`), or until it has given
+-- 256. The history is that of the parts, in order.
+pub record IsBegun {A W : Type 0} (follows : A → Answering) (rests : A → Type 0) (times : Times) (s : ServiceValue W) (start : TurnStart) : Type 0 where
+  pub sweep : Sweep W
+  pub is_swept : sweep ≡ due_sweep s.idle s.second times.second s.state.server s.state.entries
+  pub later : History
+  pub given : AreAskedLater (moved_to sweep.server times.now) 256 start.is_full start.server (λ all. later.events ≡ all) (λ all. (later.exchanges ≡ all) × (one other : A) × (start.is_full ≡ false → rests other) × AnswersMore (follows one) (follows other) all)
+  pub all : start.history ≡ history_then sweep.history (history_then (calls_only (moved_calls sweep.server times.now)) later)
+
+-- The knowledge of the visits of a turn, which follow this history.
+abbrev pub known_after : {W : Type 0} → History → KnownOfTurn W → KnownOfTurn W
+known_after h K = record K { history = λ more. K.history (history_then h more) }
+
+-- One turn at these times. After the parts before its visits, a connection may be opened, and each one is served.
+pub record IsTurnFor {A W : Type 0} (E : Environment A W) (times : Times) (K : KnownOfTurn W) (s after : ServiceValue W) (wait : Wait) : Type 0 where
+  pub start : TurnStart
+  pub begun : IsBegun E.follows E.rests times s start
   pub kept : List (ℕ × Peer W)
   pub recorded : AreRecorded begun.sweep.entries kept
   pub limit : Wait
-  pub allowed : allows limit
+  pub allowed : E.waits times.now limit
   pub next : Wait
-  pub turn : IsTurnBy (IsTakenWith follows) times.second readable writable trace door (λ all. monitor (events ++ all)) (λ all. asks (exchanges ++ all)) answered kept after.server after.entries next
-  pub waits : wait ≡ short_wait s.idle after.server.host.now after.entries (wait_within (limit_for is_full limit) next)
+  pub turn : IsTurnBy (way E.follows times.second E.views) (known_after start.history K) (loop_state start.server kept) after.state next
+  pub waits : wait ≡ short_wait s.idle after.state.server.host.now after.state.entries (wait_within (limit_for start.is_full limit) next)
   pub second : after.second ≡ times.second
   pub idle : after.idle ≡ s.idle
 
--- A turn at these times in which an allocation failed. The parts before its visits were made in full, and the listener was
--- asked if another connection might be opened. The visits were made in full or in part, and `last` is the server then.
-pub record IsCutTurn {A W : Type 0} (follows : A → Answering) (rests : A → Type 0) (times : Times) (door : List (DoorCall W) → Type 0) (monitor : List AcceptedCall → Type 0) (asks : List Exchange → Type 0) (s : ServiceValue W) (last : ServerValue) : Type 0 where
-  pub answered : ServerValue
-  pub is_full : Bool
-  pub events : List AcceptedCall
-  pub exchanges : List Exchange
-  pub begun : IsBegun follows rests times s answered is_full events exchanges
-  pub asked : IsAskedOnce door answered
-  pub cut : HasTurnedBy AreTakenWith (λ all. monitor (events ++ all)) (λ all. asks (exchanges ++ all)) answered last
+-- A turn at these times in which an allocation failed. The parts before its visits were made in full, and the listener
+-- was asked if another connection might be opened. The visits were made in full or in part, and `last` is the server
+-- then.
+pub record IsCutTurn {A W : Type 0} (follows : A → Answering) (rests : A → Type 0) (times : Times) (K : KnownOfTurn W) (s : ServiceValue W) (last : ServerValue) : Type 0 where
+  pub start : TurnStart
+  pub begun : IsBegun follows rests times s start
+  pub asked : IsAskedOnce K.door start.server
+  pub cut : HasTurned (known_after start.history K).history start.server last
 
 -- The call of a listener after a turn: it waits, and learns whether another connection may be opened. There is none
 -- before the first turn.
@@ -170,86 +164,84 @@ plain_config c = record { config = c; applications = None; idle = None }
 
 -- A service before its first turn.
 abbrev pub new_service : {W : Type 0} → ServiceConfig → ServiceValue W
-new_service c = record { server = new_server (config_of c); entries = []; second = 0; idle = c.idle }
+new_service c = service_of (new_server (config_of c)) [] 0 c.idle
 
--- The traces of a run: the times of its turns, the calls of the listener, the events, and the exchanges.
+-- The traces of a run: the times of its turns, the calls of the listener, and the history.
 pub record RunTrace (W : Type 0) : Type 0 where
   pub times : List Times
   pub calls : List (DoorCall W)
-  pub events : List AcceptedCall
-  pub exchanges : List Exchange
+  pub history : History
 
 abbrev pub no_trace : {W : Type 0} → RunTrace W
-no_trace = record { times = []; calls = []; events = []; exchanges = [] }
+no_trace = record { times = []; calls = []; history = no_history }
 
 abbrev pub trace_then : {W : Type 0} → RunTrace W → RunTrace W → RunTrace W
-trace_then t u = record { times = t.times ++ u.times; calls = t.calls ++ u.calls; events = t.events ++ u.events; exchanges = t.exchanges ++ u.exchanges }
+trace_then t u = record { times = t.times ++ u.times; calls = t.calls ++ u.calls; history = history_then t.history u.history }
 
--- An application lets the listener wait this long, at these times.
-abbrev pub allowed_by : {A : Type 0} (waits : A → ℕ → Wait → Type 0) → Times → Wait → Type 0
-allowed_by {A} waits times limit = (one : A) × waits one times.now limit
+-- The trace of one turn, after this number of turns: the wait before it, the calls of the listener in it, and its
+-- history.
+abbrev pub turn_trace : {W : Type 0} (turns : ℕ) (wait : Wait) → ServiceValue W → Times → List (DoorCall W) → History → RunTrace W
+turn_trace turns wait s times calls h = record { times = times ∷ []; calls = waited_before turns wait s.state.server ++ calls; history = h }
+
+-- The calls of the listener and the history of a turn are exactly these.
+abbrev pub exactly : {W : Type 0} → List (DoorCall W) → History → KnownOfTurn W
+exactly calls h = record { door = λ all. calls ≡ all; history = λ all. h ≡ all }
 
 -- Whole turns on a new service, one after the other. Before each turn but the first, the listener waits as long as the
 -- last turn returned.
-pub data AreTurns {A W : Type 0} (follows : A → Answering) (rests : A → Type 0) (waits : A → ℕ → Wait → Type 0) (readable writable : W → Option Bool) (trace : W → WireTrace) (c : ServiceConfig) : RunTrace W → ServiceValue W → Wait → Type 0 where
-  NoneMade : AreTurns follows rests waits readable writable trace c no_trace (new_service c) No
-  OneMade : (t : RunTrace W) (s : ServiceValue W) (wait : Wait) (times : Times) (asked : List (DoorCall W)) (more : List AcceptedCall) (others : List Exchange) (after : ServiceValue W) (next : Wait)
-      → AreTurns follows rests waits readable writable trace c t s wait
-      → IsTurnFor follows rests (allowed_by waits times) readable writable trace times (λ all. asked ≡ all) (λ all. more ≡ all) (λ all. others ≡ all) s after next
-      → AreTurns follows rests waits readable writable trace c (trace_then t (record { times = times ∷ []; calls = waited_before (length t.times) wait s.server ++ asked; events = more; exchanges = others })) after next
+pub data AreTurns {A W : Type 0} (E : Environment A W) (c : ServiceConfig) : RunTrace W → ServiceValue W → Wait → Type 0 where
+  NoneMade : AreTurns E c no_trace (new_service c) No
+  OneMade : (t : RunTrace W) (s : ServiceValue W) (wait : Wait) (times : Times) (calls : List (DoorCall W)) (h : History) (after : ServiceValue W) (next : Wait)
+      → AreTurns E c t s wait → IsTurnFor E times (exactly calls h) s after next → AreTurns E c (trace_then t (turn_trace (length t.times) wait s times calls h)) after next
 
 -- ---- a run
 
--- The knowledge that the devices, the monitor and the application have of a run.
-pub record RunTells (W : Type 0) : Type 1 where
+-- The knowledge of a run: the times of both clocks, and the knowledge of its turns.
+pub record KnownOfRun (W : Type 0) : Type 1 where
   pub clock : List ℕ → Type 0
   pub uptime : List ℕ → Type 0
-  pub door : List (DoorCall W) → Type 0
-  pub monitor : List AcceptedCall → Type 0
-  pub asks : List Exchange → Type 0
+  pub turns : KnownOfTurn W
 
-abbrev pub run_tells : {W : Type 0} → (clock uptime : List ℕ → Type 0) (door : List (DoorCall W) → Type 0) (monitor : List AcceptedCall → Type 0) (asks : List Exchange → Type 0) → RunTells W
-run_tells clock uptime door monitor asks = record { clock = clock; uptime = uptime; door = door; monitor = monitor; asks = asks }
+abbrev pub known_of_run : {W : Type 0} → (clock uptime : List ℕ → Type 0) (door : List (DoorCall W) → Type 0) (history : History → Type 0) → KnownOfRun W
+known_of_run clock uptime door history = record { clock = clock; uptime = uptime; turns = record { door = door; history = history } }
 
--- The clock and the listener alone know of the run.
-abbrev pub clock_and_door : {W : Type 0} → (clock : List ℕ → Type 0) (door : List (DoorCall W) → Type 0) → RunTells W
-clock_and_door clock door = run_tells clock (λ seconds. Unit {0}) door (λ events. Unit {0}) (λ exchanges. Unit {0})
+-- Only the times of the clock and the calls of the listener are known.
+abbrev pub clock_and_door : {W : Type 0} → (clock : List ℕ → Type 0) (door : List (DoorCall W) → Type 0) → KnownOfRun W
+clock_and_door clock door = known_of_run clock (λ seconds. Unit {0}) door (λ h. Unit {0})
 
--- The traces of a run match what they know of it.
-abbrev pub Matches : {W : Type 0} → RunTells W → RunTrace W → Type 0
-Matches tells t = tells.clock (map (λ x. x.now) t.times) × tells.uptime (map (λ x. x.second) t.times) × tells.door t.calls × tells.monitor t.events × tells.asks t.exchanges
+-- The traces of a run match what is known of it.
+abbrev pub Matches : {W : Type 0} → KnownOfRun W → RunTrace W → Type 0
+Matches K t = K.clock (map (λ x. x.now) t.times) × K.uptime (map (λ x. x.second) t.times) × K.turns.door t.calls × K.turns.history t.history
 
 -- A run that made every turn.
-pub record IsWholeRun {A W : Type 0} (follows : A → Answering) (rests : A → Type 0) (waits : A → ℕ → Wait → Type 0) (readable writable : W → Option Bool) (trace : W → WireTrace) (c : ServiceConfig) (tells : RunTells W) (last : ServerValue) : Type 0 where
+pub record IsWholeRun {A W : Type 0} (E : Environment A W) (c : ServiceConfig) (K : KnownOfRun W) (last : ServerValue) : Type 0 where
   pub whole : RunTrace W
   pub service : ServiceValue W
   pub wait : Wait
-  pub made : AreTurns follows rests waits readable writable trace c whole service wait
+  pub made : AreTurns E c whole service wait
   pub counted : length whole.times ≡ c.config.turns
-  pub matches : Matches tells whole
-  pub ended : last ≡ service.server
+  pub matches : Matches K whole
+  pub ended : last ≡ service.state.server
 
 -- A run in which an allocation failed in a turn, after some whole turns.
-pub record IsCutRun {A W : Type 0} (follows : A → Answering) (rests : A → Type 0) (waits : A → ℕ → Wait → Type 0) (readable writable : W → Option Bool) (trace : W → WireTrace) (c : ServiceConfig) (tells : RunTells W) (last : ServerValue) : Type 0 where
+pub record IsCutRun {A W : Type 0} (E : Environment A W) (c : ServiceConfig) (K : KnownOfRun W) (last : ServerValue) : Type 0 where
   pub front : RunTrace W
   pub service : ServiceValue W
   pub wait : Wait
-  pub made : AreTurns follows rests waits readable writable trace c front service wait
+  pub made : AreTurns E c front service wait
   pub few : length front.times + 1 ≤ c.config.turns
   pub times : Times
-  pub asked : List (DoorCall W)
-  pub events : List AcceptedCall
-  pub exchanges : List Exchange
-  pub cut : IsCutTurn follows rests times (λ all. asked ≡ all) (λ all. events ≡ all) (λ all. exchanges ≡ all) service last
-  pub matches : Matches tells (trace_then front (record { times = times ∷ []; calls = waited_before (length front.times) wait service.server ++ asked; events = events; exchanges = exchanges }))
+  pub calls : List (DoorCall W)
+  pub history : History
+  pub cut : IsCutTurn E.follows E.rests times (exactly calls history) service last
+  pub matches : Matches K (trace_then front (turn_trace (length front.times) wait service times calls history))
 
--- The end of a run that returned this error, with this last server. It is `Turns` if every turn was made. It is `Memory`
--- if an allocation failed, before the first turn or in one of them.
-abbrev pub EndsRun : {A W : Type 0} (follows : A → Answering) (rests : A → Type 0) (waits : A → ℕ → Wait → Type 0) (readable writable : W → Option Bool) (trace : W → WireTrace) → ServiceConfig → RunTells W → ServerValue → IoFault → Type 0
-EndsRun follows rests waits readable writable trace c tells last Read = ⊥
-EndsRun follows rests waits readable writable trace c tells last Write = ⊥
-EndsRun follows rests waits readable writable trace c tells last Memory = (Matches tells no_trace × (last ≡ new_server (config_of c))) ⊎ IsCutRun follows rests waits readable writable trace c tells last
-EndsRun follows rests waits readable writable trace c tells last Turns = IsWholeRun follows rests waits readable writable trace c tells last
+-- The end of a run that returned this error, with this last server. It is `Turns` if every turn was made. It is
+-- `Memory` if an allocation failed, before the first turn or in one of them.
+abbrev pub EndsRun : {A W : Type 0} → Environment A W → ServiceConfig → KnownOfRun W → ServerValue → IoFault → Type 0
+EndsRun E c K last Memory = (Matches K no_trace × (last ≡ new_server (config_of c))) ⊎ IsCutRun E c K last
+EndsRun E c K last Turns = IsWholeRun E c K last
+EndsRun E c K last fault = ⊥
 
 -- The application of a run without one: it writes no byte, has no later response, and lets the listener wait forever.
 abbrev pub Silent : NoApplication → Answering
@@ -261,14 +253,14 @@ Resting a = Unit {0}
 abbrev pub Unlimited : NoApplication → ℕ → Wait → Type 0
 Unlimited a now wait = wait ≡ Forever
 
--- A run over the connections of a listener, which always ends with an error. Its events and exchanges follow from the
--- same steps: each request that was handed over was shown, and the responses are those of the application. They also
--- follow from the traces of the clocks, the listener and the wires.
-pub record EndsRunWith {A W : Type 0} (follows : A → Answering) (rests : A → Type 0) (waits : A → ℕ → Wait → Type 0) (readable writable : W → Option Bool) (trace : W → WireTrace) (c : ServiceConfig) (tells : RunTells W) (fault : IoFault) : Type 0 where
+-- A run over the connections of a listener, which always ends with an error. Its history follows from the same steps:
+-- each request that was handed over was shown, and the responses are those of the application. It also follows from the
+-- traces of the clocks, the listener and the wires.
+pub record EndsRunWith {A W : Type 0} (E : Environment A W) (c : ServiceConfig) (K : KnownOfRun W) (fault : IoFault) : Type 0 where
   pub last : ServerValue
-  pub ran : HasRun tells.monitor tells.asks (new_server (config_of c)) last
-  pub ends : EndsRun follows rests waits readable writable trace c tells last fault
+  pub ran : HasRun K.turns.history (new_server (config_of c)) last
+  pub ends : EndsRun E c K last fault
 
-abbrev pub IsRun : {A T W : Type 0} (follows : A → Answering) (rests : A → Type 0) (waits : A → ℕ → Wait → Type 0) (readable writable : W → Option Bool) (trace : W → WireTrace) → ServiceConfig → RunTells W → Result T IoFault → Type 0
-IsRun follows rests waits readable writable trace c tells (Ok x) = ⊥
-IsRun follows rests waits readable writable trace c tells (Err fault) = EndsRunWith follows rests waits readable writable trace c tells fault
+abbrev pub IsRun : {A T W : Type 0} → Environment A W → ServiceConfig → KnownOfRun W → Result T IoFault → Type 0
+IsRun E c K (Ok x) = ⊥
+IsRun E c K (Err fault) = EndsRunWith E c K fault

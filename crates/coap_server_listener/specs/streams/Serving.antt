@@ -1,73 +1,38 @@
--- Defined by this project: one turn of the event loop, its events, and how each connection is served in it.
-use Rattle.std.specs.Prelude.{◌≡◌, ◌⊎◌, ℕ, ◌+◌, Bool, true, false, List, [], ◌∷◌, ◌++◌, length, map, take, drop, slice_get, Option, Some, None, is_none, is_some, nat_eq, ◌||◌, if◌then◌else◌}
-use Rattle.indexmap.specs.IndexMap.{insert_entry}
+-- Defined by this project: one turn of the event loop, its history, and how each connection is served in it.
+use Rattle.std.specs.Prelude.{ℕ, ◌≡◌, ◌≢◌, ◌≤◌, ◌⊎◌, ◌+◌, Bool, true, false, List, [], ◌∷◌, ◌++◌, length, map, take, drop, slice_get, Option, Some, None, is_none, is_some, nat_eq, ◌||◌, if◌then◌else◌}
+use Rattle.coap_server_engine.specs.Prelude.{insert_entry, AcceptedCall, Opened, Wrote, Ended, ServerState, SessionValue, Answering, Following, stamp_of, open_refusal}
 use Rattle.coap_io.specs.streams.DeviceTraces.{DoorCall, Asked}
-use Rattle.coap_server_listener.specs.streams.RecordedInterests.{true_end}
-use Rattle.coap_server_listener.specs.streams.Turns.{Taking, IsIdle, IsServedOnceBy, IsInTurn, IsAgendaOf, IsWaitAfter, activity_after, concerns_earlier, end_of, have_moved, new_activity}
-use Rattle.coap_io.specs.streams.Wires.{MatchesTrace, WireTrace}
-use Rattle.coap_server_engine.specs.values.InResults.{ShowsMore, where_there}
-use Rattle.coap_server_engine.specs.values.Exchanges.{Exchange, Gone}
+use Rattle.coap_io.specs.streams.Wires.{MatchesTrace, WireTrace, trace_by}
+use Rattle.coap_io.specs.declared.wire.Got.{Got}
+use Rattle.coap_io.specs.declared.wire.Wait.{Wait}
 use Rattle.coap_server_engine.specs.values.ApplicationCalls.{IsPartlyServed, IsServed as IsServedWith}
-use Rattle.coap_server_engine.specs.values.ServerDeadlines.{stamp_of}
-use Rattle.coap_server_session.specs.values.Sessions.{SessionValue}
-use Rattle.coap_server_engine.specs.values.ServerAnswers.{open_refusal}
 use Rattle.coap_server_engine.specs.values.Servers.{ServerValue, session_of, server_opened, server_dropped, server_ended, server_written}
-use Rattle.coap_model.specs.world.Events.{AcceptedCall, Opened, Wrote, Ended, Dropped}
 use Rattle.coap_server_listener.specs.declared.door.peer.PeerOutcome.{PeerOutcome}
 use Rattle.coap_server_listener.specs.declared.door.peer.PeerOutcome.TheVariants.{Open, Over}
 use Rattle.coap_server_listener.specs.declared.door.peer.Peer.{Peer}
 use Rattle.coap_server_listener.specs.declared.door.next_wakeup.NextWakeup.{NextWakeup}
-use Rattle.coap_io.specs.declared.wire.Wait.{Wait}
+use Rattle.coap_server_listener.specs.streams.Histories.{AreCallsBetween, AreSteps, HasAccepted, History, IsAccepted, history_then, no_history, one_call, one_drop}
+use Rattle.coap_server_listener.specs.streams.RecordedInterests.{true_end}
+use Rattle.coap_server_listener.specs.streams.Turns.{CanGoOn, IsAgendaOf, IsServedOnceBy, IsTakenWith, IsWaitAfter, Readiness, Taking, VisitResult, VisitState, activity_after, end_of, have_moved, new_activity, visit_state}
 
--- ---- events
-
--- The server accepted the calls of these events. If it showed some events before, it now shows them followed by these.
--- `monitor` holds of these events.
-abbrev pub AreCallsBetween : (monitor : List AcceptedCall → Type 0) (v after : ServerValue) → List AcceptedCall → Type 0
-AreCallsBetween monitor v after events = ShowsMore v after events × monitor events
-
--- The server accepted the calls of some events, and had some exchanges with the application. `Made` holds of both, and
--- `asks` of the exchanges.
-pub record HasAccepted (Made : List AcceptedCall → List Exchange → Type 0) (monitor : List AcceptedCall → Type 0) (asks : List Exchange → Type 0) (v after : ServerValue) : Type 0 where
-  pub events : List AcceptedCall
-  pub exchanges : List Exchange
-  pub made : Made events exchanges
-  pub accepted : AreCallsBetween monitor v after events
-  pub exchanged : asks exchanges
-
--- Facts on a call that passes bytes to a connection: the server before and after, its events, and the exchanges
--- with the application.
-abbrev pub TakingSteps : Type 1
-TakingSteps = ServerValue → ServerValue → List AcceptedCall → List Exchange → Type 0
-
--- No bytes are passed.
-abbrev pub NoneTaken : TakingSteps
-NoneTaken v after events exchanges = ⊥
+-- ---- steps
 
 -- Bytes were passed to a connection for an application, until none was left or accepted, or an allocation failed.
-pub record AreTakenWith (v after : ServerValue) (events : List AcceptedCall) (exchanges : List Exchange) : Type 0 where
+pub record AreTakenWith (v after : ServerValue) (h : History) : Type 0 where
   pub id : ℕ
   pub bytes : List ℕ
-  pub how : ((count : ℕ) × IsServedWith v id bytes count after (λ all. events ≡ all) (λ all. exchanges ≡ all)) ⊎ IsPartlyServed v id bytes after (λ all. events ≡ all) (λ all. exchanges ≡ all)
+  pub how : ((count : ℕ) × IsServedWith v id bytes count after (λ all. h.events ≡ all) (λ all. h.exchanges ≡ all)) ⊎ IsPartlyServed v id bytes after (λ all. h.events ≡ all) (λ all. h.exchanges ≡ all)
 
--- The events and exchanges of serving connections, from the server `v` on. `Steps` holds of each call that passes bytes
--- to a connection. The others are ends of input, writes, and connections that end.
-pub data AreStepsBy (Steps : TakingSteps) (v : ServerValue) : ServerValue → List AcceptedCall → List Exchange → Type 0 where
-  NoStep : AreStepsBy Steps v v [] []
-  OneTaken : (w after : ServerValue) (events more : List AcceptedCall) (exchanges others : List Exchange) → AreStepsBy Steps v w events exchanges → Steps w after more others → AreStepsBy Steps v after (events ++ more) (exchanges ++ others)
-  OneEnded : (w : ServerValue) (events : List AcceptedCall) (exchanges : List Exchange) (id : ℕ) → AreStepsBy Steps v w events exchanges → AreStepsBy Steps v (server_ended w id) (events ++ Ended id ∷ []) exchanges
-  OneWrote : (w : ServerValue) (events : List AcceptedCall) (exchanges : List Exchange) (id n : ℕ) → AreStepsBy Steps v w events exchanges → AreStepsBy Steps v (server_written w id n) (events ++ Wrote id n ∷ []) exchanges
-  OneDropped : (w : ServerValue) (events : List AcceptedCall) (exchanges : List Exchange) (id : ℕ) → AreStepsBy Steps v w events exchanges → AreStepsBy Steps v (server_dropped w id) (events ++ Dropped id ∷ []) (exchanges ++ Gone id ∷ [])
+-- A step of serving connections: a call that passes bytes, an end of input, a write, or the end of a connection.
+pub data IsVisitStep (v : ServerValue) : ServerValue → History → Type 0 where
+  BytesTaken : (after : ServerValue) (h : History) → AreTakenWith v after h → IsVisitStep v after h
+  InputEnded : (id : ℕ) → IsVisitStep v (server_ended v id) (one_call (Ended id))
+  BytesWritten : (id n : ℕ) → IsVisitStep v (server_written v id n) (one_call (Wrote id n))
+  ConnectionDropped : (id : ℕ) → IsVisitStep v (server_dropped v id) (one_drop id)
 
--- Connections were served in these steps, and nothing else happened. If the server showed some events before, it now
--- shows them followed by those of the steps. `monitor` holds of these events, and `asks` of the exchanges.
-pub record HasServedBy (Steps : TakingSteps) (monitor : List AcceptedCall → Type 0) (asks : List Exchange → Type 0) (v after : ServerValue) : Type 0 where
-  pub events : List AcceptedCall
-  pub exchanges : List Exchange
-  pub steps : AreStepsBy Steps v after events exchanges
-  pub shows : ShowsMore v after events
-  pub tells : monitor events
-  pub exchanged : asks exchanges
+-- Connections were served in these steps, and nothing else happened.
+abbrev pub HasServed : (Known : History → Type 0) (v after : ServerValue) → Type 0
+HasServed Known v after = HasAccepted (AreSteps IsVisitStep v after) Known v after
 
 -- The event that opens a connection with the next number, or no event.
 abbrev pub opening : ServerValue → Bool → List AcceptedCall
@@ -79,26 +44,71 @@ abbrev pub opened_if : ServerValue → Bool → ServerValue
 opened_if v true = server_opened v
 opened_if v false = v
 
+-- A history that begins with the event of opening a connection, if one was opened.
+abbrev pub opening_then : ServerValue → Bool → History → History
+opening_then v opens h = record h { events = opening v opens ++ h.events }
+
 -- At most one connection was opened, and nothing else happened.
-pub record HasOpened (monitor : List AcceptedCall → Type 0) (v after : ServerValue) : Type 0 where
+pub record HasOpened (before later : Following) (v after : ServerValue) : Type 0 where
   pub opens : Bool
   pub server : after ≡ opened_if v opens
-  pub shows : ShowsMore v after (opening v opens)
-  pub tells : monitor (opening v opens)
+  pub calls : AreCallsBetween before later v after (opening v opens)
 
--- A turn was made in full or in part, with these steps after at most one connection was opened.
-pub record HasTurnedBy (Steps : TakingSteps) (monitor : List AcceptedCall → Type 0) (asks : List Exchange → Type 0) (v after : ServerValue) : Type 0 where
+-- The steps of a turn that was made in full or in part: at most one connection was opened, and then connections were
+-- served.
+pub record AreTurnSteps (v after : ServerValue) (h : History) : Type 0 where
   pub opens : Bool
-  pub events : List AcceptedCall
-  pub exchanges : List Exchange
-  pub steps : AreStepsBy Steps (opened_if v opens) after events exchanges
-  pub shows : ShowsMore v after (opening v opens ++ events)
-  pub tells : monitor (opening v opens ++ events)
-  pub exchanged : asks exchanges
+  pub visits : History
+  pub steps : AreSteps IsVisitStep (opened_if v opens) after visits
+  pub all : h ≡ opening_then v opens visits
 
--- ---- each connection in order
+-- A turn was made in full or in part, and nothing else happened.
+abbrev pub HasTurned : (Known : History → Type 0) (v after : ServerValue) → Type 0
+HasTurned Known v after = HasAccepted (AreTurnSteps v after) Known v after
 
--- The server and the entry of a connection after it was served. If the outcome is `Over`, the connection is dropped.
+-- ---- the event loop
+
+-- A server with the transport sides of its connections.
+pub record LoopState (W : Type 0) : Type 0 where
+  pub server : ServerValue
+  pub entries : List (ℕ × Peer W)
+
+abbrev pub loop_state : {W : Type 0} → ServerValue → List (ℕ × Peer W) → LoopState W
+loop_state server entries = record { server = server; entries = entries }
+
+-- The records of the wires of a type: their readiness, and their traces.
+pub record Views (W : Type 0) : Type 0 where
+  pub readable : W → Option Bool
+  pub writable : W → Option Bool
+  pub trace : W → WireTrace
+
+-- The same, by the ghost members of the type.
+abbrev pub views_of : {W : Type 0} (readable writable : W → Option Bool) (given written : W → Option (List ℕ)) (answers : W → Option (List Got)) (rooms : W → Option (List ℕ)) → Views W
+views_of readable writable given written answers rooms = record { readable = readable; writable = writable; trace = trace_by given written answers rooms }
+
+-- The way in which connections are served: the effect of received bytes, the time of the turn, and the records of the
+-- wires.
+pub record Way (W : Type 0) : Type 1 where
+  pub takes : Taking
+  pub second : ℕ
+  pub views : Views W
+
+-- The same, for an application with these statements.
+abbrev pub way : {A W : Type 0} (follows : A → Answering) (second : ℕ) (views : Views W) → Way W
+way follows second views = record { takes = IsTakenWith follows; second = second; views = views }
+
+-- ---- one connection
+
+-- The history of a drop, if the connection exists.
+abbrev pub drop_on : Option SessionValue → ℕ → History
+drop_on None id = no_history
+drop_on (Some s) id = one_drop id
+
+abbrev pub drop_history : ServerValue → ℕ → History
+drop_history v id = drop_on (session_of id v.sessions) id
+
+-- The server, the entry of a connection, and the history after those of serving it. If the outcome is `Over`, the
+-- connection is dropped.
 abbrev pub server_left : PeerOutcome → ServerValue → ℕ → ServerValue
 server_left Open v id = v
 server_left (Over reason) v id = server_dropped v id
@@ -107,103 +117,102 @@ abbrev pub end_left : {W : Type 0} → PeerOutcome → ℕ → Peer W → List (
 end_left Open id p = (id, p) ∷ []
 end_left (Over reason) id p = []
 
--- The event that drops a connection, if the connection exists.
-abbrev pub dropped_events : ServerValue → ℕ → List AcceptedCall
-dropped_events v id = where_there (session_of id v.sessions) (λ s. Dropped id)
+abbrev pub history_left : PeerOutcome → ServerValue → ℕ → History
+history_left Open v id = no_history
+history_left (Over reason) v id = drop_history v id
 
--- The event that follows those of serving a connection. If the outcome is `Over`, the connection is dropped.
-abbrev pub events_left : PeerOutcome → ServerValue → ℕ → List AcceptedCall
-events_left Open v id = []
-events_left (Over reason) v id = dropped_events v id
+-- A visit of a connection: the server and the transport side of the connection after it, and its result.
+pub record Visit (W : Type 0) : Type 0 where
+  pub server : ServerValue
+  pub peer : Peer W
+  pub result : VisitResult
 
--- The exchange that reports the end of a connection to the application, if the connection exists.
-abbrev pub gone_on : Option SessionValue → ℕ → List Exchange
-gone_on None id = []
-gone_on (Some s) id = Gone id ∷ []
+abbrev pub visit : {W : Type 0} → ServerValue → Peer W → PeerOutcome → History → Visit W
+visit server peer outcome h = record { server = server; peer = peer; result = record { outcome = outcome; history = h } }
 
-abbrev pub gone_exchanges : ServerValue → ℕ → List Exchange
-gone_exchanges v id = gone_on (session_of id v.sessions) id
+abbrev pub state_at : {W : Type 0} (trace : W → WireTrace) → ServerValue → Peer W → VisitState
+state_at trace v p = visit_state v p.rest (trace p.wire)
 
--- The exchange that follows those of serving a connection.
-abbrev pub exchanges_left : PeerOutcome → ServerValue → ℕ → List Exchange
-exchanges_left Open v id = []
-exchanges_left (Over reason) v id = gone_exchanges v id
+-- A connection was served once, by `takes`: a read if one is due, then processing, then a write if bytes are queued.
+abbrev pub IsServedBy : {W : Type 0} (takes : Taking) (trace : W → WireTrace) (ready : Readiness) → ServerValue → ℕ × Peer W → Visit W → Type 0
+IsServedBy takes trace ready v e x = IsServedOnceBy takes ready e.0 (state_at trace v e.1) (state_at trace x.server x.peer) x.result
 
--- A connection was served once: a read if one is due, then processing, then a write if bytes are queued. Its times
--- follow from the calls.
-pub record IsServedAt {W : Type 0} (Takes : Taking) (second : ℕ) (may_read may_write : Bool) (trace : W → WireTrace) (v : ServerValue) (id : ℕ) (p : Peer W) (after : ServerValue) (q : Peer W) (course : PeerOutcome) (events : List AcceptedCall) (exchanges : List Exchange) : Type 0 where
-  pub part : IsServedOnceBy Takes may_read may_write v id p.rest (trace p.wire) after q.rest (trace q.wire) course events exchanges
-  pub activity : q.activity ≡ activity_after second (have_moved events) p.activity
+-- The times of the connection follow from the calls of a visit.
+abbrev pub AreTimesAfter : {W : Type 0} (second : ℕ) → Peer W → Visit W → Type 0
+AreTimesAfter second p x = x.peer.activity ≡ activity_after second (have_moved x.result.history.events) p.activity
 
--- The same, with the results of `may_read` and `may_write` of its wire. If the wire records them, they are `readable` and
--- `writable`.
-pub record IsVisited {W : Type 0} (Takes : Taking) (second : ℕ) (readable writable : Option Bool) (trace : W → WireTrace) (v : ServerValue) (e : ℕ × Peer W) (after : ServerValue) (peer : Peer W) (course : PeerOutcome) (events : List AcceptedCall) (exchanges : List Exchange) : Type 0 where
-  pub may_read : Bool
-  pub may_write : Bool
-  pub read : MatchesTrace readable may_read
-  pub write : MatchesTrace writable may_write
-  pub part : IsServedAt Takes second may_read may_write trace v e.0 e.1 after peer course events exchanges
+-- A connection was served once, with the results of `may_read` and `may_write` of its wire. They are those that the
+-- wire records, if it does.
+pub record IsVisited {W : Type 0} (S : Way W) (v : ServerValue) (e : ℕ × Peer W) (x : Visit W) : Type 0 where
+  pub ready : Readiness
+  pub read : MatchesTrace (S.views.readable e.1.wire) ready.read
+  pub write : MatchesTrace (S.views.writable e.1.wire) ready.write
+  pub part : IsServedBy S.takes S.views.trace ready v e x
+  pub activity : AreTimesAfter S.second e.1 x
 
 -- A connection was served in a turn, and was dropped if its outcome is `Over`. Its wire was read and written at no
--- other time. The events are those of the service, followed by that of the drop, and so are the exchanges. If the
--- connection was dropped, its wire is gone, and `peer` is one that fits.
-pub record IsServedInTurn {W : Type 0} (Takes : Taking) (second : ℕ) (readable writable : W → Option Bool) (trace : W → WireTrace) (v : ServerValue) (e : ℕ × Peer W) (after : ServerValue) (left : List (ℕ × Peer W)) (events : List AcceptedCall) (exchanges : List Exchange) : Type 0 where
-  pub served : ServerValue
-  pub peer : Peer W
-  pub course : PeerOutcome
-  pub serving : List AcceptedCall
-  pub asked : List Exchange
-  pub part : IsVisited Takes second (readable e.1.wire) (writable e.1.wire) trace v e served peer course serving asked
-  pub server : after ≡ server_left course served e.0
-  pub far_end : left ≡ end_left course e.0 peer
-  pub all : events ≡ serving ++ events_left course served e.0
-  pub exchanged : exchanges ≡ asked ++ exchanges_left course served e.0
+-- other time. The history is that of the visit, followed by that of the drop. If the connection was dropped, its wire
+-- is gone, and a fitting one exists.
+pub record IsServedInTurn {W : Type 0} (S : Way W) (v : ServerValue) (e : ℕ × Peer W) (after : LoopState W) (h : History) : Type 0 where
+  pub its : Visit W
+  pub part : IsVisited S v e its
+  pub server : after.server ≡ server_left its.result.outcome its.server e.0
+  pub far_end : after.entries ≡ end_left its.result.outcome e.0 its.peer
+  pub all : h ≡ history_then its.result.history (history_left its.result.outcome its.server e.0)
 
 -- The connection at an index was served, and the turn continues at the index `at`. The connections before and after it
 -- are unchanged.
-pub record HasGoneOn {W : Type 0} (Takes : Taking) (second : ℕ) (readable writable : W → Option Bool) (trace : W → WireTrace) (v : ServerValue) (es : List (ℕ × Peer W)) (i : ℕ) (after : ServerValue) (left : List (ℕ × Peer W)) (at : ℕ) (events : List AcceptedCall) (exchanges : List Exchange) : Type 0 where
+pub record HasGoneOn {W : Type 0} (S : Way W) (s : LoopState W) (i : ℕ) (after : LoopState W) (at : ℕ) (h : History) : Type 0 where
   pub e : ℕ × Peer W
   pub its : List (ℕ × Peer W)
-  pub there : slice_get es i ≡ Some e
-  pub part : IsServedInTurn Takes second readable writable trace v e after its events exchanges
-  pub front : take at left ≡ take i es ++ its
-  pub back : drop at left ≡ drop (i + 1) es
+  pub there : slice_get s.entries i ≡ Some e
+  pub part : IsServedInTurn S s.server e (loop_state after.server its) h
+  pub front : take at after.entries ≡ take i s.entries ++ its
+  pub back : drop at after.entries ≡ drop (i + 1) s.entries
 
--- Each connection in order was served, or skipped if it is idle. `earlier` is the number of connections before these
--- that still exist. `changed` is `true` if serving one of these may affect a connection before it, including those
--- `earlier` ones. The events and exchanges are those of the served connections, in order. A connection that is skipped
--- has none.
-pub data AreServed {W : Type 0} (Takes : Taking) (second : ℕ) (readable writable : W → Option Bool) (trace : W → WireTrace) : (earlier : ℕ) → ServerValue → List (ℕ × Peer W) → (changed : Bool) → ServerValue → List (ℕ × Peer W) → List AcceptedCall → List Exchange → Type 0 where
-  NoMore : (earlier : ℕ) (v : ServerValue) → AreServed Takes second readable writable trace earlier v [] false v [] [] []
-  PassedOver : (earlier : ℕ) (v : ServerValue) (e : ℕ × Peer W) (es : List (ℕ × Peer W)) (changed : Bool) (after : ServerValue) (left : List (ℕ × Peer W)) (events : List AcceptedCall) (exchanges : List Exchange) → IsIdle (stamp_of v.host) (end_of readable writable e.1)
-      → AreServed Takes second readable writable trace (earlier + 1) v es changed after left events exchanges → AreServed Takes second readable writable trace earlier v (e ∷ es) changed after (e ∷ left) events exchanges
-  HadItsPart : (earlier : ℕ) (v : ServerValue) (e : ℕ × Peer W) (es : List (ℕ × Peer W)) (between : ServerValue) (its : List (ℕ × Peer W)) (own : List AcceptedCall) (asked : List Exchange) (changed : Bool) (after : ServerValue) (left : List (ℕ × Peer W)) (events : List AcceptedCall) (exchanges : List Exchange) → IsInTurn (stamp_of v.host) (end_of readable writable e.1)
-      → IsServedInTurn Takes second readable writable trace v e between its own asked → AreServed Takes second readable writable trace (earlier + length its) between es changed after left events exchanges
-      → AreServed Takes second readable writable trace earlier v (e ∷ es) (concerns_earlier earlier (stamp_of v.host) (stamp_of between.host) || changed) after (its ++ left) (own ++ events) (asked ++ exchanges)
+-- ---- each connection in order
 
--- Each connection in order was served, except those that are idle, and the agenda describes the work that remains.
-pub record IsRound {W : Type 0} (Takes : Taking) (second : ℕ) (readable writable : W → Option Bool) (trace : W → WireTrace) (v : ServerValue) (es : List (ℕ × Peer W)) (a : NextWakeup) (after : ServerValue) (left : List (ℕ × Peer W)) (events : List AcceptedCall) (exchanges : List Exchange) : Type 0 where
+-- `affects` is `true` if and only if there is an earlier connection, and the state that all connections share has
+-- changed. Then serving a connection may affect those before it.
+abbrev pub AffectsEarlier : (earlier : ℕ) (host later : ServerState) (affects : Bool) → Type 0
+AffectsEarlier earlier host later true = (1 ≤ earlier) × (later ≢ host)
+AffectsEarlier earlier host later false = (earlier ≡ 0) ⊎ (later ≡ host)
+
+-- Each connection in order was served, or skipped if nothing could be done on it. `earlier` is the number of
+-- connections before these that still exist. `changed` is `true` if and only if serving one of these may affect a
+-- connection before it, including those `earlier` ones. The history is that of the served connections, in order. A
+-- connection that is skipped has none.
+pub data AreServed {W : Type 0} (S : Way W) : (earlier : ℕ) → LoopState W → (changed : Bool) → LoopState W → History → Type 0 where
+  NoMore : (earlier : ℕ) (v : ServerValue) → AreServed S earlier (loop_state v []) false (loop_state v []) no_history
+  Skipped : (earlier : ℕ) (v : ServerValue) (e : ℕ × Peer W) (es : List (ℕ × Peer W)) (changed : Bool) (after : LoopState W) (h : History) → CanGoOn (true_end S.views.readable S.views.writable v e) false
+      → AreServed S (earlier + 1) (loop_state v es) changed after h → AreServed S earlier (loop_state v (e ∷ es)) changed (loop_state after.server (e ∷ after.entries)) h
+  Visited : (earlier : ℕ) (v : ServerValue) (e : ℕ × Peer W) (es : List (ℕ × Peer W)) (between : LoopState W) (own : History) (affects changed : Bool) (after : LoopState W) (h : History) → IsServedInTurn S v e between own → AffectsEarlier earlier v.host between.server.host affects
+      → AreServed S (earlier + length between.entries) (loop_state between.server es) changed after h
+      → AreServed S earlier (loop_state v (e ∷ es)) (affects || changed) (loop_state after.server (between.entries ++ after.entries)) (history_then own h)
+
+-- Each connection in order was served or skipped, and the agenda describes the work that remains.
+pub record IsRound {W : Type 0} (S : Way W) (s : LoopState W) (a : NextWakeup) (after : LoopState W) (h : History) : Type 0 where
   pub changed : Bool
-  pub served : AreServed Takes second readable writable trace 0 v es changed after left events exchanges
-  pub agenda : IsAgendaOf a changed (stamp_of after.host) (map (λ e. end_of readable writable e.1) left)
+  pub served : AreServed S 0 s changed after h
+  pub agenda : IsAgendaOf a changed (stamp_of after.server.host) (map (λ e. end_of S.views.readable S.views.writable e.1) after.entries)
 
 -- ---- a turn
 
 -- A connection was opened for a wire, and no limit was reached before. No bytes are left from its reads, and the wire
 -- was not touched.
-pub record HasOneMore {W : Type 0} (second : ℕ) (wire : W) (v : ServerValue) (es : List (ℕ × Peer W)) (after : ServerValue) (left : List (ℕ × Peer W)) : Type 0 where
+pub record HasOneMore {W : Type 0} (second : ℕ) (wire : W) (s after : LoopState W) : Type 0 where
   pub peer : Peer W
-  pub may : open_refusal v ≡ None
-  pub server : after ≡ server_opened v
-  pub entries : left ≡ insert_entry nat_eq es (v.ids + 1) peer
+  pub may : open_refusal s.server ≡ None
+  pub server : after.server ≡ server_opened s.server
+  pub entries : after.entries ≡ insert_entry nat_eq s.entries (s.server.ids + 1) peer
   pub rest : peer.rest ≡ []
   pub handed : peer.wire ≡ wire
   pub activity : peer.activity ≡ new_activity second
 
 -- A connection was opened for the wire that a listener returned. If it returned none, nothing changed.
-abbrev pub AreOpened : {W : Type 0} → (second : ℕ) (handed : Option W) → ServerValue → List (ℕ × Peer W) → ServerValue → List (ℕ × Peer W) → Type 0
-AreOpened second (Some wire) v es after left = HasOneMore second wire v es after left
-AreOpened second None v es after left = (after ≡ v) × (left ≡ es)
+abbrev pub AreOpened : {W : Type 0} → (second : ℕ) (handed : Option W) → (s after : LoopState W) → Type 0
+AreOpened second (Some wire) s after = HasOneMore second wire s after
+AreOpened second None s after = (after.server ≡ s.server) × (after.entries ≡ s.entries)
 
 -- The calls of a listener in a turn. If another connection may be opened, it is asked once for a wire and returns one
 -- or none. Otherwise it is not called.
@@ -215,26 +224,30 @@ IsAskedOnce {W} door v = (handed : Option W) × door (asked_by v handed)
 
 -- The listener was asked, and a connection was opened for the wire that it returned, or none was. `door` states which
 -- calls the listener had.
-pub record IsOpening {W : Type 0} (second : ℕ) (door : List (DoorCall W) → Type 0) (v : ServerValue) (es : List (ℕ × Peer W)) (after : ServerValue) (left : List (ℕ × Peer W)) (opens : Bool) : Type 0 where
+pub record IsOpening {W : Type 0} (second : ℕ) (door : List (DoorCall W) → Type 0) (s after : LoopState W) (opens : Bool) : Type 0 where
   pub handed : Option W
-  pub asked : door (asked_by v handed)
-  pub opened : AreOpened second handed v es after left
+  pub asked : door (asked_by s.server handed)
+  pub opened : AreOpened second handed s after
   pub is : opens ≡ is_some handed
 
--- One turn of a server with its connections. `door` states which calls the listener had. If another connection may be
--- opened, the listener is asked once, and a connection is opened for the wire that it returns. Then each connection is
--- served. The wait is zero if and only if a connection was opened, a change may affect one served earlier, or one is
--- ready. The events of the turn are those of the opened connection and of the served ones, in order. The server accepted
--- their calls, and `monitor` holds of them. `asks` holds of the exchanges with the application.
-pub record IsTurnBy {W : Type 0} (Takes : Taking) (second : ℕ) (readable writable : W → Option Bool) (trace : W → WireTrace) (door : List (DoorCall W) → Type 0) (monitor : List AcceptedCall → Type 0) (asks : List Exchange → Type 0) (v : ServerValue) (es : List (ℕ × Peer W)) (after : ServerValue) (left : List (ℕ × Peer W)) (wait : Wait) : Type 0 where
+-- The knowledge of a turn: the calls of the listener, and the history.
+pub record KnownOfTurn (W : Type 0) : Type 1 where
+  pub door : List (DoorCall W) → Type 0
+  pub history : History → Type 0
+
+abbrev pub known_of_turn : {W : Type 0} (door : List (DoorCall W) → Type 0) (history : History → Type 0) → KnownOfTurn W
+known_of_turn door history = record { door = door; history = history }
+
+-- One turn of a server with its connections. If another connection may be opened, the listener is asked once, and a
+-- connection is opened for the wire that it returns. Then each connection is served. The wait is zero if and only if a
+-- connection was opened, a change may affect one served earlier, or one is ready. The history of the turn is that of
+-- the opened connection and of the served ones, in order, and the server accepted its calls.
+pub record IsTurnBy {W : Type 0} (S : Way W) (K : KnownOfTurn W) (s after : LoopState W) (wait : Wait) : Type 0 where
   pub opens : Bool
-  pub server : ServerValue
-  pub entries : List (ℕ × Peer W)
-  pub opened : IsOpening second door v es server entries opens
+  pub between : LoopState W
+  pub opened : IsOpening S.second K.door s between opens
   pub changed : Bool
-  pub events : List AcceptedCall
-  pub exchanges : List Exchange
-  pub served : AreServed Takes second readable writable trace 0 server entries changed after left events exchanges
-  pub waits : IsWaitAfter (opens || changed) (map (λ e. true_end readable writable after e) left) wait
-  pub accepted : AreCallsBetween monitor v after (opening v opens ++ events)
-  pub exchanged : asks exchanges
+  pub visits : History
+  pub served : AreServed S 0 between changed after visits
+  pub waits : IsWaitAfter (opens || changed) (map (λ e. true_end S.views.readable S.views.writable after.server e) after.entries) wait
+  pub accepted : IsAccepted K.history s.server after.server (opening_then s.server opens visits)

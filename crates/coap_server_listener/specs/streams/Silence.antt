@@ -1,18 +1,16 @@
--- Defined by this project: the activity of connections, which of them a sweep releases or drops, and the effect of a sweep.
-use Rattle.std.specs.Prelude.{◌≡◌, take, drop, ℕ, ◌+◌, ◌-◌, List, [], ◌∷◌, ◌++◌, Option, Some, None, nat_lt, nat_le, ◌==◌, ◌&&◌, if◌then◌else◌}
+-- Defined by this project: the activity of connections, which of them a sweep releases or drops, and the effect of a
+-- sweep.
+use Rattle.std.specs.Prelude.{ℕ, ◌≡◌, take, drop, ◌+◌, ◌-◌, List, [], ◌∷◌, ◌++◌, Option, Some, None, nat_lt, nat_le, ◌==◌, ◌&&◌, if◌then◌else◌}
 use Rattle.coap_conn.specs.Phases.{is_waiting}
-use Rattle.coap_model.specs.declared.answers.ReleaseFault.{ReleaseFault}
+use Rattle.coap_server_engine.specs.Prelude.{ReleaseFault, Released, released_refusal, status_of, ServerValue, server_released, server_dropped}
 use Rattle.coap_model.specs.declared.answers.Status.{Status}
-use Rattle.coap_model.specs.world.Events.{AcceptedCall, Released, Dropped}
-use Rattle.coap_server_engine.specs.values.Exchanges.{Exchange, Gone}
-use Rattle.coap_server_engine.specs.values.InResults.{ShowsMore}
-use Rattle.coap_server_engine.specs.values.ServerAnswers.{released_refusal, status_of}
-use Rattle.coap_server_engine.specs.values.Servers.{ServerValue, server_released, server_dropped}
 use Rattle.coap_server_listener.specs.declared.door.silence.Activity.{Activity}
 use Rattle.coap_server_listener.specs.declared.door.silence.SilenceAction.{SilenceAction}
 use Rattle.coap_server_listener.specs.declared.door.silence.SilenceAction.TheVariants.{Keep, Release, Drop}
 use Rattle.coap_server_listener.specs.declared.door.peer.Peer.{Peer}
+use Rattle.coap_server_listener.specs.streams.Histories.{History, IsAccepted, history_then, no_history, one_call, one_drop}
 use Rattle.coap_server_listener.specs.streams.RecordedInterests.{recorded, released_at}
+use Rattle.coap_server_listener.specs.streams.Serving.{LoopState}
 
 -- ---- the rule
 
@@ -37,25 +35,24 @@ silence_action idle now (Some s) a = action_for idle now s a a.released
 
 -- ---- a sweep
 
--- The effect of a sweep: the server and the entries after it, the calls that it made, and the exchanges with the
--- application. These are the ends of the connections that the sweep drops.
+-- The effect of a sweep: the server and the entries after it, and its history. The exchanges are the ends of the
+-- connections that the sweep drops.
 pub record Sweep (W : Type 0) : Type 0 where
   pub server : ServerValue
   pub entries : List (ℕ × Peer W)
-  pub events : List AcceptedCall
-  pub exchanges : List Exchange
+  pub history : History
 
 -- No sweep was made.
 abbrev pub unswept : {W : Type 0} → ServerValue → List (ℕ × Peer W) → Sweep W
-unswept v es = record { server = v; entries = es; events = []; exchanges = [] }
+unswept v es = record { server = v; entries = es; history = no_history }
 
 -- A connection was dropped.
 abbrev pub drop_one : {W : Type 0} → ServerValue → ℕ × Peer W → Sweep W
-drop_one v e = record { server = server_dropped v e.0; entries = []; events = Dropped e.0 ∷ []; exchanges = Gone e.0 ∷ [] }
+drop_one v e = record { server = server_dropped v e.0; entries = []; history = one_drop e.0 }
 
 -- A connection was released: its interest and the time were recorded.
 abbrev pub release_one : {W : Type 0} (now : ℕ) → ServerValue → ℕ × Peer W → Sweep W
-release_one now v e = record { server = server_released v e.0; entries = (e.0, released_at now (recorded (server_released v e.0) e)) ∷ []; events = Released e.0 ∷ []; exchanges = [] }
+release_one now v e = record { server = server_released v e.0; entries = (e.0, released_at now (recorded (server_released v e.0) e)) ∷ []; history = one_call (Released e.0) }
 
 -- The effect of an action. If `release` is refused, the connection is dropped.
 abbrev pub acted : {W : Type 0} → SilenceAction → Option ReleaseFault → (now : ℕ) → ServerValue → ℕ × Peer W → Sweep W
@@ -70,7 +67,7 @@ swept_one idle now v e = acted (silence_action idle now (status_of v e.0) e.1.ac
 
 -- One effect after another.
 abbrev pub swept_both : {W : Type 0} → Sweep W → Sweep W → Sweep W
-swept_both s t = record { server = t.server; entries = s.entries ++ t.entries; events = s.events ++ t.events; exchanges = s.exchanges ++ t.exchanges }
+swept_both s t = record { server = t.server; entries = s.entries ++ t.entries; history = history_then s.history t.history }
 
 -- The effect of a sweep on these connections, in order.
 unfoldable pub swept : {W : Type 0} (idle now : ℕ) → ServerValue → List (ℕ × Peer W) → Sweep W
@@ -82,15 +79,13 @@ abbrev pub due_sweep : {W : Type 0} (idle : Option ℕ) (last second : ℕ) → 
 due_sweep None last second v es = unswept v es
 due_sweep (Some idle) last second v es = if second == last then unswept v es else swept idle second v es
 
--- A sweep had this effect on the server. `monitor` holds of its calls, and `asks` of its exchanges.
-pub record HasSwept {W : Type 0} (monitor : List AcceptedCall → Type 0) (asks : List Exchange → Type 0) (s : Sweep W) (v after : ServerValue) : Type 0 where
+-- A sweep had this effect on the server. `Known` holds of its history.
+pub record HasSwept {W : Type 0} (Known : History → Type 0) (s : Sweep W) (v after : ServerValue) : Type 0 where
   pub server : after ≡ s.server
-  pub shows : ShowsMore v after s.events
-  pub tells : monitor s.events
-  pub exchanged : asks s.exchanges
+  pub accepted : IsAccepted Known v after s.history
 
 -- The connection at an index was swept, and the sweep continues at the index `at`. The others are unchanged.
-pub record HasSweptAt {W : Type 0} (monitor : List AcceptedCall → Type 0) (asks : List Exchange → Type 0) (s : Sweep W) (v : ServerValue) (es : List (ℕ × Peer W)) (i : ℕ) (after : ServerValue) (left : List (ℕ × Peer W)) (at : ℕ) : Type 0 where
-  pub has : HasSwept monitor asks s v after
-  pub front : take at left ≡ take i es ++ s.entries
-  pub back : drop at left ≡ drop (i + 1) es
+pub record HasSweptAt {W : Type 0} (Known : History → Type 0) (s : Sweep W) (before : LoopState W) (i : ℕ) (after : LoopState W) (at : ℕ) : Type 0 where
+  pub has : HasSwept Known s before.server after.server
+  pub front : take at after.entries ≡ take i before.entries ++ s.entries
+  pub back : drop at after.entries ≡ drop (i + 1) before.entries

@@ -4,7 +4,7 @@ use Rattle.coap_server_listener.specs.streams.Turns.{PeerStatus, end_of}
 use Rattle.coap_server_listener.specs.declared.door.awake.Awake.{Awake}
 use Rattle.coap_server_listener.specs.declared.door.peer.Peer.{Peer}
 use Rattle.coap_server_engine.specs.declared.server.ChangeStamp.{ChangeStamp}
-use Rattle.coap_server_engine.specs.values.IndexSets.{IsOutside}
+use Rattle.coap_server_engine.specs.Prelude.{IsOutside}
 
 -- The recorded readiness of a wire, or `false` if it records none.
 abbrev pub known : Option Bool → Bool

@@ -1,17 +1,13 @@
 -- Defined by this project: how a turn of the event loop serves one connection, and the work that remains afterwards.
-use Rattle.std.specs.Prelude.{◌≡◌, ◌≢◌, fold, ℕ, Bool, true, false, not, List, [], ◌∷◌, ◌++◌, length, drop, Option, Some, None, IfSome, nat_lt, ◌==◌, ◌&&◌, ◌||◌, if◌then◌else◌}
+use Rattle.std.specs.Prelude.{ℕ, ◌≡◌, ◌≢◌, fold, Bool, true, false, not, List, [], ◌∷◌, ◌++◌, length, drop, Option, Some, None, IfSome, nat_lt, ◌==◌, ◌&&◌, ◌||◌, if◌then◌else◌}
 use Rattle.std.specs.List.{AllByRecursion}
-use Rattle.coap_conn.specs.declared.reason.Reason.{Reason}
+use Rattle.coap_server_engine.specs.Prelude.{Reason, can_take_on, stop_on, AcceptedCall, Took, Wrote, Ended, in_result, took, IsReasonFor, waiting_at}
 use Rattle.coap_server_engine.specs.values.Servers.{ServerValue, session_of, server_ended, server_written}
-use Rattle.coap_server_engine.specs.values.ServerAnswers.{can_take_on, stop_on}
 use Rattle.coap_server_session.specs.values.Deadlines.{sooner}
-use Rattle.coap_model.specs.world.Events.{AcceptedCall, Opened, Took, Wrote, Ticked, Stored, Removed, Ended, Released, Announced, Responded, Dropped}
-use Rattle.coap_server_engine.specs.values.InResults.{in_result, took}
-use Rattle.coap_server_engine.specs.values.Exchanges.{Answering, AnswersMore, Exchange}
+use Rattle.coap_server_engine.specs.values.Exchanges.{Answering, AnswersMore}
 use Rattle.coap_server_engine.specs.values.ApplicationCalls.{IsServed as IsServedWith}
 use Rattle.coap_server_engine.specs.values.ServerDeadlines.{outlook_of, stamp_of, same_stamp}
-use Rattle.coap_server_engine.specs.values.CallDetails.{IsReasonFor}
-use Rattle.coap_server_engine.specs.values.Flushes.{waiting_at}
+use Rattle.coap_server_listener.specs.streams.Histories.{History, calls_only, no_history}
 use Rattle.coap_io.specs.streams.Wires.{MatchesTrace, WireTrace, IsReadOnce, IsWrittenOnce}
 use Rattle.coap_server_engine.specs.declared.monitor.DropReason.TheVariants as drop
 use Rattle.coap_server_listener.specs.declared.door.peer.PeerOutcome.{PeerOutcome}
@@ -38,31 +34,23 @@ waiting_once may_write id v = if may_write then waiting_at id v else []
 
 -- The server after a read with this result. If the read found the end, the input of the connection has ended.
 abbrev pub server_heard : ServerValue → ℕ → Got → ServerValue
-server_heard v id (Bytes n) = v
-server_heard v id Later = v
 server_heard v id End = server_ended v id
-server_heard v id Failed = v
+server_heard v id heard = v
 
 -- The server after a write with this result. The bytes that were written are removed from the queue.
 abbrev pub server_wrote : ServerValue → ℕ → Got → ServerValue
 server_wrote v id (Bytes n) = server_written v id n
-server_wrote v id Later = v
-server_wrote v id End = v
-server_wrote v id Failed = v
+server_wrote v id wrote = v
 
 -- The event of a read with this result: if the read found the end, the input has ended.
 abbrev pub heard_events : ℕ → Got → List AcceptedCall
-heard_events id (Bytes n) = []
-heard_events id Later = []
 heard_events id End = Ended id ∷ []
-heard_events id Failed = []
+heard_events id heard = []
 
 -- The event of a write with this result, if it accepted bytes.
 abbrev pub wrote_events : ℕ → Got → List AcceptedCall
 wrote_events id (Bytes n) = Wrote id n ∷ []
-wrote_events id Later = []
-wrote_events id End = []
-wrote_events id Failed = []
+wrote_events id wrote = []
 
 -- The event of a take of bytes of which the connection accepts none. Without bytes, there is no take.
 abbrev pub refused_events : ℕ → List ℕ → List AcceptedCall
@@ -78,10 +66,6 @@ left_behind (Some why) rest = []
 abbrev pub rest_behind : (taken : ServerValue) → ℕ → (count : ℕ) → List ℕ → List ℕ
 rest_behind taken id count rest = left_behind (stop_on (session_of id taken.sessions)) (drop count rest)
 
--- The bytes that are kept after the connection accepted all that it accepts of these.
-abbrev pub rest_left : ServerValue → ℕ → List ℕ → List ℕ
-rest_left v id rest = rest_behind (in_result v id rest).server id (in_result v id rest).count rest
-
 -- Nothing more will be written on a connection with this work left, or there is no connection.
 abbrev pub is_over_in : Option ConnectionWork → Bool
 is_over_in None = true
@@ -91,17 +75,9 @@ is_over_in (Some o) = o.finished
 
 -- A call that transfers bytes on a connection.
 abbrev pub moves : AcceptedCall → Bool
-moves (Opened id) = false
 moves (Took id bytes) = nat_lt 0 (length bytes)
 moves (Wrote id n) = nat_lt 0 n
-moves (Ticked now) = false
-moves (Stored path format bytes) = false
-moves (Removed path) = false
-moves (Ended id) = false
-moves (Released id) = false
-moves (Announced id size) = false
-moves (Responded id m) = false
-moves (Dropped id) = false
+moves call = false
 
 -- `true` if one of these calls transferred bytes.
 abbrev pub have_moved : List AcceptedCall → Bool
@@ -111,9 +87,7 @@ have_moved (e ∷ es) = moves e || have_moved es
 -- `true` if a write with this result accepted bytes.
 abbrev pub has_written : Got → Bool
 has_written (Bytes n) = nat_lt 0 n
-has_written Later = false
-has_written End = false
-has_written Failed = false
+has_written wrote = false
 
 -- The times of a connection that is opened.
 abbrev pub new_activity : (second : ℕ) → Activity
@@ -125,26 +99,30 @@ activity_after second moved a = if moved then record a { moved = second } else a
 
 -- ---- serving one connection
 
--- The effect of received bytes on a connection. The arguments are the server before, the number of the connection, and
--- the bytes. They are followed by the server after, the number of bytes that it accepted, the events, and the exchanges
--- with the application.
+-- The result of passing received bytes to a connection: the server, the number of bytes that it accepted, and the
+-- history.
+pub record TakeResult : Type 0 where
+  pub server : ServerValue
+  pub count : ℕ
+  pub history : History
+
+-- The effect of received bytes on a connection: the server before, the number of the connection, the bytes, and the
+-- result.
 abbrev pub Taking : Type 1
-Taking = ServerValue → ℕ → List ℕ → ServerValue → ℕ → List AcceptedCall → List Exchange → Type 0
+Taking = ServerValue → ℕ → List ℕ → TakeResult → Type 0
 
 -- The connection accepts all that it accepts of the bytes, and no application responds.
 abbrev pub IsTakenAlone : Taking
-IsTakenAlone v id bytes after count events exchanges = (after ≡ (in_result v id bytes).server) × (count ≡ (in_result v id bytes).count) × (events ≡ took v id bytes) × (exchanges ≡ [])
+IsTakenAlone v id bytes r = (r.server ≡ (in_result v id bytes).server) × (r.count ≡ (in_result v id bytes).count) × (r.history ≡ calls_only (took v id bytes))
 
 -- The connection accepts all that it accepts of the bytes. An application with these statements is shown the requests
 -- that it answers, and responds to some of them at once.
 abbrev pub IsTakenWith : {A : Type 0} → (follows : A → Answering) → Taking
-IsTakenWith {A} follows v id bytes after count events exchanges = IsServedWith v id bytes count after (λ all. events ≡ all) (λ all. (exchanges ≡ all) × (one other : A) × AnswersMore (follows one) (follows other) all)
+IsTakenWith {A} follows v id bytes r = IsServedWith v id bytes r.count r.server (λ all. r.history.events ≡ all) (λ all. (r.history.exchanges ≡ all) × (one other : A) × AnswersMore (follows one) (follows other) all)
 
 abbrev pub has_failed : Got → Bool
-has_failed (Bytes n) = false
-has_failed Later = false
-has_failed End = false
 has_failed Failed = true
+has_failed got = false
 
 -- The outcome for a connection, by the result of its write and by whether nothing more will be written.
 abbrev pub course_of : (wrote : Got) (is_over : Bool) → PeerOutcome
@@ -161,63 +139,80 @@ abbrev pub IsLaidOut : (is_due : Bool) → List ℕ → WireTrace → Got → Li
 IsLaidOut true rest wire heard bytes after = IsReadOnce READ_SIZE wire after heard bytes
 IsLaidOut false rest wire heard bytes after = (heard ≡ Later) × (bytes ≡ rest) × (after ≡ wire)
 
--- The connection did with these bytes what `Takes` states, with these events and exchanges. These bytes are kept.
-pub record IsTakenInPart (Takes : Taking) (v : ServerValue) (id : ℕ) (bytes : List ℕ) (taken : ServerValue) (left : List ℕ) (events : List AcceptedCall) (exchanges : List Exchange) : Type 0 where
-  pub count : ℕ
-  pub took : Takes v id bytes taken count events exchanges
-  pub rest : left ≡ rest_behind taken id count bytes
-
--- The same, and the connection accepted this number of bytes.
-pub record IsTakenInPartOf (Takes : Taking) (v : ServerValue) (id : ℕ) (bytes : List ℕ) (taken : ServerValue) (left : List ℕ) (n : ℕ) (events : List AcceptedCall) (exchanges : List Exchange) : Type 0 where
-  pub part : IsTakenInPart Takes v id bytes taken left events exchanges
-  pub moved : have_moved events ≡ nat_lt 0 n
+-- The connection did with these bytes what `Takes` states, with this result, and these bytes are kept.
+pub record IsTakenInPart (Takes : Taking) (v : ServerValue) (id : ℕ) (bytes left : List ℕ) (r : TakeResult) : Type 0 where
+  pub took : Takes v id bytes r
+  pub rest : left ≡ rest_behind r.server id r.count bytes
+  pub moved : have_moved r.history.events ≡ nat_lt 0 r.count
 
 -- If the bytes offered to a wire are not empty, the wire was written once. Otherwise it was not touched.
 pub record IsOffered (bytes : List ℕ) (wire : WireTrace) (wrote : Got) (after : WireTrace) : Type 0 where
   pub idle : bytes ≡ [] → (wrote ≡ Later) × (after ≡ wire)
   pub busy : bytes ≢ [] → IsWrittenOnce bytes wire after wrote
 
--- The connection did with these bytes what `Takes` states. Then its queued bytes were offered to one write, if the wire
+-- The readiness of a wire: it may be read, and it may be written.
+pub record Readiness : Type 0 where
+  pub read : Bool
+  pub write : Bool
+
+abbrev pub readiness : (may_read may_write : Bool) → Readiness
+readiness may_read may_write = record { read = may_read; write = may_write }
+
+-- The state that a visit of a connection may change: the server, the bytes left from reads of the wire, and its trace.
+pub record VisitState : Type 0 where
+  pub server : ServerValue
+  pub rest : List ℕ
+  pub wire : WireTrace
+
+abbrev pub visit_state : ServerValue → List ℕ → WireTrace → VisitState
+visit_state v rest wire = record { server = v; rest = rest; wire = wire }
+
+-- The result of a visit.
+pub record VisitResult : Type 0 where
+  pub outcome : PeerOutcome
+  pub history : History
+
+-- The connection did with its bytes what `Takes` states. Then its queued bytes were offered to one write, if the wire
 -- may be written. The event of the write follows those of the takes.
-pub record IsTakenAndWritten (Takes : Taking) (may_write : Bool) (v : ServerValue) (id : ℕ) (bytes : List ℕ) (wire : WireTrace) (after : ServerValue) (left : List ℕ) (wire_after : WireTrace) (course : PeerOutcome) (events : List AcceptedCall) (exchanges : List Exchange) : Type 0 where
-  pub taken : ServerValue
-  pub takes : List AcceptedCall
-  pub part : IsTakenInPart Takes v id bytes taken left takes exchanges
+pub record IsTakenAndWritten (Takes : Taking) (may_write : Bool) (id : ℕ) (before after : VisitState) (r : VisitResult) : Type 0 where
+  pub taken : TakeResult
+  pub took : Takes before.server id before.rest taken
+  pub rest : after.rest ≡ rest_behind taken.server id taken.count before.rest
   pub wrote : Got
-  pub offered : IsOffered (waiting_once may_write id taken) wire wrote wire_after
-  pub server : after ≡ server_wrote taken id wrote
-  pub outcome : course ≡ course_of wrote (is_over_in (outlook_of after id))
-  pub all : events ≡ takes ++ wrote_events id wrote
+  pub offered : IsOffered (waiting_once may_write id taken.server) before.wire wrote after.wire
+  pub server : after.server ≡ server_wrote taken.server id wrote
+  pub outcome : r.outcome ≡ course_of wrote (is_over_in (outlook_of after.server id))
+  pub history : r.history ≡ record (taken.history) { events = taken.history.events ++ wrote_events id wrote }
 
 -- The steps that follow a read. If the read failed, there is none, and the connection has failed.
-abbrev pub IsCarriedOn : Taking → (failed may_write : Bool) → ServerValue → ℕ → List ℕ → WireTrace → ServerValue → List ℕ → WireTrace → PeerOutcome → List AcceptedCall → List Exchange → Type 0
-IsCarriedOn Takes true may_write v id bytes wire after left received course events exchanges = (after ≡ v) × (received ≡ wire) × (course ≡ Over drop.Failed) × (events ≡ []) × (exchanges ≡ [])
-IsCarriedOn Takes false may_write v id bytes wire after left received course events exchanges = IsTakenAndWritten Takes may_write v id bytes wire after left received course events exchanges
+abbrev pub IsCarriedOn : (failed : Bool) (Steps : VisitState → VisitState → VisitResult → Type 0) → VisitState → VisitState → VisitResult → Type 0
+IsCarriedOn true Steps before after r = (after.server ≡ before.server) × (after.wire ≡ before.wire) × (r ≡ record { outcome = Over drop.Failed; history = no_history })
+IsCarriedOn false Steps before after r = Steps before after r
 
--- One connection was served: a read if one is due, then processing, then a write if bytes are queued. `may_read` and
--- `may_write` are the readiness of its wire. A failed read ends this. The wire was read and written at no other time,
--- and `wire_after` is its trace afterwards. The events are those of the read, of the takes and of the write, in this order.
-pub record IsServedOnceBy (Takes : Taking) (may_read may_write : Bool) (v : ServerValue) (id : ℕ) (rest : List ℕ) (wire : WireTrace) (after : ServerValue) (left : List ℕ) (wire_after : WireTrace) (course : PeerOutcome) (events : List AcceptedCall) (exchanges : List Exchange) : Type 0 where
+-- One connection was served: a read if one is due, then processing, then a write if bytes are queued. A failed read
+-- ends this. The wire was read and written at no other time. The events are those of the read, of the takes and of the
+-- write, in this order.
+pub record IsServedOnceBy (Takes : Taking) (ready : Readiness) (id : ℕ) (before after : VisitState) (r : VisitResult) : Type 0 where
   pub heard : Got
   pub bytes : List ℕ
   pub between : WireTrace
-  pub laid : IsLaidOut (is_heard may_read v id rest) rest wire heard bytes between
-  pub later : List AcceptedCall
-  pub carried : IsCarriedOn Takes (has_failed heard) may_write (server_heard v id heard) id bytes between after left wire_after course later exchanges
-  pub all : events ≡ heard_events id heard ++ later
+  pub laid : IsLaidOut (is_heard ready.read before.server id before.rest) before.rest before.wire heard bytes between
+  pub later : History
+  pub carried : IsCarriedOn (has_failed heard) (IsTakenAndWritten Takes ready.write id) (visit_state (server_heard before.server id heard) bytes between) after (record r { history = later })
+  pub history : r.history ≡ record later { events = heard_events id heard ++ later.events }
 
 -- One connection was served, and no application responds.
-abbrev pub IsServedOnce : (may_read may_write : Bool) (v : ServerValue) (id : ℕ) (rest : List ℕ) (wire : WireTrace) (after : ServerValue) (left : List ℕ) (wire_after : WireTrace) (course : PeerOutcome) (events : List AcceptedCall) → Type 0
-IsServedOnce may_read may_write v id rest wire after left wire_after course events = IsServedOnceBy IsTakenAlone may_read may_write v id rest wire after left wire_after course events []
+abbrev pub IsServedOnce : (ready : Readiness) (id : ℕ) (before after : VisitState) (outcome : PeerOutcome) (events : List AcceptedCall) → Type 0
+IsServedOnce ready id before after outcome events = IsServedOnceBy IsTakenAlone ready id before after (record { outcome = outcome; history = calls_only events })
 
 -- To serve the connection has no effect, whatever its wire does: the wire is neither read nor written. There is an
 -- outcome. Every outcome leaves the server, the bytes left from its reads and the trace of its wire unchanged, and the
 -- connection open. The only event is a take that accepts none of the bytes left, if there are some.
-pub record IsNoOp (may_read may_write : Bool) (v : ServerValue) (id : ℕ) (rest : List ℕ) : Type 0 where
-  pub unread : is_heard may_read v id rest ≡ false
-  pub unwritten : waiting_once may_write id v ≡ []
-  pub there_is_one : (wire : WireTrace) → IsServedOnce may_read may_write v id rest wire v rest wire Open (refused_events id rest)
-  pub always : (wire : WireTrace) (after : ServerValue) (left : List ℕ) (wire_after : WireTrace) (course : PeerOutcome) (events : List AcceptedCall) → IsServedOnce may_read may_write v id rest wire after left wire_after course events → (after ≡ v) × (left ≡ rest) × (wire_after ≡ wire) × (course ≡ Open) × (events ≡ refused_events id rest)
+pub record IsNoOp (ready : Readiness) (v : ServerValue) (id : ℕ) (rest : List ℕ) : Type 0 where
+  pub unread : is_heard ready.read v id rest ≡ false
+  pub unwritten : waiting_once ready.write id v ≡ []
+  pub there_is_one : (wire : WireTrace) → IsServedOnce ready id (visit_state v rest wire) (visit_state v rest wire) Open (refused_events id rest)
+  pub always : (wire : WireTrace) (after : VisitState) (outcome : PeerOutcome) (events : List AcceptedCall) → IsServedOnce ready id (visit_state v rest wire) after outcome events → (after ≡ visit_state v rest wire) × (outcome ≡ Open) × (events ≡ refused_events id rest)
 
 -- ---- remaining work
 
@@ -238,8 +233,8 @@ abbrev pub wants_of : ServerValue → ℕ → List ℕ → PeerInterest
 wants_of v id rest = wants_in (outlook_of v id) (length rest == 0) (stamp_of v.host)
 
 -- Something in this I/O interest can be done at once.
-abbrev pub can_go_on : PeerInterest → (may_read may_write : Bool) → Bool
-can_go_on w may_read may_write = w.take || (w.read && may_read) || (w.write && may_write)
+abbrev pub can_go_on : PeerInterest → Readiness → Bool
+can_go_on w ready = w.take || (w.read && ready.read) || (w.write && ready.write)
 
 -- The state that decides whether a connection can be served: its I/O interest and, if its wire records them, the wire's
 -- `may_read` and `may_write`.

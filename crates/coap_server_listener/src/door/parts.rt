@@ -1,6 +1,6 @@
 //! The parts of a turn of a service.
 
-ghost use Rattle.std.specs.Prelude.{◌≡◌, ◌≢◌, ◌==◌, ℕ, false, All, Option, is_some};
+ghost use Rattle.std.specs.Prelude.{ℕ, ◌≡◌, ◌≢◌, ◌==◌, false, All, Option, is_some};
 ghost use Rattle.coap_server_listener.specs.Prelude.{AnswersMore, AreAskedLater, AreRecorded, FollowsMore};
 ghost use Rattle.coap_server_listener.specs.Prelude.{IsAskedLater};
 ghost use Rattle.coap_server_listener.specs.streams.RecordedInterests.{IsNoted};
@@ -18,11 +18,11 @@ use coap_server_engine::{Application, Call, IoFault, Monitor, Server};
 const MOST_RESPONSES: usize = 256;
 
 impl<W: Wire + Ready + Drop> Service<W> {
-    ghost use Rattle.std.specs.Prelude.{true, [], ◌++◌, List, is_ok, nat_le, IfErr, IfOk, OnErr, OnOk};
-    ghost use Rattle.coap_server_listener.specs.Prelude.{AcceptedCall, AreTakenWith, HasSwept, HasTurnedBy};
-    ghost use Rattle.coap_server_listener.specs.Prelude.{IsAskedOnce, IsMemory, IsTakenWith, IsTurnBy, Shows};
-    ghost use Rattle.coap_server_listener.specs.Prelude.{TellsMore, due_sweep, moved_to, short_wait, ticked_calls};
-    ghost use Rattle.coap_server_listener.specs.Prelude.{trace_by};
+    ghost use Rattle.std.specs.Prelude.{true, ◌++◌, List, is_ok, nat_le, IfErr, IfOk, OnErr, OnOk};
+    ghost use Rattle.coap_server_listener.specs.Prelude.{HasTurned, known_by, known_of_turn, loop_state, way};
+    ghost use Rattle.coap_server_listener.specs.Prelude.{AcceptedCall, HasSwept, IsAskedOnce, IsMemory, IsTurnBy};
+    ghost use Rattle.coap_server_listener.specs.Prelude.{Shows, TellsMore, due_sweep, moved_to, short_wait};
+    ghost use Rattle.coap_server_listener.specs.Prelude.{ticked_calls, views_of};
 
     /// Releases or drops the silent connections, if there is a limit and `second` differs from that of the last turn.
     pub(super) fn end_silent<A: Application, M: Monitor<W>>(
@@ -32,8 +32,7 @@ impl<W: Wire + Ready + Drop> Service<W> {
         monitor: &mut M,
     )
         requires { self.old.is_spent ≡ false }
-        ensures swept { HasSwept (FollowsMore (M.follows monitor.old) (M.follows monitor.new))
-            (AnswersMore (A.follows application.old) (A.follows application.new))
+        ensures swept { HasSwept (known_by M.follows A.follows monitor.old monitor.new application.old application.new)
             (due_sweep self.old.idle self.old.second second self.old.server self.old.peers.entries) self.old.server
             self.new.server }
         ensures entries { self.new.peers.entries
@@ -131,14 +130,13 @@ impl<W: Wire + Ready + Drop> Service<W> {
         monitor: &mut M,
     ) -> Result<Wait, IoFault>
         requires { self.old.is_spent ≡ false }
-        ensures shows { HasTurnedBy AreTakenWith (FollowsMore (M.follows monitor.old) (M.follows monitor.new))
-            (AnswersMore (A.follows application.old) (A.follows application.new)) self.old.server self.new.server }
+        ensures shows { HasTurned (known_by M.follows A.follows monitor.old monitor.new application.old application.new)
+            self.old.server self.new.server }
         ensures asks { IsAskedOnce (TellsMore (D.calls door.old) (D.calls door.new)) self.old.server }
-        ensures turn { IfOk result (λ wait. IsTurnBy (IsTakenWith A.follows) self.old.second W.readable W.writable
-            (trace_by W.given W.written W.answers W.rooms) (TellsMore (D.calls door.old) (D.calls door.new))
-            (FollowsMore (M.follows monitor.old) (M.follows monitor.new))
-            (AnswersMore (A.follows application.old) (A.follows application.new))
-            self.old.server self.old.peers.entries self.new.server self.new.peers.entries wait) }
+        ensures turn { IfOk result (λ wait. IsTurnBy (way A.follows self.old.second (views_of W.readable W.writable
+            W.given W.written W.answers W.rooms)) (known_of_turn (TellsMore (D.calls door.old) (D.calls door.new))
+            (known_by M.follows A.follows monitor.old monitor.new application.old application.new)) (loop_state
+            self.old.server self.old.peers.entries) (loop_state self.new.server self.new.peers.entries) wait) }
         ensures fault { IfErr result IsMemory }
         ensures times { (self.new.second ≡ self.old.second) × (self.new.idle ≡ self.old.idle) }
         ensures ready { OnOk result (self.new.is_spent ≡ false) }

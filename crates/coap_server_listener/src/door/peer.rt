@@ -1,15 +1,14 @@
 //! The transport side of a connection, and how a turn serves it.
 
-ghost use Rattle.std.specs.Prelude.{◌≡◌, ◌≢◌, ◌||◌, nat_lt, false, [], length, is_some, OnOk, OnErr, IfOk, IfErr};
-ghost use Rattle.coap_server_listener.specs.Prelude.{AddsBytes, AnswersMore, AreCallsBetween, AreTakenWith, But};
-ghost use Rattle.coap_server_listener.specs.Prelude.{FollowsMore, GoesOnSparing, HasAccepted, HasServedBy};
-ghost use Rattle.coap_server_listener.specs.Prelude.{IsServedAt, IsTakenInPartOf, IsTakenWith, TellsMore};
-ghost use Rattle.coap_server_listener.specs.Prelude.{heard_events, wrote_events};
+ghost use Rattle.std.specs.Prelude.{◌≡◌, ◌≢◌, ◌||◌, nat_lt, false, [], length, is_some, OnOk, IfOk, IfErr};
+ghost use Rattle.coap_server_listener.specs.Prelude.{AreTimesAfter, HasServed, IsServedBy, IsTakenInPart, known_by};
+ghost use Rattle.coap_server_listener.specs.Prelude.{readiness, visit, AddsBytes, AreCallsBetween, But, GoesOnSparing};
+ghost use Rattle.coap_server_listener.specs.Prelude.{HasAccepted, IsTakenWith, TellsMore, heard_events, wrote_events};
 ghost use Rattle.coap_server_listener.specs.Prelude.{has_written, trace_by, IsLaidOut, is_heard, server_heard};
-ghost use Rattle.coap_server_listener.specs.Prelude.{server_wrote, waiting_once, is_over_in, has_failed};
-ghost use Rattle.coap_server_listener.specs.Prelude.{course_of, wants_of, IsWithin, IsMemory, IsOneWrite, bytes_passed};
-ghost use Rattle.coap_server_listener.specs.Prelude.{stop_on, session_of, IsAsked, CanGoOn, IsRestAnswer, end_of};
-ghost use Rattle.coap_server_listener.specs.Prelude.{IsCourseFor, outlook_of};
+ghost use Rattle.coap_server_listener.specs.Prelude.{server_wrote, waiting_once, is_over_in, has_failed, course_of};
+ghost use Rattle.coap_server_listener.specs.Prelude.{wants_of, IsWithin, IsMemory, IsOneWrite, bytes_passed, stop_on};
+ghost use Rattle.coap_server_listener.specs.Prelude.{session_of, IsAsked, CanGoOn, IsRestAnswer, end_of, IsCourseFor};
+ghost use Rattle.coap_server_listener.specs.Prelude.{outlook_of};
 ghost use Rattle.coap_server_listener.specs.declared.door.peer.PeerOutcome.TheVariants.{Open};
 ghost use Rattle.coap_io.specs.declared.wire.Got.TheVariants.{Later, End};
 
@@ -102,12 +101,12 @@ pub(super) fn serve_peer<W: Wire, A: Application, M: Monitor<W>>(
 ) -> Result<PeerOutcome, IoFault>
     // The wire is read once if a read is due, and written once if bytes are queued and `may_write` is `true`. Otherwise
     // it is not touched. The monitor receives the calls of these steps, and no others.
-    ensures part { IfOk result (λ course. HasAccepted (IsServedAt (IsTakenWith A.follows) second may_read may_write
-        (trace_by W.given W.written W.answers W.rooms) server.old id peer.old server.new peer.new course)
-        (FollowsMore (M.follows monitor.old) (M.follows monitor.new))
-        (AnswersMore (A.follows application.old) (A.follows application.new)) server.old server.new) }
-    ensures shows { HasServedBy AreTakenWith (FollowsMore (M.follows monitor.old) (M.follows monitor.new))
-        (AnswersMore (A.follows application.old) (A.follows application.new)) server.old server.new }
+    ensures part { IfOk result (λ outcome. HasAccepted (λ h. IsServedBy (IsTakenWith A.follows)
+        (trace_by W.given W.written W.answers W.rooms) (readiness may_read may_write) server.old (id, peer.old)
+        (visit server.new peer.new outcome h) × AreTimesAfter second peer.old (visit server.new peer.new outcome h))
+        (known_by M.follows A.follows monitor.old monitor.new application.old application.new) server.old server.new) }
+    ensures shows { HasServed (known_by M.follows A.follows monitor.old monitor.new application.old application.new)
+        server.old server.new }
     // The other connections are spared.
     ensures spared { OnOk result (GoesOnSparing (But id) server.old server.new) }
     ensures wants { IfOk result (λ course. course ≡ Open → peer.new.wants ≡ wants_of server.new id peer.new.rest) }
@@ -190,7 +189,7 @@ fn read_wire<W: Wire, M: Monitor<W>>(
     monitor: &mut M,
 ) -> Got
     ensures server { server.new ≡ server_heard server.old id result }
-    ensures accepted { AreCallsBetween (FollowsMore (M.follows monitor.old) (M.follows monitor.new)) server.old server.new
+    ensures accepted { AreCallsBetween (M.follows monitor.old) (M.follows monitor.new) server.old server.new
         (heard_events id result) }
     // If a read is due, the wire is read once, into a buffer of 16,384 bytes, and `peer.rest` has the bytes of that
     // read.
@@ -229,13 +228,12 @@ fn take_buffered<W, A: Application, M: Monitor<W>>(
     response: &mut Vec<u8>,
     monitor: &mut M,
 ) -> Result<usize, IoFault>
-    ensures taken { IfOk result (λ n. HasAccepted
-        (IsTakenInPartOf (IsTakenWith A.follows) server.old id rest.old server.new rest.new n)
-        (FollowsMore (M.follows monitor.old) (M.follows monitor.new))
-        (AnswersMore (A.follows application.old) (A.follows application.new)) server.old server.new) }
+    ensures taken { IfOk result (λ n. HasAccepted (λ h. IsTakenInPart (IsTakenWith A.follows) server.old id rest.old
+        rest.new (record { server = server.new; count = n; history = h }))
+        (known_by M.follows A.follows monitor.old monitor.new application.old application.new) server.old server.new) }
     ensures spared { OnOk result (GoesOnSparing (But id) server.old server.new) }
-    ensures shows { HasServedBy AreTakenWith (FollowsMore (M.follows monitor.old) (M.follows monitor.new))
-        (AnswersMore (A.follows application.old) (A.follows application.new)) server.old server.new }
+    ensures shows { HasServed (known_by M.follows A.follows monitor.old monitor.new application.old application.new)
+        server.old server.new }
     ensures fault { IfErr result IsMemory }
 {
     let taken = server.take_all_for::<W, M, A>(id, rest.bytes(), application, response, monitor);
@@ -260,7 +258,7 @@ fn write_once<W: Wire, M: Monitor<W>>(
     monitor: &mut M,
 ) -> Got
     ensures server { server.new ≡ server_wrote server.old id result }
-    ensures accepted { AreCallsBetween (FollowsMore (M.follows monitor.old) (M.follows monitor.new)) server.old server.new
+    ensures accepted { AreCallsBetween (M.follows monitor.old) (M.follows monitor.new) server.old server.new
         (wrote_events id result) }
     ensures within { IsWithin (length (waiting_once may_write id server.old)) result }
     ensures idle { waiting_once may_write id server.old ≡ [] → (wire.new ≡ wire.old) × (result ≡ Later) }

@@ -70,16 +70,15 @@ pub struct Service<W: Ready> {
 }
 
 impl<W: Wire + Ready + Drop> Service<W> {
-    ghost use Rattle.std.specs.Prelude.{◌+◌, ◌++◌, ◌∷◌, true, List, [], is_none, is_ok, IfErr, IfOk, OnErr};
-    ghost use Rattle.std.specs.Prelude.{OnOk, Err, Option, nat_eq};
-    ghost use Rattle.coap_server_listener.specs.Prelude.{RefusedBy, RefusedOrMemory, put_refusal, remove_refusal};
-    ghost use Rattle.coap_server_listener.specs.Prelude.{HasRun};
-    ghost use Rattle.coap_server_listener.specs.Prelude.{IsCutTurn, IsTurnFor, config_of, service_of};
-    ghost use Rattle.coap_server_listener.specs.Prelude.{AnswersMore, Gone, FollowsMore, TellsMore};
-    ghost use Rattle.coap_server_listener.specs.Prelude.{trace_by, IsMemory, open_refusal, new_server};
-    ghost use Rattle.coap_server_listener.specs.Prelude.{server_put, server_removed, AcceptedCall, Stored, Removed};
-    ghost use Rattle.coap_server_listener.specs.Prelude.{Shows, Released, Dropped, released_refusal, server_released};
-    ghost use Rattle.coap_server_listener.specs.Prelude.{server_dropped, is_there};
+    ghost use Rattle.std.specs.Prelude.{◌+◌, ◌++◌, ◌∷◌, true, List, [], is_none, is_ok, IfErr, IfOk, OnErr, OnOk, Err};
+    ghost use Rattle.std.specs.Prelude.{Option, nat_eq};
+    ghost use Rattle.coap_server_listener.specs.Prelude.{environment, known_by, known_of_turn, RefusedBy};
+    ghost use Rattle.coap_server_listener.specs.Prelude.{RefusedOrMemory, put_refusal, remove_refusal, HasRun};
+    ghost use Rattle.coap_server_listener.specs.Prelude.{IsCutTurn, IsTurnFor, config_of, service_of, AnswersMore};
+    ghost use Rattle.coap_server_listener.specs.Prelude.{Gone, FollowsMore, TellsMore, views_of, IsMemory};
+    ghost use Rattle.coap_server_listener.specs.Prelude.{open_refusal, new_server, server_put, server_removed};
+    ghost use Rattle.coap_server_listener.specs.Prelude.{AcceptedCall, Stored, Removed, Shows, Released, Dropped};
+    ghost use Rattle.coap_server_listener.specs.Prelude.{released_refusal, server_released, server_dropped, is_there};
     ghost use Rattle.coap_server_listener.specs.Prelude.{session_of, status_of, released_on, shift_remove_entry};
     ghost use Rattle.coap_server_engine.specs.declared.io_fault.IoFault.TheVariants as fault;
 
@@ -289,23 +288,21 @@ impl<W: Wire + Ready + Drop> Service<W> {
         monitor: &mut M,
     ) -> Result<Wait, IoFault>
         // The events of a turn, made in full or in part, and its exchanges with the application.
-        ensures ran { HasRun (FollowsMore (M.follows monitor.old) (M.follows monitor.new))
-            (AnswersMore (A.follows application.old) (A.follows application.new)) self.old.server self.new.server }
+        ensures ran { HasRun (known_by M.follows A.follows monitor.old monitor.new application.old application.new)
+            self.old.server self.new.server }
         // The clause determines how each connection was served, and the result. The wire of a dropped connection is gone, so
         // only the existence of a fitting one is stated.
-        ensures turn { IfOk result (λ wait. IsTurnFor A.follows A.idle
-            (A.waits application.new times.now) W.readable W.writable
-            (trace_by W.given W.written W.answers W.rooms) times (TellsMore (D.calls door.old) (D.calls door.new))
-            (FollowsMore (M.follows monitor.old) (M.follows monitor.new))
-            (AnswersMore (A.follows application.old) (A.follows application.new))
-            (service_of self.old.server self.old.peers.entries self.old.second self.old.idle)
-            (service_of self.new.server self.new.peers.entries self.new.second self.new.idle) wait) }
+        ensures turn { IfOk result (λ wait. IsTurnFor (environment A.follows A.idle (A.waits application.new)
+            (views_of W.readable W.writable W.given W.written W.answers W.rooms)) times (known_of_turn
+            (TellsMore (D.calls door.old) (D.calls door.new)) (known_by M.follows A.follows monitor.old monitor.new
+            application.old application.new)) (service_of self.old.server self.old.peers.entries self.old.second
+            self.old.idle) (service_of self.new.server self.new.peers.entries self.new.second self.new.idle) wait) }
         // The monitor has passed on what it received.
         ensures passed { OnOk result (M.has_passed monitor.new) }
         // After a failed allocation, only the visits may lack parts.
-        ensures cut { OnErr result (self.old.is_spent ≡ false → IsCutTurn A.follows A.idle times
-            (TellsMore (D.calls door.old) (D.calls door.new)) (FollowsMore (M.follows monitor.old) (M.follows monitor.new))
-            (AnswersMore (A.follows application.old) (A.follows application.new))
+        ensures cut { OnErr result (self.old.is_spent ≡ false → IsCutTurn A.follows A.idle times (known_of_turn
+            (TellsMore (D.calls door.old) (D.calls door.new))
+            (known_by M.follows A.follows monitor.old monitor.new application.old application.new))
             (service_of self.old.server self.old.peers.entries self.old.second self.old.idle) self.new.server) }
         ensures fault { IfErr result IsMemory }
         ensures ready { OnOk result (self.new.is_spent ≡ false) }

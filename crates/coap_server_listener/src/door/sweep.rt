@@ -1,8 +1,7 @@
 //! The sweep, which releases or drops silent connections.
 
 ghost use Rattle.std.specs.Prelude.{◌≡◌, ◌<◌, ◌≤◌, ◌+◌, ◌-◌, ◌^◌, Some, length, true, slice_get, IfSome};
-ghost use Rattle.coap_server_listener.specs.Prelude.{AnswersMore, AreNoted, FollowsMore, HasSwept};
-ghost use Rattle.coap_server_listener.specs.Prelude.{HasSweptAt, acted};
+ghost use Rattle.coap_server_listener.specs.Prelude.{known_by, loop_state, AreNoted, HasSwept, HasSweptAt, acted};
 ghost use Rattle.coap_server_listener.specs.Prelude.{drop_one, is_there, keys_of, released_refusal, session_of, swept};
 ghost use Rattle.coap_server_listener.specs.Prelude.{swept_one};
 ghost use Rattle.coap_server_listener.specs.declared.door.silence.SilenceAction.TheVariants.{Release};
@@ -24,8 +23,7 @@ pub(super) fn sweep<W: Drop, A: Application, M: Monitor<W>>(
     monitor: &mut M,
 )
     requires { AreNoted server.old peers.old.entries }
-    ensures has { HasSwept (FollowsMore (M.follows monitor.old) (M.follows monitor.new))
-        (AnswersMore (A.follows application.old) (A.follows application.new))
+    ensures has { HasSwept (known_by M.follows A.follows monitor.old monitor.new application.old application.new)
         (swept idle now server.old peers.old.entries) server.old server.new }
     ensures entries { peers.new.entries ≡ (swept idle now server.old peers.old.entries).entries }
     ensures noted { AreNoted server.new peers.new.entries }
@@ -49,10 +47,9 @@ fn sweep_at<W: Drop, A: Application, M: Monitor<W>>(
     requires there { at < length peers.old.entries }
     requires fits { length peers.old.entries < 2 ^ 64 }
     requires noted { AreNoted server.old peers.old.entries }
-    ensures part { IfSome (slice_get peers.old.entries at) (λ e.
-        HasSweptAt (FollowsMore (M.follows monitor.old) (M.follows monitor.new))
-        (AnswersMore (A.follows application.old) (A.follows application.new)) (swept_one idle now server.old e)
-        server.old peers.old.entries at server.new peers.new.entries result) }
+    ensures part { IfSome (slice_get peers.old.entries at) (λ e. HasSweptAt (known_by M.follows A.follows monitor.old
+        monitor.new application.old application.new) (swept_one idle now server.old e)
+        (loop_state server.old peers.old.entries) at (loop_state server.new peers.new.entries) result) }
     ensures noted { AreNoted server.new peers.new.entries }
     ensures within { result ≤ length peers.new.entries }
     // The number of connections still to visit is one lower.
@@ -89,11 +86,9 @@ fn release_at<W: Drop, A: Application, M: Monitor<W>>(
     requires number { slice_get (keys_of peers.old.entries) at ≡ Some id }
     requires exists { is_there (session_of id server.old.sessions) ≡ true }
     requires noted { AreNoted server.old peers.old.entries }
-    ensures part { IfSome (slice_get peers.old.entries at) (λ e.
-        HasSweptAt (FollowsMore (M.follows monitor.old) (M.follows monitor.new))
-        (AnswersMore (A.follows application.old) (A.follows application.new))
-        (acted Release (released_refusal server.old e.0) now server.old e) server.old peers.old.entries at server.new
-        peers.new.entries result) }
+    ensures part { IfSome (slice_get peers.old.entries at) (λ e. HasSweptAt (known_by M.follows A.follows monitor.old
+        monitor.new application.old application.new) (acted Release (released_refusal server.old e.0) now server.old e)
+        (loop_state server.old peers.old.entries) at (loop_state server.new peers.new.entries) result) }
     ensures noted { AreNoted server.new peers.new.entries }
     ensures within { result ≤ length peers.new.entries }
     ensures fewer { length peers.new.entries - result + 1 ≡ length peers.old.entries - at }
@@ -119,10 +114,9 @@ fn drop_at<W: Drop, A: Application, M: Monitor<W>>(
     requires number { slice_get (keys_of peers.old.entries) at ≡ Some id }
     requires exists { is_there (session_of id server.old.sessions) ≡ true }
     requires noted { AreNoted server.old peers.old.entries }
-    ensures part { IfSome (slice_get peers.old.entries at) (λ e.
-        HasSweptAt (FollowsMore (M.follows monitor.old) (M.follows monitor.new))
-        (AnswersMore (A.follows application.old) (A.follows application.new)) (drop_one server.old e) server.old
-        peers.old.entries at server.new peers.new.entries result) }
+    ensures part { IfSome (slice_get peers.old.entries at) (λ e. HasSweptAt
+        (known_by M.follows A.follows monitor.old monitor.new application.old application.new) (drop_one server.old e)
+        (loop_state server.old peers.old.entries) at (loop_state server.new peers.new.entries) result) }
     ensures noted { AreNoted server.new peers.new.entries }
     ensures within { result ≤ length peers.new.entries }
     ensures fewer { length peers.new.entries - result + 1 ≡ length peers.old.entries - at }

@@ -1,15 +1,15 @@
 //! One turn of the event loop over the connections of a listener.
 
-ghost use Rattle.std.specs.Prelude.{◌≡◌, ◌≢◌, ℕ, ◌<◌, ◌≤◌, ◌+◌, ◌-◌, ◌^◌, ◌||◌, Bool, false, Ok, Some, length, is_none};
+ghost use Rattle.std.specs.Prelude.{◌≡◌, ◌<◌, ◌≤◌, ◌+◌, ◌-◌, ◌^◌, ◌||◌, Bool, false, Ok, Some, length, is_none};
 ghost use Rattle.std.specs.Prelude.{map, remove, slice_get, take, IfSome, IfOk, IfErr, OnOk, OnErr};
-ghost use Rattle.coap_server_listener.specs.Prelude.{keys_of, AreNoted, HasGoneOn, IsRound};
-ghost use Rattle.coap_server_listener.specs.Prelude.{IsOpening, IsAskedOnce, asked_by, TellsMore};
-ghost use Rattle.coap_server_listener.specs.Prelude.{AreCallsBetween, FollowsMore, HasAccepted, dropped_events};
-ghost use Rattle.coap_server_listener.specs.Prelude.{gone_exchanges, opening, trace_by};
+ghost use Rattle.coap_server_listener.specs.Prelude.{set_value_at};
+ghost use Rattle.coap_server_listener.specs.Prelude.{Follows, HasServed, HasTurned, IsAccepted, drop_history, known_by};
+ghost use Rattle.coap_server_listener.specs.Prelude.{known_of_turn, loop_state, visit, way, keys_of, AreNoted};
+ghost use Rattle.coap_server_listener.specs.Prelude.{HasGoneOn, IsRound, IsOpening, IsAskedOnce, asked_by, TellsMore};
+ghost use Rattle.coap_server_listener.specs.Prelude.{AreCallsBetween, FollowsMore, HasAccepted, opening, views_of};
 ghost use Rattle.coap_server_listener.specs.Prelude.{IsVisited, IsAgendaOf, concerns_earlier, end_of, wants_of};
 ghost use Rattle.coap_server_listener.specs.Prelude.{IsMemory, stamp_of, open_refusal, AreSettled, server_dropped};
-ghost use Rattle.coap_server_listener.specs.Prelude.{AnswersMore, AreAsleep, AreTakenWith, HasOpened, HasServedBy};
-ghost use Rattle.coap_server_listener.specs.Prelude.{HasTurnedBy, IsCourseFor, IsReasonFor, IsTakenWith, IsTurnBy};
+ghost use Rattle.coap_server_listener.specs.Prelude.{AreAsleep, HasOpened, IsCourseFor, IsReasonFor, IsTurnBy};
 ghost use Rattle.coap_server_listener.specs.Prelude.{outlook_of};
 ghost use Rattle.coap_server_listener.specs.declared.door.peer.PeerOutcome.TheVariants.{Open};
 
@@ -42,18 +42,16 @@ pub(super) fn take_turn<D: Door, A: Application, M: Monitor<D::Wire>>(
 ) -> Result<Wait, IoFault>
     requires noted { AreNoted server.old peers.old.entries }
     requires asleep { AreAsleep D.Wire.readable D.Wire.writable awake.old peers.old.entries }
-    ensures shows { HasTurnedBy AreTakenWith (FollowsMore (M.follows monitor.old) (M.follows monitor.new))
-        (AnswersMore (A.follows application.old) (A.follows application.new)) server.old server.new }
+    ensures shows { HasTurned (known_by M.follows A.follows monitor.old monitor.new application.old application.new)
+        server.old server.new }
     // The listener is asked once if another connection may be opened, and not otherwise.
     ensures asks { IsAskedOnce (TellsMore (D.calls door.old) (D.calls door.new)) server.old }
     // Each connection is served, and the result is the time that the listener may wait. The monitor receives the calls of
     // this turn, and no others.
-    ensures turn { IfOk result (λ wait. IsTurnBy (IsTakenWith A.follows) second D.Wire.readable
-        D.Wire.writable
-        (trace_by D.Wire.given D.Wire.written D.Wire.answers D.Wire.rooms)
-        (TellsMore (D.calls door.old) (D.calls door.new)) (FollowsMore (M.follows monitor.old) (M.follows monitor.new))
-        (AnswersMore (A.follows application.old) (A.follows application.new)) server.old peers.old.entries server.new
-        peers.new.entries wait) }
+    ensures turn { IfOk result (λ wait. IsTurnBy (way A.follows second (views_of D.Wire.readable D.Wire.writable
+        D.Wire.given D.Wire.written D.Wire.answers D.Wire.rooms)) (known_of_turn (TellsMore (D.calls door.old)
+        (D.calls door.new)) (known_by M.follows A.follows monitor.old monitor.new application.old application.new))
+        (loop_state server.old peers.old.entries) (loop_state server.new peers.new.entries) wait) }
     ensures noted { OnOk result (AreNoted server.new peers.new.entries) }
     ensures asleep { OnOk result (AreAsleep D.Wire.readable D.Wire.writable awake.new peers.new.entries) }
     ensures settled { OnOk result (AreSettled server.new.host server.new.sessions) }
@@ -78,7 +76,7 @@ pub(super) fn take_turn<D: Door, A: Application, M: Monitor<D::Wire>>(
 /// # Errors
 ///
 /// - `Memory`: an allocation failed.
-#[tactic(auto, using(crate::proofs::streams::ServingLemmas::none_opened, crate::proofs::streams::ServingLemmas::one_opened, crate::proofs::streams::ServingLemmas::opening_accepted))]
+#[tactic(auto, using(crate::proofs::streams::ServingLemmas::none_opened, crate::proofs::streams::ServingLemmas::one_opened, crate::proofs::streams::ServingLemmas::opening_called))]
 fn accept<D: Door, M: Monitor<D::Wire>>(
     alloc: Global,
     server: &mut Server,
@@ -90,18 +88,17 @@ fn accept<D: Door, M: Monitor<D::Wire>>(
 ) -> Result<bool, IoFault>
     requires noted { AreNoted server.old peers.old.entries }
     requires asleep { AreAsleep D.Wire.readable D.Wire.writable awake.old peers.old.entries }
-    ensures shows { HasOpened (FollowsMore (M.follows monitor.old) (M.follows monitor.new))
-        server.old server.new }
+    ensures shows { HasOpened (M.follows monitor.old) (M.follows monitor.new) server.old server.new }
     ensures noted { OnOk result (AreNoted server.new peers.new.entries) }
     ensures asleep { OnOk result (AreAsleep D.Wire.readable D.Wire.writable awake.new peers.new.entries) }
     ensures fault { IfErr result IsMemory }
     // The listener is asked once if another connection may be opened. Otherwise it is not asked, so it returns no wire
     // for which none could be opened.
-    ensures opened { IfOk result (λ opens. IsOpening second (TellsMore (D.calls door.old) (D.calls door.new)) server.old
-        peers.old.entries server.new peers.new.entries opens) }
+    ensures opened { IfOk result (λ opens. IsOpening second (TellsMore (D.calls door.old) (D.calls door.new))
+        (loop_state server.old peers.old.entries) (loop_state server.new peers.new.entries) opens) }
     ensures passes { is_none (open_refusal server.old) ≡ false → (door.new ≡ door.old) × (result ≡ Ok false) }
-    ensures accepted { IfOk result (λ opens. AreCallsBetween (FollowsMore (M.follows monitor.old) (M.follows monitor.new))
-        server.old server.new (opening server.old opens)) }
+    ensures accepted { IfOk result (λ opens. AreCallsBetween (M.follows monitor.old) (M.follows monitor.new) server.old
+        server.new (opening server.old opens)) }
     // An allocation fails only for a wire that the listener returned.
     ensures refused { OnErr result ((wire : D.Wire) ×
         TellsMore (D.calls door.old) (D.calls door.new) (asked_by server.old (Some wire))) }
@@ -151,13 +148,13 @@ fn serve_each<W: Wire + Ready + Drop, A: Application, M: Monitor<W>>(
 ) -> Result<NextWakeup, IoFault>
     requires noted { AreNoted server.old peers.old.entries }
     requires asleep { AreAsleep W.readable W.writable awake.old peers.old.entries }
-    ensures shows { HasServedBy AreTakenWith (FollowsMore (M.follows monitor.old) (M.follows monitor.new))
-        (AnswersMore (A.follows application.old) (A.follows application.new)) server.old server.new }
+    ensures shows { HasServed (known_by M.follows A.follows monitor.old monitor.new application.old application.new)
+        server.old server.new }
     // Each connection in order is served, except those that are idle, and the result is the work that remains.
-    ensures round { IfOk result (λ agenda. HasAccepted (IsRound (IsTakenWith A.follows) second W.readable W.writable
-        (trace_by W.given W.written W.answers W.rooms) server.old peers.old.entries agenda server.new
-        peers.new.entries) (FollowsMore (M.follows monitor.old) (M.follows monitor.new))
-        (AnswersMore (A.follows application.old) (A.follows application.new)) server.old server.new) }
+    ensures round { IfOk result (λ agenda. HasAccepted (IsRound
+        (way A.follows second (views_of W.readable W.writable W.given W.written W.answers W.rooms))
+        (loop_state server.old peers.old.entries) agenda (loop_state server.new peers.new.entries))
+        (known_by M.follows A.follows monitor.old monitor.new application.old application.new) server.old server.new) }
     ensures noted { OnOk result (AreNoted server.new peers.new.entries) }
     ensures asleep { OnOk result (AreAsleep W.readable W.writable awake.new peers.new.entries) }
     ensures settled { OnOk result (AreSettled server.new.host server.new.sessions) }
@@ -199,13 +196,13 @@ fn serve_next<W: Wire + Ready + Drop, A: Application, M: Monitor<W>>(
     requires fits { length peers.old.entries < 2 ^ 64 }
     requires noted { AreNoted server.old peers.old.entries }
     requires asleep { AreAsleep W.readable W.writable awake.old peers.old.entries }
-    ensures shows { HasServedBy AreTakenWith (FollowsMore (M.follows monitor.old) (M.follows monitor.new))
-        (AnswersMore (A.follows application.old) (A.follows application.new)) server.old server.new }
+    ensures shows { HasServed (known_by M.follows A.follows monitor.old monitor.new application.old application.new)
+        server.old server.new }
     // The connection was served, and the others are unchanged.
-    ensures part { IfOk result (λ later. HasAccepted (HasGoneOn (IsTakenWith A.follows) second W.readable W.writable
-        (trace_by W.given W.written W.answers W.rooms) server.old peers.old.entries seen.at server.new
-        peers.new.entries later.at) (FollowsMore (M.follows monitor.old) (M.follows monitor.new))
-        (AnswersMore (A.follows application.old) (A.follows application.new)) server.old server.new) }
+    ensures part { IfOk result (λ later. HasAccepted (HasGoneOn
+        (way A.follows second (views_of W.readable W.writable W.given W.written W.answers W.rooms))
+        (loop_state server.old peers.old.entries) seen.at (loop_state server.new peers.new.entries) later.at)
+        (known_by M.follows A.follows monitor.old monitor.new application.old application.new) server.old server.new) }
     ensures noted { OnOk result (AreNoted server.new peers.new.entries) }
     ensures asleep { OnOk result (AreAsleep W.readable W.writable awake.new peers.new.entries) }
     // The work that remains on it is added to that of the connections before it.
@@ -215,6 +212,7 @@ fn serve_next<W: Wire + Ready + Drop, A: Application, M: Monitor<W>>(
         (changed || concerns_earlier seen.at (stamp_of server.old.host) (stamp_of server.new.host))
         (stamp_of server.new.host)
         (map (λ e. end_of W.readable W.writable e.1) (take later.at peers.new.entries))) }
+    ensures follows { OnOk result (Follows server.old.host server.new.host) }
     ensures within { IfOk result (λ later. later.at ≤ length peers.new.entries) }
     // The number of connections still to visit is one lower.
     ensures fewer { IfOk result (λ later. length peers.new.entries - later.at + 1 ≡ length peers.old.entries -
@@ -269,26 +267,24 @@ fn serve_at<W: Wire + Ready, A: Application, M: Monitor<W>>(
     requires there { at < length peers.old.entries }
     requires settled { AreSettled server.old.host server.old.sessions }
     requires noted { AreNoted server.old peers.old.entries }
-    ensures shows { HasServedBy AreTakenWith (FollowsMore (M.follows monitor.old) (M.follows monitor.new))
-        (AnswersMore (A.follows application.old) (A.follows application.new)) server.old server.new }
-    ensures part { IfSome (slice_get peers.old.entries at)
-        (λ was. IfSome (slice_get peers.new.entries at)
-        (λ is. IfOk result (λ course. HasAccepted (IsVisited (IsTakenWith A.follows) second (W.readable was.1.wire)
-        (W.writable was.1.wire) (trace_by W.given W.written W.answers W.rooms) server.old was server.new is.1 course)
-        (FollowsMore (M.follows monitor.old) (M.follows monitor.new))
-        (AnswersMore (A.follows application.old) (A.follows application.new)) server.old server.new))) }
+    ensures shows { HasServed (known_by M.follows A.follows monitor.old monitor.new application.old application.new)
+        server.old server.new }
+    ensures part { IfSome (slice_get peers.old.entries at) (λ was. IfSome (slice_get peers.new.entries at) (λ is. IfOk
+        result (λ outcome. HasAccepted (λ h. IsVisited (way A.follows second (views_of W.readable W.writable W.given
+        W.written W.answers W.rooms)) server.old was (visit server.new is.1 outcome h)) (known_by M.follows A.follows
+        monitor.old monitor.new application.old application.new) server.old server.new))) }
     ensures wants { IfSome (slice_get peers.new.entries at)
         (λ is. IfOk result (λ course. course ≡ Open → is.1.wants ≡ wants_of server.new is.0 is.1.rest)) }
     ensures reason { IfSome (slice_get peers.new.entries at)
         (λ is. IfOk result (λ course. IsCourseFor course (outlook_of server.new is.0))) }
+    // The state that all connections share follows the one before.
+    ensures follows { OnOk result (Follows server.old.host server.new.host) }
     // The recorded interests of the others are still correct, and so is that of this connection if it stays open.
     ensures others { OnOk result (AreNoted server.new (remove peers.new.entries at)) }
     ensures noted { IfOk result (λ course. course ≡ Open → AreNoted server.new peers.new.entries) }
-    // No other connection is changed.
-    ensures beside { remove peers.new.entries at ≡ remove peers.old.entries at }
-    ensures before { take at peers.new.entries ≡ take at peers.old.entries }
-    ensures each { (i : ℕ) → i ≢ at → slice_get peers.new.entries i ≡ slice_get peers.old.entries i }
-    ensures same { keys_of peers.new.entries ≡ keys_of peers.old.entries }
+    // Only the entry of this connection is changed.
+    ensures peers { (peer : _) × (peers.new.entries ≡ set_value_at peers.old.entries at peer) }
+    ensures as_many { length peers.new.entries ≡ length peers.old.entries }
     ensures fault { IfErr result IsMemory }
 {
     let (id, peer) = peers.pair_mut(at);
@@ -310,7 +306,7 @@ fn serve_at<W: Wire + Ready, A: Application, M: Monitor<W>>(
 /// Reports to the monitor that a connection is to be dropped for this reason, if the connection exists.
 fn report_drop<W, M: Monitor<W>>(server: &Server, id: ConnId, reason: DropReason, monitor: &mut M)
     requires { IfSome (outlook_of server.now id) (IsReasonFor reason) }
-    ensures { FollowsMore (M.follows monitor.old) (M.follows monitor.new) (dropped_events server.now id) }
+    ensures { FollowsMore (M.follows monitor.old) (M.follows monitor.new) (drop_history server.now id).events }
 {
     if server.index_of(id).is_some() {
         monitor.accepted(Call::Dropped(id, reason), server);
@@ -318,7 +314,7 @@ fn report_drop<W, M: Monitor<W>>(server: &Server, id: ConnId, reason: DropReason
 }
 
 /// Drops the connection at an index, for this reason.
-#[tactic(auto, using(crate::proofs::streams::ServingLemmas::none_served, crate::proofs::streams::ServingLemmas::dropped_served))]
+#[tactic(auto, using(crate::proofs::streams::ServingLemmas::none_made, crate::proofs::streams::ServingLemmas::dropped_served))]
 fn drop_at<W: Wire + Drop, A: Application, M: Monitor<W>>(
     server: &mut Server,
     peers: &mut Peers<W>,
@@ -332,18 +328,15 @@ fn drop_at<W: Wire + Drop, A: Application, M: Monitor<W>>(
     requires noted { AreNoted server.old (remove peers.old.entries at) }
     requires reason { IfSome (slice_get peers.old.entries at)
         (λ e. IfSome (outlook_of server.old e.0) (IsReasonFor reason)) }
-    ensures shows { HasServedBy AreTakenWith (FollowsMore (M.follows monitor.old) (M.follows monitor.new))
-        (AnswersMore (A.follows application.old) (A.follows application.new)) server.old server.new }
+    ensures shows { HasServed (known_by M.follows A.follows monitor.old monitor.new application.old application.new)
+        server.old server.new }
     ensures noted { AreNoted server.new peers.new.entries }
     ensures peers { peers.new.entries ≡ remove peers.old.entries at }
     ensures host { server.new.host ≡ server.old.host }
     ensures server { IfSome (slice_get (keys_of peers.old.entries) at)
         (λ id. server.new ≡ server_dropped server.old id) }
-    ensures accepted { IfSome (slice_get (keys_of peers.old.entries) at)
-        (λ id. AreCallsBetween (FollowsMore (M.follows monitor.old) (M.follows monitor.new)) server.old server.new
-        (dropped_events server.old id)) }
-    ensures exchanged { IfSome (slice_get (keys_of peers.old.entries) at)
-        (λ id. AnswersMore (A.follows application.old) (A.follows application.new) (gone_exchanges server.old id)) }
+    ensures accepted { IfSome (slice_get (keys_of peers.old.entries) at) (λ id. IsAccepted (known_by M.follows A.follows
+        monitor.old monitor.new application.old application.new) server.old server.new (drop_history server.old id)) }
 {
     if let Some((id, _)) = peers.shift_remove_index(at) {
         report_drop::<W, M>(server, id, reason, monitor);

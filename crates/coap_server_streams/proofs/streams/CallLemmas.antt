@@ -2,10 +2,7 @@
 use Rattle.std.proofs.Common.{◌≡◌, ℕ, ◌+◌, List, [], ◌∷◌, ◌++◌, length, None, refl, sym, ap, subst, ◌∙◌, append_assoc, arith}
 use Rattle.std.proofs.lemmas.Bool.{eq-eqb}
 use Rattle.std.proofs.lemmas.List.{append-nil}
-use Rattle.coap_server_streams.specs.Prelude.{ConfigValues, ServerValue, AcceptedCall, Opened, Took, Wrote, only_id, outcome}
-use Rattle.coap_server_streams.specs.Prelude.{stdio_output, taken_on, written_on, written_in, AreTransfers, IsTransfer}
-use Rattle.coap_server_streams.specs.Prelude.{IsAfterOutput, AreAfterOutput, waiting_of, side_of, world_after}
-use Rattle.coap_server_streams.specs.Prelude.{AreTransfersOf, HasReported, HasReportedStop, IsAtBytes}
+use Rattle.coap_server_streams.specs.Prelude.{ConfigValues, ServerValue, AcceptedCall, Opened, Took, Wrote, only_id, outcome, stdio_output, taken_on, written_on, written_in, AreTransfers, IsTransfer, IsAfterOutput, AreAfterOutput, waiting_of, side_of, world_after, AreTransfersOf, HasReported, HasReportedStop, IsAtBytes}
 use Rattle.coap_model.proofs.world.EntryLemmas.{all_append}
 use Rattle.coap_model.proofs.world.StepLaws.{taken_then, taken_here}
 
@@ -30,8 +27,8 @@ unfolding taken_on written_on AreAfterOutput
 transfers_opened c id = record { calls = []; opened = refl; each = tt; bytes = refl; count = refl; after_output = (tt, tt) }
 
 -- No byte is queued before the connection accepts these bytes.
-pub transfers_taken : (c : ConfigValues) (id : ℕ) (taken bytes : List ℕ) (written : ℕ) (es : List AcceptedCall) → waiting_of (side_of id (world_after c es).sides) ≡ [] → AreTransfers c id taken written es → AreTransfers c id (taken ++ bytes) written (es ++ Took id bytes ∷ [])
-transfers_taken c id taken bytes written es waits so_far = record {
+pub transfers_taken : (c : ConfigValues) (id : ℕ) {taken : List ℕ} (bytes : List ℕ) {written : ℕ} (es : List AcceptedCall) → waiting_of (side_of id (world_after c es).sides) ≡ [] → AreTransfers c id taken written es → AreTransfers c id (taken ++ bytes) written (es ++ Took id bytes ∷ [])
+transfers_taken c id bytes es waits so_far = record {
   calls = so_far.calls ++ Took id bytes ∷ [];
   opened = ap (λ (fs : List AcceptedCall). fs ++ Took id bytes ∷ []) so_far.opened;
   each = all_append (IsTransfer id) so_far.calls (Took id bytes ∷ []) so_far.each (refl, tt);
@@ -40,8 +37,8 @@ transfers_taken c id taken bytes written es waits so_far = record {
   after_output = after_output_more c [] es (Took id bytes) so_far.after_output waits;
 }
 
-pub transfers_written : (c : ConfigValues) (id : ℕ) (taken : List ℕ) (written n : ℕ) (es : List AcceptedCall) → AreTransfers c id taken written es → AreTransfers c id taken (written + n) (es ++ Wrote id n ∷ [])
-transfers_written c id taken written n es so_far = record {
+pub transfers_written : (c : ConfigValues) (id : ℕ) {taken : List ℕ} {written : ℕ} (n : ℕ) (es : List AcceptedCall) → AreTransfers c id taken written es → AreTransfers c id taken (written + n) (es ++ Wrote id n ∷ [])
+transfers_written c id n es so_far = record {
   calls = so_far.calls ++ Wrote id n ∷ [];
   opened = ap (λ (fs : List AcceptedCall). fs ++ Wrote id n ∷ []) so_far.opened;
   each = all_append (IsTransfer id) so_far.calls (Wrote id n ∷ []) so_far.each (refl, tt);
@@ -53,12 +50,12 @@ transfers_written c id taken written n es so_far = record {
 -- ---- a server that has accepted some bytes
 
 -- All of these bytes were accepted.
-pub all_transferred : (c : ConfigValues) (bytes : List ℕ) (es : List AcceptedCall) → AreTransfers c (only_id c) bytes (length (stdio_output c bytes)) es → AreTransfersOf c bytes es
-all_transferred c bytes es all = record { taken = bytes; behind = []; all = sym (append-nil bytes); whole = λ _. refl; same = refl; transfers = all }
+pub all_transferred : (c : ConfigValues) (bytes : List ℕ) {es : List AcceptedCall} → AreTransfers c (only_id c) bytes (length (stdio_output c bytes)) es → AreTransfersOf c bytes es
+all_transferred c bytes all = record { taken = bytes; behind = []; all = sym (append-nil bytes); whole = λ _. refl; same = refl; transfers = all }
 
 -- Nothing stops the connection, so it accepted all bytes.
-pub whole_transfers : (c : ConfigValues) (bytes : List ℕ) (es : List AcceptedCall) → AreTransfersOf c bytes es → (outcome c bytes).stop ≡ None → AreTransfers c (only_id c) bytes (length (stdio_output c bytes)) es
-whole_transfers c bytes es of none =
+pub whole_transfers : (c : ConfigValues) {bytes : List ℕ} {es : List AcceptedCall} → AreTransfersOf c bytes es → (outcome c bytes).stop ≡ None → AreTransfers c (only_id c) bytes (length (stdio_output c bytes)) es
+whole_transfers c {bytes = bytes} {es = es} of none =
     let is : of.taken ≡ bytes = sym (of.all ∙ ap (λ (b : List ℕ). of.taken ++ b) (of.whole none) ∙ append-nil of.taken) in
     subst (λ (b : List ℕ). AreTransfers c (only_id c) b (length (stdio_output c bytes)) es) is of.transfers
 
@@ -69,7 +66,7 @@ module _ (c : ConfigValues) (v : ServerValue) (bytes : List ℕ) (monitor : List
     config = stands.config;
     events = stands.events;
     shows = stands.shows;
-    transfers = whole_transfers c bytes stands.events stands.transfers none;
+    transfers = whole_transfers c stands.transfers none;
     monitor_tells = stands.tells;
   }
 

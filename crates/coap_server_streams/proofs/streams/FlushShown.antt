@@ -4,13 +4,7 @@ use Rattle.std.proofs.Common.{◌≡◌, ◌⊎◌, ℕ, zero, suc, ◌+◌, ◌
 use Rattle.std.proofs.lemmas.Bool.{cond_both}
 use Rattle.std.proofs.lemmas.Bool.Decides.{nat_tests}
 use Rattle.std.proofs.lemmas.List.{append-nil, length-append, length-map}
-use Rattle.coap_server_streams.specs.Prelude.{ConfigValues, ServerValue, SessionValue, session_of, session_written, session_becomes}
-use Rattle.coap_server_streams.specs.Prelude.{settled_entry, server_written, waiting_in, waiting_at}
-use Rattle.coap_server_streams.specs.Prelude.{more_in, more_at, flush_turns, IsFlushed, Connection, waiting_on, side_written}
-use Rattle.coap_server_streams.specs.Prelude.{settled, World, side_of, AcceptedCall, Wrote, stream_on, steps_by, world_after}
-use Rattle.coap_server_streams.specs.Prelude.{spelled_on, Shows, session_shown, only_id, stream_of, more_of, written_times}
-use Rattle.coap_server_streams.specs.Prelude.{flushed, world_for, Outcome, stdio_output, IsAtBytes, AreTransfers, HasReported}
-use Rattle.coap_server_streams.specs.Prelude.{IsReportedFlush, FollowsMore, Following, calls_of_flush}
+use Rattle.coap_server_streams.specs.Prelude.{ConfigValues, ServerValue, SessionValue, session_of, session_written, session_becomes, settled_entry, server_written, waiting_in, waiting_at, more_in, more_at, flush_turns, IsFlushed, Connection, waiting_on, side_written, settled, World, side_of, AcceptedCall, Wrote, stream_on, steps_by, world_after, spelled_on, Shows, session_shown, only_id, stream_of, more_of, written_times, flushed, world_for, Outcome, stdio_output, IsAtBytes, AreTransfers, HasReported, IsReportedFlush, FollowsMore, Following, calls_of_flush}
 use Rattle.coap_server_streams.proofs.streams.CallLemmas.{transfers_written, all_transferred}
 use Rattle.coap_model.specs.world.World as world
 use Rattle.coap_model.proofs.world.StepLaws.{world_step, spelled_same}
@@ -100,7 +94,7 @@ module _ (c : ConfigValues) (v : ServerValue) (id : ℕ) (s : Connection) (from 
           made = ap (λ (gs : List AcceptedCall). gs ++ Wrote id count ∷ []) so_far.made ∙ append_assoc es more (Wrote id count ∷ []);
           transfers = λ taken written before.
               subst (λ (n : ℕ). AreTransfers c id taken n (fs ++ Wrote id count ∷ [])) (omega (arith, length-append text (waiting_at id now)))
-              (transfers_written c id taken (written + length text) count fs (so_far.transfers taken written before));
+              (transfers_written c id count fs (so_far.transfers taken written before));
         }
 
   -- All iterations.
@@ -147,8 +141,8 @@ module _ (c : ConfigValues) (v : ServerValue) (id : ℕ) (s : Connection) (from 
       let none : waiting_on f.side ≡ [] = cc (flushed_there, left.0.there, left.1) in
       waits_shown turns (flush_turns turns id v).server (flush_turns turns id v).text (calls_of_flush turns id v) f ∙ none
 
-  pub leaves_nothing : (after : ServerValue) (wrote : List ℕ → Type 0) → IsFlushed id v after wrote → waiting_at id after ≡ []
-  leaves_nothing after wrote did = rw did.server (none_waits did.turns did.within (rw did.server at did.done))
+  pub leaves_nothing : {after : ServerValue} {wrote : List ℕ → Type 0} → IsFlushed id v after wrote → waiting_at id after ≡ []
+  leaves_nothing did = rw did.server (none_waits did.turns did.within (rw did.server at did.done))
 
 -- ---- any connection
 
@@ -169,7 +163,7 @@ absent_turns id v (suc turns) none =
 
 -- A flush leaves no byte queued on the connection with this number, if there is one.
 flush_on : (v after : ServerValue) (es : List AcceptedCall) (id : ℕ) (wrote : List ℕ → Type 0) (found : Option Connection) → Shows v es → side_of id (world_after v.config es).sides ≡ found → IsFlushed id v after wrote → waiting_at id after ≡ []
-flush_on v after es id wrote (Some s) shows there did = leaves_nothing v.config v id s (record { config = refl; events = es; shows = shows; there = there }) after wrote did
+flush_on v after es id wrote (Some s) shows there did = leaves_nothing v.config v id s (record { config = refl; events = es; shows = shows; there = there }) did
 flush_on v after es id wrote None shows absent did = rw did.server (ap waiting_in (absent_turns id v did.turns (no_session v es id shows absent)))
 
 pub flush_empties : (v after : ServerValue) (es : List AcceptedCall) (id : ℕ) (wrote : List ℕ → Type 0) → Shows v es → IsFlushed id v after wrote → waiting_at id after ≡ []
@@ -204,7 +198,7 @@ module _ (c : ConfigValues) (v : ServerValue) (s : Connection) (bytes : List ℕ
             shows = f.shows;
             world = ends;
             spelled = λ still. f.spelled ∙ leads.spelled;
-            transfers = all_transferred c bytes f.events (subst (λ (n : ℕ). AreTransfers c id bytes n f.events) count (f.transfers bytes (length (front_written s)) leads.transfers));
+            transfers = all_transferred c bytes (subst (λ (n : ℕ). AreTransfers c id bytes n f.events) count (f.transfers bytes (length (front_written s)) leads.transfers));
             tells = rw f.made tells;
           },
           said,
@@ -229,9 +223,9 @@ module _ (c : ConfigValues) (v : ServerValue) (s : Connection) (bytes : List ℕ
   pub turns_said : (stdio_output c bytes ≡ front_written s ++ (flush_turns (suc (more_at id v)) id v).text)
   turns_said = (turns_stand (suc (more_at id v)) (λ _. Unit {0}) tt (omega arith) (inr refl)).1
 
-pub flush_stands : (c : ConfigValues) (v : ServerValue) (s : Connection) (bytes : List ℕ) (a m n : Following) → LeadsTo c v s bytes (FollowsMore a m) → (after : ServerValue) (wrote : List ℕ → Type 0) → IsReportedFlush (only_id c) v after wrote (FollowsMore m n)
+pub flush_stands : (c : ConfigValues) (v : ServerValue) {s : Connection} (bytes : List ℕ) (a m n : Following) → LeadsTo c v s bytes (FollowsMore a m) → (after : ServerValue) (wrote : List ℕ → Type 0) → IsReportedFlush (only_id c) v after wrote (FollowsMore m n)
     → StandsBehind c bytes (front_written s) after wrote (FollowsMore a n)
-flush_stands c v s bytes a m n leads after wrote report =
+flush_stands c v {s = s} bytes a m n leads after wrote report =
     let did = report.flushed in
     let calls : List AcceptedCall = calls_of_flush did.turns (only_id c) v in
     let both = turns_stand c v s bytes (FollowsMore a m) leads did.turns (FollowsMore a n) (followed_then a m n leads.events calls leads.tells report.tells) did.within (rw did.server at did.done) in

@@ -2,9 +2,7 @@
 use Rattle.std.proofs.Common.{◌≡◌, ℕ, ◌+◌, ◌<◌, List, [], ◌∷◌, ◌++◌, length, take, drop, Option, Some, None, true, false, refl, sym, ap, ◌∙◌, append_assoc, arith, ◌==◌}
 use Rattle.std.proofs.lemmas.Bool.{eqb-true, eqb-false}
 use Rattle.std.proofs.lemmas.List.{append-nil, length-append, take-append-drop, nil_from_length}
-use Rattle.coap_server_streams.specs.Prelude.{Reason, ConfigValues, ServerValue, session_of, stop_on, IsNotTaken}
-use Rattle.coap_server_streams.specs.Prelude.{AddsBytes, world_for, Outcome, outcome, IsRunningAt, Says, IsWhole, IsCut}
-use Rattle.coap_server_streams.specs.Prelude.{IsRefused, AcceptedCall, FollowsMore, Following, ShowsRefused, Shows, Took, stdio_output}
+use Rattle.coap_server_streams.specs.Prelude.{Reason, ConfigValues, ServerValue, session_of, stop_on, IsNotTaken, AddsBytes, world_for, Outcome, outcome, IsRunningAt, Says, IsWhole, IsCut, IsRefused, AcceptedCall, FollowsMore, Following, ShowsRefused, Shows, Took, stdio_output}
 use Rattle.coap_model.specs.declared.answers.TakeFault.TheVariants as taking
 use Rattle.coap_io.proofs.streams.DeviceLemmas.{bytes_none, bytes_then}
 use Rattle.coap_model.proofs.streams.OutputLaws.{output_grows, stopped_output, stopped_outcome}
@@ -21,8 +19,8 @@ pub record Serves (c : ConfigValues) (id : ℕ) (bytes piece : List ℕ) (v : Se
   pub written : AddsBytes x y text
   pub counted : (outcome c (bytes ++ taken)).messages ≡ (outcome c bytes).messages + messages
 
-pub serves_none : (c : ConfigValues) (v : ServerValue) (id : ℕ) (bytes piece : List ℕ) (x : Option (List ℕ)) (monitor : List AcceptedCall → Type 0) → IsRunningAt c v id bytes monitor → Serves c id bytes piece v piece x x monitor 0
-serves_none c v id bytes piece x monitor goes = record {
+pub serves_none : (c : ConfigValues) {v : ServerValue} {id : ℕ} (bytes : List ℕ) {piece : List ℕ} (x : Option (List ℕ)) {monitor : List AcceptedCall → Type 0} → IsRunningAt c v id bytes monitor → Serves c id bytes piece v piece x x monitor 0
+serves_none c bytes x goes = record {
   taken = [];
   all = refl;
   goes = rw append-nil goes;
@@ -54,8 +52,8 @@ module _ (c : ConfigValues) (id : ℕ) (bytes piece : List ℕ) (v : ServerValue
     whole_bytes = ap (λ (b : List ℕ). bytes ++ b) split_so ∙ simp append_assoc
 
     -- The prefix was processed, and the connection processes further messages.
-    pub serves_more : (z : Option (List ℕ)) (monitor : List AcceptedCall → Type 0) (after : ServerValue) (more : ℕ) → FrontServed c id here (take n rest) after (AddsBytes y z) monitor more → stop_on (session_of id after.sessions) ≡ None → Serves c id bytes piece after (drop n rest) x z monitor (messages + more)
-    serves_more z monitor after more did going =
+    pub serves_more : (z : Option (List ℕ)) {monitor : List AcceptedCall → Type 0} {after : ServerValue} (more : ℕ) → FrontServed c id here (take n rest) after (AddsBytes y z) monitor more → stop_on (session_of id after.sessions) ≡ None → Serves c id bytes piece after (drop n rest) x z monitor (messages + more)
+    serves_more z more did going =
         let said = did.whole in
         record {
           taken = so_far.taken ++ take n rest;
@@ -68,8 +66,8 @@ module _ (c : ConfigValues) (id : ℕ) (bytes piece : List ℕ) (v : ServerValue
         }
 
     -- The prefix was processed, and the connection processes no further message.
-    pub serves_last : (z : Option (List ℕ)) (monitor : List AcceptedCall → Type 0) (after : ServerValue) (more : ℕ) (why : Reason) → FrontServed c id here (take n rest) after (AddsBytes y z) monitor more → stop_on (session_of id after.sessions) ≡ Some why → IsWhole c bytes piece after (AddsBytes x z) monitor (messages + more)
-    serves_last z monitor after more why did stopped =
+    pub serves_last : (z : Option (List ℕ)) {monitor : List AcceptedCall → Type 0} {after : ServerValue} (more : ℕ) (why : Reason) → FrontServed c id here (take n rest) after (AddsBytes y z) monitor more → stop_on (session_of id after.sessions) ≡ Some why → IsWhole c bytes piece after (AddsBytes x z) monitor (messages + more)
+    serves_last z more why did stopped =
         let said = did.whole in
         let of = said.stands.transfers in
         let over : (outcome c (here ++ take n rest)).stop ≡ Some why = sym did.stop ∙ stopped in
@@ -98,8 +96,8 @@ module _ (c : ConfigValues) (id : ℕ) (bytes piece : List ℕ) (v : ServerValue
         }
 
     -- The output for the prefix was not written in full.
-    pub cut_off : (z : Option (List ℕ)) (monitor : List AcceptedCall → Type 0) → IsCut c here (take n rest) (AddsBytes y z) monitor → IsCut c bytes piece (AddsBytes x z) monitor
-    cut_off z monitor did =
+    pub cut_off : (z : Option (List ℕ)) {monitor : List AcceptedCall → Type 0} → IsCut c here (take n rest) (AddsBytes y z) monitor → IsCut c bytes piece (AddsBytes x z) monitor
+    cut_off z did =
         let more = output_grows c (here ++ take n rest) (drop n rest) in
         let r = did.reported in
         record {
@@ -144,5 +142,5 @@ module _ (c : ConfigValues) (id : ℕ) (bytes piece : List ℕ) (v : ServerValue
 pub is_filled : (xs : List ℕ) → false ≡ (length xs == 0) → 0 < length xs
 is_filled xs e = omega (arith, eqb-false (length xs) 0 (sym e))
 
-pub is_used_up : (xs : List ℕ) → true ≡ (length xs == 0) → xs ≡ []
-is_used_up xs e = nil_from_length xs (eqb-true (length xs) 0 (sym e))
+pub is_used_up : {xs : List ℕ} → true ≡ (length xs == 0) → xs ≡ []
+is_used_up {xs = xs} e = nil_from_length xs (eqb-true (length xs) 0 (sym e))

@@ -2,16 +2,7 @@
 use Rattle.std.proofs.Common.{◌≡◌, ◌≢◌, ℕ, ◌≤◌, List, [], ◌∷◌, ◌++◌, length, take, Ok, Err, refl, sym, ap, subst, ◌∙◌, arith, inr, ◌+◌, ◌<◌, Option, Some, None, Result, append_assoc, inl, Bool, true, false}
 use Rattle.std.proofs.lemmas.List.{length-take-le, append-nil, length-append}
 use Rattle.std.proofs.lemmas.List.Folds.{concat-append}
-use Rattle.coap_server_streams.specs.Prelude.{concat, AllByRecursion, Reason, end_reason, AreInRange, stop_of, Stream}
-use Rattle.coap_server_streams.specs.Prelude.{ConfigValues, IoFault, Read, Write, Memory, Turns, Report, Turn, FollowsMore, Following}
-use Rattle.coap_server_streams.specs.Prelude.{IsReportedFlush, IsCutFlush, HasReportedEnd, HasReportedCut, EndsReport}
-use Rattle.coap_server_streams.specs.Prelude.{IsReportedRun}
-use Rattle.coap_server_streams.specs.Prelude.{ServerValue, session_of, new_server, server_opened, is_there}
-use Rattle.coap_server_streams.specs.Prelude.{stop_on, DeviceTrace, HasGiven, pieces_read, AddsBytes, only_id, outcome}
-use Rattle.coap_server_streams.specs.Prelude.{stream_of, stdio_output, IsRunningAt, IsWhole, Says, HasRead, IsTurn, AreNotEmpty}
-use Rattle.coap_server_streams.specs.Prelude.{GoesOn, EndsRun, IsStdioRun, AcceptedCall, Opened, steps_by, world_after, Ended}
-use Rattle.coap_server_streams.specs.Prelude.{stream_on, Shows, is_cut, new_side, Connection, side_ended, settled, World, side_of}
-use Rattle.coap_server_streams.specs.Prelude.{step, is_read_fault}
+use Rattle.coap_server_streams.specs.Prelude.{concat, AllByRecursion, Reason, end_reason, AreInRange, stop_of, Stream, ConfigValues, IoFault, Read, Write, Memory, Turns, Report, Turn, FollowsMore, Following, IsReportedFlush, IsCutFlush, HasReportedEnd, HasReportedCut, EndsReport, IsReportedRun, ServerValue, session_of, new_server, server_opened, is_there, stop_on, DeviceTrace, HasGiven, pieces_read, AddsBytes, only_id, outcome, stream_of, stdio_output, IsRunningAt, IsWhole, Says, HasRead, IsTurn, AreNotEmpty, GoesOn, EndsRun, IsStdioRun, AcceptedCall, Opened, steps_by, world_after, Ended, stream_on, Shows, is_cut, new_side, Connection, side_ended, settled, World, side_of, step, is_read_fault}
 use Rattle.coap_server_streams.specs.streams.StdioProgress.{IsServed}
 use Rattle.coap_model.specs.world.World as world
 use Rattle.coap_model.proofs.world.AcrossLaws.{ended_there}
@@ -35,16 +26,16 @@ has_read a b buffer n room within some gave = record {
   few = omega (arith, length-take-le n buffer within, within, room);
 }
 
-pub turn_fault : (c : ConfigValues) (bytes piece : List ℕ) (after : ServerValue) (gave : List (List ℕ) → Type 0) (wrote : List ℕ → Type 0) (monitor : List AcceptedCall → Type 0) (e : IoFault) → HasRead gave piece → IsServed c bytes piece after wrote monitor (Err e) → IsTurn c bytes after gave wrote monitor (Err e)
-turn_fault c bytes piece after gave wrote monitor Read has did = absurd did
-turn_fault c bytes piece after gave wrote monitor Write has did = (piece, has, did)
-turn_fault c bytes piece after gave wrote monitor Memory has did = (piece, has, did)
-turn_fault c bytes piece after gave wrote monitor Turns has did = absurd did
+pub turn_fault : (c : ConfigValues) (bytes piece : List ℕ) (after : ServerValue) {gave : List (List ℕ) → Type 0} (wrote : List ℕ → Type 0) (monitor : List AcceptedCall → Type 0) (e : IoFault) → HasRead gave piece → IsServed c bytes piece after wrote monitor (Err e) → IsTurn c bytes after gave wrote monitor (Err e)
+turn_fault c bytes piece after wrote monitor Read has did = absurd did
+turn_fault c bytes piece after wrote monitor Write has did = (piece, has, did)
+turn_fault c bytes piece after wrote monitor Memory has did = (piece, has, did)
+turn_fault c bytes piece after wrote monitor Turns has did = absurd did
 
-pub turn_piece : (c : ConfigValues) (id : ℕ) (bytes piece : List ℕ) (after : ServerValue) (gave : List (List ℕ) → Type 0) (wrote : List ℕ → Type 0) (monitor : List AcceptedCall → Type 0) (t : Turn) → id ≡ only_id c → HasRead gave piece → IsWhole c bytes piece after wrote monitor t.messages → t.read ≡ length piece
+pub turn_piece : (c : ConfigValues) {id : ℕ} (bytes piece : List ℕ) (after : ServerValue) (gave : List (List ℕ) → Type 0) (wrote : List ℕ → Type 0) (monitor : List AcceptedCall → Type 0) (t : Turn) → id ≡ only_id c → HasRead gave piece → IsWhole c bytes piece after wrote monitor t.messages → t.read ≡ length piece
     → t.stop ≡ stop_on (session_of id after.sessions) → IsTurn c bytes after gave wrote monitor (Ok t)
-turn_piece c id bytes piece after gave wrote monitor t number has did read_is stop_is =
-    inr (record { piece = piece; has = has; served = did; read = read_is; reason = rw number at stop_is ∙ stop_told c after (bytes ++ piece) monitor did.stands })
+turn_piece c bytes piece after gave wrote monitor t number has did read_is stop_is =
+    inr (record { piece = piece; has = has; served = did; read = read_is; reason = rw number at stop_is ∙ stop_told c after did.stands })
 
 -- An error of a chunk is no failed read.
 pub not_unread : (c : ConfigValues) (bytes piece : List ℕ) (after : ServerValue) (wrote : List ℕ → Type 0) (monitor : List AcceptedCall → Type 0) (e : IoFault) → IsServed c bytes piece after wrote monitor (Err e) → is_read_fault {T = Turn} (Err e) ≡ false
@@ -76,8 +67,8 @@ pub record RunsOn (c : ConfigValues) (id turns read messages : ℕ) (v : ServerV
 abbrev pub Ran : ConfigValues → List ℕ → DeviceTrace → DeviceTrace → Option (List ℕ) → Option (List ℕ) → (monitor : List AcceptedCall → Type 0) → Result Report IoFault → Type 0
 Ran c front a b x y monitor result = (pieces : List (List ℕ)) × (output : List ℕ) × HasGiven a b pieces × AllByRecursion (λ p. length p ≤ 4096) pieces × AddsBytes x y output × IsStdioRun c pieces (front ++ output) result × IsReportedRun c pieces (front ++ output) monitor result
 
-pub run_begins : (c : ConfigValues) (id : ℕ) (v : ServerValue) (a : DeviceTrace) (x : Option (List ℕ)) (monitor : List AcceptedCall → Type 0) → IsRunningAt c v id [] monitor → RunsOn c id 0 0 0 v a a x x monitor
-run_begins c id v a x monitor goes = record {
+pub run_begins : {c : ConfigValues} {id : ℕ} {v : ServerValue} (a : DeviceTrace) (x : Option (List ℕ)) {monitor : List AcceptedCall → Type 0} → IsRunningAt c v id [] monitor → RunsOn c id 0 0 0 v a a x x monitor
+run_begins {c = c} a x goes = record {
   pieces = [];
   output = [];
   told = given_none a;
@@ -92,8 +83,8 @@ run_begins c id v a x monitor goes = record {
 }
 
 -- The limit of turns was reached.
-pub out_of_turns : (c : ConfigValues) (id turns read messages : ℕ) (v : ServerValue) (a b : DeviceTrace) (x y : Option (List ℕ)) (monitor : List AcceptedCall → Type 0) → RunsOn c id turns read messages v a b x y monitor → turns ≡ c.turns → Ran c (stdio_output c []) a b x y monitor (Err Turns)
-out_of_turns c id turns read messages v a b x y monitor so_far all = (
+pub out_of_turns : {c : ConfigValues} {id turns read messages : ℕ} {v : ServerValue} (a b : DeviceTrace) (x y : Option (List ℕ)) (monitor : List AcceptedCall → Type 0) → RunsOn c id turns read messages v a b x y monitor → turns ≡ c.turns → Ran c (stdio_output c []) a b x y monitor (Err Turns)
+out_of_turns {c = c} {v = v} a b x y monitor so_far all = (
   so_far.pieces,
   so_far.output,
   so_far.told,
@@ -123,11 +114,11 @@ module _ (c : ConfigValues) (id turns read messages : ℕ) (v after : ServerValu
   pieces_go_on = record { given = so_far.given; no_stop = so_far.goes.going }
 
   -- The output so far, and more of it.
-  more_text : (text more : List ℕ) → text ≡ stdio_output c bytes ++ more → stdio_output c [] ++ (so_far.output ++ more) ≡ text
-  more_text text more is = sym (append_assoc (stdio_output c []) so_far.output more) ∙ ap (λ (o : List ℕ). o ++ more) so_far.text ∙ sym is
+  more_text : {text : List ℕ} (more : List ℕ) → text ≡ stdio_output c bytes ++ more → stdio_output c [] ++ (so_far.output ++ more) ≡ text
+  more_text more is = sym (append_assoc (stdio_output c []) so_far.output more) ∙ ap (λ (o : List ℕ). o ++ more) so_far.text ∙ sym is
 
   said_more : (piece more : List ℕ) → Says c bytes piece more → stdio_output c [] ++ (so_far.output ++ more) ≡ stdio_output c (concat (longer piece))
-  said_more piece more is = more_text (stdio_output c (concat (longer piece))) more (ap (stdio_output c) (longer_bytes piece) ∙ is)
+  said_more piece more is = more_text more (ap (stdio_output c) (longer_bytes piece) ∙ is)
 
   -- The run with one more chunk, for which these bytes were written.
   ran : (piece text : List ℕ) (result : Result Report IoFault) → HasGiven b d (piece ∷ []) → length piece ≤ 4096 → AddsBytes y z text → IsStdioRun c (longer piece) (stdio_output c [] ++ (so_far.output ++ text)) result
@@ -211,10 +202,10 @@ module _ (c : ConfigValues) (id turns read messages : ℕ) (v after : ServerValu
       let cut = t.2 in
       ran t.0 cut.part (Err Write) t.1.given t.1.few cut.written (
         omega (arith, counted_more t.0, lt),
-        inr (so_far.pieces, t.0, refl, pieces_go_on, (cut.part, more_text (stdio_output c bytes ++ cut.part) cut.part refl)),
+        inr (so_far.pieces, t.0, refl, pieces_go_on, (cut.part, more_text cut.part refl)),
         record { missing = cut.missing; some = cut.some; written = rw (append_assoc, append_assoc) (said_more t.0 (cut.part ++ cut.missing) cut.says) },
       )
-      (rw (more_text (stdio_output c bytes ++ cut.part) cut.part refl, length-append, longer_bytes t.0) cut.reported)
+      (rw (more_text cut.part refl, length-append, longer_bytes t.0) cut.reported)
   faulted Memory lt t =
       let did = t.2 in
       ran t.0 did.text (Err Memory) t.1.given t.1.few did.written (inr (record {
@@ -226,7 +217,7 @@ module _ (c : ConfigValues) (id turns read messages : ℕ) (v after : ServerValu
         within = omega (arith, counted_more t.0, lt);
         goes_on = pieces_go_on;
         refused = did.refused;
-        written = more_text (stdio_output c (bytes ++ did.front)) did.text did.says;
+        written = more_text did.text did.says;
       }))
       (inr (record {
         taken = bytes ++ did.front;
@@ -234,7 +225,7 @@ module _ (c : ConfigValues) (id turns read messages : ℕ) (v after : ServerValu
         behind = did.behind;
         all = longer_bytes t.0 ∙ ap (λ (b : List ℕ). bytes ++ b) did.all ∙ sym (append_assoc bytes did.front (did.last ∷ did.behind));
         refused = did.refused;
-        reported = rw (more_text (stdio_output c (bytes ++ did.front)) did.text did.says) did.reported;
+        reported = rw (more_text did.text did.says) did.reported;
       }))
   faulted Turns lt t = absurd t
 
@@ -278,23 +269,23 @@ module _ (c : ConfigValues) (new v : ServerValue) (id : ℕ) (opens : Opens c ne
       }
 
   -- The state in which a run begins.
-  pub goes_at_first : (k : Following) (after : ServerValue) (wrote : List ℕ → Type 0) → IsReportedFlush id v after wrote (FollowsMore m k) → IsRunningAt c after id [] (FollowsMore a k) × wrote (stdio_output c [])
-  goes_at_first k after wrote did =
-      let now = flush_stands c v (new_side c.limits) [] a m k opening_leads after wrote (rw number at did) in
+  pub goes_at_first : (k : Following) {after : ServerValue} (wrote : List ℕ → Type 0) → IsReportedFlush id v after wrote (FollowsMore m k) → IsRunningAt c after id [] (FollowsMore a k) × wrote (stdio_output c [])
+  goes_at_first k {after = after} wrote did =
+      let now = flush_stands c v [] a m k opening_leads after wrote (rw number at did) in
       (record { number = number; ranges = rw opens.new_is at opens.ranges; stands = now.stands; going = (outcome_at_first c).1 }, rw now.says now.written)
 
   -- The bytes queued on a new connection were not written in full.
   pub cut_at_first : (k : Following) (b : DeviceTrace) (x z : Option (List ℕ)) → IsCutFlush id v (AddsBytes x z) (FollowsMore m k) → Ran c [] b b x z (FollowsMore a k) (Err Write)
   cut_at_first k b x z did =
-      let cut = cut_flush_leads c v (new_side c.limits) [] a m k opening_leads x z (rw number at did) in
+      let cut = cut_flush_leads c v [] a m k opening_leads x z (rw number at did) in
       ([], cut.part, given_none b, tt, cut.written, (omega arith, inl refl, record { missing = cut.missing; some = cut.some; written = sym cut.says }), subst (λ (n : ℕ). HasReportedCut c (FollowsMore a k) [] n) (omega arith) cut.reported)
 
 -- ---- the end of input
 
 -- The connection processes messages, so the end of input stops it, and pending entries are discarded.
-pub end_stops : (c : ConfigValues) (v v1 : ServerValue) (id : ℕ) (bytes : List ℕ) (monitor : List AcceptedCall → Type 0) → IsRunningAt c v id bytes monitor → v1.config ≡ v.config → ((events : List AcceptedCall) → Shows v events → Shows v1 (events ++ Ended id ∷ [])) → stop_on (session_of id v1.sessions) ≡ Some (end_reason (is_cut (stream_of c bytes).rest))
+pub end_stops : (c : ConfigValues) {v : ServerValue} (v1 : ServerValue) {id : ℕ} (bytes : List ℕ) {monitor : List AcceptedCall → Type 0} → IsRunningAt c v id bytes monitor → v1.config ≡ v.config → ((events : List AcceptedCall) → Shows v events → Shows v1 (events ++ Ended id ∷ [])) → stop_on (session_of id v1.sessions) ≡ Some (end_reason (is_cut (stream_of c bytes).rest))
 unfolding steps_by side_ended
-end_stops c v v1 id bytes monitor goes config shows =
+end_stops c v1 bytes goes config shows =
     let n : ℕ = only_id c in
     let es : List AcceptedCall = goes.stands.events in
     let w : World = world_after c es in
@@ -310,21 +301,21 @@ end_stops c v v1 id bytes monitor goes config shows =
     ∙ ap (λ (s : Stream × ℕ). Some (end_reason (is_cut s.0.rest))) (goes.stands.spelled goes.going))
 
 -- The monitor received the end of input after all other calls.
-pub end_reported : (c : ConfigValues) (v v1 : ServerValue) (id : ℕ) (bytes : List ℕ) (a m k : Following) → IsRunningAt c v id bytes (FollowsMore a m) → v1.config ≡ v.config → ((events : List AcceptedCall) → Shows v events → Shows v1 (events ++ Ended id ∷ [])) → FollowsMore m k (Ended id ∷ []) → HasReportedEnd c (FollowsMore a k) bytes (length (stdio_output c bytes))
-end_reported c v v1 id bytes a m k goes config shows told =
+pub end_reported : (c : ConfigValues) {v : ServerValue} (v1 : ServerValue) {id : ℕ} (bytes : List ℕ) (a m k : Following) → IsRunningAt c v id bytes (FollowsMore a m) → v1.config ≡ v.config → ((events : List AcceptedCall) → Shows v events → Shows v1 (events ++ Ended id ∷ [])) → FollowsMore m k (Ended id ∷ []) → HasReportedEnd c (FollowsMore a k) bytes (length (stdio_output c bytes))
+end_reported c v1 bytes a m k goes config shows told =
     let es : List AcceptedCall = goes.stands.events in
     record {
       server = v1;
       config = config ∙ goes.stands.config;
       before = es;
-      transfers = whole_transfers c bytes es goes.stands.transfers goes.going;
+      transfers = whole_transfers c goes.stands.transfers goes.going;
       shows = rw goes.number at (shows es goes.stands.shows);
       monitor_tells = followed_then a m k es (Ended (only_id c) ∷ []) goes.stands.tells (rw goes.number at told);
     }
 
 -- The connection exists.
-pub not_there : (c : ConfigValues) (v : ServerValue) (id : ℕ) (bytes : List ℕ) (a m : Following) → IsRunningAt c v id bytes (FollowsMore a m) → false ≡ is_there (session_of id v.sessions) → ⊥
-not_there c v id bytes a m goes none = let bad : false ≡ true = none ∙ ap is_there (session_going c v id bytes a m goes).1 in cc
+pub not_there : {c : ConfigValues} {v : ServerValue} {id : ℕ} (bytes : List ℕ) (a m : Following) → IsRunningAt c v id bytes (FollowsMore a m) → false ≡ is_there (session_of id v.sessions) → ⊥
+not_there {c = c} {v = v} {id = id} bytes a m goes none = let bad : false ≡ true = none ∙ ap is_there (session_going c v id bytes a m goes).1 in cc
 
 -- ---- the end of a turn
 

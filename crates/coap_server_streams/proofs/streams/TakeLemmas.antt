@@ -2,15 +2,7 @@
 use Rattle.std.proofs.Common.{◌≡◌, ◌≢◌, ◌⊎◌, ℕ, suc, ◌+◌, ◌<◌, ◌≤◌, Bool, true, cond, List, [], ◌∷◌, ◌++◌, length, take, Option, Some, None, refl, sym, ap, subst, ◌∙◌, append_assoc, arith, inl, inr}
 use Rattle.std.proofs.lemmas.Bool.{le-leb}
 use Rattle.std.proofs.lemmas.List.{append-nil, length-append}
-use Rattle.coap_server_streams.specs.Prelude.{Stream, split_on, LimitValues, ConfigValues, SessionValue, ServerValue}
-use Rattle.coap_server_streams.specs.Prelude.{session_of, server_taken, stop_on, RefusesPieceOn, waiting_at}
-use Rattle.coap_server_streams.specs.Prelude.{more_at, flush_turns, IsReportedFlush, IsCutFlush, calls_of_flush, Taken, AddsBytes}
-use Rattle.coap_server_streams.specs.Prelude.{FollowsMore, Following, HasReported, HasReportedCut, waiting_of, AreTransfers}
-use Rattle.coap_server_streams.specs.Prelude.{only_id, stream_of, flushed, flushed_after, world_for, Outcome, outcome_on}
-use Rattle.coap_server_streams.specs.Prelude.{outcome, stdio_output, IsLastByte, IsAtBytes, IsRunningAt, Says, IsWhole, IsCut, Connection}
-use Rattle.coap_server_streams.specs.Prelude.{has_room, handles, World, Step, side_of, step, AcceptedCall, Took, stream_on, beyond}
-use Rattle.coap_server_streams.specs.Prelude.{steps_by, world_after, takes, size_on, Shows, session_shown, handled_in}
-use Rattle.coap_server_streams.specs.Prelude.{count_of}
+use Rattle.coap_server_streams.specs.Prelude.{Stream, split_on, LimitValues, ConfigValues, SessionValue, ServerValue, session_of, server_taken, stop_on, RefusesPieceOn, waiting_at, more_at, flush_turns, IsReportedFlush, IsCutFlush, calls_of_flush, Taken, AddsBytes, FollowsMore, Following, HasReported, HasReportedCut, waiting_of, AreTransfers, only_id, stream_of, flushed, flushed_after, world_for, Outcome, outcome_on, outcome, stdio_output, IsLastByte, IsAtBytes, IsRunningAt, Says, IsWhole, IsCut, Connection, has_room, handles, World, Step, side_of, step, AcceptedCall, Took, stream_on, beyond, steps_by, world_after, takes, size_on, Shows, session_shown, handled_in, count_of}
 use Rattle.coap_wire.proofs.StreamSteps.{split_goes_on}
 use Rattle.coap_frame.proofs.FrontLaws.{some_in_front}
 use Rattle.coap_model.specs.declared.answers.Handled.{Handled}
@@ -58,8 +50,8 @@ pub record CutLeads (c : ConfigValues) (s : Connection) (bytes : List ℕ) (x y 
   pub written : AddsBytes x y part
   pub reported : HasReportedCut c monitor bytes (length (front_written s) + length part)
 
-pub cut_flush_leads : (c : ConfigValues) (v : ServerValue) (s : Connection) (bytes : List ℕ) (a m n : Following) → LeadsTo c v s bytes (FollowsMore a m) → (x y : Option (List ℕ)) → IsCutFlush (only_id c) v (AddsBytes x y) (FollowsMore m n) → CutLeads c s bytes x y (FollowsMore a n)
-cut_flush_leads c v s bytes a m n leads x y did =
+pub cut_flush_leads : (c : ConfigValues) (v : ServerValue) {s : Connection} (bytes : List ℕ) (a m n : Following) → LeadsTo c v s bytes (FollowsMore a m) → (x y : Option (List ℕ)) → IsCutFlush (only_id c) v (AddsBytes x y) (FollowsMore m n) → CutLeads c s bytes x y (FollowsMore a n)
+cut_flush_leads c v {s = s} bytes a m n leads x y did =
     let id : ℕ = only_id c in
     let all : ℕ = suc (more_at id v) in
     let text : List ℕ = (flush_turns did.turns id v).text in
@@ -87,15 +79,15 @@ cut_flush_leads c v s bytes a m n leads x y did =
     }
 
 -- The messages processed before the flush.
-flush_counts : (c : ConfigValues) (v : ServerValue) (s : Connection) (bytes : List ℕ) (monitor : List AcceptedCall → Type 0) → LeadsTo c v s bytes monitor → (outcome c bytes).messages ≡ length s.history.handled
-flush_counts c v s bytes monitor leads =
+flush_counts : (c : ConfigValues) (v : ServerValue) (s : Connection) (bytes : List ℕ) {monitor : List AcceptedCall → Type 0} → LeadsTo c v s bytes monitor → (outcome c bytes).messages ≡ length s.history.handled
+flush_counts c v s bytes leads =
     let left = flush_leaves c.limits (only_id c) (world_after c leads.events) s leads.there in
     let is_there = ap (λ (w : World). side_of (only_id c) w.sides) (sym leads.flushes) ∙ left.0.there in
     ap (λ (o : Outcome). o.messages) (outcome_there c bytes left.0.side is_there) ∙ ap length left.0.handled
 
 -- The server returns the reason for which the bytes stop its connection.
-pub stop_told : (c : ConfigValues) (v : ServerValue) (bytes : List ℕ) (monitor : List AcceptedCall → Type 0) → IsAtBytes c v bytes monitor → stop_on (session_of (only_id c) v.sessions) ≡ (outcome c bytes).stop
-stop_told c v bytes monitor stands =
+pub stop_told : (c : ConfigValues) (v : ServerValue) {bytes : List ℕ} {monitor : List AcceptedCall → Type 0} → IsAtBytes c v bytes monitor → stop_on (session_of (only_id c) v.sessions) ≡ (outcome c bytes).stop
+stop_told c v {bytes = bytes} stands =
     let all = world_for_written c bytes in
     let is_there : side_of (only_id c) (world_after v.config stands.events).sides ≡ Some all.side = rw (stands.config, stands.world) all.there in
     ap stop_on (side_there v stands.events (only_id c) all.side stands.shows is_there) ∙ ap (λ (o : Outcome). o.stop) (sym (outcome_there c bytes all.side all.there))
@@ -158,7 +150,7 @@ module _ (v : ServerValue) (bytes : List ℕ) (a m : Following) (goes : IsRunnin
   session_was = side_there v es id before goes.stands.shows was_there
 
   transfers_before : AreTransfers c id bytes (length (stdio_output c bytes)) es
-  transfers_before = whole_transfers c bytes es goes.stands.transfers goes.going
+  transfers_before = whole_transfers c goes.stands.transfers goes.going
 
   waits_before : waiting_of (side_of id (world_after c es).sides) ≡ []
   waits_before = ap waiting_of was_there ∙ (world_for_written c bytes).waits
@@ -196,7 +188,7 @@ module _ (v : ServerValue) (bytes : List ℕ) (a m : Following) (goes : IsRunnin
     config = ap (λ (u : ServerValue). u.config) is ∙ config_stays v id (take n piece);
     events = es ++ Took id (take n piece) ∷ [];
     shows = shows;
-    transfers = rw (refused.says, append-nil (stdio_output c bytes)) (transfers_taken c id bytes (take n piece) (length (stdio_output c bytes)) es waits_before transfers_before);
+    transfers = rw (refused.says, append-nil (stdio_output c bytes)) (transfers_taken c id (take n piece) es waits_before transfers_before);
     monitor_tells = followed_then a m k es (Took id (take n piece) ∷ []) goes.stands.tells told;
   }
 
@@ -248,14 +240,14 @@ module _ (v : ServerValue) (bytes : List ℕ) (a m : Following) (goes : IsRunnin
       there = grown.1;
       flushes = flushed_world;
       spelled = spelled_more c es bytes T (goes.stands.spelled goes.going);
-      transfers = rw said_before (transfers_taken c id bytes T (length (stdio_output c bytes)) es waits_before transfers_before);
+      transfers = rw said_before (transfers_taken c id T es waits_before transfers_before);
       tells = followed_then a m k es (Took id T ∷ []) goes.stands.tells told;
     }
 
     -- The call and its flush did everything that is defined for the bytes accepted.
-    front_served_by : (after : ServerValue) (wrote : List ℕ → Type 0) (messages : ℕ) (n : Following) → messages ≡ count_of t.handled → IsReportedFlush id v1 after wrote (FollowsMore k n) → FrontServed c id bytes T after wrote (FollowsMore a n) messages
-    front_served_by after wrote messages n counted did =
-        let now = flush_stands c v1 grown.0 (bytes ++ T) a k n leads after wrote did in
+    front_served_by : (after : ServerValue) (wrote : List ℕ → Type 0) {messages : ℕ} (n : Following) → messages ≡ count_of t.handled → IsReportedFlush id v1 after wrote (FollowsMore k n) → FrontServed c id bytes T after wrote (FollowsMore a n) messages
+    front_served_by after wrote n counted did =
+        let now = flush_stands c v1 (bytes ++ T) a k n leads after wrote did in
         let there = subst (λ (b : List ℕ). side_of id (world_after c (es ++ Took id b ∷ [])).sides ≡ Some grown.0) bytes_are grown.1 in
         let all = messages_counted c es id piece before grown.0 goes.stands.shows.accepted was_there there in
         let told : t.handled ≡ handled_in c es (Took id (take (takes c es id piece) piece)) id = rw bytes_are at (took.says es goes.stands.shows) in
@@ -265,15 +257,15 @@ module _ (v : ServerValue) (bytes : List ℕ) (a m : Following) (goes : IsRunnin
             text = now.text;
             says = rw (← said_before) now.says;
             written = now.written;
-            counted = omega (arith, flush_counts c v1 grown.0 (bytes ++ T) (FollowsMore a k) leads, all, ap count_of told, ap (λ (o : Outcome). o.messages) outcome_before, counted);
+            counted = omega (arith, flush_counts c v1 grown.0 (bytes ++ T) leads, all, ap count_of told, ap (λ (o : Outcome). o.messages) outcome_before, counted);
           };
-          stop = stop_told c after (bytes ++ T) (FollowsMore a n) now.stands;
+          stop = stop_told c after now.stands;
         }
 
     -- A write failed: a part of the output defined for the bytes accepted was written.
     front_cut_by : (x y : Option (List ℕ)) (n : Following) → IsCutFlush id v1 (AddsBytes x y) (FollowsMore k n) → IsCut c bytes T (AddsBytes x y) (FollowsMore a n)
     front_cut_by x y n did =
-        let cut = cut_flush_leads c v1 grown.0 (bytes ++ T) a k n leads x y did in
+        let cut = cut_flush_leads c v1 (bytes ++ T) a k n leads x y did in
         record { part = cut.part; missing = cut.missing; some = cut.some; says = cc (cut.says, said_before); written = cut.written; reported = rw said_before at cut.reported }
 
 -- ---- any name of the configuration and of the number
@@ -309,12 +301,12 @@ module _ (c : ConfigValues) (v : ServerValue) (id : ℕ) (bytes piece : List ℕ
       (λ so refused is shows told. refused_reported v bytes a m so piece n v1 k refused is (shows so.stands.events so.stands.shows) told)
 
   module _ (v1 : ServerValue) (t : Taken) (took : WasTaken v v1 id piece t) where
-    pub front_served : (k n : Following) (after : ServerValue) (wrote : List ℕ → Type 0) (messages : ℕ) → FollowsMore m k (Took id (take t.bytes piece) ∷ []) → messages ≡ count_of t.handled → IsReportedFlush id v1 after wrote (FollowsMore k n)
+    pub front_served : (k n : Following) {after : ServerValue} (wrote : List ℕ → Type 0) {messages : ℕ} → FollowsMore m k (Took id (take t.bytes piece) ∷ []) → messages ≡ count_of t.handled → IsReportedFlush id v1 after wrote (FollowsMore k n)
         → FrontServed c id bytes (take t.bytes piece) after wrote (FollowsMore a n) messages
-    front_served k n after wrote messages told counted did =
+    front_served k n {after = after} wrote {messages = messages} told counted did =
         by_any_name c v id bytes (FollowsMore a m) goes
         (λ d j. WasTaken v v1 j piece t → FollowsMore m k (Took j (take t.bytes piece) ∷ []) → IsReportedFlush j v1 after wrote (FollowsMore k n) → FrontServed d j bytes (take t.bytes piece) after wrote (FollowsMore a n) messages)
-        (λ so taken tells. front_served_by v bytes a m so piece v1 t taken k tells after wrote messages n counted) took told did
+        (λ so taken tells. front_served_by v bytes a m so piece v1 t taken k tells after wrote n counted) took told did
 
     pub front_cut : (k n : Following) (x y : Option (List ℕ)) → FollowsMore m k (Took id (take t.bytes piece) ∷ []) → IsCutFlush id v1 (AddsBytes x y) (FollowsMore k n) → IsCut c bytes (take t.bytes piece) (AddsBytes x y) (FollowsMore a n)
     front_cut k n x y =

@@ -2,14 +2,11 @@
 -- monitor.
 use Rattle.std.specs.Prelude.{◌≡◌, ◌≢◌, ◌≤◌, ◌⊎◌, ℕ, zero, suc, ◌+◌, ◌==◌, List, [], ◌∷◌, ◌++◌, length, Option, Some, None, Result, Ok, Err, Bool, true, false, if◌then◌else◌}
 use Rattle.std.specs.List.{AllByRecursion, concat}
-use Rattle.coap_conn.specs.declared.reason.Reason.{Reason}
-use Rattle.coap_model.specs.Configs.{ConfigValues}
+use Rattle.coap_server_engine.specs.Prelude.{Reason, ConfigValues, ServerValue, Shows}
 use Rattle.coap_model.specs.streams.Output.{only_id, outcome, waiting_of}
-use Rattle.coap_model.specs.world.Events.{AcceptedCall, Opened, Took, Wrote, Ticked, Stored, Removed, Ended, Released, Announced, Responded, Dropped, taken_on, world_after}
+use Rattle.coap_model.specs.world.Events.{AcceptedCall, Opened, Took, Wrote, Ended, taken_on, world_after}
 use Rattle.coap_model.specs.world.World.{side_of}
 use Rattle.coap_server_engine.specs.values.Flushes.{IsFlushed, flush_turns, more_at, waiting_at}
-use Rattle.coap_server_engine.specs.values.Servers.{ServerValue}
-use Rattle.coap_server_engine.specs.world.Shows.{Shows}
 use Rattle.coap_server_engine.specs.declared.io_fault.IoFault.{IoFault}
 use Rattle.coap_server_engine.specs.declared.io_fault.IoFault.TheVariants.{Read, Write, Memory, Turns}
 use Rattle.coap_server_streams.specs.declared.serve.Report.{Report}
@@ -48,17 +45,8 @@ pub record IsCutFlush (id : ℕ) (v : ServerValue) (wrote : List ℕ → Type 0)
 
 -- The number of bytes that an event removed from the queue of a connection; 0 unless it is a `Wrote` of this connection.
 abbrev pub written_in : ℕ → AcceptedCall → ℕ
-written_in id (Opened other) = 0
-written_in id (Took other bytes) = 0
 written_in id (Wrote other n) = if other == id then n else 0
-written_in id (Ticked now) = 0
-written_in id (Stored path format bytes) = 0
-written_in id (Removed path) = 0
-written_in id (Ended other) = 0
-written_in id (Released other) = 0
-written_in id (Announced other size) = 0
-written_in id (Responded other m) = 0
-written_in id (Dropped other) = 0
+written_in id call = 0
 
 -- The number of all bytes written on a connection.
 unfoldable pub written_on : ℕ → List AcceptedCall → ℕ
@@ -67,31 +55,14 @@ written_on id (e ∷ es) = written_in id e + written_on id es
 
 -- The connection with this number accepts bytes, or bytes of it are written.
 abbrev pub IsTransfer : ℕ → AcceptedCall → Type 0
-IsTransfer id (Opened other) = ⊥
 IsTransfer id (Took other bytes) = other ≡ id
 IsTransfer id (Wrote other n) = other ≡ id
-IsTransfer id (Ticked now) = ⊥
-IsTransfer id (Stored path format bytes) = ⊥
-IsTransfer id (Removed path) = ⊥
-IsTransfer id (Ended other) = ⊥
-IsTransfer id (Released other) = ⊥
-IsTransfer id (Announced other size) = ⊥
-IsTransfer id (Responded other m) = ⊥
-IsTransfer id (Dropped other) = ⊥
+IsTransfer id call = ⊥
 
 -- If the event follows these earlier ones and is a `Took`, then no byte is queued on its connection before it.
 abbrev pub IsAfterOutput : ConfigValues → (earlier : List AcceptedCall) → AcceptedCall → Type 0
-IsAfterOutput c earlier (Opened id) = Unit {0}
 IsAfterOutput c earlier (Took id bytes) = waiting_of (side_of id (world_after c earlier).sides) ≡ []
-IsAfterOutput c earlier (Wrote id n) = Unit {0}
-IsAfterOutput c earlier (Ticked now) = Unit {0}
-IsAfterOutput c earlier (Stored path format bytes) = Unit {0}
-IsAfterOutput c earlier (Removed path) = Unit {0}
-IsAfterOutput c earlier (Ended id) = Unit {0}
-IsAfterOutput c earlier (Released id) = Unit {0}
-IsAfterOutput c earlier (Announced id size) = Unit {0}
-IsAfterOutput c earlier (Responded id m) = Unit {0}
-IsAfterOutput c earlier (Dropped id) = Unit {0}
+IsAfterOutput c earlier call = Unit {0}
 
 -- The same for each of these events, which follow the earlier ones.
 unfoldable pub AreAfterOutput : ConfigValues → (earlier events : List AcceptedCall) → Type 0

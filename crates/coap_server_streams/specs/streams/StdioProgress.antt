@@ -1,16 +1,12 @@
 -- Defined by this project: the progress of a run over one input, and the effect of one chunk and of one turn on its
 -- server.
 use Rattle.std.specs.Prelude.{◌≡◌, ◌≢◌, ◌⊎◌, ℕ, ◌+◌, ◌≤◌, List, [], ◌∷◌, ◌++◌, length, None, Some, Result, Ok, Err}
-use Rattle.coap_conn.specs.Limits.{AreInRange}
+use Rattle.coap_server_engine.specs.Prelude.{AreInRange, ConfigValues, ServerValue, is_cut, Shows}
 use Rattle.coap_conn.specs.Calls.{end_reason}
-use Rattle.coap_model.specs.Configs.{ConfigValues}
 use Rattle.coap_server_streams.specs.declared.serve.Turn.{Turn}
 use Rattle.coap_server_engine.specs.declared.io_fault.IoFault.{IoFault}
 use Rattle.coap_server_engine.specs.declared.io_fault.IoFault.TheVariants.{Read, Write, Memory, Turns}
-use Rattle.coap_server_engine.specs.values.Servers.{ServerValue}
-use Rattle.coap_model.specs.world.Connections.{is_cut}
 use Rattle.coap_model.specs.world.Events.{AcceptedCall, spelled_on, world_after}
-use Rattle.coap_server_engine.specs.world.Shows.{Shows}
 use Rattle.coap_model.specs.streams.Output.{only_id, stream_of, world_for, outcome, stdio_output}
 use Rattle.coap_server_streams.specs.streams.StdioRun.{IsLastByte}
 use Rattle.coap_server_streams.specs.streams.StdioCalls.{AreTransfers, HasReported, HasReportedEnd, HasReportedCut}

@@ -1,17 +1,13 @@
 -- Defined by this project: the result of a run over one input and one output, however the input is split into reads.
 use Rattle.std.specs.Prelude.{◌≡◌, ◌≢◌, ℕ, ◌<◌, ◌≤◌, List, [], ◌∷◌, ◌++◌, length, Option, Some, None, Result, Ok, Err, ◌⊎◌}
 use Rattle.std.specs.List.{concat}
-use Rattle.coap_conn.specs.declared.reason.Reason.{Reason}
-use Rattle.coap_wire.specs.Message.{Message}
+use Rattle.coap_server_engine.specs.Prelude.{Reason, Message, IsPut, ConfigValues, change_made}
 use Rattle.coap_conn.specs.Calls.{end_reason}
 use Rattle.coap_conn.specs.LinkValue.{bytes_of}
 use Rattle.coap_server_streams.specs.declared.serve.Report.{Report}
 use Rattle.coap_server_engine.specs.declared.io_fault.IoFault.{IoFault}
 use Rattle.coap_server_engine.specs.declared.io_fault.IoFault.TheVariants.{Read, Write, Memory, Turns}
-use Rattle.coap_store.specs.Changes.{IsPut}
-use Rattle.coap_model.specs.Configs.{ConfigValues}
 use Rattle.coap_model.specs.world.Connections.{Connection, is_cut, waiting_on}
-use Rattle.coap_model.specs.world.View.{change_made}
 use Rattle.coap_model.specs.streams.Output.{only_id, stream_of, world_for, side_for, outcome, stdio_output}
 
 -- No read found the end of input: each returned at least one byte.

@@ -5,7 +5,7 @@ use Rattle.coap_server_streams.proofs.output.write_queued.Goals as goal
 
 -- All queued bytes were written.
 pub accepted-requires : goal.accepted-requires
-accepted-requires g c = whole_part (waiting_at c.args.id c.args.server.now) _ c.in-Some.ensures.parts
+accepted-requires g c = whole_part _ c.in-Some.ensures.parts
 
 -- The connection does not exist.
 pub returns-in_default-clause-told : goal.returns-in_default-clause-told

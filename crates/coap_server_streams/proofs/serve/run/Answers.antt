@@ -5,7 +5,7 @@ use Rattle.coap_server_streams.proofs.serve.run.Goals as goal
 
 pub loop-init : goal.loop-init
 loop-init g c = record {
-  runs = λ first goes. run_begins c.args.config.now c.args.id c.args.server.now _ _ _ goes;
+  runs = λ first goes. run_begins _ _ goes;
   reader_works = c.requires.reader_works;
   writer_works = c.requires.writer_works;
   read = omega arith;
@@ -43,4 +43,4 @@ loop-preserved g c = record {
 
 pub returns-clause-run : goal.returns-clause-run
 returns-clause-run g c = λ first goes.
-    out_of_turns c.args.config.now c.args.id c.loop.counter c.loop.read c.loop.messages c.loop.server _ _ _ _ _ (c.loop.invariant.runs first goes) (omega (arith, c.loop-test.false, c.turns-end.ensures.value))
+    out_of_turns _ _ _ _ _ (c.loop.invariant.runs first goes) (omega (arith, c.loop-test.false, c.turns-end.ensures.value))

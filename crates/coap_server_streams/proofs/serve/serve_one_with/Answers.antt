@@ -23,12 +23,12 @@ returns-in_default-greet-clause-run g c = let ran = returns-in_default-greet-cla
 pub run-requires-clause-stands : goal.run-requires-clause-stands
 run-requires-clause-stands g c = (
   c.args.monitor.now,
-  (goes_at_first c.args.config.now c.in-Ok.server c.open.new.self c.in-Ok-open.id (assumption (c.in-Ok.ensures, c.in-Ok-open.ensures)) (g.M.Monitor.follows c.args.monitor.now) _ c.opened.ensures _ c.greet.new.server _ c.in-Ok-greet.ensures.ok).0,
+  (goes_at_first c.args.config.now c.in-Ok.server c.open.new.self c.in-Ok-open.id (assumption (c.in-Ok.ensures, c.in-Ok-open.ensures)) (g.M.Monitor.follows c.args.monitor.now) _ c.opened.ensures _ _ c.in-Ok-greet.ensures.ok).0,
 )
 
 pub returns-clause-told : goal.returns-clause-told
 returns-clause-told g c =
-    let first = goes_at_first c.args.config.now c.in-Ok.server c.open.new.self c.in-Ok-open.id (assumption (c.in-Ok.ensures, c.in-Ok-open.ensures)) (g.M.Monitor.follows c.args.monitor.now) _ c.opened.ensures _ c.greet.new.server _ c.in-Ok-greet.ensures.ok in
+    let first = goes_at_first c.args.config.now c.in-Ok.server c.open.new.self c.in-Ok-open.id (assumption (c.in-Ok.ensures, c.in-Ok-open.ensures)) (g.M.Monitor.follows c.args.monitor.now) _ c.opened.ensures _ _ c.in-Ok-greet.ensures.ok in
     greeted c.args.config.now _ _ _ _ _ _ c.run.result first.1 (c.run.ensures.run c.args.monitor.now first.0)
 
 pub returns-clause-run : goal.returns-clause-run

@@ -11,11 +11,11 @@ use Rattle.coap_server_streams.proofs.serve.serve_piece.Goals as goal
 use Rattle.coap_model.proofs.OptionLemmas.{there_is, there_is_none}
 
 pub loop-rest-init : goal.loop-rest-init
-loop-rest-init g c = record { serves = λ first k bytes goes. serves_none k c.args.server.now c.args.id bytes c.args.piece.now _ _ goes; lies = c.in-Some.ensures.at; works = c.requires.works; few = omega arith }
+loop-rest-init g c = record { serves = λ first k bytes goes. serves_none k bytes _ goes; lies = c.in-Some.ensures.at; works = c.requires.works; few = omega arith }
 
 -- The connection exists.
 pub unreachable-requires : goal.unreachable-requires
-unreachable-requires g c = let goes = c.requires.stands in not_there goes.1 c.args.server.now c.args.id goes.2 (g.M.Monitor.follows goes.0) (g.M.Monitor.follows c.args.monitor.now) goes.3 c.in_default.ensures.there
+unreachable-requires g c = let goes = c.requires.stands in not_there goes.2 (g.M.Monitor.follows goes.0) (g.M.Monitor.follows c.args.monitor.now) goes.3 c.in_default.ensures.there
 
 pub unreachable-requires-in-Err-NoSuch : goal.unreachable-requires-in-Err-NoSuch
 unreachable-requires-in-Err-NoSuch g c =
@@ -46,15 +46,15 @@ returns-in-Err-Memory-clause-served g c = λ first k bytes goes.
 pub returns-in_default-flush_at-clause-served : goal.returns-in_default-flush_at-clause-served
 returns-in_default-flush_at-clause-served g c = λ first k bytes goes.
     let so_far = c.loop-rest.invariant.serves first k bytes goes in
-    cut_off k c.args.id bytes c.args.piece.now c.loop-rest.server c.loop-rest.rest.now _ _ (g.M.Monitor.follows first) (g.M.Monitor.follows c.loop-rest.monitor) c.loop-rest.messages so_far c.in-Ok.taken.bytes _ _
+    cut_off k c.args.id bytes c.args.piece.now c.loop-rest.server c.loop-rest.rest.now _ _ (g.M.Monitor.follows first) (g.M.Monitor.follows c.loop-rest.monitor) c.loop-rest.messages so_far c.in-Ok.taken.bytes _
     (front_cut k c.loop-rest.server c.args.id _ c.loop-rest.rest.now (g.M.Monitor.follows first) (g.M.Monitor.follows c.loop-rest.monitor) so_far.goes c.take_at.new.self c.in-Ok.taken (assumption c.in-Ok.ensures) (g.M.Monitor.follows c.accepted-in-loop-rest.new.self) _ _ _ c.accepted-in-loop-rest.ensures c.in_default-flush_at.ensures.part)
 
 pub returns-then-is_some-clause-served : goal.returns-then-is_some-clause-served
 returns-then-is_some-clause-served g c = λ first k bytes goes.
     let so_far = c.loop-rest.invariant.serves first k bytes goes in
     let stopped = there_is c.in-Ok-flush_at.stop (sym c.if-is_some.ensures) in
-    serves_last k c.args.id bytes c.args.piece.now c.loop-rest.server c.loop-rest.rest.now _ _ (g.M.Monitor.follows first) (g.M.Monitor.follows c.loop-rest.monitor) c.loop-rest.messages so_far c.in-Ok.taken.bytes _ _ c.flush_at.new.server _ stopped.0
-    (front_served k c.loop-rest.server c.args.id _ c.loop-rest.rest.now (g.M.Monitor.follows first) (g.M.Monitor.follows c.loop-rest.monitor) so_far.goes c.take_at.new.self c.in-Ok.taken (assumption c.in-Ok.ensures) (g.M.Monitor.follows c.accepted-in-loop-rest.new.self) _ c.flush_at.new.server _ c.handled-messages.result c.accepted-in-loop-rest.ensures c.handled-messages.ensures c.in-Ok-flush_at.ensures.ok)
+    serves_last k c.args.id bytes c.args.piece.now c.loop-rest.server c.loop-rest.rest.now _ _ (g.M.Monitor.follows first) (g.M.Monitor.follows c.loop-rest.monitor) c.loop-rest.messages so_far c.in-Ok.taken.bytes _ _ stopped.0
+    (front_served k c.loop-rest.server c.args.id _ c.loop-rest.rest.now (g.M.Monitor.follows first) (g.M.Monitor.follows c.loop-rest.monitor) so_far.goes c.take_at.new.self c.in-Ok.taken (assumption c.in-Ok.ensures) (g.M.Monitor.follows c.accepted-in-loop-rest.new.self) _ _ c.accepted-in-loop-rest.ensures c.handled-messages.ensures c.in-Ok-flush_at.ensures.ok)
     (sym c.in-Ok-flush_at.ensures.stop ∙ stopped.1)
 
 -- A call of `take` accepts at least one byte.
@@ -72,8 +72,8 @@ loop-rest-preserved g c = record {
   serves = λ first k bytes goes.
       let so_far = c.loop-rest.invariant.serves first k bytes goes in
       rw (rest_of c.in-Ok.taken.bytes c.loop-rest.rest.now)
-      (serves_more k c.args.id bytes c.args.piece.now c.loop-rest.server c.loop-rest.rest.now _ _ (g.M.Monitor.follows first) (g.M.Monitor.follows c.loop-rest.monitor) c.loop-rest.messages so_far c.in-Ok.taken.bytes _ _ c.flush_at.new.server _
-      (front_served k c.loop-rest.server c.args.id _ c.loop-rest.rest.now (g.M.Monitor.follows first) (g.M.Monitor.follows c.loop-rest.monitor) so_far.goes c.take_at.new.self c.in-Ok.taken (assumption c.in-Ok.ensures) (g.M.Monitor.follows c.accepted-in-loop-rest.new.self) _ c.flush_at.new.server _ c.handled-messages.result c.accepted-in-loop-rest.ensures c.handled-messages.ensures c.in-Ok-flush_at.ensures.ok)
+      (serves_more k c.args.id bytes c.args.piece.now c.loop-rest.server c.loop-rest.rest.now _ _ (g.M.Monitor.follows first) (g.M.Monitor.follows c.loop-rest.monitor) c.loop-rest.messages so_far c.in-Ok.taken.bytes _ _
+      (front_served k c.loop-rest.server c.args.id _ c.loop-rest.rest.now (g.M.Monitor.follows first) (g.M.Monitor.follows c.loop-rest.monitor) so_far.goes c.take_at.new.self c.in-Ok.taken (assumption c.in-Ok.ensures) (g.M.Monitor.follows c.accepted-in-loop-rest.new.self) _ _ c.accepted-in-loop-rest.ensures c.handled-messages.ensures c.in-Ok-flush_at.ensures.ok)
       (sym c.in-Ok-flush_at.ensures.stop ∙ there_is_none c.in-Ok-flush_at.stop (sym c.if-is_some.ensures)));
   lies = c.in-Ok-flush_at.ensures.lies;
   works = c.in-Ok-flush_at.ensures.failure;
@@ -82,4 +82,4 @@ loop-rest-preserved g c = record {
 
 pub returns-clause-served : goal.returns-clause-served
 returns-clause-served g c = λ first k bytes goes.
-    served_all k c.args.id bytes c.args.piece.now c.loop-rest.server c.loop-rest.rest.now _ _ (g.M.Monitor.follows first) (g.M.Monitor.follows c.loop-rest.monitor) c.loop-rest.messages (c.loop-rest.invariant.serves first k bytes goes) (is_used_up c.loop-rest.rest.now c.loop-rest-test.ensures)
+    served_all k c.args.id bytes c.args.piece.now c.loop-rest.server c.loop-rest.rest.now _ _ (g.M.Monitor.follows first) (g.M.Monitor.follows c.loop-rest.monitor) c.loop-rest.messages (c.loop-rest.invariant.serves first k bytes goes) (is_used_up c.loop-rest-test.ensures)

@@ -3,7 +3,7 @@ use Rattle.std.proofs.lemmas.List.{length-take-le}
 use Rattle.coap_server_listener.specs.Prelude.{Answered, waiting_at, Bytes, Later, End, Failed}
 use Rattle.coap_server_listener.proofs.streams.NextPartLemmas.{first_written, none_refused}
 use Rattle.coap_io.proofs.streams.DeviceLemmas.{part_written}
-use Rattle.coap_server_listener.proofs.streams.ServingLemmas.{none_accepted}
+use Rattle.coap_server_listener.proofs.streams.ServingLemmas.{none_called}
 use Rattle.coap_server_listener.proofs.door.peer.write_once.Goals as goal
 
 -- The monitor receives the bytes that were written.
@@ -12,7 +12,7 @@ accepted-requires g c = first_written (waiting_at c.args.id c.args.server.now) c
 
 pub unreachable-requires : goal.unreachable-requires
 unreachable-requires g c =
-    none_refused c.args.server.now c.args.id c.in-Bytes.count c.first_part-part.result.now c.in_default-written.field-0
+    none_refused c.args.server.now c.args.id c.in-Bytes.count c.first_part-part.result.now
     (sym c.in-Some.ensures.there) (rw c.in-Some.ensures.parts at c.first_part-part.ensures) c.in-Bytes.ensures.within.1 c.in_default-written.ensures.answer
 
 pub returns-in-Ok-clause-wrote : goal.returns-in-Ok-clause-wrote
@@ -23,7 +23,7 @@ returns-in-Ok-clause-wrote g c = λ _.
 
 pub returns-in-Ok-clause-accepted : goal.returns-in-Ok-clause-accepted
 returns-in-Ok-clause-accepted g c =
-    (c.in-Ok.ensures.shows, rw (length-take-le c.in-Bytes.count c.first_part-part.result.now c.in-Bytes.ensures.within.1, add-zero) at c.accepted.ensures)
+    record { shows = c.in-Ok.ensures.shows; follows = rw (length-take-le c.in-Bytes.count c.first_part-part.result.now c.in-Bytes.ensures.within.1, add-zero) at c.accepted.ensures }
 
 -- The wire was written once, and the result of that write is the result of the function.
 pub returns-in-Ok-clause-answered : goal.returns-in-Ok-clause-answered
@@ -40,19 +40,19 @@ returns-in-Failed-clause-answered g c = λ _. Answered Failed c.in-Failed.ensure
 
 -- Nothing was written.
 pub returns-then-not-may_write-clause-accepted : goal.returns-then-not-may_write-clause-accepted
-returns-then-not-may_write-clause-accepted g c = none_accepted (g.M.Monitor.follows c.args.monitor.now) c.args.server.now c.args.server.now refl
+returns-then-not-may_write-clause-accepted g c = none_called refl
 
 pub returns-in_default-clause-accepted : goal.returns-in_default-clause-accepted
-returns-in_default-clause-accepted g c = none_accepted (g.M.Monitor.follows c.args.monitor.now) c.args.server.now c.args.server.now refl
+returns-in_default-clause-accepted g c = none_called refl
 
 pub returns-then-is_empty-clause-accepted : goal.returns-then-is_empty-clause-accepted
-returns-then-is_empty-clause-accepted g c = none_accepted (g.M.Monitor.follows c.args.monitor.now) c.args.server.now c.args.server.now refl
+returns-then-is_empty-clause-accepted g c = none_called refl
 
 pub returns-in-Later-clause-accepted : goal.returns-in-Later-clause-accepted
-returns-in-Later-clause-accepted g c = none_accepted (g.M.Monitor.follows c.args.monitor.now) c.args.server.now c.args.server.now refl
+returns-in-Later-clause-accepted g c = none_called refl
 
 pub returns-in-End-clause-accepted : goal.returns-in-End-clause-accepted
-returns-in-End-clause-accepted g c = none_accepted (g.M.Monitor.follows c.args.monitor.now) c.args.server.now c.args.server.now refl
+returns-in-End-clause-accepted g c = none_called refl
 
 pub returns-in-Failed-clause-accepted : goal.returns-in-Failed-clause-accepted
-returns-in-Failed-clause-accepted g c = none_accepted (g.M.Monitor.follows c.args.monitor.now) c.args.server.now c.args.server.now refl
+returns-in-Failed-clause-accepted g c = none_called refl

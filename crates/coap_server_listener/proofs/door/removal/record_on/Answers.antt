@@ -5,10 +5,10 @@ use Rattle.coap_server_listener.proofs.door.removal.record_on.Goals as goal
 
 pub returns-in_default : goal.returns-in_default
 returns-in_default g c =
-    changed_without (recorded c.args.server.now) c.args.id c.args.peers.now.entries
-    (none_passes_from_lookup _ _ (none_found c.get_index_of.result _ c.get_index_of.ensures.found c.in_default.is))
+    changed_without (recorded c.args.server.now) c.args.id
+    (none_passes_from_lookup _ _ (none_found _ _ c.get_index_of.ensures.found c.in_default.is))
 
 pub returns : goal.returns
 returns g c =
-    changed_found (recorded c.args.server.now) c.args.id c.args.peers.now.entries c.record_at.new.peers.entries c.in-Some.at
+    changed_found (recorded c.args.server.now) c.args.id c.args.peers.now.entries
     c.in-Some.ensures.unique c.in-Some.ensures.index c.in-Some.ensures.within c.record_at.ensures.recorded

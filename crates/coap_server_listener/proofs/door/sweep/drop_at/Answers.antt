@@ -1,6 +1,6 @@
 use Rattle.std.proofs.Common.{nat_eq}
 use Rattle.std.proofs.lemmas.Map.{none_passes_from_lookup}
-use Rattle.coap_server_listener.specs.Prelude.{AnswersMore, FollowsMore, session_of}
+use Rattle.coap_server_listener.specs.Prelude.{session_of}
 use Rattle.coap_server_listener.proofs.streams.ServingLemmas.{work_left}
 use Rattle.coap_server_listener.proofs.streams.AgendaLemmas.{some_at_index}
 use Rattle.coap_server_listener.proofs.streams.SweepLemmas.{dropped_here, noted_where_removed, number_there}
@@ -11,14 +11,13 @@ accepted-requires g c = work_left c.args.server.now.host.now (session_of c.args.
 
 pub returns-clause-part : goal.returns-clause-part
 returns-clause-part g c =
-    dropped_here (FollowsMore (g.M.Monitor.follows c.args.monitor.now) (g.M.Monitor.follows c.accepted.new.self)) (AnswersMore (g.A.Application.follows c.args.application.now) (g.A.Application.follows c.gone.new.self))
-    0 c.args.server.now c.drop_conn.new.self c.args.peers.now.entries c.shift_remove_index.new.self.entries c.args.at c.args.id c.requires.there c.requires.number
-    c.in-Ok.ensures.ok c.shift_remove_index.ensures.entries c.in-Ok.ensures.shows c.accepted.ensures c.gone.ensures
+    dropped_here _ 0 c.args.server.now c.drop_conn.new.self c.args.peers.now.entries c.shift_remove_index.new.self.entries c.args.at c.args.id c.requires.there c.requires.number
+    c.in-Ok.ensures.ok c.shift_remove_index.ensures.entries (record { shows = c.in-Ok.ensures.shows; known = record { calls = c.accepted.ensures; exchanged = c.gone.ensures } })
 
 pub returns-clause-noted : goal.returns-clause-noted
 returns-clause-noted g c =
     let at = some_at_index c.args.peers.now.entries c.args.at c.requires.there in
-    let same = number_there c.args.peers.now.entries c.args.at c.args.id at.0 c.requires.number at.1 in
+    let same = number_there c.args.peers.now.entries c.args.at c.requires.number at.1 in
     let updates = rw (c.shift_remove_index.ensures.entry, at.1) at c.shift_remove_index.ensures.updates in
-    noted_where_removed c.args.server.now c.drop_conn.new.self c.args.id c.args.at c.args.peers.now.entries c.shift_remove_index.new.self.entries c.drop_conn.ensures.settled c.in-Ok.ensures.ok c.shift_remove_index.ensures.entries
+    noted_where_removed c.args.server.now c.args.id c.args.at c.args.peers.now.entries c.drop_conn.ensures.settled c.in-Ok.ensures.ok c.shift_remove_index.ensures.entries
     (rw same at (none_passes_from_lookup (nat_eq at.0.0) c.shift_remove_index.new.self.entries updates.1)) c.requires.noted

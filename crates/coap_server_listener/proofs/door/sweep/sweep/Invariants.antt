@@ -1,5 +1,5 @@
 use Rattle.std.proofs.Common.{◌-◌, ◌≤◌, length, take, drop}
-use Rattle.coap_server_listener.specs.Prelude.{AnswersMore, AreNoted, FollowsMore, swept}
+use Rattle.coap_server_listener.specs.Prelude.{AreNoted, known_by, swept}
 use Rattle.coap_server_listener.proofs.streams.SweepLemmas.{IsSweptTo}
 use Rattle.coap_server_listener.proofs.door.sweep.sweep.Given as goal
 
@@ -7,7 +7,7 @@ use Rattle.coap_server_listener.proofs.door.sweep.sweep.Given as goal
 abbrev pub invariant-loop-at : goal.invariant-loop-at
 invariant-loop-at g l =
     (l.at ≤ length l.peers.entries)
-    × IsSweptTo (FollowsMore (g.M.Monitor.follows l.fn.monitor) (g.M.Monitor.follows l.monitor)) (AnswersMore (g.A.Application.follows l.fn.application) (g.A.Application.follows l.application))
+    × IsSweptTo (known_by g.M.Monitor.follows g.A.Application.follows l.fn.monitor l.monitor l.fn.application l.application)
     (swept l.fn.idle l.fn.now l.fn.server l.fn.peers.entries) l.fn.idle l.fn.now l.fn.server l.server (take l.at l.peers.entries) (drop l.at l.peers.entries)
     × AreNoted l.server l.peers.entries
 

@@ -1,9 +1,9 @@
-use Rattle.std.proofs.Common.{ap, is_ok}
+use Rattle.std.proofs.Common.{ap, is_ok, sym, ◌∙◌}
 use Rattle.std.proofs.lemmas.Option.{slice_get-map}
 use Rattle.coap_server_listener.proofs.streams.NoteLemmas.{stays_noted, dropped_on, others_become, dropped_so}
 use Rattle.std.proofs.lemmas.Map.{none_passes_from_lookup}
-use Rattle.coap_server_listener.specs.Prelude.{AreTakenWith, IsNoted, server_dropped}
-use Rattle.coap_server_listener.proofs.streams.ServingLemmas.{drop_accepted, drop_received, dropped_served, gone_answered, no_drop_accepted, no_drop_served, none_gone_answered}
+use Rattle.coap_server_listener.specs.Prelude.{IsNoted, server_dropped}
+use Rattle.coap_server_listener.proofs.streams.ServingLemmas.{drop_made, drop_served, no_drop_made, no_drop_served}
 use Rattle.coap_server_listener.proofs.door.turn.drop_at.Goals as goal
 
 -- The reason is that of this entry.
@@ -12,52 +12,42 @@ report_drop-requires g c = rw (← c.in-Some.ensures.entry) at c.requires.reason
 
 pub returns-in-Some-clause-noted : goal.returns-in-Some-clause-noted
 returns-in-Some-clause-noted g c =
-    rw (dropped_so c.drop_conn.result c.args.server.now _ c.in-Some.id c.requires.settled c.drop_conn.ensures.answer c.drop_conn.ensures.ok c.drop_conn.ensures.err)
+    rw (dropped_so c.drop_conn.result c.args.server.now c.in-Some.id c.requires.settled c.drop_conn.ensures.answer c.drop_conn.ensures.ok c.drop_conn.ensures.err)
     (others_become (IsNoted c.args.server.now) (IsNoted (server_dropped c.args.server.now c.in-Some.id)) c.in-Some.id
-    (stays_noted (dropped_on c.args.server.now c.in-Some.id) c.requires.settled) c.shift_remove_index.new.self.entries
+    (stays_noted (dropped_on c.in-Some.id) c.requires.settled) c.shift_remove_index.new.self.entries
     (none_passes_from_lookup _ _ c.in-Some.ensures.updates.1) (rw c.shift_remove_index.ensures.entries c.requires.noted))
 
 pub returns-in-Some-clause-server : goal.returns-in-Some-clause-server
 returns-in-Some-clause-server g c =
     rw (slice_get-map, ← c.in-Some.ensures.entry)
-    (dropped_so c.drop_conn.result c.args.server.now _ c.in-Some.id c.requires.settled c.drop_conn.ensures.answer c.drop_conn.ensures.ok c.drop_conn.ensures.err)
+    (dropped_so c.drop_conn.result c.args.server.now c.in-Some.id c.requires.settled c.drop_conn.ensures.answer c.drop_conn.ensures.ok c.drop_conn.ensures.err)
 
 pub returns-in-Ok-clause-noted : goal.returns-in-Ok-clause-noted
 returns-in-Ok-clause-noted g c =
-    rw (dropped_so c.drop_conn.result c.args.server.now _ c.in-Some.id c.requires.settled c.drop_conn.ensures.answer c.drop_conn.ensures.ok c.drop_conn.ensures.err)
+    rw (dropped_so c.drop_conn.result c.args.server.now c.in-Some.id c.requires.settled c.drop_conn.ensures.answer c.drop_conn.ensures.ok c.drop_conn.ensures.err)
     (others_become (IsNoted c.args.server.now) (IsNoted (server_dropped c.args.server.now c.in-Some.id)) c.in-Some.id
-    (stays_noted (dropped_on c.args.server.now c.in-Some.id) c.requires.settled) c.shift_remove_index.new.self.entries
+    (stays_noted (dropped_on c.in-Some.id) c.requires.settled) c.shift_remove_index.new.self.entries
     (none_passes_from_lookup _ _ c.in-Some.ensures.updates.1) (rw c.shift_remove_index.ensures.entries c.requires.noted))
 
 pub returns-in-Ok-clause-server : goal.returns-in-Ok-clause-server
 returns-in-Ok-clause-server g c =
     rw (slice_get-map, ← c.in-Some.ensures.entry)
-    (dropped_so c.drop_conn.result c.args.server.now _ c.in-Some.id c.requires.settled c.drop_conn.ensures.answer c.drop_conn.ensures.ok c.drop_conn.ensures.err)
+    (dropped_so c.drop_conn.result c.args.server.now c.in-Some.id c.requires.settled c.drop_conn.ensures.answer c.drop_conn.ensures.ok c.drop_conn.ensures.err)
 
 pub returns-in-Ok-clause-shows : goal.returns-in-Ok-clause-shows
-returns-in-Ok-clause-shows g c = dropped_served AreTakenWith (g.M.Monitor.follows c.args.monitor.now) (g.M.Monitor.follows c.report_drop.new.monitor) (g.A.Application.follows c.args.application.now) (g.A.Application.follows c.gone.new.self) c.args.server.now c.drop_conn.new.self c.in-Some.id c.in-Ok.ensures.ok c.in-Ok.ensures.shows
-    (drop_received (g.M.Monitor.follows c.args.monitor.now) (g.M.Monitor.follows c.report_drop.new.monitor) c.args.server.now c.in-Some.id c.drop_conn.result c.drop_conn.ensures.answer (ap is_ok c.in-Ok.is) c.report_drop.ensures) c.gone.ensures
+returns-in-Ok-clause-shows g c =
+    drop_served _ _ _ _ c.in-Some.id (sym c.drop_conn.ensures.answer ∙ ap is_ok c.in-Ok.is) c.in-Ok.ensures.ok c.in-Ok.ensures.shows c.report_drop.ensures c.gone.ensures
 
 pub returns-in-Some-clause-shows : goal.returns-in-Some-clause-shows
 returns-in-Some-clause-shows g c =
-    no_drop_served AreTakenWith (g.M.Monitor.follows c.args.monitor.now) (g.M.Monitor.follows c.report_drop.new.monitor) (g.A.Application.follows c.args.application.now) c.args.server.now c.drop_conn.new.self c.in-Some.id c.drop_conn.result c.drop_conn.ensures.answer (ap is_ok c.in-Err.is) c.in-Err.ensures.err c.report_drop.ensures
+    no_drop_served _ _ _ c.in-Some.id (sym c.drop_conn.ensures.answer ∙ ap is_ok c.in-Err.is) c.in-Err.ensures.err c.report_drop.ensures
 
 pub returns-in-Ok-clause-accepted : goal.returns-in-Ok-clause-accepted
 returns-in-Ok-clause-accepted g c =
     rw (slice_get-map, ← c.in-Some.ensures.entry)
-    (drop_accepted (g.M.Monitor.follows c.args.monitor.now) (g.M.Monitor.follows c.report_drop.new.monitor) c.args.server.now c.drop_conn.new.self c.in-Some.id c.drop_conn.result c.drop_conn.ensures.answer (ap is_ok c.in-Ok.is) c.in-Ok.ensures.shows c.report_drop.ensures)
+    (drop_made _ _ _ _ c.args.server.now c.drop_conn.new.self c.in-Some.id (sym c.drop_conn.ensures.answer ∙ ap is_ok c.in-Ok.is) c.in-Ok.ensures.shows c.report_drop.ensures c.gone.ensures)
 
 pub returns-in-Some-clause-accepted : goal.returns-in-Some-clause-accepted
 returns-in-Some-clause-accepted g c =
     rw (slice_get-map, ← c.in-Some.ensures.entry)
-    (no_drop_accepted (g.M.Monitor.follows c.args.monitor.now) (g.M.Monitor.follows c.report_drop.new.monitor) c.args.server.now c.drop_conn.new.self c.in-Some.id c.drop_conn.result c.drop_conn.ensures.answer (ap is_ok c.in-Err.is) c.in-Err.ensures.err c.report_drop.ensures)
-
-pub returns-in-Ok-clause-exchanged : goal.returns-in-Ok-clause-exchanged
-returns-in-Ok-clause-exchanged g c =
-    rw (slice_get-map, ← c.in-Some.ensures.entry)
-    (gone_answered (g.A.Application.follows c.args.application.now) (g.A.Application.follows c.gone.new.self) c.args.server.now c.in-Some.id c.drop_conn.result c.drop_conn.ensures.answer (ap is_ok c.in-Ok.is) c.gone.ensures)
-
-pub returns-in-Some-clause-exchanged : goal.returns-in-Some-clause-exchanged
-returns-in-Some-clause-exchanged g c =
-    rw (slice_get-map, ← c.in-Some.ensures.entry)
-    (none_gone_answered (g.A.Application.follows c.args.application.now) c.args.server.now c.in-Some.id c.drop_conn.result c.drop_conn.ensures.answer (ap is_ok c.in-Err.is))
+    (no_drop_made _ _ _ c.in-Some.id (sym c.drop_conn.ensures.answer ∙ ap is_ok c.in-Err.is) c.in-Err.ensures.err c.report_drop.ensures)

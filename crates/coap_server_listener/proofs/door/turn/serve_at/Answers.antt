@@ -1,9 +1,8 @@
-use Rattle.std.proofs.Common.{rules}
+use Rattle.std.proofs.Common.{refl, rules}
 use Rattle.std.proofs.lemmas.Result.{IfOk-weaker, on_ok_weaker}
-use Rattle.indexmap.proofs.CallerLemmas.{keys-with_value_at}
+use Rattle.coap_server_listener.proofs.streams.AgendaLemmas.{length_written}
 use Rattle.coap_server_listener.proofs.streams.NoteLemmas.{beside_served, all_noted}
-use Rattle.coap_server_listener.proofs.streams.PeerLemmas.{set_there, before_written, beside_written}
-use Rattle.coap_server_listener.proofs.streams.SleepLemmas.{each_written}
+use Rattle.coap_server_listener.proofs.streams.PeerLemmas.{set_there, beside_written}
 use Rattle.coap_server_listener.proofs.door.turn.serve_at.Goals as goal
 
 pub returns : goal.returns
@@ -14,16 +13,15 @@ returns g c =
       part =
           rw (c.pair_mut-peer.ensures.value, written)
           (IfOk-weaker c.serve_peer.result _ _
-          (λ course part. record {
-            events = part.events;
-            exchanges = part.exchanges;
-            made = record { may_read = _; may_write = _; read = c.may_read-may_read.ensures; write = c.may_write-may_write.ensures; part = part.made };
+          (λ outcome part. record {
+            history = part.history;
+            made = record { ready = _; read = c.may_read-may_read.ensures; write = c.may_write-may_write.ensures; part = part.made.0; activity = part.made.1 };
             accepted = part.accepted;
-            exchanged = part.exchanged;
           })
           c.serve_peer.ensures.part);
       wants = rw written c.serve_peer.ensures.wants;
       reason = rw written c.serve_peer.ensures.reason;
+      follows = on_ok_weaker c.serve_peer.result (λ on. on.follows) c.serve_peer.ensures.spared;
       others =
           rw (beside_written c.args.peers.now.entries c.args.at c.serve_peer.new.peer)
           (on_ok_weaker c.serve_peer.result (beside_served c.args.server.now _ c.serve_peer.new.server c.args.peers.now.entries c.args.at _ c.serve_peer.new.peer
@@ -31,9 +29,7 @@ returns g c =
       noted =
           all_noted c.args.server.now _ c.serve_peer.new.server c.args.peers.now.entries c.args.at c.pair_mut-peer.result.1.now c.serve_peer.new.peer
           c.requires.settled c.pair_mut-peer.ensures.unique c.pair_mut-peer.ensures.value c.requires.noted c.serve_peer.result c.serve_peer.ensures.spared c.serve_peer.ensures.wants;
-      beside = beside_written c.args.peers.now.entries c.args.at c.serve_peer.new.peer;
-      before = before_written c.args.peers.now.entries c.args.at c.serve_peer.new.peer;
-      each = each_written c.args.peers.now.entries c.args.at c.serve_peer.new.peer;
-      same = keys-with_value_at c.args.peers.now c.args.at c.serve_peer.new.peer;
+      peers = (c.serve_peer.new.peer, refl);
+      as_many = length_written c.args.peers.now.entries c.args.at c.serve_peer.new.peer;
       fault = search rules;
     }

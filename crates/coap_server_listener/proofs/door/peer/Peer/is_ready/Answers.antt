@@ -10,6 +10,6 @@ returns-then-can_read g c =
     let far = end_of g.W.Ready.readable g.W.Ready.writable c.args.self.now in
     let asked = an_answer far.wants.read far.readable in
     elim c.if-self.branch [
-      | then-self w ↦ can_go_on_so far asked.0 c.if-self.value asked.1 (or_left _ _ w.if-self.true) c.if-can_read.true
-      | else-self w ↦ can_go_on_so far w.can_read.result c.if-self.value w.can_read.ensures (or_right _ _ (sym w.value-is ∙ c.if-can_read.true)) c.if-can_read.true
+      | then-self w ↦ can_go_on_so far asked.0 asked.1 (or_left _ _ w.if-self.true) c.if-can_read.true
+      | else-self w ↦ can_go_on_so far w.can_read.result w.can_read.ensures (or_right _ _ (sym w.value-is ∙ c.if-can_read.true)) c.if-can_read.true
     ]

@@ -12,7 +12,7 @@ accepted-requires g c =
 
 pub invariant_of-self : goal.invariant_of-self
 invariant_of-self g c = record {
-  noted = λ ready. noted_where_left c.args.self.now.server c.drop_conn.new.self c.args.id c.args.self.now.peers.entries c.shift_remove.new.self.entries c.drop_conn.ensures.settled c.in-Ok.ensures.ok
+  noted = λ ready. noted_where_left c.args.self.now.server c.args.id c.args.self.now.peers.entries c.drop_conn.ensures.settled c.in-Ok.ensures.ok
       c.shift_remove.ensures.entries (none_passes_from_lookup _ _ c.shift_remove.ensures.updates.1) (c.args.self.now.noted ready);
-  asleep = λ ready. none_asleep g.W.Ready.readable g.W.Ready.writable c.wake_all.new.self c.shift_remove.new.self.entries c.wake_all.ensures.all;
+  asleep = λ ready. none_asleep g.W.Ready.readable g.W.Ready.writable c.wake_all.ensures.all;
 }

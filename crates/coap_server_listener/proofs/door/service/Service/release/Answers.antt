@@ -4,7 +4,7 @@ use Rattle.coap_server_listener.proofs.door.service.Service.release.Goals as goa
 
 pub invariant_of-self-2 : goal.invariant_of-self-2
 invariant_of-self-2 g c = record {
-  noted = λ ready. noted_where_released c.args.self.now.second c.args.self.now.server c.release.new.self c.args.id c.args.self.now.peers.entries c.release_on.new.peers.entries c.release.ensures.settled c.in_ok-release.ensures.ok
+  noted = λ ready. noted_where_released c.args.self.now.second c.args.self.now.server c.args.id c.args.self.now.peers.entries c.release.ensures.settled c.in_ok-release.ensures.ok
       c.release_on.ensures (c.args.self.now.noted ready);
-  asleep = λ ready. none_asleep g.W.Ready.readable g.W.Ready.writable c.wake_all.new.self c.release_on.new.peers.entries c.wake_all.ensures.all;
+  asleep = λ ready. none_asleep g.W.Ready.readable g.W.Ready.writable c.wake_all.ensures.all;
 }

@@ -18,10 +18,10 @@ invariant_of-self g c = record {
 -- The time is that of the server.
 pub returns-then-now-stamp-clause-moved : goal.returns-then-now-stamp-clause-moved
 returns-then-now-stamp-clause-moved g c =
-    same_time c.args.self.now.server c.args.now c.stamp.ensures.settled
+    same_time c.stamp.ensures.settled
     (c.if-now-stamp.true ∙ ap (λ (s : ChangeStamp). s.moment) c.stamp.ensures.stamp)
 
 pub returns-then-now-stamp-clause-told : goal.returns-then-now-stamp-clause-told
 returns-then-now-stamp-clause-told g c =
-    rw (none_ticked c.args.self.now.server c.args.now (c.if-now-stamp.true ∙ ap (λ (s : ChangeStamp). s.moment) c.stamp.ensures.stamp))
+    rw (none_ticked c.args.self.now.server (c.if-now-stamp.true ∙ ap (λ (s : ChangeStamp). s.moment) c.stamp.ensures.stamp))
     (followed_none (g.M.Monitor.follows c.args.monitor.now))
