@@ -1,12 +1,11 @@
-//! The fields of a request beside its method and target: `OBSERVE PLAIN FORMAT ACCEPT OPTION BYTES BYTES HEX`. An
-//! absent field is `-`.
+//! The fields of a request beside its method and target: `HEX OBSERVE PLAIN FORMAT ACCEPT OPTION BYTES BYTES`.
 //!
-//! OBSERVE and PLAIN are `yes` or `-`. FORMAT and ACCEPT are numbers of Content-Formats, OPTION is the number of a
-//! further option. The bytes of HEX are a token, the value of that option and the payload. The two fields BYTES are the
-//! lengths of the first two.
+//! OBSERVE and PLAIN are 1 or 0. FORMAT and ACCEPT are numbers of Content-Formats, OPTION is the number of a further
+//! option, and 65536 stands for none. The bytes of HEX are a token, the value of that option and the payload. The two
+//! fields BYTES are the lengths of the first two.
 
+use crate::row_words::{cut, numbers, read_hex};
 use coap_request::{Extras, Method};
-use probe_support::{cut, next_number, read_hex};
 
 /// Fields of a request, read from a row.
 #[derive(Drop)]
@@ -17,38 +16,33 @@ pub(crate) struct RequestFields<'a> {
     pub extras: Extras<'a>,
 }
 
-/// Returns the number before the first space, if there is one, and the text after that space.
-fn field<'a>(text: &'a str) -> (Option<u16>, &'a str) {
-    let (word, rest) = cut(text);
-    (word.parse::<u16>().ok(), rest)
-}
-
 /// Reads the fields of a request. Their bytes replace those in `bytes`.
 pub(crate) fn read_asked<'a>(text: &str, bytes: &'a mut Vec<u8>) -> RequestFields<'a> {
-    let (observe, text) = cut(text);
-    let (plain, text) = cut(text);
-    let (content_format, text) = field(text);
-    let (accept, text) = field(text);
-    let (number, text) = field(text);
-    let (token_length, text) = next_number(text);
-    let (value_length, digits) = next_number(text);
+    let (digits, text) = cut(text);
     read_hex(digits, bytes);
-    let (token, rest) = bytes
-        .as_slice()
-        .split_at_checked(token_length)
-        .unwrap_or_default();
-    let (value, payload) = rest.split_at_checked(value_length).unwrap_or_default();
-    let option = match number {
-        Some(number) => Some((number, value)),
-        None => None,
+    let [
+        observe,
+        plain,
+        content_format,
+        accept,
+        number,
+        token,
+        value,
+        ..
+    ] = numbers(text);
+    let (token, rest) = bytes.as_slice().split_at_checked(token).unwrap_or_default();
+    let (value, payload) = rest.split_at_checked(value).unwrap_or_default();
+    let option = match u16::try_from(number) {
+        Ok(number) => Some((number, value)),
+        Err(_) => None,
     };
     RequestFields {
         token,
         extras: Extras {
-            observe: observe == "yes",
-            plain: plain == "yes",
-            content_format,
-            accept,
+            observe: observe == 1,
+            plain: plain == 1,
+            content_format: u16::try_from(content_format).ok(),
+            accept: u16::try_from(accept).ok(),
             option,
             payload,
         },

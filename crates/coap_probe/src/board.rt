@@ -4,25 +4,23 @@ use crate::application::applications;
 use coap_conn::Reply;
 use coap_io::Wait;
 use coap_model::{ConnId, ResponseFault};
-use coap_path::Applications;
+use coap_path::{ApplicationFault, Applications};
 use coap_server_engine::Application;
 use coap_wire::{Code, MessageRef};
-use probe_support::RowLine;
-use std::alloc::{AllocError, Global};
+use std::alloc::Global;
 
 /// Application that answers PUT at once, and another request when it is asked next. A wait lasts at most 7 seconds, and
 /// there is none before a later response.
 #[derive(Clone, Copy)]
 pub(crate) struct Board {
     later: Option<ConnId>,
-    requests: u32,
-    accepted: u32,
-    ends: u32,
+    /// Numbers of requests, of later responses that were accepted, and of connections that ended.
+    pub counts: (u32, u32, u32),
 }
 
 /// Creates the entries of the application. It has 60 seconds for a response.
-pub(crate) fn entries(alloc: Global) -> Result<Applications, AllocError> {
-    applications(alloc, 60, "/rd:0103:").unwrap_or(Err(AllocError))
+pub(crate) fn entries(alloc: Global) -> Result<Applications, ApplicationFault> {
+    applications(alloc, 60, "/rd:0103:")
 }
 
 impl Board {
@@ -30,20 +28,8 @@ impl Board {
     pub(crate) fn new() -> Board {
         Board {
             later: None,
-            requests: 0,
-            accepted: 0,
-            ends: 0,
+            counts: (0, 0, 0),
         }
-    }
-
-    /// Writes the numbers of requests, of later responses that were accepted, and of connections that ended.
-    pub(crate) fn tell(&self, told: &mut RowLine) {
-        told.word("requests");
-        told.number(u64::from(self.requests));
-        told.word("accepted");
-        told.number(u64::from(self.accepted));
-        told.word("ends");
-        told.number(u64::from(self.ends));
     }
 }
 
@@ -56,7 +42,7 @@ impl Application for Board {
         _limit: usize,
         response: &mut Vec<u8>,
     ) {
-        self.requests = self.requests.saturating_add(1);
+        self.counts.0 = self.counts.0.saturating_add(1);
         if request.code() == Code::PUT {
             let _ = response.extend_from_slice(b"\x01\x44\x2a");
         } else {
@@ -75,7 +61,7 @@ impl Application for Board {
     #[tactic(auto, unfolding(coap_server_engine::specs::values::Exchanges::AnswersMore))]
     fn responded(&mut self, _to: ConnId, outcome: Result<Reply, ResponseFault>) {
         if outcome.is_ok() {
-            self.accepted = self.accepted.saturating_add(1);
+            self.counts.1 = self.counts.1.saturating_add(1);
         }
     }
 
@@ -88,6 +74,6 @@ impl Application for Board {
 
     #[tactic(auto, unfolding(coap_server_engine::specs::values::Exchanges::AnswersMore))]
     fn gone(&mut self, _from: ConnId) {
-        self.ends = self.ends.saturating_add(1);
+        self.counts.2 = self.counts.2.saturating_add(1);
     }
 }

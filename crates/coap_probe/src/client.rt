@@ -1,34 +1,25 @@
 //! Rows for clients. `= client` with the six limits and a number creates one. The first token is made from the number
 //! after this one.
 //!
-//! The events are `take HEX`, `send METHOD TARGET` and `cancel TARGET` with the fields of a request (`asked`), `ping
-//! custody` (or `plain`), `written COUNT`, `end`, `part` and `look`. After each event all queued bytes are removed, as
-//! written, unless the row begins with `keep`.
+//! The events are `take HEX`, `send METHOD TARGET` with the fields of a request (`asked`), `ping custody` (or `plain`),
+//! `written COUNT`, `end`, `part` and `look`. The method `cancel` cancels an observation. After each event all queued
+//! bytes are removed, as written, unless the row begins with `keep`.
 
 use crate::asked::{method, read_asked};
-use crate::target::tell_fault;
+use crate::layer::Layer;
+use crate::limits::limits_of;
+use crate::row_line::RowLine;
+use crate::row_words::{cut, number, numbers, read_hex};
 use coap_client_engine::{Client, Event};
 use coap_conn::{RequestFault, first_part};
 use coap_request::Target;
 use coap_wire::{MessageRef, Token};
-use probe_support::limits::limits_of;
-use probe_support::{RowLine, cut, number, read_hex};
 use std::alloc::{AllocError, Global};
-use std::fmt::Write;
 
-/// Creates a client. Returns `None` if a number is out of range.
-pub(crate) fn opened(alloc: Global, text: &str) -> Option<Result<Client, AllocError>> {
-    let (Ok(limits), tokens) = limits_of(text) else {
-        return None;
-    };
-    let tokens = tokens.parse::<u64>().ok()?;
-    Some(Client::open(alloc, limits, tokens))
-}
-
-/// Writes the code, the token and the payload of a message.
-fn tell_message(message: &MessageRef, told: &mut RowLine) {
-    let code = message.code();
-    let _ = write!(told, "{}.{:02} ", code.class(), code.detail());
+/// Writes a word, and the code, the token and the payload of a message.
+fn tell_message(word: &str, message: &MessageRef, told: &mut RowLine) {
+    told.word(word);
+    told.number(u64::from(message.code().byte()));
     told.hex(message.token().bytes());
     told.hex(message.payload());
 }
@@ -37,14 +28,8 @@ fn tell_message(message: &MessageRef, told: &mut RowLine) {
 pub(crate) fn tell_event(event: &Event, told: &mut RowLine) {
     match event {
         Event::Ready => told.word("ready"),
-        Event::Response(message) => {
-            told.word("response");
-            tell_message(message, told);
-        }
-        Event::Notification(message) => {
-            told.word("notification");
-            tell_message(message, told);
-        }
+        Event::Response(message) => tell_message("response", message, told),
+        Event::Notification(message) => tell_message("notification", message, told),
         Event::Rejected { token, number } => {
             told.word("rejected");
             told.hex(token.bytes());
@@ -53,7 +38,7 @@ pub(crate) fn tell_event(event: &Event, told: &mut RowLine) {
         Event::Pong { token, custody } => {
             told.word("pong");
             told.hex(token.bytes());
-            told.word(if *custody { "true" } else { "false" });
+            told.debug(custody);
         }
         Event::Stranger => told.word("stranger"),
         Event::Stopped(reason) => {
@@ -73,43 +58,32 @@ fn take(client: &mut Client, bytes: &[u8], told: &mut RowLine) {
     }
 }
 
-/// Writes the error of a request.
-fn tell_refusal(fault: RequestFault, told: &mut RowLine) {
-    let _ = write!(told, "{fault:?} {} ({fault}) ", fault as u64);
-}
-
 /// Writes the token of a request, or the error.
 fn tell_token(given: Result<Token, RequestFault>, told: &mut RowLine) {
     match given {
         Ok(token) => told.hex(token.as_slice()),
-        Err(fault) => tell_refusal(fault, told),
+        Err(fault) => told.fault(&fault, fault as u8),
     }
 }
 
-/// Sends a request, and writes its token or the error.
+/// Sends a request or cancels an observation, and writes the token or the error. A cancellation has no token.
 fn send(alloc: Global, client: &mut Client, text: &str, bytes: &mut Vec<u8>, told: &mut RowLine) {
     let (name, text) = cut(text);
     let (to, text) = cut(text);
     let asked = read_asked(text, bytes);
+    let token = Token::try_from(asked.token).unwrap_or(Token::new());
     match Target::read(alloc, to) {
-        Ok(target) => tell_token(client.send(method(name), &target, &asked.extras), told),
-        Err(fault) => tell_fault(fault, told),
-    }
-}
-
-/// Cancels an observation, and writes the result.
-fn cancel(alloc: Global, client: &mut Client, text: &str, bytes: &mut Vec<u8>, told: &mut RowLine) {
-    let (to, text) = cut(text);
-    let asked = read_asked(text, bytes);
-    let Ok(token) = Token::try_from(asked.token) else {
-        return told.word("strange");
-    };
-    match Target::read(alloc, to) {
-        Ok(target) => match client.cancel(&token, &target, &asked.extras) {
-            Ok(()) => told.word("Ok"),
-            Err(fault) => tell_refusal(fault, told),
-        },
-        Err(fault) => tell_fault(fault, told),
+        Ok(target) => tell_token(
+            match name {
+                "cancel" => match client.cancel(&token, &target, &asked.extras) {
+                    Ok(()) => Ok(Token::new()),
+                    Err(fault) => Err(fault),
+                },
+                _ => client.send(method(name), &target, &asked.extras),
+            },
+            told,
+        ),
+        Err(fault) => told.fault(&fault, fault as u8),
     }
 }
 
@@ -137,9 +111,8 @@ pub(crate) fn act(
             take(client, bytes, told);
         }
         "send" => send(alloc, client, rest, bytes, told),
-        "cancel" => cancel(alloc, client, rest, bytes, told),
         "ping" => tell_token(client.ping(rest == "custody"), told),
-        "written" => written(client, number(rest).unwrap_or(0), told),
+        "written" => written(client, number(rest), told),
         "end" => {
             client.ended();
             told.word("-");
@@ -150,26 +123,25 @@ pub(crate) fn act(
     }
 }
 
-/// Executes an event, and writes its result and the state of the client. Then removes all queued bytes, unless the row
-/// begins with `keep`.
-pub(crate) fn play(
-    alloc: Global,
-    client: &mut Client,
-    row: &str,
-    bytes: &mut Vec<u8>,
-    told: &mut RowLine,
-) {
-    let kept = row.strip_prefix("keep ");
-    act(alloc, client, kept.unwrap_or(row), bytes, told);
-    let _ = write!(told, "{:?} ", client.phase());
-    told.number(client.outstanding() as u64);
-    let count = client.waiting();
-    let front = client.front();
-    if front.len() != count {
-        told.word("uneven");
+impl Layer for Client {
+    fn opened(alloc: Global, words: &str) -> Option<Result<Client, AllocError>> {
+        let [_, _, _, _, _, _, tokens, ..] = numbers(words);
+        let limits = limits_of(words).ok()?;
+        Some(Client::open(alloc, limits, tokens as u64))
     }
-    told.hex(front);
-    if kept.is_none() {
-        client.written(count);
+
+    /// Executes an event, and writes its result and the state of the client. Then removes all queued bytes, unless the
+    /// row begins with `keep`.
+    fn play(&mut self, alloc: Global, event: &str, bytes: &mut Vec<u8>, told: &mut RowLine) {
+        let kept = event.strip_prefix("keep ");
+        act(alloc, self, kept.unwrap_or(event), bytes, told);
+        told.debug(&self.phase());
+        told.number(self.outstanding() as u64);
+        let count = self.waiting();
+        told.number(count as u64);
+        told.hex(self.front());
+        if kept.is_none() {
+            self.written(count);
+        }
     }
 }

@@ -3,15 +3,17 @@
 //! The events are `config` with thirteen numbers, `starts`, `faults io`, and `faults application` for the errors of
 //! entries. All others are those of limits.
 
+use crate::limits;
+use crate::limits::{limits_of, tell_limits};
+use crate::row_line::RowLine;
+use crate::row_words::{cut, numbers};
 use coap_conn::Limits;
 use coap_model::{Config, ConfigFault, Starts};
 use coap_path::ApplicationFault;
 use coap_server_engine::IoFault;
-use probe_support::limits::{limits_of, tell_limits};
-use probe_support::{RowLine, cut, limits, next_number, tell_fault};
 
 /// Errors of a run.
-pub(crate) const IO_FAULTS: &[IoFault] = &[
+const IO_FAULTS: &[IoFault] = &[
     IoFault::Read,
     IoFault::Write,
     IoFault::Memory,
@@ -28,22 +30,23 @@ const APPLICATION_FAULTS: &[ApplicationFault] = &[
     ApplicationFault::Memory,
 ];
 
-/// Writes the initial values of the counters.
-fn tell_starts(starts: Starts, told: &mut RowLine) {
-    told.number(starts.moment);
-    told.number(starts.versions);
-    told.number(starts.ids);
-}
-
-/// Returns the configuration with these limits and seven further numbers, or the error.
+/// Returns the configuration with these limits and the numbers after those of the limits, or the error.
 fn config_of(limits: Limits, text: &str) -> Result<Config, ConfigFault> {
-    let (connections, text) = next_number(text);
-    let (dynamic, text) = next_number(text);
-    let (rep, text) = next_number(text);
-    let (turns, text) = next_number(text);
-    let (moment, text) = next_number(text);
-    let (versions, text) = next_number(text);
-    let (ids, _) = next_number(text);
+    let [
+        _,
+        _,
+        _,
+        _,
+        _,
+        _,
+        connections,
+        dynamic,
+        rep,
+        turns,
+        moment,
+        versions,
+        ids,
+    ] = numbers(text);
     let starts = Starts {
         moment: moment as u64,
         versions: versions as u64,
@@ -54,23 +57,7 @@ fn config_of(limits: Limits, text: &str) -> Result<Config, ConfigFault> {
 
 /// Returns the configuration that thirteen numbers name, or `None` if one is out of range.
 pub(crate) fn configured(text: &str) -> Option<Config> {
-    match limits_of(text) {
-        (Ok(limits), rest) => config_of(limits, rest).ok(),
-        _ => None,
-    }
-}
-
-/// Creates a configuration, and writes each of its values as its accessor returns it, or the error.
-fn config(text: &str, told: &mut RowLine) {
-    let (limits, text) = limits_of(text);
-    let limits = match limits {
-        Ok(limits) => limits,
-        Err(fault) => return tell_fault(&fault, fault as u8, told),
-    };
-    match config_of(limits, text) {
-        Ok(config) => tell_config(&config, told),
-        Err(fault) => tell_fault(&fault, fault as u8, told),
-    }
+    config_of(limits_of(text).ok()?, text).ok()
 }
 
 /// Writes each value of a configuration as its accessor returns it.
@@ -80,7 +67,18 @@ fn tell_config(config: &Config, told: &mut RowLine) {
     told.number(config.dynamic_max() as u64);
     told.number(config.rep_max() as u64);
     told.number(config.turns());
-    tell_starts(config.starts(), told);
+    told.debug(&config.starts());
+}
+
+/// Creates a configuration, and writes each of its values, or the error.
+fn config(text: &str, told: &mut RowLine) {
+    let Ok(limits) = limits_of(text) else {
+        return told.word("refused");
+    };
+    match config_of(limits, text) {
+        Ok(config) => tell_config(&config, told),
+        Err(fault) => told.fault(&fault, fault as u8),
+    }
 }
 
 /// Executes an event, and writes its result.
@@ -88,15 +86,15 @@ pub(crate) fn play(event: &str, told: &mut RowLine) {
     let (word, rest) = cut(event);
     match word {
         "config" => config(rest, told),
-        "starts" => tell_starts(Starts::default(), told),
+        "starts" => told.debug(&Starts::default()),
         "faults" if rest == "io" => {
             for fault in IO_FAULTS {
-                tell_fault(fault, *fault as u8, told);
+                told.fault(fault, *fault as u8);
             }
         }
         "faults" if rest == "application" => {
             for fault in APPLICATION_FAULTS {
-                tell_fault(fault, *fault as u8, told);
+                told.fault(fault, *fault as u8);
             }
         }
         _ => limits::play(event, told),

@@ -8,12 +8,14 @@
 //! requests, after `;`.
 
 use crate::client;
+use crate::layer::Layer;
+use crate::row_line::RowLine;
+use crate::row_words::{cut, number, numbers, read_hex};
 use coap_client_engine::Client;
 use coap_conn::Limits;
 use coap_model::{Config, ConnId};
 use coap_path::PathKey;
 use coap_server_engine::Server;
-use probe_support::{RowLine, cut, next_number, number, read_hex};
 use std::alloc::{AllocError, Global};
 
 /// Maximum number of outstanding requests of the client.
@@ -48,32 +50,21 @@ fn piece<'a>(front: &'a [u8], behind: usize, cut: usize, most: usize) -> &'a [u8
 }
 
 /// Creates a server with these limits of a connection.
-fn opened_server(alloc: Global, limits: Limits) -> Result<Server, AllocError> {
+fn opened_server(alloc: Global, limits: Limits) -> Option<Result<Server, AllocError>> {
     let config = Config::builder().limits(limits).dynamic_max(1).rep_max(100);
-    match config.connections(1).turns(1).build() {
-        Ok(config) => Server::new(alloc, config),
-        Err(_) => Err(AllocError),
-    }
+    let config = config.connections(1).turns(1).build().ok()?;
+    Some(Server::new(alloc, config))
 }
 
-/// Creates a client and a server that has the given connection. Each function owns one of them, since the proof of a
-/// function that drops both is long.
-pub(crate) fn opened(alloc: Global, text: &str) -> Result<ClientServerPair, AllocError> {
-    let Ok(limits) = Limits::new(1_152, 1_152, 2_304, 2, 2, REQUESTS) else {
-        return Err(AllocError);
-    };
-    let server = opened_server(alloc, limits)?;
-    with_client(alloc, text, limits, server)
-}
-
-/// Creates a client for a new server.
+/// Creates a client for a new server. Each function owns one of them, since the proof of a function that drops both is
+/// long.
 fn with_client(
     alloc: Global,
-    text: &str,
+    words: &str,
     limits: Limits,
     mut server: Server,
 ) -> Result<ClientServerPair, AllocError> {
-    let (most, cut) = next_number(text);
+    let [most, cut, ..] = numbers(words);
     // A new server has room for a connection.
     let id = server.open().unwrap_or(0);
     Ok(ClientServerPair {
@@ -81,7 +72,7 @@ fn with_client(
         server,
         id,
         most,
-        cut: number(cut).unwrap_or(0),
+        cut,
         up: 0,
         down: 0,
     })
@@ -137,37 +128,35 @@ fn settle(joined: &mut ClientServerPair, told: &mut RowLine) {
 }
 
 /// Stores bytes at the path `a` of the server.
-fn put(joined: &mut ClientServerPair, bytes: &[u8], told: &mut RowLine) {
-    let Some(path) = PathKey::from_segments(&[b"a"]) else {
-        return told.word("strange");
-    };
-    told.word(match joined.server.put(&path, Some(0), bytes) {
-        Ok(_) => "-",
-        Err(_) => "memory",
-    });
+fn put(server: &mut Server, bytes: &[u8], told: &mut RowLine) {
+    if let Some(path) = PathKey::from_segments(&[b"a"]) {
+        told.debug(&server.put(&path, Some(0), bytes).is_ok());
+    }
 }
 
-/// Executes an event, and writes its result, the events of the client and the number of outstanding requests.
-pub(crate) fn play(
-    alloc: Global,
-    joined: &mut ClientServerPair,
-    event: &str,
-    bytes: &mut Vec<u8>,
-    told: &mut RowLine,
-) {
-    let (word, rest) = cut(event);
-    match word {
-        "put" => {
-            read_hex(rest, bytes);
-            put(joined, bytes, told);
+impl Layer for ClientServerPair {
+    /// Creates a client and a server with one connection.
+    fn opened(alloc: Global, words: &str) -> Option<Result<ClientServerPair, AllocError>> {
+        let limits = Limits::new(1_152, 1_152, 2_304, 2, 2, REQUESTS).ok()?;
+        match opened_server(alloc, limits)? {
+            Ok(server) => Some(with_client(alloc, words, limits, server)),
+            Err(fault) => Some(Err(fault)),
         }
-        "tick" => told.word(match joined.server.tick(next_number(rest).0 as u64) {
-            Ok(()) => "-",
-            Err(_) => "refused",
-        }),
-        _ => client::act(alloc, &mut joined.client, event, bytes, told),
     }
-    settle(joined, told);
-    told.word(";");
-    told.number(joined.client.outstanding() as u64);
+
+    /// Executes an event, and writes its result, the events of the client and the number of outstanding requests.
+    fn play(&mut self, alloc: Global, event: &str, bytes: &mut Vec<u8>, told: &mut RowLine) {
+        let (word, rest) = cut(event);
+        match word {
+            "put" => {
+                read_hex(rest, bytes);
+                put(&mut self.server, bytes, told);
+            }
+            "tick" => told.debug(&self.server.tick(number(rest) as u64).is_ok()),
+            _ => client::act(alloc, &mut self.client, event, bytes, told),
+        }
+        settle(self, told);
+        told.word(";");
+        told.number(self.client.outstanding() as u64);
+    }
 }

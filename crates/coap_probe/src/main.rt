@@ -1,8 +1,19 @@
 //! Executes rows of text from standard input on values of all layers, from messages to servers, clients and the command
-//! lines of the programs. Prints a result line for each row (`probe_support`).
+//! lines of the programs. Prints a result line for each row. The rows are those of `tests/vectors/rows`.
+//!
+//! A row that begins with `= ` creates the value that the following rows use: `= frame 1152`. Every other row is an
+//! event. Its bytes are hex digits, or absent. The result line of a row has the result, followed by the state of the
+//! value. A row that would violate a `requires` is not executed, and its result is `refused`. The result is `strange`
+//! if the row is malformed, and has the word `memory` if allocation fails.
+//!
+//! Results are written as `Debug` prints them where it can. The modules of tests/harness/layers convert them.
+//!
+//! `row_words.rt` parses the words of a row, and `row_line.rt` writes the result line. `layer.rt` has the trait of a
+//! value on which rows are played. Most other modules are a layer, with the events of its rows.
 //!
 //! One function creates a value and plays the rows of its layer (`play_rows`). So no type has the values of all layers:
-//! the proof of such a type, and of a function that drops it, is long.
+//! the proof of such a type, and of a function that drops it, is long. The layers are one crate, since each proof loads
+//! the statements of all libraries below. That costs as much as most of the functions here.
 #![tactic(auto)]
 
 mod application;
@@ -13,16 +24,39 @@ mod command_line;
 mod config;
 mod directory;
 mod door;
+mod frame;
 mod joined;
-mod layers;
+mod layer;
+mod limits;
+mod link;
+mod log;
+mod plain;
+mod print;
+mod queue;
+mod row_line;
+mod row_words;
 mod run;
+mod script;
 mod serve;
 mod stdio;
+mod store;
 mod target;
+mod wire;
 mod wires;
 
-use layers::{Plain, play_nothing, play_rows};
-use probe_support::{RowLine, cut, frame, link, queue, store};
+use coap_client_engine::Client;
+use coap_conn::{Link, OutQueue};
+use coap_directory_core::Directory;
+use coap_frame::Framer;
+use coap_model::Config;
+use coap_server_engine::Server;
+use coap_store::Store;
+use joined::ClientServerPair;
+use layer::Layer;
+use plain::Plain;
+use row_line::RowLine;
+use row_words::cut;
+use std::io;
 use std::io::Read;
 use std::process::ExitCode;
 
@@ -39,36 +73,57 @@ const ROWS_ROOM: usize = 67_108_864;
 /// Exit status if the rows cannot be read or allocation for them fails.
 const FAULT: u8 = 3;
 
+/// Creates a value. Prints `memory` if allocation failed, `refused` if a word of the opening row is out of range, and
+/// otherwise an empty line. Then executes each row on the value, and prints its result line, or `nothing` without a
+/// value.
+fn play_rows<L: Layer, R: Print + AllocGlobal>(
+    rt: &R,
+    words: &str,
+    rows: &str,
+    bytes: &mut Vec<u8>,
+    told: &mut RowLine,
+) {
+    let mut opened = L::opened(rt.alloc(), words);
+    match &opened {
+        Some(Ok(_)) => {}
+        Some(Err(_)) => told.word("memory"),
+        None => told.word("refused"),
+    }
+    told.write_line(&mut io::writer(rt));
+    for row in rows.lines() {
+        match &mut opened {
+            Some(Ok(value)) => value.play(rt.alloc(), row, bytes, told),
+            _ => told.word("nothing"),
+        }
+        told.write_line(&mut io::writer(rt));
+    }
+}
+
 /// Creates the value that an opening row names, and plays the rows after it.
-fn play(
-    rt: &(impl Print + AllocGlobal),
+fn play<R: Print + AllocGlobal>(
+    rt: &R,
     opening: &str,
     rows: &str,
     bytes: &mut Vec<u8>,
     told: &mut RowLine,
 ) {
-    let (layer, rest) = cut(opening);
-    let alloc = rt.alloc();
+    let (layer, words) = cut(opening);
     match layer {
-        "frame" => play_rows(rt, frame::opened(alloc, rest), rows, bytes, told),
-        "queue" => play_rows(rt, queue::opened(alloc, rest), rows, bytes, told),
-        "link" => play_rows(rt, link::opened(alloc, rest), rows, bytes, told),
-        "store" => play_rows(rt, store::opened(alloc, rest), rows, bytes, told),
-        "serve" => play_rows(rt, serve::opened(alloc, rest), rows, bytes, told),
-        "application" => play_rows(rt, application::opened(alloc, rest), rows, bytes, told),
-        "directory" => play_rows(rt, directory::opened(alloc, rest), rows, bytes, told),
-        "client" => play_rows(rt, client::opened(alloc, rest), rows, bytes, told),
-        "joined" => play_rows(rt, Some(joined::opened(alloc, rest)), rows, bytes, told),
-        "stdio" => play_rows(rt, stdio::opened(rest), rows, bytes, told),
-        _ => match Plain::named(layer) {
-            Some(plain) => play_rows(rt, Some(Ok(plain)), rows, bytes, told),
-            None => play_nothing(rt, "strange", rows, told),
-        },
+        "frame" => play_rows::<Framer, R>(rt, words, rows, bytes, told),
+        "queue" => play_rows::<OutQueue, R>(rt, words, rows, bytes, told),
+        "link" => play_rows::<Link, R>(rt, words, rows, bytes, told),
+        "store" => play_rows::<Store, R>(rt, words, rows, bytes, told),
+        "serve" => play_rows::<Server, R>(rt, words, rows, bytes, told),
+        "directory" => play_rows::<Directory, R>(rt, words, rows, bytes, told),
+        "client" => play_rows::<Client, R>(rt, words, rows, bytes, told),
+        "joined" => play_rows::<ClientServerPair, R>(rt, words, rows, bytes, told),
+        "stdio" => play_rows::<Config, R>(rt, words, rows, bytes, told),
+        _ => play_rows::<Plain, R>(rt, layer, rows, bytes, told),
     }
 }
 
 /// Plays each opening row of a text with the rows after it.
-fn play_all(rt: &(impl Print + AllocGlobal), text: &str, bytes: &mut Vec<u8>, told: &mut RowLine) {
+fn play_all<R: Print + AllocGlobal>(rt: &R, text: &str, bytes: &mut Vec<u8>, told: &mut RowLine) {
     let text = text.strip_prefix("= ").unwrap_or(text);
     for section in text.split("\n= ") {
         let (opening, rows) = section.split_once('\n').unwrap_or((section, ""));

@@ -1,104 +1,153 @@
 //! Rows for runs of `serve_one` over one reader and one writer. `= stdio` with the thirteen numbers of a configuration
 //! (`config::configured`) sets the configuration.
 //!
-//! The event `serve` has the numbers that set up the devices (`devices::devices_set`) and the input bytes. The result
-//! has all calls of the devices in order, and then the result of the run. The event `faults` writes the number and the
-//! text of each error. The events `door` are those of `door.rt`.
+//! The event `serve HEX` has the input bytes, and then the numbers that set up the devices. The numbers are:
+//!
+//! - the maximum number of bytes of a read,
+//! - two offsets in the input that no read passes, where 0 is none,
+//! - the number of reads that succeed before one fails,
+//! - the maximum number of bytes of a write,
+//! - the number of bytes that all writes accept,
+//! - the number of writes that succeed before one fails.
+//!
+//! The result has all calls of the devices in order. The result of the run follows, and whether each device failed. All
+//! other events are those of `door.rt`.
 
-mod devices;
-
-use crate::config::{IO_FAULTS, configured};
+use crate::config::configured;
 use crate::door;
+use crate::layer::Layer;
+use crate::log::{Page, note, tell_result};
+use crate::row_line::RowLine;
+use crate::row_words::{cut, numbers, read_hex};
 use coap_io::{Outlet, ReadSource, Source, WriteOutlet};
 use coap_model::Config;
-use coap_server_engine::IoFault;
-use coap_server_streams::{Report, serve_one};
-use devices::{Reader, Setting, Writer, devices_set};
-use probe_support::{RowLine, cut, read_hex};
+use coap_server_streams::serve_one;
 use std::alloc::{AllocError, Global};
 use std::cell::RefCell;
-use std::fmt::Write;
-use std::mem;
+use std::io::{Read, Write};
+use std::{io, mem};
 
-/// Returns the configuration that an opening row names, or `None` if a number is out of range.
-pub(crate) fn opened(text: &str) -> Option<Result<Config, AllocError>> {
-    match configured(text) {
-        Some(config) => Some(Ok(config)),
-        None => None,
+/// Reader or writer that records its calls. A record has the size of the buffer of a read or the bytes of a write, and
+/// the number of bytes passed.
+#[derive(Drop)]
+struct Device<'a> {
+    /// Bytes of further reads.
+    rest: &'a [u8],
+    /// Maximum number of bytes of a call.
+    by: usize,
+    /// Number of bytes that no call passes; 0 is none.
+    cuts: [usize; 2],
+    /// Number of bytes of all calls.
+    room: usize,
+    /// Number of calls before one fails.
+    fails: usize,
+    page: &'a Page,
+}
+
+impl Device<'_> {
+    /// Returns the number of bytes that a call passes, at most `count`, or `None` if this call fails.
+    fn pass(&mut self, count: usize) -> Option<usize> {
+        self.fails = self.fails.checked_sub(1)?;
+        let [first, second] = self.cuts;
+        let cut = if 0 < first {
+            first
+        } else if 0 < second {
+            second
+        } else {
+            usize::MAX
+        };
+        let count = count.min(self.by).min(self.room).min(cut);
+        self.room = self.room.saturating_sub(count);
+        self.cuts = [first.saturating_sub(count), second.saturating_sub(count)];
+        Some(count)
     }
 }
 
-/// Writes the result of a run: the reason for its end, the number of bytes read and messages processed, or the error.
-fn answered(outcome: &Result<Report, IoFault>, told: &mut RowLine) {
-    match outcome {
-        Ok(report) => {
-            let Report {
-                read,
-                messages,
-                reason,
-            } = report;
-            let _ = write!(told, "{reason:?} read {read} messages {messages}");
-        }
-        Err(IoFault::Memory) => told.word("memory"),
-        Err(fault) => {
-            let _ = write!(told, "Err({fault:?})");
-        }
+impl Read for Device<'_> {
+    fn read(&mut self, buf: &mut [u8]) -> io::Result<usize> {
+        let passed = self.pass(self.rest.len().min(buf.len()));
+        note(self.page, "read", buf.len() as u64, &[], &passed);
+        let Some(count) = passed else {
+            return Err(io::ErrorKind::Other.into());
+        };
+        let count = count.min(self.rest.len()).min(buf.len());
+        buf[..count].copy_from_slice(&self.rest[..count]);
+        self.rest = &self.rest[count..];
+        Ok(count)
     }
 }
 
-/// Serves bytes over devices with the given setting. Writes their calls and the result. Writes `untold` if a device
-/// failed and the result does not say so, or if the result says so and no device failed.
-fn served(alloc: Global, config: &Config, setting: Setting, rest: &[u8], page: &RefCell<RowLine>) {
+impl Write for Device<'_> {
+    fn write(&mut self, buf: &[u8]) -> io::Result<usize> {
+        let passed = self.pass(buf.len());
+        note(self.page, "write", 0, buf, &passed);
+        match passed {
+            Some(count) => Ok(count.min(buf.len())),
+            None => Err(io::ErrorKind::Other.into()),
+        }
+    }
+
+    fn flush(&mut self) -> io::Result<()> {
+        Ok(())
+    }
+}
+
+/// Serves bytes over devices with the given setting. Writes their calls, the result, and whether each device failed.
+fn serve(alloc: Global, config: &Config, rest: &[u8], setting: &str, page: &Page) {
     if config.starts().ids == u64::MAX {
         return;
     }
-    let mut source = ReadSource::new(Reader {
-        setting,
+    let [
+        by,
+        cut,
+        cut_again,
+        read_fails,
+        taking,
+        room,
+        write_fails,
+        ..
+    ] = numbers(setting);
+    let mut source = ReadSource::new(Device {
         rest,
+        by,
+        cuts: [cut, cut_again],
+        room: usize::MAX,
+        fails: read_fails,
         page,
     });
-    let mut outlet = WriteOutlet::new(Writer { setting, page });
+    let mut outlet = WriteOutlet::new(Device {
+        rest: &[],
+        by: taking,
+        cuts: [0, 0],
+        room,
+        fails: write_fails,
+        page,
+    });
     let outcome = serve_one(alloc, &mut source, &mut outlet, config);
-    let is_told = source.failed() == (outcome == Err(IoFault::Read))
-        && outlet.failed() == (outcome == Err(IoFault::Write));
-    if let Ok(mut told) = page.try_borrow_mut() {
-        answered(&outcome, &mut told);
-        if !is_told {
-            told.word("untold");
-        }
+    tell_result(page, &outcome);
+    tell_result(page, &source.failed());
+    tell_result(page, &outlet.failed());
+}
+
+impl Layer for Config {
+    fn opened(_alloc: Global, words: &str) -> Option<Result<Config, AllocError>> {
+        Some(Ok(configured(words)?))
     }
-}
 
-/// Serves the bytes of a row. The devices own the result line during the run. The line in its place has no capacity, so
-/// that `RowLine::new` allocates nothing.
-fn serve(alloc: Global, config: &Config, text: &str, bytes: &mut Vec<u8>, told: &mut RowLine) {
-    let (setting, rest) = devices_set(text);
-    read_hex(rest, bytes);
-    let Ok(none) = RowLine::new(alloc, 0) else {
-        return told.word("memory");
-    };
-    let page = RefCell::new(mem::replace(told, none));
-    served(alloc, config, setting, bytes, &page);
-    *told = page.into_inner();
-}
-
-/// Executes an event, and writes its result.
-pub(crate) fn play(
-    alloc: Global,
-    config: &Config,
-    event: &str,
-    bytes: &mut Vec<u8>,
-    told: &mut RowLine,
-) {
-    let (word, rest) = cut(event);
-    match word {
-        "serve" => serve(alloc, config, rest, bytes, told),
-        "door" => door::play(alloc, config, rest, bytes, told),
-        "faults" => {
-            for fault in IO_FAULTS {
-                let _ = write!(told, "{} {fault} ", *fault as u8);
-            }
+    /// Executes an event, and writes its result. The devices own the result line during the run. The line in its place
+    /// has no capacity, so that `RowLine::new` allocates nothing.
+    fn play(&mut self, alloc: Global, event: &str, bytes: &mut Vec<u8>, told: &mut RowLine) {
+        let (word, rest) = cut(event);
+        let (digits, last) = cut(rest);
+        read_hex(digits, bytes);
+        let Ok(none) = RowLine::new(alloc, 0) else {
+            return told.word("memory");
+        };
+        let page = RefCell::new(mem::replace(told, none));
+        match word {
+            "serve" => serve(alloc, self, bytes, last, &page),
+            _ => door::play(alloc, self, word, bytes, last, &page),
         }
-        _ => told.word("strange"),
+        *told = page.into_inner();
     }
 }

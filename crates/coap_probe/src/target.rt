@@ -1,17 +1,8 @@
 //! Rows for targets: `= target`. Each row is a URI.
 
-use coap_request::{Target, TargetFault};
-use probe_support::RowLine;
+use crate::row_line::RowLine;
+use coap_request::Target;
 use std::alloc::Global;
-use std::fmt::Write;
-
-/// Writes the error of a target.
-pub(crate) fn tell_fault(fault: TargetFault, told: &mut RowLine) {
-    if fault == TargetFault::Memory {
-        told.word("memory");
-    }
-    let _ = write!(told, "{fault:?} {} ({fault}) ", fault as u64);
-}
 
 /// Writes the number of parts, and each part.
 fn tell_parts(parts: &[Vec<u8>], told: &mut RowLine) {
@@ -23,11 +14,7 @@ fn tell_parts(parts: &[Vec<u8>], told: &mut RowLine) {
 
 /// Writes the parts of a target.
 pub(crate) fn tell_target(target: &Target, told: &mut RowLine) {
-    told.word(if target.is_address() {
-        "address"
-    } else {
-        "name"
-    });
+    told.debug(&target.is_address());
     told.hex(target.host());
     told.number(u64::from(target.port()));
     tell_parts(target.segments(), told);
@@ -38,6 +25,6 @@ pub(crate) fn tell_target(target: &Target, told: &mut RowLine) {
 pub(crate) fn play(alloc: Global, text: &str, told: &mut RowLine) {
     match Target::read(alloc, text) {
         Ok(target) => tell_target(&target, told),
-        Err(fault) => tell_fault(fault, told),
+        Err(fault) => told.fault(&fault, fault as u8),
     }
 }

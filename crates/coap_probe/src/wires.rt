@@ -3,8 +3,8 @@
 ghost use Rattle.std.specs.Prelude.{length};
 ghost use Rattle.coap_io.specs.streams.Wires.{IsWithin};
 
+use crate::row_words::number;
 use coap_io::{Clock, Got};
-use probe_support::number;
 
 /// Returns the first word of a text, without a word such as `@3` before it, and the text after that word.
 fn next_word<'t>(text: &'t str) -> (&'t str, &'t str) {
@@ -18,11 +18,11 @@ fn next_word<'t>(text: &'t str) -> (&'t str, &'t str) {
 /// Returns the number of a word such as `@3` at the beginning of a text, or 0 if there is none.
 fn moment_of(text: &str) -> usize {
     let (word, _) = text.split_once(',').unwrap_or((text, ""));
-    word.strip_prefix("@").and_then(number).unwrap_or(0)
+    number(word.strip_prefix("@").unwrap_or("0"))
 }
 
-/// Reads of a connection: words with `,` between them. Each word names the result of one read: `later`, `end`,
-/// `failed`, `zeros` for a buffer full of zeros, or a number of bytes. Reads after the last word return `Later`.
+/// Reads of a connection: words with `,` between them. Each word names the result of one read: `end`, `failed`, `zeros`
+/// for a buffer full of zeros, or a number of bytes. 0 stands for `Later`. Reads after the last word return `Later`.
 #[derive(Clone, Copy)]
 pub(crate) struct Reads<'a> {
     pub text: &'a str,
@@ -42,22 +42,20 @@ impl Reads<'_> {
         let (word, rest) = next_word(self.text);
         self.text = rest;
         match word {
-            "" => Got::Later,
-            "later" => Got::Later,
             "end" => Got::End,
             "failed" => Got::Failed,
             "zeros" => zeros(buffer),
-            _ => self.give(number(word).unwrap_or(0), buffer),
+            _ => self.give(number(word), buffer),
         }
     }
 
-    /// Copies the next `count` bytes to the buffer, up to its size.
+    /// Copies the next `count` bytes to the buffer, up to its size. Returns `Later` if there is none.
     fn give(&mut self, count: usize, buffer: &mut [u8]) -> Got
         ensures { IsWithin (length buffer.new) result }
     {
         let count = count.min(buffer.len()).min(self.bytes.len());
         if count == 0 {
-            return Got::Failed;
+            return Got::Later;
         }
         buffer[..count].copy_from_slice(&self.bytes[..count]);
         self.bytes = &self.bytes[count..];

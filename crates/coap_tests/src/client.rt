@@ -150,8 +150,8 @@ fn explains_a_request_that_the_peer_does_not_accept(rt: HostRuntime) {
         next: 7,
         moments: Vec::new(rt.alloc()),
     };
-    let mut out = RecordingOutlet::new(rt.alloc(), usize::MAX, usize::MAX, None);
-    let mut err = RecordingOutlet::new(rt.alloc(), usize::MAX, usize::MAX, None);
+    let mut out = RecordingOutlet::new(rt.alloc(), usize::MAX, usize::MAX);
+    let mut err = RecordingOutlet::new(rt.alloc(), usize::MAX, usize::MAX);
     let end = run_explained(rt.alloc(), &mut wire, &mut clock, &mut out, &mut err, &plan);
     let cause = Cause::Request(Refusal {
         fault: RequestFault::TooBig,
@@ -185,8 +185,8 @@ fn runs_a_client_over_devices_that_tell_all(rt: HostRuntime) {
         next: 7,
         moments: Vec::new(rt.alloc()),
     };
-    let mut out = RecordingOutlet::new(rt.alloc(), usize::MAX, usize::MAX, None);
-    let mut err = RecordingOutlet::new(rt.alloc(), usize::MAX, usize::MAX, None);
+    let mut out = RecordingOutlet::new(rt.alloc(), usize::MAX, usize::MAX);
+    let mut err = RecordingOutlet::new(rt.alloc(), usize::MAX, usize::MAX);
     let result = run_told(rt.alloc(), &mut wire, &mut clock, &mut out, &mut err, &plan);
     assert!(&rt; result == Ok(0));
     assert!(&rt; wire.given.as_slice() == b"\x00\xe1\x31\x45\x01\xffhi".as_slice());

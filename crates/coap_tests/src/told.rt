@@ -27,16 +27,12 @@ fn serve_told(
 }
 
 /// Serves a CSM and a Ping, with reads of at most two bytes and writes of at most four, and asserts which bytes were
-/// written. If `write_fails` is a number, the write after that number of writes fails.
-fn writes(
-    rt: &(impl Abort + AllocGlobal),
-    write_fails: Option<usize>,
-    wanted: &[u8],
-) -> Result<Report, IoFault> {
+/// written. The writes after the first `left` fail.
+fn writes(rt: &(impl Abort + AllocGlobal), left: usize, wanted: &[u8]) -> Result<Report, IoFault> {
     let config = Config::builder().build().expect(rt, "a configuration");
     let input: &[u8] = b"\x00\xe1\x02\xe2\x01\x02";
-    let mut source = Pieces::new(rt.alloc(), input, 2, [0, 0], None);
-    let mut outlet = RecordingOutlet::new(rt.alloc(), 4, usize::MAX, write_fails);
+    let mut source = Pieces::new(rt.alloc(), input, 2);
+    let mut outlet = RecordingOutlet::new(rt.alloc(), 4, left);
     assert!(rt; config.starts().ids < u64::MAX);
     let result = serve_told(rt.alloc(), &mut source, &mut outlet, &config);
     assert!(rt; outlet.bytes.as_slice() == wanted);
@@ -49,7 +45,7 @@ fn writes(
 fn serves_over_devices_that_tell_all(rt: HostRuntime) {
     let result = writes(
         &rt,
-        None,
+        usize::MAX,
         b"\x60\xe1\x23\x01\x00\x00\x41\x40\x02\xe3\x01\x02",
     );
     assert!(&rt;
@@ -91,6 +87,6 @@ fn serves_over_slices_and_vectors(rt: HostRuntime) {
 
 #[test]
 fn tells_what_was_written_before_a_fault(rt: HostRuntime) {
-    let result = writes(&rt, Some(1), b"\x60\xe1\x23\x01");
+    let result = writes(&rt, 1, b"\x60\xe1\x23\x01");
     assert!(&rt; result == Err(IoFault::Write));
 }

@@ -4,6 +4,7 @@ A module has `PROBE`, the crate of the program that plays the rows. Its function
 the probe reads.
 """
 
+import re
 from dataclasses import dataclass
 from typing import Callable
 
@@ -19,3 +20,8 @@ class Step:
     wanted: str
     told: Callable[[str], str] = str.strip
     meanwhile: tuple = ()
+
+
+def quoted(line):
+    """Returns a line with the texts of errors between quotation marks. The probe has them in parentheses."""
+    return re.sub(r"\((\D[^()]*)\)", r'"\1"', line).strip()

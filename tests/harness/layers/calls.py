@@ -21,14 +21,14 @@ def again(play, events, index, found):
     if not events[index].startswith("take "):
         return serve.again(play, events, index, found)
     _, connection, digits = events[index].split(" ")
-    return f"take {connection} {digits[2 * int(found[index].split()[1]) :]}"
+    return f"take {connection} {digits[2 * int(serve.answer_of(found[index]).split()[1]) :]}"
 
 
 def struck(step, line, again, line_again):
     """Returns the differences after an allocation failure: both calls of a `take` must together take the bytes of the whole event."""
     if not step.event.startswith("take "):
         return serve.struck(step, line, again, line_again)
-    (_, before), (count, handled) = line.split(), line_again.split()
+    (_, before), (count, handled) = serve.answer_of(line).split(), serve.answer_of(line_again).split()
     return [] if f"{int(before) + int(count)} {handled}" == step.wanted else [f"{again}: {line_again}"]
 
 

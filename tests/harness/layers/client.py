@@ -36,18 +36,19 @@ def opened(opening):
 
 def asked(words, token="-"):
     """Returns the fields of a request in the form of the probe."""
-    fields = {"observe": "-", "plain": "-", "format": "-", "accept": "-", "option": "-", "value": "-", "payload": "-"}
+    fields = {"observe": "0", "plain": "0", **dict.fromkeys(("format", "accept", "option"), "65536"),
+              "value": "-", "payload": "-"}
     for word in words:
         name, _, value = word.partition(":")
         if name == "option":
             fields["option"], _, fields["value"] = value.partition(":")
         elif name in fields:
-            fields[name] = value or "yes"
+            fields[name] = value or "1"
         else:
             raise ValueError(f"nothing is asked by {word}")
     parts = [digits("" if part == "-" else part) for part in (token, fields["value"], fields["payload"])]
     named = [fields[name] for name in ("observe", "plain", "format", "accept", "option")]
-    return " ".join([*named, str(len(parts[0]) // 2), str(len(parts[1]) // 2), "".join(parts)]).strip()
+    return " ".join(["".join(parts) or "-", *named, str(len(parts[0]) // 2), str(len(parts[1]) // 2)])
 
 
 def event_of(text):
@@ -57,7 +58,7 @@ def event_of(text):
     if word == "send":
         return f"{keep}send {rest[0]} {repeated(rest[1])} {asked(rest[2:])}"
     if word == "cancel":
-        return f"{keep}cancel {repeated(rest[1])} {asked(rest[2:], rest[0])}"
+        return f"{keep}send cancel {repeated(rest[1])} {asked(rest[2:], rest[0])}"
     return keep + spelled(text)
 
 
@@ -79,10 +80,27 @@ def told_as(wanted):
     return lambda line: re.sub(r" \d+ \([^()]*\)", "", line).strip()
 
 
+def with_codes(line):
+    """Returns a line with the codes of messages as in `2.05`."""
+    code = lambda it: f"{it[1]} {int(it[2]) >> 5}.{int(it[2]) & 31:02} "
+    return re.sub(r"\b(response|notification) (\d+) ", code, line)
+
+
+def cancelled(event, line):
+    """Returns the line of an event, with the result `Ok` if it has cancelled an observation."""
+    return re.sub(r"^- ", "Ok ", line) if event.removeprefix("keep ").startswith("send cancel ") else line
+
+
 def step(row):
     """Returns the step of a row."""
     event, _, wanted = row.partition(" => ")
-    return Step(event_of(event), wanted_of(wanted), told_as(wanted))
+    event, short = event_of(event), told_as(wanted)
+
+    def told(line):
+        *words, count, front = cancelled(event, with_codes(short(line))).split(" ")
+        return " ".join([*words, *([] if int(count) == len(front.strip("-")) // 2 else ["uneven"]), front])
+
+    return Step(event, wanted_of(wanted), told)
 
 
 def given(line):

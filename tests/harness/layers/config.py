@@ -6,7 +6,9 @@ the result is the name, the number and the text of the error. The result of `sta
 errors of a run, and `faults application` those of the entries of an application.
 """
 
-from layers import Step
+import re
+
+from layers import Step, quoted
 
 PROBE = "coap_probe"
 
@@ -21,6 +23,11 @@ def settings(text):
     return dict(zip(words[::2], map(int, words[1::2]), strict=True))
 
 
+def told(line):
+    """Returns a line with the initial values as numbers alone."""
+    return re.sub(r"Starts \{ moment: (\d+), versions: (\d+), ids: (\d+) \}", r"\1 \2 \3", quoted(line))
+
+
 def steps(opening, rows):
     yield Step("= limits", "")
     for row in rows:
@@ -29,4 +36,4 @@ def steps(opening, rows):
             values = {**USUAL, **settings(opening), **settings(event)}
             event = " ".join(["config", *(str(values[name]) for name in USUAL)])
             assert len(values) == len(USUAL), row
-        yield Step(event, wanted)
+        yield Step(event, wanted, told)

@@ -40,6 +40,9 @@ PROBE = "coap_probe"
 
 HOW = ("waits", "polled", "answer")
 
+# Reads of a connection that is never ready for one.
+NEVER = "@18446744073709551615"
+
 # Words for reads that return no bytes of the row.
 READS = ("later", "end", "failed", "zeros")
 
@@ -56,27 +59,34 @@ def wire_of(text):
     writes = re.sub(r"\blate\b", "later", writes) + (",all" if writes.endswith("late") else "")
     given = [word for word in reads if word not in READS and word[0] != "@"]
     words = [str(len(word) // 2) if word in given else word for word in reads]
-    return f"{writes} {','.join(words) or '-'} {sum(map(len, given)) // 2}", "".join(given)
+    return f"{writes} {','.join(words) or NEVER} {sum(map(len, given)) // 2}", "".join(given)
 
 
 def event_of(text):
     """Returns the settings of a row, and its event for the probe."""
     opening, moments, *wires = spelled(expanded(text)).split("; ")
     how, _, rest = opening.partition(" ")
-    how, said = (how, rest) if how in HOW else ("serve", opening)
+    how, said = (how, rest) if how in HOW else ("door", opening)
     wires = [wire_of(wire) for wire in (wires[0].split(" | ") if wires else [])]
-    words = [how, moments.replace(" ", ","), "".join(given for _, given in wires) or "-", *(wire for wire, _ in wires)]
-    return settings(said), "door " + " ".join(words)
+    words = [how, "".join(given for _, given in wires) or "-", moments.replace(" ", ","), *(wire for wire, _ in wires)]
+    return settings(said), " ".join(words)
+
+
+def count_or_word(came):
+    """Returns the number of the result of a call, such as `Bytes(5)`, or the word of a result that has none."""
+    number = re.fullmatch(r"\w+\((\d+)\)", came)
+    return number[1] if number else {"Forever": "ever"}.get(came, came.lower())
 
 
 def call_of(words):
     """Returns the next call of a line in the form of the row, and removes its words."""
-    word, place = words.pop(0), words.pop(0)
+    word, place, handed, came = words[:4]
+    del words[:4]
     if word == "open":
         return f"+{place if place != '0' else '-'}"
+    handed, came = bytes_of(handed), count_or_word(came)
     if word == "wait":
-        return ("~" if place == "1" else "|") + words.pop(0)
-    handed, came = bytes_of(words.pop(0)), words.pop(0)
+        return ("~" if place == "1" else "|") + came
     if word == "read":
         return f"{place}<{came}"
     return f"{place}>{len(handed)}:{came}" if came.isdigit() and int(came) != len(handed) else f"{place}>{len(handed) if came.isdigit() else came}"
@@ -86,11 +96,14 @@ def told(line):
     """Returns the line of the probe in the form of the row: calls, the bytes that connections accepted, and the result unless it is `Turns`."""
     words, calls, written = line.split(), [], {}
     while words and words[0] in ("open", "read", "write", "wait"):
-        if words[0] == "write" and words[3].isdigit():
-            written[int(words[1])] = written.get(int(words[1]), "") + words[2][: 2 * int(words[3])]
+        if words[0] == "write" and words[3].startswith("Bytes("):
+            written[int(words[1])] = written.get(int(words[1]), "") + words[2][: 2 * int(words[3][6:-1])]
         calls.append(call_of(words))
     accepted = [f"{place} {written.get(place) or '-'}" for place in range(1, max(written, default=0) + 1)]
-    result = " ".join(words).removeprefix("Turns").strip()
+    counts = re.fullmatch(r"\((\d+), (\d+), (\d+)\) (.*)", " ".join(words))
+    result = re.sub(r"^(?:Err\()?(\w+)\)*$", r"\1", counts[4] if counts else " ".join(words))
+    received = f" requests {counts[1]} accepted {counts[2]} ends {counts[3]}" if counts else ""
+    result = (result.removeprefix("Turns") + received).strip()
     return "; ".join([" ".join(calls) or "-", *accepted, *([result] if result else [])])
 
 
@@ -109,7 +122,7 @@ def steps(opening, rows):
 
 def struck(step, line, again, line_again):
     """Returns the differences after an allocation failure: the calls before it must be the first ones of a run without a failure."""
-    before = line.rpartition("memory")[0].strip()
+    before = re.sub(r"(?:\(\d+, \d+, \d+\) )?Err\(Memory\).*", "", line).strip()
     return [] if line_again.startswith(before) else [f"{again}: {line}"]
 
 

@@ -6,8 +6,10 @@ The events are `send`, `cancel` and `ping` of the client (layers/client.py), `pu
 the client in order, and the number of outstanding requests.
 """
 
+import re
+
 from layers import Step
-from layers.client import event_of, told_as, wanted_of
+from layers.client import cancelled, event_of, told_as, wanted_of, with_codes
 
 PROBE = "coap_probe"
 LOOKS = ("look",)
@@ -26,8 +28,13 @@ def opened(opening):
 def step(row):
     """Returns the step of a row."""
     event, _, wanted = row.partition(" => ")
-    short = told_as(wanted)
-    return Step(event_of(event), wanted_of(wanted), lambda line: short(line).replace(" ,", ",").replace(" ;", ";"))
+    event, short = event_of(event), told_as(wanted)
+
+    def told(line):
+        line = re.sub(r"^true ", "- ", cancelled(event, with_codes(short(line))))
+        return line.replace(" ,", ",").replace(" ;", ";")
+
+    return Step(event, wanted_of(wanted), told)
 
 
 def steps(opening, rows):

@@ -5,7 +5,7 @@ the text of the error. The result of `faults send` has the errors of sending Rel
 connections stop, with their numbers.
 """
 
-from layers import Step
+from layers import Step, quoted
 
 PROBE = "coap_probe"
 
@@ -14,4 +14,4 @@ def steps(opening, rows):
     yield Step("= limits", "")
     for row in rows:
         event, _, wanted = row.partition(" => ")
-        yield Step(event if event.startswith("faults ") else f"limits {event}", wanted)
+        yield Step(event, wanted, quoted)

@@ -81,13 +81,32 @@ def wanted_of(text):
     return f"{found[1]} {digits(found[2])}" if found else text
 
 
+# Matches the words that describe the state of a link in a line of the probe.
+STATE = re.compile(r"(.*) (\S+) (\d+) (\d+) (true|false) (true|false) (\d+) (\S+)")
+
+
+def told_as(event):
+    """Returns a function that converts the line of an event to the form of the expected result."""
+    names = {"count": "pending {} outstanding {}", "token": "token {}"}.get(event.partition(" ")[0])
+
+    def told(line):
+        result, phase, peer, free, ready, finished, count, front = STATE.fullmatch(line.strip()).groups()
+        result = names.format(*result.split()) if names else result
+        ready = "ready" if ready == "true" else "unready"
+        finished = "finished" if finished == "true" else "unfinished"
+        uneven = "" if int(count) == len(front.strip("-")) // 2 else " another count waits"
+        return f"{result} {phase} {peer} {free} {ready} {finished}{uneven} {front}"
+
+    return told
+
+
 def steps(opening, rows):
     opening, _, row = opening.partition(" | ")
     limits, first = first_of(opening)
     yield Step(f"= link {limits}", "")
     for row in [*first, *([row] if row else []), *rows]:
         event, _, wanted = row.partition(" => ")
-        yield Step(event_of(event), wanted_of(wanted))
+        yield Step(event_of(event), wanted_of(wanted), told_as(event))
 
 
 def refused(event, line, again):

@@ -13,7 +13,7 @@ LOOKS = ("look",)
 
 def message(line):
     """Returns the message of a line, if the token, the phase and the number of outstanding requests are as expected."""
-    token, phase, outstanding, front = line.split()
+    token, phase, outstanding, _, front = line.split()
     return front if (token, phase, outstanding) == ("01", "Open", "1") else line
 
 
@@ -21,6 +21,6 @@ def steps(opening, rows):
     for row in rows:
         event, _, wanted = row.partition(" => ")
         yield Step(opened(opening), "")
-        yield Step("look", "- Waiting 0", lambda line: " ".join(line.split()[:-1]))
-        yield Step("take 00e1", "2 ready Open 0", lambda line: " ".join(line.split()[:-1]))
+        yield Step("look", "- Waiting 0", lambda line: " ".join(line.split()[:-2]))
+        yield Step("take 00e1", "2 ready Open 0", lambda line: " ".join(line.split()[:-2]))
         yield Step(event_of(f"send {event}"), spelled(wanted), message)

@@ -68,6 +68,11 @@ def steps(opening, rows):
         yield Step(event_of(event), wanted_of(wanted), told_as(wanted))
 
 
+def struck(step, line, again, line_again):
+    """Returns the differences after an allocation failure: nothing may be written."""
+    return [] if "Memory" not in line or line.split()[-3:] == ["-"] * 3 else [f"{again}: {line}"]
+
+
 def refused(event, line, again):
     """Returns the call whose allocation failed, and the state that is left."""
     return ("`run_client`", "nothing written") if "Memory" in line else ("`client_words`", "nothing")

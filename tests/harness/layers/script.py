@@ -21,7 +21,11 @@ def event_of(event):
 
 
 def told(line):
-    """Returns the line of the probe with each semicolon next to its event, and the segments of a path in one word."""
+    """Returns the line of the probe with each semicolon next to its event, and the segments of a path in one word.
+
+    Each event has only what it needs, and the Content-Format of a `Put` comes after its path."""
+    line = re.sub(r"\b((?:Drain|Tick|End|Release|Drop|Status) \d+) -", r"\1", line)
+    line = re.sub(r"\bPut (None|Some\(\d+\)) ((?:/\S+ )*)", r"Put \2\1 ", line)
     return re.sub(r"(/[0-9a-f-]+) (?=/)", r"\1", line.replace(" ;", ";")).strip() or "nothing"
 
 

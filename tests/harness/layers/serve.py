@@ -24,6 +24,9 @@ MEANWHILE = "meanwhile "
 SETTINGS = {"max": 65536, "sent": 65536, "queue": 131072, "pending": 16, "observers": 16, "outstanding": 16, "connections": 16, "dynamic": 0,
             "rep": 65000, "turns": 1, "moment": 0, "versions": 0, "ids": 0}
 
+# Beginnings of events that are single calls.
+CALLS = ("take ", "written ", "announce ", "part ")
+
 # Settings of a server with an application.
 APPLICATION = {"deadline", "answers"}
 
@@ -55,8 +58,8 @@ def opened(said):
     """Returns the row that creates a server with these settings."""
     numbers = " ".join(str(said.get(name, usual)) for name, usual in SETTINGS.items())
     if "answers" not in said:
-        return f"= serve {numbers}"
-    return f"= application {said['deadline']} {','.join(map(entry_of, said['answers'].split(',')))} {numbers}"
+        return f"= serve - 0 {numbers}"
+    return f"= serve {','.join(map(entry_of, said['answers'].split(',')))} {said['deadline']} {numbers}"
 
 
 def spelled_lines(text):
@@ -79,10 +82,26 @@ def lines_of(rows):
     return [(spelled_lines(event), spelled_lines(line)) for event, _, line in rows]
 
 
+def told_as(event):
+    """Returns a function that converts the line of an event to the form of the expected result."""
+    return answer_of if event.startswith(CALLS) else str.strip
+
+
 def meanwhile_of(rows):
     """Returns the steps to play if an allocation fails in the first of these rows."""
     behind = itertools.takewhile(lambda row: row.startswith(MEANWHILE), rows[1:])
-    return tuple(Step(*pair) for pair in lines_of([row.removeprefix(MEANWHILE) for row in behind]))
+    return tuple(Step(*pair, told_as(pair[0])) for pair in lines_of([row.removeprefix(MEANWHILE) for row in behind]))
+
+
+def answer_of(line):
+    """Returns the line of a single call in the form of the rows: what was done, or the error."""
+    taken = re.fullmatch(r"Ok\(Taken \{ bytes: (\d+), handled: (\w+)(?:\(.*\))? \}\)", line.strip())
+    refused = re.fullmatch(r"Err\((\w+)(?: \{ bytes: (\d+) \})?\)", line.strip())
+    if taken:
+        return f"{taken[1]} {taken[2].lower()}"
+    if refused:
+        return " ".join([refused[1].lower(), *filter(None, [refused[2]])])
+    return line.strip().replace("Ok(())", "ok")
 
 
 def steps(opening, rows):
@@ -90,7 +109,7 @@ def steps(opening, rows):
     yield Step(opened(said), "")
     for place, row in enumerate(rows):
         for event, line in lines_of([row]):
-            yield Step(event, line, meanwhile=meanwhile_of(rows[place:]))
+            yield Step(event, line, told_as(event), meanwhile_of(rows[place:]))
 
 
 def ends_of(data):
@@ -179,7 +198,7 @@ def struck(step, line, again, line_again):
         (first, *requests), (wanted, *others) = line_again.strip().split("|"), step.wanted.split("|")
         (count, stop), right = count_of(first), others[len(others) - len(requests) :] == requests
         return [] if right and (count + left, stop) == count_of(wanted) else [f"{again}: {line_again}"]
-    return [] if line_again.strip() == step.wanted else [f"{again}: {line_again}"]
+    return [] if step.told(line_again) == step.wanted else [f"{again}: {line_again}"]
 
 
 AS_BEFORE = "the server as before"
@@ -189,7 +208,7 @@ BUT_THE_LAST = "the bytes before the message's last, and nothing of it handled"
 def refused(event, line, again):
     """Returns the call whose allocation failed, and the state that is left."""
     if event.startswith("= "):
-        return "`Server::with_applications`" if event.startswith("= application ") else "`Server::new`", "nothing"
+        return "`Server::new`" if event.startswith("= serve - ") else "`Server::with_applications`", "nothing"
     if not line.rpartition("memory ")[2].strip().isdigit():
         return "`script`", "nothing"
     word = event.split(" ")[0]

@@ -19,6 +19,7 @@
     = faults              the number and the text of each error
 """
 
+import re
 from dataclasses import dataclass, field
 
 from layers import Step
@@ -66,7 +67,8 @@ class Run:
         return f"{self.written.hex() or '-'} {self.answer}{counts}"
 
     def event(self):
-        return " ".join(["serve", *(str(self.said.get(name, usual)) for name, usual in DEVICES.items()), self.sent.hex()]).strip()
+        numbers = (str(self.said.get(name, usual)) for name, usual in DEVICES.items())
+        return " ".join(["serve", self.sent.hex() or "-", *numbers])
 
     def opening(self):
         return "= stdio " + " ".join(str(self.said.get(name, usual)) for name, usual in LIMITS.items())
@@ -83,9 +85,19 @@ def calls_of(line):
     """Returns the calls of a line and the result. A call is a word, the bytes or the size of the buffer, and the outcome."""
     words, calls = line.split(), []
     while words and words[0] in ("read", "write"):
-        calls.append((words[0], words[1], words[2]))
-        words = words[3:]
-    return calls, " ".join(words)
+        word, room, handed, came = words[:4]
+        calls.append((word, room if word == "read" else handed, "failed" if came == "None" else came[5:-1]))
+        words = words[4:]
+    return calls, answer_of(" ".join(words))
+
+
+def answer_of(text):
+    """Returns the result of a run. `untold` follows if it does not say which device failed."""
+    result, *failed = text.rsplit(" ", 2)
+    report = re.fullmatch(r"Ok\(Report \{ read: (\d+), messages: (\d+), reason: (.+) \}\)", result)
+    if failed != [str(result == it).lower() for it in ("Err(Read)", "Err(Write)")]:
+        return f"{result} untold"
+    return f"{report[3]} read {report[1]} messages {report[2]}" if report else result
 
 
 def call_line(word, handed, came):
@@ -225,8 +237,9 @@ def runs(opening, rows):
 
 def steps(opening, rows):
     if opening == "faults":
-        yield Step("= stdio " + " ".join(map(str, LIMITS.values())), "")
-        yield Step("faults", rows[0].partition(" => ")[2])
+        yield Step("= limits", "")
+        told = lambda line: re.sub(r"\w+ (\d) \(([^()]*)\)", r"\1 \2", line).strip()
+        yield Step("faults io", rows[0].partition(" => ")[2], told)
         return
     last = ""
     for run in runs(opening, rows):
@@ -241,10 +254,10 @@ def struck(step, line, again, line_again):
 
     The calls before the failure must be the first calls of the run without a failure. The failure must be at a place that the row allows.
     """
-    begun, run = line.rpartition("memory")[0], getattr(step, "run", None)
+    begun, run = line.rpartition("Err(Memory)")[0], getattr(step, "run", None)
     if not line_again.startswith(begun):
         return [f"{again[:120]}: {begun} is not the beginning of {line_again}"]
-    if run and run.refusals is not None and len(calls_of(begun)[0]) not in run.refusals:
+    if run and run.refusals is not None and len(calls_of(line)[0]) not in run.refusals:
         return [f"{again[:120]}: allocation failed after {begun or 'nothing'}"]
     return []
 

@@ -17,6 +17,8 @@
   version.
 """
 
+import re
+
 from layers import Step
 from message_syntax import OPTIONS, bytes_of, code_of, encoded, spelled, uint
 
@@ -63,16 +65,24 @@ def request_of(text):
 
 def parts_of(line):
     """Returns the parts of the line of a plan, by name."""
-    words = line.split()
-    if len(words) % 2 == 0 or words[-1] != words[1]:
+    digits = lambda it: bytes(map(int, it[1].replace(",", " ").split())).hex() or "-"
+    line = re.sub(r"Some\(\[([0-9, ]*)\]\)", digits, line)
+    head, tail = (part.split() for part in re.split(r"(?:^| ); ", line))
+    code, change, watch, held, etag, form, age, *location = head
+    size1, payload, again = tail
+    if again != change:
         raise ValueError(line)
-    plan = {"code": int(words[0]), "change": words[1], "watch": words[2], "location": [], "payload": payload_of(words[-2])}
-    for name, value in zip(words[3:-2:2], words[4:-2:2]):
-        if name == "location":
-            plan["location"].append(bytes_of(value))
-        else:
-            plan[name] = value
+    plan = {"code": int(code), "change": change, "watch": watch, "payload": payload_of(payload)}
+    plan["location"] = list(map(bytes_of, location))
+    for name, value in (("held", held), ("etag", etag), ("format", form), ("max-age", age), ("size1", size1)):
+        if value != "None":
+            plan[name] = some(value)
     return plan
+
+
+def some(value):
+    """Returns the number of an optional one that is present."""
+    return value.removeprefix("Some(").removesuffix(")")
 
 
 def response_of(line, token):
@@ -99,11 +109,25 @@ def told_plan(line):
 
 def told_state(line):
     """Returns the line of a state in the form of the rows."""
-    words = line.split()
-    if words[0] == "absent":
+    if not line.strip():
         return "absent"
-    text = f"version={words[1]}" + (f" format={words[3]}" if words[2] == "format" else "")
-    return text + (f" | {words[-1]}" if words[-1] != "-" else "")
+    version, form, payload = line.split()
+    text = f"version={version}" + (f" format={some(form)}" if form != "None" else "")
+    return text + (f" | {payload}" if payload != "-" else "")
+
+
+def told_path(line):
+    """Returns the segments of a key and what it is compared with, in the form of the rows."""
+    if line.strip() == "none":
+        return "none"
+    *segments, same, asked = line.split()
+    same, asked = "same" if same == "true" else "other", "asked" if asked == "true" else "not asked"
+    return " ".join(["key", *segments, same, asked])
+
+
+def told_answer(line):
+    """Returns the result of `Store::put` in the form of the rows: the version, `memory` or the error."""
+    return re.sub(r"^(?:Ok|Err)\((\w+)\)", lambda it: it[1].replace("Memory", "memory"), line).strip()
 
 
 def told_listing(line):
@@ -160,13 +184,15 @@ def inside(word, rest, wanted):
     head, _, payload = f" {rest}".partition(" | ")
     words = head.split()
     moment = words.pop(0) if word in ("state", "notify") else ""
-    form = "".join(it[7:] for it in words if it.startswith("format="))
+    form = "".join(it[7:] for it in words if it.startswith("format=")) or "65536"
     path = options_of(it for it in words if not it.startswith("format="))
-    event = " ".join(filter(None, [word, encoded(3, b"", path, payload_of(payload)).hex(), moment, form]))
+    event = " ".join([word, encoded(3, b"", path, payload_of(payload)).hex(), moment or "0", form])
     told = {"state": told_state, "notify": told_plan}.get(word)
     if told:
         return Step(event, wanted_of(wanted), told)
-    return Step(event, spelled(wanted) if word == "path" else wanted)
+    if word == "path":
+        return Step(event, spelled(wanted), told_path)
+    return Step(event, wanted, told_answer if word == "put" else str.strip)
 
 
 def step_of(row):

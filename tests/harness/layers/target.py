@@ -29,6 +29,7 @@ def text_of(digits):
 def target_of(words):
     """Returns the text of the target at the beginning of these words, and the words after it."""
     kind, host, port, *words = words
+    kind = "address" if kind == "true" else "name"
     parts = []
     for _ in range(2):
         count = int(words[0])
@@ -41,7 +42,7 @@ def told_as(wanted):
     """Returns a function that converts a line to the form of the expected result."""
 
     def told(line):
-        if line.startswith(("address ", "name ")):
+        if line.startswith(("true ", "false ")):
             return target_of(line.split())[0]
         return line.strip() if " (" in wanted else line.partition(" ")[0]
 

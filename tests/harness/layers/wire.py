@@ -10,7 +10,7 @@ A message in numbers is its code, its token, its options and its payload, with h
     declared BYTES, code BYTE, codes, kind NUMBER, uint NUMBER, value BYTES   the result of these functions
 """
 
-from layers import Step
+from layers import Step, quoted
 from message_syntax import bytes_of, digits, encoded, spelled
 
 PROBE = "coap_probe"
@@ -27,6 +27,35 @@ def part(word):
     name, _, value = word.rpartition("=")
     value = bytes_of(value)
     return value, f"{name or 'payload'}={len(value)}"
+
+
+def options_told(words):
+    """Returns options, a number and a value each, in the form of the rows."""
+    return [f"{number}={value}" for number, value in zip(words[::2], words[1::2], strict=True)]
+
+
+def told_as(event):
+    """Returns a function that converts the line of an event to the form of the expected result."""
+    word = event.partition(" ")[0]
+
+    def told(line):
+        words = line.split()
+        if word == "read" and words[-2:-1] in (["true"], ["false"]):
+            code, token, *options, more, payload = words
+            return " ".join([code, token, *options_told(options), *(["more"] if more == "true" else []), payload])
+        if word == "known":
+            *options, more, critical = words
+            critical = critical.removeprefix("Some(").removesuffix(")")
+            return " ".join(["known", *options_told(options), *(["more"] if more == "true" else []),
+                             *([] if critical == "None" else ["critical", critical])])
+        if word in ("code", "codes"):
+            codes = zip(words[::3], words[1::3], words[2::3], strict=True)
+            return " ".join(f"{byte} {high}.{low}" for byte, high, low in codes)
+        if word == "kind":
+            return f"{'several' if words[0] == 'true' else 'one'} of {words[1]} to {words[2]}" if words else "unknown"
+        return quoted(line) if word in ("read", "write") else line.strip()
+
+    return told
 
 
 def write(message, further):
@@ -47,8 +76,9 @@ def written(message, wanted):
     yield Step(
         write(message, [look, *(it for word in refused.split() for it in (part(word), look))]),
         " ".join([looked, *(f"{fault} {looked}" for fault in faults)]),
+        quoted,
     )
-    yield Step(f"read {digits(frame)}", " ".join(words))
+    yield Step(f"read {digits(frame)}", " ".join(words), told_as("read"))
     yield Step(f"declared {digits(frame)}", f"Size({size})")
 
 
@@ -76,7 +106,7 @@ def step(row):
         event = f"known {get(text) if word == 'get' else text}"
     event = spelled(event).removesuffix(" -")
     told = wanted if '"' in wanted else " ".join(map(told_word, wanted.split()))
-    return [Step(event, told)]
+    return [Step(event, told, told_as(event))]
 
 
 def steps(opening, rows):

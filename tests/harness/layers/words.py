@@ -12,6 +12,7 @@ segment of its path after the word `segment`, the numbers of its methods after `
 hexadecimal digits.
 """
 
+import json
 import re
 
 from layers import Step
@@ -29,7 +30,28 @@ def client_told(words):
     if words[6] != "None":
         words[6:8] = [" ".join(words[6:8])]
     named = [f" {name} {word}" for name, word in zip(NAMES, words[: len(NAMES)], strict=True)]
-    return target + "".join(named) + "".join(f" {word}" for word in words[len(NAMES) :])
+    log = words[len(NAMES)]
+    return target + "".join(named) + ("" if log == "Nothing" else f" log {log}")
+
+
+def server_told(words):
+    """Returns the words of the plan of a server, without those that most command lines leave out."""
+    count = 10 if words[0] == "stdio" else 12 if words[0] == "listen" else 11
+    log, idle, *starts, record, limit = words[count : count + 7]
+    named = [] if log == "Nothing" else [f"log {log}"]
+    named += [] if idle == "0" else [f"idle {idle}"]
+    named += [] if starts == ["0"] * 3 else ["starts " + " ".join(starts)]
+    named += [] if record == "None" else [f"record {json.loads(record[5:-1])} {limit}"]
+    return " ".join([*words[:count], *named, *words[count + 7 :]])
+
+
+def fault_told(line):
+    """Returns the line of an error with its kind first, and with its text in parentheses."""
+    number, rest = line.strip().split(" ", 1)
+    usage = re.fullmatch(r"(\w+) (true|false)", rest)
+    if usage:
+        return f"{'asks' if usage[2] == 'true' else 'usage'} {usage[1]} {number}"
+    return f"{'memory' if rest == 'no memory' else 'fault'} {number} ({rest})"
 
 
 def told_as(wanted):
@@ -39,6 +61,10 @@ def told_as(wanted):
         words = line.split()
         if words[0] in METHODS:
             return f"{words[0]} {client_told(words)}"
+        if words[0] in ("listen", "stdio", "script"):
+            return server_told(words)
+        line = fault_told(line)
+        words = line.split()
         if " (" in wanted or re.fullmatch(r"(asks|usage) \w+ \d", wanted):
             return line.strip()
         if words[0] == "fault":
@@ -53,7 +79,7 @@ def steps(opening, rows):
     for row in rows:
         event, _, wanted = row.partition(" => ")
         if event.split(" ")[0].endswith("-text"):
-            yield Step(event, wanted)
+            yield Step(event, wanted, lambda line: line.strip().replace("\a", "\\n"))
         else:
             yield Step(repeated(event).strip(), repeated(wanted), told_as(wanted))
 

@@ -3,75 +3,33 @@
 
 ghost use Rattle.std.specs.Prelude.{None};
 
+use crate::log::{Page, note};
+use crate::row_words::{cut, number};
 use crate::wires::{Moments, Reads, Writes};
 use coap_io::{Clock, Door, Got, Ready, Wait, Wire, Wires};
-use probe_support::{RowLine, cut, next_number};
-use std::cell::{Cell, RefCell};
+use std::cell::Cell;
 
 /// Record of the calls of the devices of a run, and the state that the devices share.
 #[derive(Drop)]
-pub(crate) struct CallLog {
-    pub page: RefCell<RowLine>,
+pub(crate) struct CallLog<'a> {
+    pub page: &'a Page,
     /// `true` if the calls of `Door::wait` are recorded, and a connection is ready when its text says so. Otherwise the
     /// connections are always ready.
-    pub tells_waits: bool,
+    tells_waits: bool,
     /// Number of calls of `Door::wait`.
     waits: Cell<usize>,
     /// Time of a clock that advances in waits alone, in seconds.
     moment: Cell<u64>,
 }
 
-impl CallLog {
+impl<'a> CallLog<'a> {
     /// Creates a record in a line.
-    pub(crate) fn new(page: RowLine, tells_waits: bool, moment: u64) -> CallLog {
+    pub(crate) fn new(page: &'a Page, tells_waits: bool, moment: u64) -> CallLog<'a> {
         CallLog {
-            page: RefCell::new(page),
+            page,
             tells_waits,
             waits: Cell::new(0),
             moment: Cell::new(moment),
-        }
-    }
-
-    /// Records a call by its word and a number.
-    fn note(&self, call: &str, number: u64) {
-        if let Ok(mut told) = self.page.try_borrow_mut() {
-            told.word(call);
-            told.number(number);
-        }
-    }
-
-    /// Records a call of a connection: its word, the place of the connection, the bytes of a write, and the result.
-    fn note_got(&self, call: &str, place: u64, bytes: &[u8], got: Got) {
-        self.note(call, place);
-        let Ok(mut told) = self.page.try_borrow_mut() else {
-            return;
-        };
-        told.hex(bytes);
-        match got {
-            Got::Bytes(count) => told.number(count as u64),
-            Got::Later => told.word("later"),
-            Got::End => told.word("end"),
-            Got::Failed => told.word("failed"),
-        }
-    }
-
-    /// Counts a call of `Door::wait`, sets the time, and records the call if `tells_waits`.
-    fn wait(&self, wait: Wait, opens: bool) {
-        self.waits.set(self.waits.get().saturating_add(1));
-        if let Wait::Until(moment) = wait {
-            self.moment.set(moment);
-        }
-        if !self.tells_waits {
-            return;
-        }
-        self.note("wait", u64::from(opens));
-        let Ok(mut told) = self.page.try_borrow_mut() else {
-            return;
-        };
-        match wait {
-            Wait::No => told.word("no"),
-            Wait::Until(moment) => told.number(moment),
-            Wait::Forever => told.word("ever"),
         }
     }
 }
@@ -82,7 +40,7 @@ pub(crate) struct ScriptedWire<'a> {
     place: u64,
     reads: Reads<'a>,
     writes: Writes<'a>,
-    log: &'a CallLog,
+    log: &'a CallLog<'a>,
 }
 
 impl Wire for ScriptedWire<'_> {
@@ -92,13 +50,13 @@ impl Wire for ScriptedWire<'_> {
 
     fn read(&mut self, buffer: &mut [u8]) -> Got {
         let got = self.reads.next(buffer);
-        self.log.note_got("read", self.place, &[], got);
+        note(self.log.page, "read", self.place, &[], &got);
         got
     }
 
     fn write(&mut self, bytes: &[u8]) -> Got {
         let got = self.writes.next(bytes.len());
-        self.log.note_got("write", self.place, bytes, got);
+        note(self.log.page, "write", self.place, bytes, &got);
         got
     }
 }
@@ -120,30 +78,31 @@ pub(crate) struct ScriptedDoor<'a> {
     pub wires: &'a str,
     pub bytes: &'a [u8],
     pub count: u64,
-    pub log: &'a CallLog,
+    pub log: &'a CallLog<'a>,
 }
 
 impl<'a> ScriptedDoor<'a> {
-    /// Returns the next connection, and records the call.
+    /// Returns the next connection, and records the call with its place, or with 0 if there is none.
     fn opened(&mut self) -> Option<ScriptedWire<'a>> {
-        if self.wires.is_empty() {
-            self.log.note("open", 0);
+        let has_wire = !self.wires.is_empty();
+        self.count = self.count.saturating_add(1);
+        let place = if has_wire { self.count } else { 0 };
+        note(self.log.page, "open", place, &[], &());
+        if !has_wire {
             return None;
         }
-        self.count = self.count.saturating_add(1);
-        self.log.note("open", self.count);
         let (writes, rest) = cut(self.wires);
         let (reads, rest) = cut(rest);
-        let (count, rest) = next_number(rest);
+        let (count, rest) = cut(rest);
         self.wires = rest;
-        let (bytes, rest) = self.bytes.split_at_checked(count).unwrap_or_default();
+        let (bytes, rest) = self
+            .bytes
+            .split_at_checked(number(count))
+            .unwrap_or_default();
         self.bytes = rest;
         Some(ScriptedWire {
-            place: self.count,
-            reads: Reads {
-                text: if reads == "-" { "" } else { reads },
-                bytes,
-            },
+            place,
+            reads: Reads { text: reads, bytes },
             writes: Writes { text: writes },
             log: self.log,
         })
@@ -158,7 +117,14 @@ impl<'a> Door for ScriptedDoor<'a> {
     }
 
     fn wait(&mut self, wait: Wait, opens: bool) {
-        self.log.wait(wait, opens);
+        let log = self.log;
+        log.waits.set(log.waits.get().saturating_add(1));
+        if let Wait::Until(moment) = wait {
+            log.moment.set(moment);
+        }
+        if log.tells_waits {
+            note(log.page, "wait", u64::from(opens), &[], &wait);
+        }
     }
 }
 
@@ -175,7 +141,7 @@ impl<'a> Wires for ScriptedDoor<'a> {
 pub(crate) struct DoorClock<'a> {
     /// Times, unless the clock advances in waits.
     pub moments: Option<Moments<'a>>,
-    pub log: &'a CallLog,
+    pub log: &'a CallLog<'a>,
 }
 
 impl Clock for DoorClock<'_> {

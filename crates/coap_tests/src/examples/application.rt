@@ -5,6 +5,7 @@ use coap_serve::{
     Application, Builder, Code, ConnId, MessageRef, PathKey, Reply, ResponseFault, Token, Wait,
     parse, request_path,
 };
+use std::process::Abort;
 use std::test::Fail;
 
 /// Oven that responds to a request when it is hot.
@@ -79,52 +80,74 @@ fn cold() -> Oven {
     }
 }
 
+/// Passes a request of a connection to an oven, and asserts which response it gives at once.
+fn asks(
+    rt: &(impl Abort + AllocGlobal),
+    oven: &mut Oven,
+    id: ConnId,
+    frame: &[u8],
+    wanted: &[u8],
+) -> Result<(), Fail> {
+    let request = parse(frame)?;
+    let mut response = Vec::new(rt.alloc());
+    oven.request(id, &request, 65_536, &mut response);
+    assert!(rt; response.as_slice() == wanted);
+    Ok(())
+}
+
+/// Asserts which response an oven gives later, and to which connection.
+fn responds(rt: &(impl Abort + AllocGlobal), oven: &mut Oven, id: Option<ConnId>, wanted: &[u8]) {
+    let mut response = Vec::new(rt.alloc());
+    assert!(rt; oven.next_response(&mut response) == id);
+    assert!(rt; response.as_slice() == wanted);
+}
+
 #[test]
 fn waits_for_an_oven(rt: HostRuntime) -> Result<(), Fail> {
     let mut oven = cold();
-    let mut response = Vec::new(rt.alloc());
-    let request = parse(b"\x51\x02\x2a\xb4oven")?;
-    oven.request(7, &request, 65_536, &mut response);
-    assert!(&rt; response.is_empty());
-    assert!(&rt; oven.next_response(&mut response).is_none() && response.is_empty());
+    asks(&rt, &mut oven, 7, b"\x51\x02\x2a\xb4oven", b"")?;
+    responds(&rt, &mut oven, None, b"");
     oven.gone(6);
     oven.is_hot = true;
-    assert!(&rt; oven.next_response(&mut response) == Some(7));
-    assert!(&rt; response.as_slice() == b"\x01\x44\x2a".as_slice());
+    responds(&rt, &mut oven, Some(7), b"\x01\x44\x2a");
     Ok(())
 }
 
 #[test]
 fn refuses_another_path(rt: HostRuntime) -> Result<(), Fail> {
     let mut oven = cold();
-    let mut response = Vec::new(rt.alloc());
     // A path below that of the oven.
-    let request = parse(b"\x71\x02\x2a\xb4oven\x01x")?;
-    oven.request(7, &request, 65_536, &mut response);
-    assert!(&rt; response.as_slice() == b"\x01\x84\x2a".as_slice() && oven.waiting.is_none());
+    asks(
+        &rt,
+        &mut oven,
+        7,
+        b"\x71\x02\x2a\xb4oven\x01x",
+        b"\x01\x84\x2a",
+    )?;
+    assert!(&rt; oven.waiting.is_none());
     Ok(())
 }
 
 #[test]
 fn refuses_a_condition(rt: HostRuntime) -> Result<(), Fail> {
     let mut oven = cold();
-    let mut response = Vec::new(rt.alloc());
     // An empty If-Match.
-    let request = parse(b"\x61\x02\x2a\x10\xa4oven")?;
-    oven.request(7, &request, 65_536, &mut response);
-    assert!(&rt; response.as_slice() == b"\x01\x82\x2a".as_slice() && oven.waiting.is_none());
+    asks(
+        &rt,
+        &mut oven,
+        7,
+        b"\x61\x02\x2a\x10\xa4oven",
+        b"\x01\x82\x2a",
+    )?;
+    assert!(&rt; oven.waiting.is_none());
     Ok(())
 }
 
 #[test]
 fn refuses_a_second_request(rt: HostRuntime) -> Result<(), Fail> {
     let mut oven = cold();
-    let mut response = Vec::new(rt.alloc());
-    let request = parse(b"\x51\x02\x2a\xb4oven")?;
-    oven.request(7, &request, 65_536, &mut response);
-    assert!(&rt; response.is_empty());
-    oven.request(8, &request, 65_536, &mut response);
-    assert!(&rt; response.as_slice() == b"\x01\xa3\x2a".as_slice());
+    asks(&rt, &mut oven, 7, b"\x51\x02\x2a\xb4oven", b"")?;
+    asks(&rt, &mut oven, 8, b"\x51\x02\x2a\xb4oven", b"\x01\xa3\x2a")?;
     oven.gone(7);
     assert!(&rt; oven.waiting.is_none());
     Ok(())

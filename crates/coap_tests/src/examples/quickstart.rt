@@ -99,6 +99,6 @@ fn get_root(alloc: Global) -> Option<Vec<u8>> {
 
 #[test]
 fn gets_the_root(rt: HostRuntime) {
-    let payload = get_root(rt.alloc());
-    assert!(&rt; payload.is_some_and(|bytes| bytes.as_slice() == b"coap+tcp".as_slice()));
+    let payload = get_root(rt.alloc()).expect(&rt, "a payload");
+    assert!(&rt; payload.as_slice() == b"coap+tcp".as_slice());
 }

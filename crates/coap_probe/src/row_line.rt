@@ -2,12 +2,12 @@
 
 use itoa::Buffer;
 use std::alloc::{AllocError, Global};
-use std::fmt;
-use std::io::Write;
+use std::fmt::{Debug, Display, Write};
+use std::{fmt, io};
 
 /// Result line of a row. Bytes above its capacity are dropped.
 #[derive(Drop)]
-pub struct RowLine {
+pub(crate) struct RowLine {
     bytes: Vec<u8>,
 }
 
@@ -24,25 +24,25 @@ impl RowLine {
     ///
     /// # Errors
     /// - `AllocError`: allocation fails.
-    pub fn new(alloc: Global, room: usize) -> Result<RowLine, AllocError> {
+    pub(crate) fn new(alloc: Global, room: usize) -> Result<RowLine, AllocError> {
         Ok(RowLine {
             bytes: Vec::with_capacity(alloc, room)?,
         })
     }
 
     /// Appends a word and a space.
-    pub fn word(&mut self, word: &str) {
+    pub(crate) fn word(&mut self, word: &str) {
         let _ = self.bytes.extend_from_slice(word.as_bytes());
         let _ = self.bytes.push(b' ');
     }
 
     /// Appends a number and a space.
-    pub fn number(&mut self, number: u64) {
+    pub(crate) fn number(&mut self, number: u64) {
         self.word(Buffer::new().format(number));
     }
 
     /// Appends bytes as hex digits, or `-` if there are none, and a space.
-    pub fn hex(&mut self, bytes: &[u8]) {
+    pub(crate) fn hex(&mut self, bytes: &[u8]) {
         if bytes.is_empty() {
             return self.word("-");
         }
@@ -53,26 +53,41 @@ impl RowLine {
         let _ = self.bytes.push(b' ');
     }
 
+    /// Appends a value as `Debug` prints it, and a space.
+    pub(crate) fn debug<T: Debug>(&mut self, value: &T) {
+        let _ = write!(self, "{value:?} ");
+    }
+
+    /// Appends a value as `Display` prints it, and a space.
+    pub(crate) fn text<T: Display>(&mut self, value: &T) {
+        let _ = write!(self, "{value} ");
+    }
+
+    /// Appends the name of an error, its number and its text: `TooLarge 2 (frame too large)`.
+    pub(crate) fn fault<F: Debug + Display>(&mut self, fault: &F, number: u8) {
+        let _ = write!(self, "{fault:?} {number} ({fault}) ");
+    }
+
     /// Returns the buffer of the line. A caller that writes a line with its own line feed calls `end_line` afterwards.
-    pub fn writer(&mut self) -> &mut Vec<u8> {
+    pub(crate) fn writer(&mut self) -> &mut Vec<u8> {
         &mut self.bytes
     }
 
     /// Removes the last byte, which is the line feed that a caller of `writer` wrote.
-    pub fn end_line(&mut self) {
+    pub(crate) fn end_line(&mut self) {
         let _ = self.bytes.pop();
     }
 
     /// Prints the line with a line feed, and clears it.
-    pub fn write_line(&mut self, out: &mut impl Write) {
+    pub(crate) fn write_line(&mut self, out: &mut impl io::Write) {
         let _ = self.bytes.push(b'\n');
         let _ = out.write_all(&self.bytes);
         self.bytes.clear();
     }
 }
 
-/// Texts of `Debug` and `Display` are appended without a space.
-impl fmt::Write for RowLine {
+/// Texts are appended without a space.
+impl Write for RowLine {
     fn write_str(&mut self, text: &str) -> fmt::Result {
         let _ = self.bytes.extend_from_slice(text.as_bytes());
         Ok(())

@@ -3,18 +3,11 @@
 //! The events are `next BYTES`, `each BYTES` (byte by byte), `all BYTES` (frame by frame), `hold BYTES`,
 //! `unread BYTES`, `clear`, `raise MAX`, `look` and `copied`.
 
-use crate::{RowLine, cut, number, read_hex, tell_fault};
+use crate::layer::Layer;
+use crate::row_line::RowLine;
+use crate::row_words::{cut, number, read_hex};
 use coap_frame::{FrameEvent, Framed, Framer};
 use std::alloc::{AllocError, Global};
-
-/// Creates a framer for frames of at most the given number of bytes. Returns `None` if the number is out of range.
-pub fn opened(alloc: Global, text: &str) -> Option<Result<Framer, AllocError>> {
-    let max = number(text)?;
-    if max < 1_152 || max > 1_048_576 {
-        return None;
-    }
-    Some(Framer::new(alloc, max))
-}
 
 /// Writes the result of `Framer::next`, and the number of bytes taken.
 fn found(framed: &Framed, told: &mut RowLine) {
@@ -28,7 +21,7 @@ fn found(framed: &Framed, told: &mut RowLine) {
             told.word("Whole");
             told.hex(frame);
         }
-        FrameEvent::Fault(fault) => tell_fault(&fault, fault as u8, told),
+        FrameEvent::Fault(fault) => told.fault(&fault, fault as u8),
     }
     told.word("taken");
     told.number(framed.taken as u64);
@@ -89,49 +82,43 @@ fn unread(framer: &mut Framer, piece: &[u8], told: &mut RowLine) {
     }
 }
 
-/// Raises the maximum frame size, or writes the error.
-fn raise(framer: &mut Framer, text: &str, told: &mut RowLine) {
-    let max = number(text).unwrap_or(0);
-    if let Err(fault) = framer.raise(max.min(4_294_967_295) as usize) {
-        tell_fault(&fault, fault as u8, told);
-    }
-}
-
-/// Executes an event that returns no frame.
-fn act(framer: &mut Framer, word: &str, bytes: &[u8], told: &mut RowLine) {
-    match word {
-        "unread" => unread(framer, bytes, told),
-        "clear" => framer.clear(),
-        "look" => {}
-        _ => told.word("strange"),
-    }
-}
-
-/// Executes an event, and writes its result, the number of bytes kept and the number of bytes spent.
-pub fn play(framer: &mut Framer, event: &str, bytes: &mut Vec<u8>, told: &mut RowLine) {
-    let (word, rest) = cut(event);
-    read_hex(rest, bytes);
-    match word {
-        "next" => found(&framer.next(bytes), told),
-        "each" => each(framer, bytes, told),
-        "all" => all(framer, bytes, told),
-        "hold" => hold(framer, bytes, told),
-        "copied" => {
-            told.word("copied");
-            told.number(framer.copied());
+impl Layer for Framer {
+    /// Creates a framer for frames of at most the given number of bytes.
+    fn opened(alloc: Global, words: &str) -> Option<Result<Framer, AllocError>> {
+        let max = number(words);
+        if max < 1_152 || max > 1_048_576 {
+            return None;
         }
-        _ => {
-            if word == "raise" {
-                raise(framer, rest, told);
-            } else {
-                act(framer, word, bytes, told);
+        Some(Framer::new(alloc, max))
+    }
+
+    /// Executes an event, and writes its result, the maximum frame size, and the numbers of bytes copied, kept and
+    /// spent.
+    fn play(&mut self, _alloc: Global, event: &str, bytes: &mut Vec<u8>, told: &mut RowLine) {
+        let (word, rest) = cut(event);
+        read_hex(rest, bytes);
+        match word {
+            "next" => found(&self.next(bytes), told),
+            "each" => each(self, bytes, told),
+            "all" => all(self, bytes, told),
+            "hold" => hold(self, bytes, told),
+            "unread" => unread(self, bytes, told),
+            "clear" => self.clear(),
+            "raise" => {
+                if let Err(fault) = self.raise(number(rest).min(4_294_967_295)) {
+                    told.fault(&fault, fault as u8);
+                }
             }
-            told.word("max");
-            told.number(framer.max() as u64);
+            "look" | "copied" => {}
+            _ => told.word("strange"),
         }
+        told.word("max");
+        told.number(self.max() as u64);
+        told.word("kept");
+        told.number(self.kept() as u64);
+        told.word("spent");
+        told.number(self.spent() as u64);
+        told.word("copied");
+        told.number(self.copied());
     }
-    told.word("kept");
-    told.number(framer.kept() as u64);
-    told.word("spent");
-    told.number(framer.spent() as u64);
 }

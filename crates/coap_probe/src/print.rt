@@ -4,7 +4,8 @@
 //! bytes as hex digits, a text, a number and escaped bytes. It writes the line after the text, after the number and
 //! after the escaped bytes.
 
-use crate::{RowLine, cut, read_hex};
+use crate::row_line::RowLine;
+use crate::row_words::{cut, read_hex};
 use coap_print::{Line, describe};
 use coap_wire::parse;
 
@@ -31,7 +32,7 @@ fn tell_line(bytes: &[u8], told: &mut RowLine) {
 }
 
 /// Executes an event, and writes its result.
-pub fn play(event: &str, bytes: &mut Vec<u8>, told: &mut RowLine) {
+pub(crate) fn play(event: &str, bytes: &mut Vec<u8>, told: &mut RowLine) {
     let (word, rest) = cut(event);
     read_hex(rest, bytes);
     match word {

@@ -3,11 +3,11 @@
 //! The events are `write BYTES LENGTH PART..`, `read BYTES`, `known BYTES`, `declared BYTES`, `code BYTES`, `codes`,
 //! `kind NUMBER`, `uint NUMBER` and `value BYTES`.
 
-use crate::{RowLine, cut, next_number, number, read_hex, tell_fault};
+use crate::row_line::RowLine;
+use crate::row_words::{cut, number, read_hex};
 use coap_wire::{
     Builder, Code, OptionRef, Sink, SliceSink, Token, declared, kind, parse, uint_bytes, uint_value,
 };
-use std::fmt::Write;
 
 /// Maximum number of bytes of a message in addition to those of its parts.
 const FORMS: usize = 1_024;
@@ -46,13 +46,14 @@ const CODES: [Code; 26] = [
 fn tell_codes(codes: &[Code], told: &mut RowLine) {
     for code in codes {
         told.hex(&[code.byte()]);
-        let _ = write!(told, "{}.{} ", code.class(), code.detail());
+        told.number(u64::from(code.class()));
+        told.number(u64::from(code.detail()));
     }
 }
 
 /// Writes an option.
 fn tell_option(option: &OptionRef, told: &mut RowLine) {
-    let _ = write!(told, "{}=", option.number);
+    told.number(u64::from(option.number));
     told.hex(option.value);
 }
 
@@ -66,12 +67,10 @@ fn read(bytes: &[u8], told: &mut RowLine) {
             for option in options.by_ref() {
                 tell_option(&option, told);
             }
-            if options.next().is_some() {
-                told.word("more");
-            }
+            told.debug(&options.next().is_some());
             told.hex(message.payload());
         }
-        Err(fault) => tell_fault(&fault, fault as u8, told),
+        Err(fault) => told.fault(&fault, fault as u8),
     }
 }
 
@@ -81,32 +80,12 @@ fn known(bytes: &[u8], told: &mut RowLine) {
     let Ok(message) = parse(bytes) else {
         return told.word("strange");
     };
-    told.word("known");
     let mut options = message.known();
     for option in options.by_ref() {
         tell_option(&option, told);
     }
-    if options.next().is_some() {
-        told.word("more");
-    }
-    if let Some(number) = message.first_critical() {
-        told.word("critical");
-        told.number(u64::from(number));
-    }
-}
-
-/// Writes a message with the token of these bytes.
-fn tell_with(message: &Builder, bytes: &[u8], room: &mut [u8], told: &mut RowLine) {
-    match Token::try_from(bytes) {
-        Ok(token) => tell_other(message, &token, room, told),
-        Err(_) => told.word("strange"),
-    }
-}
-
-/// Writes a message with this token.
-fn tell_other(message: &Builder, token: &Token, room: &mut [u8], told: &mut RowLine) {
-    let other = message.with_token(token);
-    tell_built(&other, room, told);
+    told.debug(&options.next().is_some());
+    told.debug(&message.first_critical());
 }
 
 /// Writes the code, the token, the size and the encoding of a message.
@@ -129,40 +108,25 @@ fn add<'a>(message: &mut Builder<'a>, name: &str, value: &'a [u8], told: &mut Ro
         Err(_) => message.payload(value),
     };
     if let Err(fault) = answer {
-        tell_fault(&fault, fault as u8, told);
+        told.fault(&fault, fault as u8);
     }
 }
 
-/// Builds a message from its code, a token of `LENGTH` bytes, and the values of the parts, in the order of the bytes.
-/// Each part has a name, `=` and a length. An option has its number as its name, and the payload has `payload`. The
-/// name `look` writes the message, and `token` writes it with another token.
-fn write(text: &str, bytes: &mut Vec<u8>, told: &mut RowLine) {
-    let count = bytes.len();
-    let room = count.saturating_mul(2).saturating_add(FORMS);
-    if bytes.resize(room, 0).is_err() || count > bytes.len() {
-        return told.word("refused");
-    }
-    let (read, room) = bytes.split_at_mut(count);
-    let (length, text) = next_number(text);
-    let Some((code, rest)) = read.split_first() else {
-        return told.word("strange");
-    };
-    let Some((token, rest)) = rest.split_at_checked(length) else {
-        return told.word("strange");
-    };
-    let Ok(token) = Token::try_from(token) else {
-        return told.word("strange");
-    };
-    build(
-        Builder::new(Code::new(*code), &token),
-        rest,
-        text,
-        room,
-        told,
-    );
+/// Writes a message with this token.
+fn tell_other(message: &Builder, token: &Token, room: &mut [u8], told: &mut RowLine) {
+    let other = message.with_token(token);
+    tell_built(&other, room, told);
 }
 
-/// Adds the parts that words name to a message, and writes the results. The values are one after another in `rest`.
+/// Writes a message with the token of these bytes.
+fn tell_with(message: &Builder, bytes: &[u8], room: &mut [u8], told: &mut RowLine) {
+    let token = Token::try_from(bytes).unwrap_or(Token::new());
+    tell_other(message, &token, room, told);
+}
+
+/// Builds a message of a code and a token, adds the parts that words name, and writes the results. Each part has a
+/// name, `=` and a length, and the values are one after another in `rest`. An option has its number as its name, and
+/// the payload has `payload`. The name `look` writes the message, and `token` writes it with another token.
 fn build<'a>(
     mut message: Builder<'a>,
     mut rest: &'a [u8],
@@ -172,9 +136,7 @@ fn build<'a>(
 ) {
     for word in text.split(' ') {
         let (name, length) = word.split_once('=').unwrap_or((word, ""));
-        let Some((value, behind)) = rest.split_at_checked(number(length).unwrap_or(0)) else {
-            return told.word("strange");
-        };
+        let (value, behind) = rest.split_at_checked(number(length)).unwrap_or_default();
         rest = behind;
         match name {
             "look" => tell_built(&message, room, told),
@@ -184,52 +146,55 @@ fn build<'a>(
     }
 }
 
-/// Writes the minimum and maximum length of an option with the given number, and whether the option is repeatable.
-fn tell_kind(number: usize, told: &mut RowLine) {
-    let Ok(number) = u16::try_from(number) else {
-        return told.word("strange");
-    };
-    let Some(kind) = kind(number) else {
-        return told.word("unknown");
-    };
-    told.word(if kind.repeatable {
-        "several of"
-    } else {
-        "one of"
-    });
-    told.number(u64::from(kind.min));
-    told.word("to");
-    told.number(u64::from(kind.max));
+/// Builds a message from its code, its token and further parts, in the order of the bytes. The first word is the length
+/// of the token.
+fn write(text: &str, bytes: &mut Vec<u8>, told: &mut RowLine) {
+    let count = bytes.len();
+    let room = count.saturating_mul(2).saturating_add(FORMS);
+    if bytes.resize(room, 0).is_err() || count > bytes.len() {
+        return told.word("refused");
+    }
+    let (read, room) = bytes.split_at_mut(count);
+    let (length, text) = cut(text);
+    let (code, rest) = read.split_at_checked(1).unwrap_or_default();
+    let (token, rest) = rest.split_at_checked(number(length)).unwrap_or_default();
+    let code = code.first().copied().unwrap_or(0);
+    let token = Token::try_from(token).unwrap_or(Token::new());
+    let message = Builder::new(Code::new(code), &token);
+    build(message, rest, text, room, told);
 }
 
-/// Writes the shortest encoding of a number, and the value of that encoding.
-fn tell_uint(number: usize, told: &mut RowLine) {
-    let bytes = uint_bytes(number as u64);
-    told.hex(&bytes);
-    let _ = write!(told, "{:?}", uint_value(&bytes));
+/// Writes whether an option with the given number is repeatable, and its minimum and maximum length.
+fn tell_kind(number: usize, told: &mut RowLine) {
+    let Ok(number) = u16::try_from(number) else {
+        return;
+    };
+    if let Some(kind) = kind(number) {
+        told.debug(&kind.repeatable);
+        told.number(u64::from(kind.min));
+        told.number(u64::from(kind.max));
+    }
 }
 
 /// Executes an event, and writes its result.
-pub fn play(event: &str, bytes: &mut Vec<u8>, told: &mut RowLine) {
+pub(crate) fn play(event: &str, bytes: &mut Vec<u8>, told: &mut RowLine) {
     let (word, rest) = cut(event);
     let (first, text) = cut(rest);
+    read_hex(first, bytes);
     match word {
-        "kind" => return tell_kind(number(rest).unwrap_or(0), told),
-        "uint" => return tell_uint(number(rest).unwrap_or(0), told),
-        _ => read_hex(first, bytes),
-    }
-    match word {
+        "kind" => tell_kind(number(rest), told),
+        "uint" => {
+            let bytes = uint_bytes(number(rest) as u64);
+            told.hex(&bytes);
+            told.debug(&uint_value(&bytes));
+        }
         "write" => write(text, bytes, told),
         "read" => read(bytes, told),
         "known" => known(bytes, told),
-        "declared" => {
-            let _ = write!(told, "{:?}", declared(bytes));
-        }
+        "declared" => told.debug(&declared(bytes)),
         "code" => tell_codes(&[Code::new(bytes.first().copied().unwrap_or(0))], told),
         "codes" => tell_codes(&CODES, told),
-        "value" => {
-            let _ = write!(told, "{:?}", uint_value(bytes));
-        }
+        "value" => told.debug(&uint_value(bytes)),
         _ => told.word("strange"),
     }
 }

@@ -1,0 +1,175 @@
+//! Rows for stores. `= store RESOURCES BYTES VERSION` creates one.
+//!
+//! The event `ask REQUEST TIME` writes the result of `Store::answer`. The event `make REQUEST` also applies its change.
+//! The other events are calls of the embedding program:
+//!
+//! - `put REQUEST FORMAT`, with the path and the payload of a request,
+//! - `remove REQUEST`,
+//! - `state REQUEST TIME`,
+//! - `notify REQUEST TIME FORMAT`,
+//! - `path REQUEST`, which writes the `PathKey` of its segments.
+//!
+//! A FORMAT of 65536 is none.
+
+use crate::layer::Layer;
+use crate::row_line::RowLine;
+use crate::row_words::{cut, number, numbers, read_hex};
+use arrayvec::ArrayVec;
+use coap_store::{
+    Change, PathKey, Plan, PlannedChange, State, Store, UriPath, Watch, request_path,
+};
+use coap_wire::option_numbers::URI_PATH;
+use coap_wire::{MessageRef, parse};
+use std::alloc::{AllocError, Global};
+
+/// Writes the location of a new resource.
+fn tell_location(location: Option<UriPath>, told: &mut RowLine) {
+    if let Some(path) = location {
+        for segment in path {
+            told.hex(segment);
+        }
+    }
+    told.word(";");
+}
+
+/// Returns the word for a change.
+fn word_of_change(change: &Change) -> &'static str {
+    match change {
+        Change::Nothing => "-",
+        Change::Put { .. } => "Put",
+        Change::Delete(_) => "Delete",
+    }
+}
+
+/// Returns the word for a change whose path is in the options of its request.
+fn word_of_planned(change: &PlannedChange) -> &'static str {
+    match change {
+        PlannedChange::Nothing => "-",
+        PlannedChange::Put { .. } => "Put",
+        PlannedChange::Delete { .. } => "Delete",
+    }
+}
+
+/// Returns the word for the effect on the observer.
+fn word_of_watch(watch: Watch) -> &'static str {
+    match watch {
+        Watch::Nothing => "-",
+        Watch::Add => "Add",
+        Watch::Drop => "Drop",
+    }
+}
+
+/// Writes a plan: the code, the change, the effect on the observer, each part of the response, and the payload. Writes
+/// the change again, as the plan gives it up.
+fn tell_plan(plan: Plan, told: &mut RowLine) {
+    told.number(u64::from(plan.code().byte()));
+    told.word(word_of_change(&plan.change()));
+    told.word(word_of_watch(plan.watch()));
+    told.debug(&plan.hold());
+    told.debug(&plan.etag());
+    told.debug(&plan.format());
+    told.debug(&plan.max_age());
+    tell_location(plan.location(), told);
+    told.debug(&plan.size1());
+    told.hex(plan.payload());
+    told.word(word_of_planned(plan.into_change().change()));
+}
+
+/// Returns the plan for the request that the bytes encode, at the given time. The plan borrows the store and these
+/// bytes. The parsed message is dropped here.
+fn planned<'s, 'r>(store: &'s Store, bytes: &'r [u8], moment: u64) -> Option<Plan<'s, 'r>> {
+    let request = parse(bytes).ok()?;
+    Some(store.answer(&request, moment))
+}
+
+/// Writes the plan for the request that the bytes encode, at the given time.
+fn tell_planned(store: &Store, bytes: &[u8], moment: u64, told: &mut RowLine) {
+    if let Some(plan) = planned(store, bytes, moment) {
+        tell_plan(plan, told);
+    }
+}
+
+/// Applies the change that a request makes, or writes `memory` if allocation fails.
+fn make(store: &mut Store, request: &MessageRef, told: &mut RowLine) {
+    // The change borrows the request alone.
+    let change = store.answer(request, 0).change();
+    if store.apply(change).is_err() {
+        told.word("memory");
+    }
+}
+
+/// Returns the key of the path segments of a request, or `None` if there is no such key. Segments after the 17th are
+/// dropped, so that a path of more than 16 is still too long.
+fn path_of(request: &MessageRef) -> Option<PathKey> {
+    let mut segments: ArrayVec<&[u8], 17> = ArrayVec::new();
+    for option in request.options() {
+        if option.number == URI_PATH {
+            let _ = segments.try_push(option.value);
+        }
+    }
+    PathKey::from_segments(segments.as_slice())
+}
+
+/// Writes the segments of a key, whether its copy is equal, and whether the key is the path of the request.
+fn tell_path(path: &PathKey, request: &MessageRef, told: &mut RowLine) {
+    for segment in path.segments() {
+        told.hex(segment);
+    }
+    told.debug(&(path.duplicate() == *path));
+    told.debug(&request_path(request).is_some_and(|asked| asked == *path));
+}
+
+/// Writes a state, or nothing if the resource is absent.
+fn tell_state(state: &State, told: &mut RowLine) {
+    if let State::Present(present) = state {
+        told.number(present.version());
+        told.debug(&present.format());
+        told.hex(present.bytes());
+    }
+}
+
+/// Executes a call of the embedding program with the path of a request, and writes the result.
+fn change(store: &mut Store, word: &str, request: &MessageRef, rest: &str, told: &mut RowLine) {
+    let Some(path) = path_of(request) else {
+        return told.word("none");
+    };
+    let [moment, format, ..] = numbers(rest);
+    let (moment, format) = (moment as u64, u16::try_from(format).ok());
+    match word {
+        "path" => tell_path(&path, request, told),
+        "put" => told.debug(&store.put(&path, format, request.payload())),
+        "remove" => told.debug(&store.remove(&path)),
+        "state" => tell_state(&store.state(&path, moment), told),
+        "notify" => tell_plan(store.notification(&path, format, moment), told),
+        _ => told.word("strange"),
+    }
+}
+
+impl Layer for Store {
+    /// Creates a store for the given number of resources, bytes of a representation, and last version.
+    fn opened(alloc: Global, words: &str) -> Option<Result<Store, AllocError>> {
+        let [dynamic_max, rep_max, versions, ..] = numbers(words);
+        if dynamic_max > 1_000 || rep_max > 1_048_576 {
+            return None;
+        }
+        Some(Store::new(alloc, dynamic_max, rep_max, versions as u64))
+    }
+
+    /// Executes an event, and writes its result.
+    fn play(&mut self, _alloc: Global, event: &str, bytes: &mut Vec<u8>, told: &mut RowLine) {
+        let (word, rest) = cut(event);
+        let (digits, rest) = cut(rest);
+        read_hex(digits, bytes);
+        let Ok(request) = parse(bytes) else {
+            return told.word("strange");
+        };
+        match word {
+            "ask" => tell_planned(self, bytes, number(rest) as u64, told),
+            "make" => {
+                tell_planned(self, bytes, 0, told);
+                make(self, &request, told);
+            }
+            _ => change(self, word, &request, rest, told),
+        }
+    }
+}
