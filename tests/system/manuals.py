@@ -40,14 +40,14 @@ LIBRARIES = ["coap_io/src/*.rt", "coap_program/src/*.rt", "coap_sockets/src/*.rt
 
 SOURCES = {
     # Source files with the lines and statuses of a program.
-    "coap-server": ["coap_server/src/*.rt", "coap_server_monitors/src/*.rt", "coap_server_common/src/listening.rt",
-                    "coap_server_streams/src/*.rt", "coap_server_listener/src/*.rt", "coap_script/src/*.rt",
+    "coap-server": ["coap_server/src/*.rt", "coap_server_common/src/*.rt", "coap_server_common/src/listening.rt",
+                    "coap_serve/src/*.rt", "coap_serve/src/*.rt", "coap_script/src/*.rt",
                     "coap_model/src/*.rt", "coap_server_engine/src/*.rt"] + LIBRARIES,
     "coap-client": ["coap_client_main/src/*.rt", "coap_client_engine/src/run.rt", "coap_client_engine/src/run/*.rt",
                     "coap_client_engine/src/error_lines.rt", "coap_client_engine/src/cause_line.rt"] + LIBRARIES,
     "coap-explain": ["coap_explain/src/*.rt"] + LIBRARIES,
-    "coap-directory": ["coap_directory/src/*.rt", "coap_server_monitors/src/*.rt", "coap_server_common/src/listening.rt",
-                       "coap_server_listener/src/*.rt", "coap_server_engine/src/io_fault.rt"] + LIBRARIES,
+    "coap-directory": ["coap_directory/src/*.rt", "coap_server_common/src/*.rt", "coap_server_common/src/listening.rt",
+                       "coap_serve/src/*.rt", "coap_server_engine/src/io_fault.rt"] + LIBRARIES,
 }
 
 # Files with error texts that a program prints as lines, beside the texts in its calls of `print_fault`.
@@ -471,7 +471,7 @@ def check_causes(checks, manual):
 
 # Files with the texts of a log, patterns that find these texts, and their number at least.
 LOGS = {
-    "coap-server": (["coap_server_monitors/src/log.rt", "coap_server_common/src/reasons.rt"], 23,
+    "coap-server": (["coap_server_common/src/log.rt", "coap_server_common/src/reasons.rt"], 23,
                     [r'Reason::\w+(?:\(_\))? => "([^"]+)"', r'warn\(id, "([^"]+)"', r'"(connections not accepted[^"]*|failed waits)"', r'(?m)^ +(?:return )?"([^"]+)";?$']),
     "coap-client": (["coap_client_main/src/logged.rt", "coap_log/src/log*.rt"], 10,
                     [r'line\.text\("([^"]+)"', r'connection_line\(number, "([^"]+)"', r'text_line\((?:self\.)?number, "([^"]+)"']),

@@ -21,8 +21,8 @@ use crate::row_words::{cut, number};
 use crate::wires::Moments;
 use coap_io::Polled;
 use coap_model::Config;
+use coap_serve::{Clocks, ServiceConfig, serve_door, serve_door_with};
 use coap_server_engine::{IoFault, NoMonitor};
-use coap_server_listener::{Clocks, ServiceConfig, serve_door, serve_door_with};
 use devices::{CallLog, DoorClock, ScriptedDoor};
 use std::alloc::Global;
 

@@ -21,7 +21,7 @@ use crate::row_line::RowLine;
 use crate::row_words::{cut, numbers, read_hex};
 use coap_io::{Outlet, ReadSource, Source, WriteOutlet};
 use coap_model::Config;
-use coap_server_streams::serve_one;
+use coap_serve::serve_one;
 use std::alloc::{AllocError, Global};
 use std::cell::RefCell;
 use std::io::{Read, Write};

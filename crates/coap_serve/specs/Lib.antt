@@ -1,4 +1,5 @@
 pub mod streams
+pub mod listener
 pub use Rattle.coap_model.specs.Configs
 pub mod views
 pub mod Prelude

@@ -1,15 +1,85 @@
--- Re-exports the definitions that contracts and attributes of crates above name through this one. This file defines
--- nothing.
-pub use Rattle.coap_io.specs.streams.DeviceTraces.{TellsMore}
-pub use Rattle.coap_io.specs.streams.Wires.{IsWithin}
--- For `Application`: the exchanges of which `follows` speaks, and their messages.
-pub use Rattle.coap_server_engine.specs.values.Exchanges.{Exchange, Asked, Offered, Given, Gone, Answering, offers}
+-- Re-exports the definitions that the contracts and proofs of this crate use, and those that contracts and attributes of
+-- crates above name through this one. This file defines nothing.
+
+-- ---- std and the kit's crates
+pub use Rattle.indexmap.specs.IndexMap.{insert_entry, set_value_at, shift_remove_entry}
+pub use Rattle.std.specs.List.{AllByRecursion, All}
+pub use Rattle.std.specs.List.{concat}
+unfoldable pub use Rattle.std.specs.List.{IsDistinct}
+pub use Rattle.std.specs.Map.{keys_of, values_of}
+pub use Rattle.std.specs.Prelude.{OnErr, OnOk, is_ok}
+-- ---- coap_wire
+pub use Rattle.coap_server_engine.specs.Prelude.{RefusedBy, AddsBytes, Path, Change, Delete, Nothing, Put, RefusedOrMemory, WrittenFault, AcceptedCall, Stored, Removed, Opened, Took, Dropped, Released, ServerState, InResult, ShowsMore, in_result, fed_more, took, Answering, Exchange, Gone, AreAskedLater, IsAskedLater, Following, IsReasonFor, stop_on, open_refusal, written_refusal, released_refusal, status_of, IsOutside, bit_of, new_server, server_put, server_removed, server_ticked, AreSettled, server_dropped, ServerValue, LiesAt, server_opened, is_there, server_released, settled_entry, count_on, server_settled, server_taken_on, session_becomes, host_changed, SessionValue, session_written, session_ended, session_released, session_takes, Shows}
+pub use Rattle.coap_server_engine.specs.Prelude.{Stream, split_on, LimitValues, AreInRange, Reason, ConfigValues, Taken, count_of, handled_in, World, Step, IsNotTaken, RefusesPieceOn, server_written, session_shown, ShowsRefused}
+-- ---- coap_conn
+pub use Rattle.coap_conn.specs.Phases.{is_over, stop_of}
+pub use Rattle.coap_conn.specs.QueueValue.{IsNextPart}
+pub use Rattle.coap_conn.specs.Calls.{end_reason}
+-- ---- coap_io
+pub use Rattle.coap_io.specs.declared.wire.Got.{Got}
+pub use Rattle.coap_io.specs.declared.wire.Got.TheVariants.{Bytes, End, Failed, Later}
+pub use Rattle.coap_io.specs.declared.wire.Wait.{Wait}
+pub use Rattle.coap_io.specs.declared.wire.Wait.TheVariants.{No}
+pub use Rattle.coap_io.specs.streams.DeviceTraces.{TellsMore, DoorCall}
+pub use Rattle.coap_io.specs.streams.Wires.{IsWithin, IsOneWrite, bytes_passed, Answered, WireTrace, trace_by}
+pub use Rattle.coap_io.specs.streams.Device.{DeviceTrace, HasGiven, pieces_read, WritesPart}
+-- ---- coap_store
+unfoldable pub use Rattle.coap_store.specs.Refusals.{put_refusal, remove_refusal}
+pub use Rattle.coap_store.specs.Store.{Resource}
+unfoldable pub use Rattle.coap_store.specs.Store.{removed_at}
+-- ---- declared
+pub use Rattle.coap_serve.specs.declared.door.silence.SilenceAction.{SilenceAction}
+pub use Rattle.coap_serve.specs.declared.door.next_wakeup.NextWakeup.{NextWakeup}
+pub use Rattle.coap_serve.specs.declared.door.peer.PeerOutcome.{PeerOutcome}
+pub use Rattle.coap_serve.specs.declared.door.peer.PeerOutcome.TheVariants.{Over}
+pub use Rattle.coap_serve.specs.declared.door.peer.Peer.{Peer}
+pub use Rattle.coap_serve.specs.declared.door.peer_interest.PeerInterest.{PeerInterest}
+pub use Rattle.coap_server_engine.specs.declared.io_fault.IoFault.{IoFault}
+pub use Rattle.coap_server_engine.specs.declared.io_fault.IoFault.TheVariants.{Memory}
+pub use Rattle.coap_server_engine.specs.declared.io_fault.IoFault.TheVariants.{Read, Turns, Write}
+pub use Rattle.coap_server_engine.specs.declared.server.ConnectionWork.{ConnectionWork}
+pub use Rattle.coap_server_engine.specs.declared.server.ChangeStamp.{ChangeStamp}
+-- ---- runs
+pub use Rattle.coap_serve.specs.declared.door.service.ServiceConfig.{ServiceConfig}
+pub use Rattle.coap_serve.specs.declared.door.service.Times.{Times}
+pub use Rattle.coap_serve.specs.listener.Histories.{AreCallsBetween, AreSteps, Continues, HasAccepted, History, IsAccepted, Journal, calls_only, history_then, journal, known_by, no_history, one_call, one_drop}
+pub use Rattle.coap_serve.specs.listener.RecordedInterests.{AreNoted, AreRecorded, AtFirst, But, Follows, GoesOnSparing, IsNoEarlier, IsNoted, KeepsNotes, Served, WhilePassedOver, recorded, recorded_on, released_at, released_on, true_end, unrecorded}
+pub use Rattle.coap_serve.specs.listener.Run.{AreTurns, EndsRun, Environment, HasRun, IsBegun, IsCutRun, IsCutTurn, IsRun, IsRunCall, IsRunStep, IsTurnFor, KnownOfRun, Matches, Resting, RunTrace, ServiceValue, Silent, Unlimited, clock_and_door, config_of, environment, exactly, known_of_run, limit_for, moved_calls, moved_to, no_trace, plain_config, service_of, short_wait, some_waits, ticked_calls, trace_then, turn_trace, wait_within, waited_behind}
+pub use Rattle.coap_serve.specs.listener.Serving.{AffectsEarlier, AreServed, AreTimesAfter, HasGoneOn, HasOneMore, HasOpened, HasServed, HasTurned, IsAskedOnce, IsOpening, IsRound, IsServedBy, IsTurnBy, IsVisited, KnownOfTurn, LoopState, NoMore, Skipped, Views, Visited, Way, asked_by, drop_history, drop_on, history_left, known_of_turn, loop_state, opening, opening_then, state_at, views_of, visit, way}
+pub use Rattle.coap_serve.specs.listener.Silence.{HasSwept, HasSweptAt, Sweep, acted, drop_one, due_sweep, quiet_action, silence_action, swept_one, unswept}
+unfoldable pub use Rattle.coap_serve.specs.listener.Silence.{swept}
+pub use Rattle.coap_serve.specs.listener.Sleepers.{AreAsleep, MaySleep, is_known_ready, known}
+pub use Rattle.coap_serve.specs.listener.Turns.{CanAnyGoOn, CanGoOn, IsAgendaOf, IsAsked, IsCarriedOn, IsCourseFor, IsIdle, IsInTurn, IsLaidOut, IsNoOp, IsOffered, IsRestAnswer, IsServedOnce, IsServedOnceBy, IsTakenAlone, IsTakenAndWritten, IsTakenInPart, IsTakenWith, IsWaitAfter, PeerStatus, Readiness, Taking, VisitState, activity_after, agenda_past, agenda_with, can_go_on, concerns_earlier, course_of, end_of, has_failed, has_written, heard_events, is_heard, is_over_in, least_with, left_behind, new_activity, readiness, refused_events, rest_behind, server_heard, server_wrote, visit_state, wait_for, wait_of, waiting_once, wants_in, wants_of, wrote_events}
+pub use Rattle.coap_serve.specs.declared.serve.Report.{Report}
+pub use Rattle.coap_serve.specs.declared.serve.Turn.{Turn}
+pub use Rattle.coap_serve.specs.streams.StdioCalls.{AreTransfers, EndsReport, HasReported, HasReportedCut, HasReportedEnd, HasReportedStop, IsAfterOutput, IsCutFlush, IsReportedFlush, IsReportedRun, IsTransfer, flush_calls, written_in}
+unfoldable pub use Rattle.coap_serve.specs.streams.StdioCalls.{AreAfterOutput, calls_of_flush, written_on}
+pub use Rattle.coap_serve.specs.streams.StdioProgress.{AreTransfersOf, HasRead, IsAtBytes, IsCut, IsRefused, IsRunningAt, IsTurn, IsWhole, Says}
+pub use Rattle.coap_serve.specs.streams.StdioRun.{AreNotEmpty, GoesOn, IsLastByte, IsStdioRun, LeavesNothing, LeavesNothingWaiting}
+pub use Rattle.coap_server_engine.specs.values.Faults.{IsMemory, IsMemoryOrTurns}
+pub use Rattle.coap_server_engine.specs.values.Faults.{is_read_fault, is_write_fault}
+-- ---- coap_server_engine and coap_server_session
+pub use Rattle.coap_server_session.specs.values.Deadlines.{sooner}
 unfoldable pub use Rattle.coap_server_engine.specs.values.Exchanges.{AnswersMore}
+unfoldable pub use Rattle.coap_server_engine.specs.values.Calls.{FollowsMore}
+unfoldable pub use Rattle.coap_server_engine.specs.values.InResults.{fed_turns, took_turns}
+pub use Rattle.coap_server_engine.specs.values.Flushes.{waiting_at, waiting_in}
+pub use Rattle.coap_server_engine.specs.values.Flushes.{IsFlushed, IsFlushedOnce, more_at, more_in}
+pub use Rattle.coap_server_engine.specs.values.ServerDeadlines.{same_stamp, stamp_of, outlook_of, session_outlook}
+unfoldable pub use Rattle.coap_server_engine.specs.values.Servers.{session_of, count_taken, server_taken}
+unfoldable pub use Rattle.coap_server_engine.specs.values.Flushes.{flush_turns}
+pub use Rattle.coap_server_engine.specs.values.Exchanges.{Asked, Offered, Given, offers}
+pub use Rattle.coap_server_engine.specs.values.Calls.{call_value}
+unfoldable pub use Rattle.coap_server_session.specs.values.Sessions.{session_settled, taking}
+pub use Rattle.coap_model.specs.streams.Output.{only_id, stream_of, stdio_output, Outcome, more_of, waiting_of, outcome_on}
+unfoldable pub use Rattle.coap_model.specs.streams.Output.{flushed, flushed_after, outcome, world_for, written_times}
+pub use Rattle.coap_model.specs.world.Events.{Ended, stream_on, Wrote, beyond, spelled_on}
+pub use Rattle.coap_model.specs.world.Events.{Ticked}
+pub use Rattle.coap_model.specs.world.Events.{Announced, Responded}
+unfoldable pub use Rattle.coap_model.specs.world.Events.{size_on, world_after, takes, taken_on, steps_by}
+pub use Rattle.coap_model.specs.world.Connections.{Connection, waiting_on, handles, is_cut, has_room, new_side}
+unfoldable pub use Rattle.coap_model.specs.world.Connections.{side_written, side_ended, settled}
+unfoldable pub use Rattle.coap_model.specs.world.World.{side_of, step}
 pub use Rattle.coap_wire.specs.Message.{Message}
 pub use Rattle.coap_wire.specs.Spelling.{Spells}
 unfoldable pub use Rattle.coap_wire.specs.Spelling.{spelling}
--- For `Monitor`: the calls of which `follows` speaks.
-pub use Rattle.coap_server_engine.specs.values.Calls.{Following, call_value}
-unfoldable pub use Rattle.coap_server_engine.specs.values.Calls.{FollowsMore}
-pub use Rattle.coap_model.specs.world.Events.{AcceptedCall, Ticked, Stored, Removed, Opened, Ended, Took, Wrote}
-pub use Rattle.coap_model.specs.world.Events.{Released, Announced, Responded, Dropped}

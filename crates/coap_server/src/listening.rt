@@ -12,10 +12,11 @@ use coap_model::{Config, Starts};
 use coap_print::LogLevel;
 use coap_program::{FAULT, USAGE};
 use coap_request::ServerPlan;
-use coap_server_common::{config_of, print_listen_fault};
+use coap_serve::{Clocks, ServiceConfig, serve_door_with};
+use coap_server_common::{
+    ServerRecord, config_of, finish, monitor_of, open_record, print_listen_fault,
+};
 use coap_server_engine::{IoFault, Monitor, NoApplication, NoMonitor};
-use coap_server_listener::{Clocks, ServiceConfig, serve_door_with};
-use coap_server_monitors::{ServerRecord, finish, monitor_of, open_record};
 use coap_sockets::{RunClock, SocketDoor, SocketWire, SystemClock};
 use std::net::{Net, SocketAddr};
 use std::rt::Files;

@@ -7,9 +7,9 @@ use coap_io::{Outlet, ReadSource, WriteOutlet};
 use coap_model::Config;
 use coap_program::{ENDED, FAULT};
 use coap_request::ServerPlan;
+use coap_serve::{Report, serve_one_with};
+use coap_server_common::{ServerRecord, finish, monitor_of, open_record};
 use coap_server_engine::{IoFault, Monitor, NoMonitor};
-use coap_server_monitors::{ServerRecord, finish, monitor_of, open_record};
-use coap_server_streams::{Report, serve_one_with};
 use std::rt::Files;
 use std::{io, time};
 

@@ -1,3 +1,6 @@
 pub mod Planned
 pub mod Reasons
 pub mod RecordHeaders
+pub mod RecordEnds
+pub mod Refusals
+pub mod ConnectionEnds

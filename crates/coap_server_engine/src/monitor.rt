@@ -47,7 +47,7 @@ pub enum DropReason {
     Failed,
     /// Connection on which nothing more will be written: it has stopped, and its queue is empty.
     Finished,
-    /// Silent connection that was not released (`coap_server_listener`).
+    /// Silent connection that was not released (`coap_serve`).
     Silent,
     /// Call of the embedding program.
     Requested,

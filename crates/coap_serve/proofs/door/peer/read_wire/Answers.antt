@@ -1,0 +1,17 @@
+use Rattle.std.proofs.Common.{◌≡◌, ◌≢◌, refl, rules}
+use Rattle.coap_serve.specs.Prelude.{End}
+use Rattle.coap_serve.proofs.listener.ServingLemmas.{none_called, read_called}
+use Rattle.coap_serve.proofs.door.peer.read_wire.Goals as goal
+
+pub returns-then-not-may_read-clause-accepted : goal.returns-then-not-may_read-clause-accepted
+returns-then-not-may_read-clause-accepted g c = none_called refl
+
+pub returns-else-eq-clause-accepted : goal.returns-else-eq-clause-accepted
+returns-else-eq-clause-accepted g c =
+    let apart : c.read-got.result ≢ End = search rules in
+    read_called c.args.id c.read-got.result apart refl
+
+pub returns-in-Ok-clause-accepted : goal.returns-in-Ok-clause-accepted
+returns-in-Ok-clause-accepted g c =
+    let is : c.read-got.result ≡ End = search rules in
+    rw is (record { shows = c.in-Ok.ensures.shows; follows = c.accepted.ensures })

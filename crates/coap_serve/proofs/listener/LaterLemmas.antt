@@ -1,0 +1,77 @@
+-- Later responses of an application.
+use Rattle.std.proofs.Common.{◌≡◌, ℕ, ◌+◌, ◌≤◌, ◌==◌, Bool, true, false, List, [], ◌∷◌, ◌++◌, map, Option, Some, None, refl, ap, nat_eq, arith, add-one, is_some, if◌then◌else◌}
+use Rattle.std.proofs.lemmas.List.{append-nil}
+use Rattle.std.proofs.lemmas.List.Elements.{All-from_recursion, recursion_from_All}
+use Rattle.coap_serve.specs.Prelude.{All, AcceptedCall, AreAskedLater, AreRecorded, AreSettled, Following, FollowsMore, Answering, AnswersMore, IsAskedLater, IsNoted, Peer, ServerValue, ShowsMore, recorded, recorded_on, unrecorded}
+use Rattle.coap_server_engine.specs.Prelude.{Exchange, AreGivenLater, NothingGiven, OneMoreGiven}
+use Rattle.coap_server_engine.proofs.scripting.ShownLemmas.{shows_same, shows_then}
+use Rattle.coap_server_engine.proofs.scripting.FollowLemmas.{followed_none, followed_then}
+use Rattle.coap_serve.proofs.listener.NoteLemmas.{offers_sparing, stays_noted}
+use Rattle.coap_serve.proofs.listener.RemovalLemmas.{all_noted_on, recorded_noted}
+use Rattle.coap_serve.proofs.listener.ServingLemmas.{answered_none, answered_then}
+
+-- This number of later responses was given, with these events and exchanges.
+pub record HasGivenLater (v : ServerValue) (number : ℕ) (after : ServerValue) (monitor : List AcceptedCall → Type 0) (asks : List Exchange → Type 0) : Type 0 where
+  pub events : List AcceptedCall
+  pub exchanges : List Exchange
+  pub given : AreGivenLater v number after events exchanges
+  pub shows : ShowsMore v after events
+  pub tells : monitor events
+  pub exchanged : asks exchanges
+
+pub none_given : (a : Following) (p : Answering) {v : ServerValue} → HasGivenLater v 0 v (FollowsMore a a) (AnswersMore p p)
+none_given a p {v = v} = record { events = []; exchanges = []; given = NothingGiven; shows = shows_same v v refl; tells = followed_none a; exchanged = answered_none p }
+
+-- The application was not asked.
+pub not_asked : (a : Following) (p : Answering) {v : ServerValue} → AreAskedLater v 256 false v (FollowsMore a a) (AnswersMore p p)
+not_asked a p {v = v} = record { number = 0; events = []; exchanges = []; given = NothingGiven; within = omega arith; over = refl; shows = shows_same v v refl; tells = followed_none a; exchanged = answered_none p }
+
+-- One more response was given.
+pub one_more_given : (a b c : Following) (p q r : Answering) {v u w : ServerValue} {n : ℕ} (id : Option ℕ) {is_one : Bool} → HasGivenLater v n u (FollowsMore a b) (AnswersMore p q) → is_one ≡ is_some id → IsAskedLater u id w (FollowsMore b c) (AnswersMore q r) → is_one ≡ true
+    → HasGivenLater v (n + 1) w (FollowsMore a c) (AnswersMore p r)
+one_more_given a b c p q r None so_far is asked one = absurd (cc (is, one))
+one_more_given a b c p q r {v = v} {u = u} {w = w} {n = n} (Some id) so_far is asked one = record {
+  events = so_far.events ++ _;
+  exchanges = so_far.exchanges ++ _;
+  given = rw (add-one n, asked.server) (OneMoreGiven n u so_far.events so_far.exchanges id asked.bytes asked.outcome so_far.given asked.refused asked.reply);
+  shows = shows_then v u w so_far.events _ so_far.shows asked.shows;
+  tells = followed_then a b c so_far.events _ so_far.tells asked.tells;
+  exchanged = answered_then p q r so_far.exchanges _ so_far.exchanged asked.exchanged;
+}
+
+-- The application had no more.
+pub no_more_given : (a b c : Following) (p q r : Answering) {v u w : ServerValue} {n most : ℕ} (id : Option ℕ) {is_one : Bool} → HasGivenLater v n u (FollowsMore a b) (AnswersMore p q) → is_one ≡ is_some id → IsAskedLater u id w (FollowsMore b c) (AnswersMore q r) → is_one ≡ false
+    → n ≤ most → AreAskedLater v most (n == most) w (FollowsMore a c) (AnswersMore p r)
+no_more_given a b c p q r (Some id) so_far is asked none within = absurd (cc (is, none))
+no_more_given a b c p q r {v = v} {u = u} {w = w} {n = n} None so_far is asked none within = record {
+  number = n;
+  events = so_far.events ++ [];
+  exchanges = so_far.exchanges ++ [];
+  given = rw (append-nil, append-nil, asked.0) so_far.given;
+  within = within;
+  over = refl;
+  shows = shows_then v u w so_far.events [] so_far.shows (shows_same u w asked.0);
+  tells = followed_then a b c so_far.events [] so_far.tells asked.1.0;
+  exchanged = answered_then p q r so_far.exchanges [] so_far.exchanged asked.1.1;
+}
+
+-- ---- the recorded interests
+
+-- To record an interest changes nothing else.
+recorded_aside : {W : Type 0} (v : ServerValue) (id : ℕ) (es : List (ℕ × Peer W)) → AreRecorded es (recorded_on v id es)
+recorded_aside v id [] = refl
+recorded_aside v id (e ∷ es) =
+    elim (nat_eq id e.0) as (λ b. unrecorded (if b then (e.0, recorded v e) else e) ∷ map unrecorded (recorded_on v id es) ≡ unrecorded e ∷ map unrecorded es) [
+      | true ↦ ap (λ xs. unrecorded e ∷ xs) (recorded_aside v id es)
+      | false ↦ ap (λ xs. unrecorded e ∷ xs) (recorded_aside v id es)
+    ]
+
+pub recorded_once : {W : Type 0} (v : ServerValue) (id : ℕ) (es : List (ℕ × Peer W)) {now : List (ℕ × Peer W)} → now ≡ recorded_on v id es → AreRecorded es now
+recorded_once v id es is = rw is (recorded_aside v id es)
+
+-- The interest of the connection with a later response was recorded anew, and all others stay correct.
+pub noted_where_given : {W : Type 0} (monitor : List AcceptedCall → Type 0) (asks : List Exchange → Type 0) (v after : ServerValue) (id : ℕ) (es : List (ℕ × Peer W)) {now : List (ℕ × Peer W)} → AreSettled v.host v.sessions → IsAskedLater v (Some id) after monitor asks → now ≡ recorded_on after id es
+    → All (IsNoted v) es → All (IsNoted after) now
+noted_where_given monitor asks v after id es settled asked is noted =
+    rw is (All-from_recursion (IsNoted after) (recorded_on after id es)
+    (all_noted_on (recorded after) v after id (stays_noted (offers_sparing v id asked.bytes asked.server) settled) (recorded_noted after) es (recursion_from_All (IsNoted v) es noted)))

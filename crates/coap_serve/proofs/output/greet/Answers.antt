@@ -1,0 +1,11 @@
+use Rattle.std.proofs.Common.{[]}
+use Rattle.std.proofs.lemmas.List.{append-nil}
+use Rattle.coap_server_engine.proofs.scripting.FollowLemmas.{followed_then}
+use Rattle.coap_serve.proofs.output.greet.Goals as goal
+
+-- The end of a turn adds no call.
+pub returns-clause-ok : goal.returns-clause-ok
+returns-clause-ok g c = record {
+  flushed = c.in-Ok.ensures.ok.flushed;
+  tells = rw append-nil at (followed_then (g.M.Monitor.follows c.args.monitor.now) (g.M.Monitor.follows c.flush.new.monitor) (g.M.Monitor.follows c.turn_ended.new.self) _ [] c.in-Ok.ensures.ok.tells c.turn_ended.ensures.follows);
+}

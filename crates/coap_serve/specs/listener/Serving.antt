@@ -1,0 +1,253 @@
+-- Defined by this project: one turn of the event loop, its history, and how each connection is served in it.
+use Rattle.std.specs.Prelude.{ℕ, ◌≡◌, ◌≢◌, ◌≤◌, ◌⊎◌, ◌+◌, Bool, true, false, List, [], ◌∷◌, ◌++◌, length, map, take, drop, slice_get, Option, Some, None, is_none, is_some, nat_eq, ◌||◌, if◌then◌else◌}
+use Rattle.coap_server_engine.specs.Prelude.{insert_entry, AcceptedCall, Opened, Wrote, Ended, ServerState, SessionValue, Answering, Following, stamp_of, open_refusal}
+use Rattle.coap_io.specs.streams.DeviceTraces.{DoorCall, Asked}
+use Rattle.coap_io.specs.streams.Wires.{MatchesTrace, WireTrace, trace_by}
+use Rattle.coap_io.specs.declared.wire.Got.{Got}
+use Rattle.coap_io.specs.declared.wire.Wait.{Wait}
+use Rattle.coap_server_engine.specs.values.ApplicationCalls.{IsPartlyServed, IsServed as IsServedWith}
+use Rattle.coap_server_engine.specs.values.Servers.{ServerValue, session_of, server_opened, server_dropped, server_ended, server_written}
+use Rattle.coap_serve.specs.declared.door.peer.PeerOutcome.{PeerOutcome}
+use Rattle.coap_serve.specs.declared.door.peer.PeerOutcome.TheVariants.{Open, Over}
+use Rattle.coap_serve.specs.declared.door.peer.Peer.{Peer}
+use Rattle.coap_serve.specs.declared.door.next_wakeup.NextWakeup.{NextWakeup}
+use Rattle.coap_serve.specs.listener.Histories.{AreCallsBetween, AreSteps, HasAccepted, History, IsAccepted, history_then, no_history, one_call, one_drop}
+use Rattle.coap_serve.specs.listener.RecordedInterests.{true_end}
+use Rattle.coap_serve.specs.listener.Turns.{CanGoOn, IsAgendaOf, IsServedOnceBy, IsTakenWith, IsWaitAfter, Readiness, Taking, VisitResult, VisitState, activity_after, end_of, have_moved, new_activity, visit_state}
+
+-- ---- steps
+
+-- Bytes were passed to a connection for an application, until none was left or accepted, or an allocation failed.
+pub record AreTakenWith (v after : ServerValue) (h : History) : Type 0 where
+  pub id : ℕ
+  pub bytes : List ℕ
+  pub how : ((count : ℕ) × IsServedWith v id bytes count after (λ all. h.events ≡ all) (λ all. h.exchanges ≡ all)) ⊎ IsPartlyServed v id bytes after (λ all. h.events ≡ all) (λ all. h.exchanges ≡ all)
+
+-- A step of serving connections: a call that passes bytes, an end of input, a write, or the end of a connection.
+pub data IsVisitStep (v : ServerValue) : ServerValue → History → Type 0 where
+  BytesTaken : (after : ServerValue) (h : History) → AreTakenWith v after h → IsVisitStep v after h
+  InputEnded : (id : ℕ) → IsVisitStep v (server_ended v id) (one_call (Ended id))
+  BytesWritten : (id n : ℕ) → IsVisitStep v (server_written v id n) (one_call (Wrote id n))
+  ConnectionDropped : (id : ℕ) → IsVisitStep v (server_dropped v id) (one_drop id)
+
+-- Connections were served in these steps, and nothing else happened.
+abbrev pub HasServed : (Known : History → Type 0) (v after : ServerValue) → Type 0
+HasServed Known v after = HasAccepted (AreSteps IsVisitStep v after) Known v after
+
+-- The event that opens a connection with the next number, or no event.
+abbrev pub opening : ServerValue → Bool → List AcceptedCall
+opening v true = Opened (v.ids + 1) ∷ []
+opening v false = []
+
+-- The server after a connection was opened, if one was.
+abbrev pub opened_if : ServerValue → Bool → ServerValue
+opened_if v true = server_opened v
+opened_if v false = v
+
+-- A history that begins with the event of opening a connection, if one was opened.
+abbrev pub opening_then : ServerValue → Bool → History → History
+opening_then v opens h = record h { events = opening v opens ++ h.events }
+
+-- At most one connection was opened, and nothing else happened.
+pub record HasOpened (before later : Following) (v after : ServerValue) : Type 0 where
+  pub opens : Bool
+  pub server : after ≡ opened_if v opens
+  pub calls : AreCallsBetween before later v after (opening v opens)
+
+-- The steps of a turn that was made in full or in part: at most one connection was opened, and then connections were
+-- served.
+pub record AreTurnSteps (v after : ServerValue) (h : History) : Type 0 where
+  pub opens : Bool
+  pub visits : History
+  pub steps : AreSteps IsVisitStep (opened_if v opens) after visits
+  pub all : h ≡ opening_then v opens visits
+
+-- A turn was made in full or in part, and nothing else happened.
+abbrev pub HasTurned : (Known : History → Type 0) (v after : ServerValue) → Type 0
+HasTurned Known v after = HasAccepted (AreTurnSteps v after) Known v after
+
+-- ---- the event loop
+
+-- A server with the transport sides of its connections.
+pub record LoopState (W : Type 0) : Type 0 where
+  pub server : ServerValue
+  pub entries : List (ℕ × Peer W)
+
+abbrev pub loop_state : {W : Type 0} → ServerValue → List (ℕ × Peer W) → LoopState W
+loop_state server entries = record { server = server; entries = entries }
+
+-- The records of the wires of a type: their readiness, and their traces.
+pub record Views (W : Type 0) : Type 0 where
+  pub readable : W → Option Bool
+  pub writable : W → Option Bool
+  pub trace : W → WireTrace
+
+-- The same, by the ghost members of the type.
+abbrev pub views_of : {W : Type 0} (readable writable : W → Option Bool) (given written : W → Option (List ℕ)) (answers : W → Option (List Got)) (rooms : W → Option (List ℕ)) → Views W
+views_of readable writable given written answers rooms = record { readable = readable; writable = writable; trace = trace_by given written answers rooms }
+
+-- The way in which connections are served: the effect of received bytes, the time of the turn, and the records of the
+-- wires.
+pub record Way (W : Type 0) : Type 1 where
+  pub takes : Taking
+  pub second : ℕ
+  pub views : Views W
+
+-- The same, for an application with these statements.
+abbrev pub way : {A W : Type 0} (follows : A → Answering) (second : ℕ) (views : Views W) → Way W
+way follows second views = record { takes = IsTakenWith follows; second = second; views = views }
+
+-- ---- one connection
+
+-- The history of a drop, if the connection exists.
+abbrev pub drop_on : Option SessionValue → ℕ → History
+drop_on None id = no_history
+drop_on (Some s) id = one_drop id
+
+abbrev pub drop_history : ServerValue → ℕ → History
+drop_history v id = drop_on (session_of id v.sessions) id
+
+-- The server, the entry of a connection, and the history after those of serving it. If the outcome is `Over`, the
+-- connection is dropped.
+abbrev pub server_left : PeerOutcome → ServerValue → ℕ → ServerValue
+server_left Open v id = v
+server_left (Over reason) v id = server_dropped v id
+
+abbrev pub end_left : {W : Type 0} → PeerOutcome → ℕ → Peer W → List (ℕ × Peer W)
+end_left Open id p = (id, p) ∷ []
+end_left (Over reason) id p = []
+
+abbrev pub history_left : PeerOutcome → ServerValue → ℕ → History
+history_left Open v id = no_history
+history_left (Over reason) v id = drop_history v id
+
+-- A visit of a connection: the server and the transport side of the connection after it, and its result.
+pub record Visit (W : Type 0) : Type 0 where
+  pub server : ServerValue
+  pub peer : Peer W
+  pub result : VisitResult
+
+abbrev pub visit : {W : Type 0} → ServerValue → Peer W → PeerOutcome → History → Visit W
+visit server peer outcome h = record { server = server; peer = peer; result = record { outcome = outcome; history = h } }
+
+abbrev pub state_at : {W : Type 0} (trace : W → WireTrace) → ServerValue → Peer W → VisitState
+state_at trace v p = visit_state v p.rest (trace p.wire)
+
+-- A connection was served once, by `takes`: a read if one is due, then processing, then a write if bytes are queued.
+abbrev pub IsServedBy : {W : Type 0} (takes : Taking) (trace : W → WireTrace) (ready : Readiness) → ServerValue → ℕ × Peer W → Visit W → Type 0
+IsServedBy takes trace ready v e x = IsServedOnceBy takes ready e.0 (state_at trace v e.1) (state_at trace x.server x.peer) x.result
+
+-- The times of the connection follow from the calls of a visit.
+abbrev pub AreTimesAfter : {W : Type 0} (second : ℕ) → Peer W → Visit W → Type 0
+AreTimesAfter second p x = x.peer.activity ≡ activity_after second (have_moved x.result.history.events) p.activity
+
+-- A connection was served once, with the results of `may_read` and `may_write` of its wire. They are those that the
+-- wire records, if it does.
+pub record IsVisited {W : Type 0} (S : Way W) (v : ServerValue) (e : ℕ × Peer W) (x : Visit W) : Type 0 where
+  pub ready : Readiness
+  pub read : MatchesTrace (S.views.readable e.1.wire) ready.read
+  pub write : MatchesTrace (S.views.writable e.1.wire) ready.write
+  pub part : IsServedBy S.takes S.views.trace ready v e x
+  pub activity : AreTimesAfter S.second e.1 x
+
+-- A connection was served in a turn, and was dropped if its outcome is `Over`. Its wire was read and written at no
+-- other time. The history is that of the visit, followed by that of the drop. If the connection was dropped, its wire
+-- is gone, and a fitting one exists.
+pub record IsServedInTurn {W : Type 0} (S : Way W) (v : ServerValue) (e : ℕ × Peer W) (after : LoopState W) (h : History) : Type 0 where
+  pub its : Visit W
+  pub part : IsVisited S v e its
+  pub server : after.server ≡ server_left its.result.outcome its.server e.0
+  pub far_end : after.entries ≡ end_left its.result.outcome e.0 its.peer
+  pub all : h ≡ history_then its.result.history (history_left its.result.outcome its.server e.0)
+
+-- The connection at an index was served, and the turn continues at the index `at`. The connections before and after it
+-- are unchanged.
+pub record HasGoneOn {W : Type 0} (S : Way W) (s : LoopState W) (i : ℕ) (after : LoopState W) (at : ℕ) (h : History) : Type 0 where
+  pub e : ℕ × Peer W
+  pub its : List (ℕ × Peer W)
+  pub there : slice_get s.entries i ≡ Some e
+  pub part : IsServedInTurn S s.server e (loop_state after.server its) h
+  pub front : take at after.entries ≡ take i s.entries ++ its
+  pub back : drop at after.entries ≡ drop (i + 1) s.entries
+
+-- ---- each connection in order
+
+-- `affects` is `true` if and only if there is an earlier connection, and the state that all connections share has
+-- changed. Then serving a connection may affect those before it.
+abbrev pub AffectsEarlier : (earlier : ℕ) (host later : ServerState) (affects : Bool) → Type 0
+AffectsEarlier earlier host later true = (1 ≤ earlier) × (later ≢ host)
+AffectsEarlier earlier host later false = (earlier ≡ 0) ⊎ (later ≡ host)
+
+-- Each connection in order was served, or skipped if nothing could be done on it. `earlier` is the number of
+-- connections before these that still exist. `changed` is `true` if and only if serving one of these may affect a
+-- connection before it, including those `earlier` ones. The history is that of the served connections, in order. A
+-- connection that is skipped has none.
+pub data AreServed {W : Type 0} (S : Way W) : (earlier : ℕ) → LoopState W → (changed : Bool) → LoopState W → History → Type 0 where
+  NoMore : (earlier : ℕ) (v : ServerValue) → AreServed S earlier (loop_state v []) false (loop_state v []) no_history
+  Skipped : (earlier : ℕ) (v : ServerValue) (e : ℕ × Peer W) (es : List (ℕ × Peer W)) (changed : Bool) (after : LoopState W) (h : History) → CanGoOn (true_end S.views.readable S.views.writable v e) false
+      → AreServed S (earlier + 1) (loop_state v es) changed after h → AreServed S earlier (loop_state v (e ∷ es)) changed (loop_state after.server (e ∷ after.entries)) h
+  Visited : (earlier : ℕ) (v : ServerValue) (e : ℕ × Peer W) (es : List (ℕ × Peer W)) (between : LoopState W) (own : History) (affects changed : Bool) (after : LoopState W) (h : History) → IsServedInTurn S v e between own → AffectsEarlier earlier v.host between.server.host affects
+      → AreServed S (earlier + length between.entries) (loop_state between.server es) changed after h
+      → AreServed S earlier (loop_state v (e ∷ es)) (affects || changed) (loop_state after.server (between.entries ++ after.entries)) (history_then own h)
+
+-- Each connection in order was served or skipped, and the agenda describes the work that remains.
+pub record IsRound {W : Type 0} (S : Way W) (s : LoopState W) (a : NextWakeup) (after : LoopState W) (h : History) : Type 0 where
+  pub changed : Bool
+  pub served : AreServed S 0 s changed after h
+  pub agenda : IsAgendaOf a changed (stamp_of after.server.host) (map (λ e. end_of S.views.readable S.views.writable e.1) after.entries)
+
+-- ---- a turn
+
+-- A connection was opened for a wire, and no limit was reached before. No bytes are left from its reads, and the wire
+-- was not touched.
+pub record HasOneMore {W : Type 0} (second : ℕ) (wire : W) (s after : LoopState W) : Type 0 where
+  pub peer : Peer W
+  pub may : open_refusal s.server ≡ None
+  pub server : after.server ≡ server_opened s.server
+  pub entries : after.entries ≡ insert_entry nat_eq s.entries (s.server.ids + 1) peer
+  pub rest : peer.rest ≡ []
+  pub handed : peer.wire ≡ wire
+  pub activity : peer.activity ≡ new_activity second
+
+-- A connection was opened for the wire that a listener returned. If it returned none, nothing changed.
+abbrev pub AreOpened : {W : Type 0} → (second : ℕ) (handed : Option W) → (s after : LoopState W) → Type 0
+AreOpened second (Some wire) s after = HasOneMore second wire s after
+AreOpened second None s after = (after.server ≡ s.server) × (after.entries ≡ s.entries)
+
+-- The calls of a listener in a turn. If another connection may be opened, it is asked once for a wire and returns one
+-- or none. Otherwise it is not called.
+abbrev pub asked_by : {W : Type 0} → ServerValue → (handed : Option W) → List (DoorCall W)
+asked_by v handed = if is_none (open_refusal v) then (Asked handed ∷ []) else []
+
+abbrev pub IsAskedOnce : {W : Type 0} → (door : List (DoorCall W) → Type 0) → ServerValue → Type 0
+IsAskedOnce {W} door v = (handed : Option W) × door (asked_by v handed)
+
+-- The listener was asked, and a connection was opened for the wire that it returned, or none was. `door` states which
+-- calls the listener had.
+pub record IsOpening {W : Type 0} (second : ℕ) (door : List (DoorCall W) → Type 0) (s after : LoopState W) (opens : Bool) : Type 0 where
+  pub handed : Option W
+  pub asked : door (asked_by s.server handed)
+  pub opened : AreOpened second handed s after
+  pub is : opens ≡ is_some handed
+
+-- The knowledge of a turn: the calls of the listener, and the history.
+pub record KnownOfTurn (W : Type 0) : Type 1 where
+  pub door : List (DoorCall W) → Type 0
+  pub history : History → Type 0
+
+abbrev pub known_of_turn : {W : Type 0} (door : List (DoorCall W) → Type 0) (history : History → Type 0) → KnownOfTurn W
+known_of_turn door history = record { door = door; history = history }
+
+-- One turn of a server with its connections. If another connection may be opened, the listener is asked once, and a
+-- connection is opened for the wire that it returns. Then each connection is served. The wait is zero if and only if a
+-- connection was opened, a change may affect one served earlier, or one is ready. The history of the turn is that of
+-- the opened connection and of the served ones, in order, and the server accepted its calls.
+pub record IsTurnBy {W : Type 0} (S : Way W) (K : KnownOfTurn W) (s after : LoopState W) (wait : Wait) : Type 0 where
+  pub opens : Bool
+  pub between : LoopState W
+  pub opened : IsOpening S.second K.door s between opens
+  pub changed : Bool
+  pub visits : History
+  pub served : AreServed S 0 between changed after visits
+  pub waits : IsWaitAfter (opens || changed) (map (λ e. true_end S.views.readable S.views.writable after.server e) after.entries) wait
+  pub accepted : IsAccepted K.history s.server after.server (opening_then s.server opens visits)

@@ -1,0 +1,331 @@
+-- Defined by this project: how a turn of the event loop serves one connection, and the work that remains afterwards.
+use Rattle.std.specs.Prelude.{ℕ, ◌≡◌, ◌≢◌, fold, Bool, true, false, not, List, [], ◌∷◌, ◌++◌, length, drop, Option, Some, None, IfSome, nat_lt, ◌==◌, ◌&&◌, ◌||◌, if◌then◌else◌}
+use Rattle.std.specs.List.{AllByRecursion}
+use Rattle.coap_server_engine.specs.Prelude.{Reason, can_take_on, stop_on, AcceptedCall, Took, Wrote, Ended, in_result, took, IsReasonFor, waiting_at}
+use Rattle.coap_server_engine.specs.values.Servers.{ServerValue, session_of, server_ended, server_written}
+use Rattle.coap_server_session.specs.values.Deadlines.{sooner}
+use Rattle.coap_server_engine.specs.values.Exchanges.{Answering, AnswersMore}
+use Rattle.coap_server_engine.specs.values.ApplicationCalls.{IsServed as IsServedWith}
+use Rattle.coap_server_engine.specs.values.ServerDeadlines.{outlook_of, stamp_of, same_stamp}
+use Rattle.coap_serve.specs.listener.Histories.{History, calls_only, no_history}
+use Rattle.coap_io.specs.streams.Wires.{MatchesTrace, WireTrace, IsReadOnce, IsWrittenOnce}
+use Rattle.coap_server_engine.specs.declared.monitor.DropReason.TheVariants as drop
+use Rattle.coap_serve.specs.declared.door.peer.PeerOutcome.{PeerOutcome}
+use Rattle.coap_serve.specs.declared.door.peer.PeerOutcome.TheVariants.{Open, Over}
+use Rattle.coap_serve.specs.declared.door.peer_interest.PeerInterest.{PeerInterest}
+use Rattle.coap_serve.specs.declared.door.peer.Peer.{Peer}
+use Rattle.coap_serve.specs.declared.door.next_wakeup.NextWakeup.{NextWakeup}
+use Rattle.coap_serve.specs.declared.door.silence.Activity.{Activity}
+use Rattle.coap_io.specs.declared.wire.Wait.{Wait}
+use Rattle.coap_io.specs.declared.wire.Wait.TheVariants.{No, Until, Forever}
+use Rattle.coap_server_engine.specs.declared.server.ConnectionWork.{ConnectionWork}
+use Rattle.coap_server_engine.specs.declared.server.ChangeStamp.{ChangeStamp}
+use Rattle.coap_io.specs.declared.wire.Got.{Got}
+use Rattle.coap_io.specs.declared.wire.Got.TheVariants.{Bytes, Later, End, Failed}
+use Rattle.coap_io.specs.declared.read_buffer.TheConstants.{READ_SIZE}
+
+-- A read is due: the wire may be read, no bytes are left from earlier reads, and the connection accepts bytes.
+abbrev pub is_heard : (may_read : Bool) → ServerValue → ℕ → List ℕ → Bool
+is_heard may_read v id rest = may_read && (length rest == 0) && can_take_on (session_of id v.sessions)
+
+-- The bytes that are offered to a write: all queued bytes if the wire may be written, otherwise none.
+abbrev pub waiting_once : (may_write : Bool) → ℕ → ServerValue → List ℕ
+waiting_once may_write id v = if may_write then waiting_at id v else []
+
+-- The server after a read with this result. If the read found the end, the input of the connection has ended.
+abbrev pub server_heard : ServerValue → ℕ → Got → ServerValue
+server_heard v id End = server_ended v id
+server_heard v id heard = v
+
+-- The server after a write with this result. The bytes that were written are removed from the queue.
+abbrev pub server_wrote : ServerValue → ℕ → Got → ServerValue
+server_wrote v id (Bytes n) = server_written v id n
+server_wrote v id wrote = v
+
+-- The event of a read with this result: if the read found the end, the input has ended.
+abbrev pub heard_events : ℕ → Got → List AcceptedCall
+heard_events id End = Ended id ∷ []
+heard_events id heard = []
+
+-- The event of a write with this result, if it accepted bytes.
+abbrev pub wrote_events : ℕ → Got → List AcceptedCall
+wrote_events id (Bytes n) = Wrote id n ∷ []
+wrote_events id wrote = []
+
+-- The event of a take of bytes of which the connection accepts none. Without bytes, there is no take.
+abbrev pub refused_events : ℕ → List ℕ → List AcceptedCall
+refused_events id [] = []
+refused_events id (b ∷ bytes) = Took id [] ∷ []
+
+-- The bytes that are kept of those left: none if the connection processes no further message, otherwise all.
+abbrev pub left_behind : Option Reason → List ℕ → List ℕ
+left_behind None rest = rest
+left_behind (Some why) rest = []
+
+-- The bytes that are kept after the connection accepted the first `count` of these, and the server is `taken`.
+abbrev pub rest_behind : (taken : ServerValue) → ℕ → (count : ℕ) → List ℕ → List ℕ
+rest_behind taken id count rest = left_behind (stop_on (session_of id taken.sessions)) (drop count rest)
+
+-- Nothing more will be written on a connection with this work left, or there is no connection.
+abbrev pub is_over_in : Option ConnectionWork → Bool
+is_over_in None = true
+is_over_in (Some o) = o.finished
+
+-- ---- the times of a connection
+
+-- A call that transfers bytes on a connection.
+abbrev pub moves : AcceptedCall → Bool
+moves (Took id bytes) = nat_lt 0 (length bytes)
+moves (Wrote id n) = nat_lt 0 n
+moves call = false
+
+-- `true` if one of these calls transferred bytes.
+abbrev pub have_moved : List AcceptedCall → Bool
+have_moved [] = false
+have_moved (e ∷ es) = moves e || have_moved es
+
+-- `true` if a write with this result accepted bytes.
+abbrev pub has_written : Got → Bool
+has_written (Bytes n) = nat_lt 0 n
+has_written wrote = false
+
+-- The times of a connection that is opened.
+abbrev pub new_activity : (second : ℕ) → Activity
+new_activity second = record { opened = second; moved = second; released = None }
+
+-- The times of a connection after bytes were transferred at the time `second`, if they were.
+abbrev pub activity_after : (second : ℕ) → (moved : Bool) → Activity → Activity
+activity_after second moved a = if moved then record a { moved = second } else a
+
+-- ---- serving one connection
+
+-- The result of passing received bytes to a connection: the server, the number of bytes that it accepted, and the
+-- history.
+pub record TakeResult : Type 0 where
+  pub server : ServerValue
+  pub count : ℕ
+  pub history : History
+
+-- The effect of received bytes on a connection: the server before, the number of the connection, the bytes, and the
+-- result.
+abbrev pub Taking : Type 1
+Taking = ServerValue → ℕ → List ℕ → TakeResult → Type 0
+
+-- The connection accepts all that it accepts of the bytes, and no application responds.
+abbrev pub IsTakenAlone : Taking
+IsTakenAlone v id bytes r = (r.server ≡ (in_result v id bytes).server) × (r.count ≡ (in_result v id bytes).count) × (r.history ≡ calls_only (took v id bytes))
+
+-- The connection accepts all that it accepts of the bytes. An application with these statements is shown the requests
+-- that it answers, and responds to some of them at once.
+abbrev pub IsTakenWith : {A : Type 0} → (follows : A → Answering) → Taking
+IsTakenWith {A} follows v id bytes r = IsServedWith v id bytes r.count r.server (λ all. r.history.events ≡ all) (λ all. (r.history.exchanges ≡ all) × (one other : A) × AnswersMore (follows one) (follows other) all)
+
+abbrev pub has_failed : Got → Bool
+has_failed Failed = true
+has_failed got = false
+
+-- The outcome for a connection, by the result of its write and by whether nothing more will be written.
+abbrev pub course_of : (wrote : Got) (is_over : Bool) → PeerOutcome
+course_of wrote is_over = if has_failed wrote then Over drop.Failed else (if is_over then Over drop.Finished else Open)
+
+-- The outcome is right for a connection with this work left. If the connection is dropped, it may be for this reason.
+abbrev pub IsCourseFor : PeerOutcome → Option ConnectionWork → Type 0
+IsCourseFor Open work = Unit {0}
+IsCourseFor (Over why) work = IfSome work (IsReasonFor why)
+
+-- The bytes to be processed, and the trace of the wire. If a read is due, the wire was read once and gave these bytes.
+-- Otherwise they are left from earlier reads, and the wire was not touched.
+abbrev pub IsLaidOut : (is_due : Bool) → List ℕ → WireTrace → Got → List ℕ → WireTrace → Type 0
+IsLaidOut true rest wire heard bytes after = IsReadOnce READ_SIZE wire after heard bytes
+IsLaidOut false rest wire heard bytes after = (heard ≡ Later) × (bytes ≡ rest) × (after ≡ wire)
+
+-- The connection did with these bytes what `Takes` states, with this result, and these bytes are kept.
+pub record IsTakenInPart (Takes : Taking) (v : ServerValue) (id : ℕ) (bytes left : List ℕ) (r : TakeResult) : Type 0 where
+  pub took : Takes v id bytes r
+  pub rest : left ≡ rest_behind r.server id r.count bytes
+  pub moved : have_moved r.history.events ≡ nat_lt 0 r.count
+
+-- If the bytes offered to a wire are not empty, the wire was written once. Otherwise it was not touched.
+pub record IsOffered (bytes : List ℕ) (wire : WireTrace) (wrote : Got) (after : WireTrace) : Type 0 where
+  pub idle : bytes ≡ [] → (wrote ≡ Later) × (after ≡ wire)
+  pub busy : bytes ≢ [] → IsWrittenOnce bytes wire after wrote
+
+-- The readiness of a wire: it may be read, and it may be written.
+pub record Readiness : Type 0 where
+  pub read : Bool
+  pub write : Bool
+
+abbrev pub readiness : (may_read may_write : Bool) → Readiness
+readiness may_read may_write = record { read = may_read; write = may_write }
+
+-- The state that a visit of a connection may change: the server, the bytes left from reads of the wire, and its trace.
+pub record VisitState : Type 0 where
+  pub server : ServerValue
+  pub rest : List ℕ
+  pub wire : WireTrace
+
+abbrev pub visit_state : ServerValue → List ℕ → WireTrace → VisitState
+visit_state v rest wire = record { server = v; rest = rest; wire = wire }
+
+-- The result of a visit.
+pub record VisitResult : Type 0 where
+  pub outcome : PeerOutcome
+  pub history : History
+
+-- The connection did with its bytes what `Takes` states. Then its queued bytes were offered to one write, if the wire
+-- may be written. The event of the write follows those of the takes.
+pub record IsTakenAndWritten (Takes : Taking) (may_write : Bool) (id : ℕ) (before after : VisitState) (r : VisitResult) : Type 0 where
+  pub taken : TakeResult
+  pub took : Takes before.server id before.rest taken
+  pub rest : after.rest ≡ rest_behind taken.server id taken.count before.rest
+  pub wrote : Got
+  pub offered : IsOffered (waiting_once may_write id taken.server) before.wire wrote after.wire
+  pub server : after.server ≡ server_wrote taken.server id wrote
+  pub outcome : r.outcome ≡ course_of wrote (is_over_in (outlook_of after.server id))
+  pub history : r.history ≡ record (taken.history) { events = taken.history.events ++ wrote_events id wrote }
+
+-- The steps that follow a read. If the read failed, there is none, and the connection has failed.
+abbrev pub IsCarriedOn : (failed : Bool) (Steps : VisitState → VisitState → VisitResult → Type 0) → VisitState → VisitState → VisitResult → Type 0
+IsCarriedOn true Steps before after r = (after.server ≡ before.server) × (after.wire ≡ before.wire) × (r ≡ record { outcome = Over drop.Failed; history = no_history })
+IsCarriedOn false Steps before after r = Steps before after r
+
+-- One connection was served: a read if one is due, then processing, then a write if bytes are queued. A failed read
+-- ends this. The wire was read and written at no other time. The events are those of the read, of the takes and of the
+-- write, in this order.
+pub record IsServedOnceBy (Takes : Taking) (ready : Readiness) (id : ℕ) (before after : VisitState) (r : VisitResult) : Type 0 where
+  pub heard : Got
+  pub bytes : List ℕ
+  pub between : WireTrace
+  pub laid : IsLaidOut (is_heard ready.read before.server id before.rest) before.rest before.wire heard bytes between
+  pub later : History
+  pub carried : IsCarriedOn (has_failed heard) (IsTakenAndWritten Takes ready.write id) (visit_state (server_heard before.server id heard) bytes between) after (record r { history = later })
+  pub history : r.history ≡ record later { events = heard_events id heard ++ later.events }
+
+-- One connection was served, and no application responds.
+abbrev pub IsServedOnce : (ready : Readiness) (id : ℕ) (before after : VisitState) (outcome : PeerOutcome) (events : List AcceptedCall) → Type 0
+IsServedOnce ready id before after outcome events = IsServedOnceBy IsTakenAlone ready id before after (record { outcome = outcome; history = calls_only events })
+
+-- To serve the connection has no effect, whatever its wire does: the wire is neither read nor written. There is an
+-- outcome. Every outcome leaves the server, the bytes left from its reads and the trace of its wire unchanged, and the
+-- connection open. The only event is a take that accepts none of the bytes left, if there are some.
+pub record IsNoOp (ready : Readiness) (v : ServerValue) (id : ℕ) (rest : List ℕ) : Type 0 where
+  pub unread : is_heard ready.read v id rest ≡ false
+  pub unwritten : waiting_once ready.write id v ≡ []
+  pub there_is_one : (wire : WireTrace) → IsServedOnce ready id (visit_state v rest wire) (visit_state v rest wire) Open (refused_events id rest)
+  pub always : (wire : WireTrace) (after : VisitState) (outcome : PeerOutcome) (events : List AcceptedCall) → IsServedOnce ready id (visit_state v rest wire) after outcome events → (after ≡ visit_state v rest wire) × (outcome ≡ Open) × (events ≡ refused_events id rest)
+
+-- ---- remaining work
+
+-- The I/O interest of a connection with this work left. It states if bytes read before can be accepted or must be
+-- discarded, and if the wire must be read and written. Without a connection it is empty.
+abbrev pub wants_in : Option ConnectionWork → (is_empty : Bool) → ChangeStamp → PeerInterest
+wants_in None is_empty stamp = record { take = false; read = false; write = false; due = None; stamp = stamp }
+wants_in (Some o) is_empty stamp = record {
+  take = not is_empty && (o.takes || o.stopped);
+  read = is_empty && o.takes;
+  write = o.waits;
+  due = o.due;
+  stamp = stamp;
+}
+
+-- The I/O interest of the connection with this number, for these bytes left from its reads.
+abbrev pub wants_of : ServerValue → ℕ → List ℕ → PeerInterest
+wants_of v id rest = wants_in (outlook_of v id) (length rest == 0) (stamp_of v.host)
+
+-- Something in this I/O interest can be done at once.
+abbrev pub can_go_on : PeerInterest → Readiness → Bool
+can_go_on w ready = w.take || (w.read && ready.read) || (w.write && ready.write)
+
+-- The state that decides whether a connection can be served: its I/O interest and, if its wire records them, the wire's
+-- `may_read` and `may_write`.
+pub record PeerStatus : Type 0 where
+  pub readable : Option Bool
+  pub writable : Option Bool
+  pub wants : PeerInterest
+
+abbrev pub end_of : {W : Type 0} (readable writable : W → Option Bool) → Peer W → PeerStatus
+end_of readable writable p = record { readable = readable p.wire; writable = writable p.wire; wants = p.wants }
+
+-- `answer` is the readiness of a wire if that is wanted, and otherwise `false`.
+abbrev pub IsAsked : (wanted : Bool) (recorded : Option Bool) (answer : Bool) → Type 0
+IsAsked true recorded answer = MatchesTrace recorded answer
+IsAsked false recorded answer = answer ≡ false
+
+-- `result` is `true` if something can be done at once. The connection has bytes to accept or to discard, its wire must
+-- be read and may be, or it must be written and may be.
+pub record CanGoOn (e : PeerStatus) (result : Bool) : Type 0 where
+  pub reads : Bool
+  pub writes : Bool
+  pub read : IsAsked e.wants.read e.readable reads
+  pub write : IsAsked e.wants.write e.writable writes
+  pub is : result ≡ e.wants.take || reads || writes
+
+-- The connection is idle: it was last served when the server had this stamp, and nothing can be done now.
+abbrev pub IsIdle : ChangeStamp → PeerStatus → Type 0
+IsIdle stamp e = (e.wants.stamp ≡ stamp) × CanGoOn e false
+
+-- The connection is not idle: it was last served when the server had another stamp, or something can be done.
+pub record IsInTurn (stamp : ChangeStamp) (e : PeerStatus) : Type 0 where
+  pub ready : Bool
+  pub can : CanGoOn e ready
+  pub is : (same_stamp e.wants.stamp stamp && not ready) ≡ false
+
+-- The connection is idle if the last argument is `true`, and not idle if it is `false`.
+abbrev pub IsRestAnswer : ChangeStamp → PeerStatus → Bool → Type 0
+IsRestAnswer stamp e true = IsIdle stamp e
+IsRestAnswer stamp e false = IsInTurn stamp e
+
+-- The earliest of this time and of all times at which time alone may queue something on one of these connections.
+abbrev pub least_with : Option ℕ → List PeerStatus → Option ℕ
+least_with due all = fold (λ due e. sooner due e.wants.due) due all
+
+abbrev pub least_due : List PeerStatus → Option ℕ
+least_due all = least_with None all
+
+-- `true` if serving a connection may affect the `earlier` connections before it, which were served earlier in the turn.
+-- There must be at least one, and the stamp of the server must have changed.
+abbrev pub concerns_earlier : (earlier : ℕ) (before after : ChangeStamp) → Bool
+concerns_earlier earlier before after = nat_lt 0 earlier && not (same_stamp after before)
+
+-- `result` is `true` if something can be done at once on any of these connections.
+abbrev pub CanAnyGoOn : List PeerStatus → Bool → Type 0
+CanAnyGoOn [] result = result ≡ false
+CanAnyGoOn (e ∷ es) result = (first others : Bool) × CanGoOn e first × CanAnyGoOn es others × (result ≡ (first || others))
+
+-- The agenda describes the connections visited so far, on a server with this stamp. `changed` is `true` if serving one
+-- of them may have affected others before it. Another turn must follow at once if and only if `changed` is `true` or
+-- something can be done at once. The deadline is the earliest of all. If `changed` is `false`, all were last served
+-- when the server had this stamp.
+pub record IsAgendaOf (a : NextWakeup) (changed : Bool) (stamp : ChangeStamp) (all : List PeerStatus) : Type 0 where
+  pub due : a.due ≡ least_due all
+  pub ready : Bool
+  pub can : CanAnyGoOn all ready
+  pub at_once : a.at_once ≡ (changed || ready)
+  pub fresh : changed ≡ false → AllByRecursion (λ e. e.wants.stamp ≡ stamp) all
+
+-- The agenda after idle connections were skipped.
+abbrev pub agenda_past : NextWakeup → List PeerStatus → NextWakeup
+agenda_past a all = record a { due = least_with a.due all }
+
+-- The agenda after one more connection was visited, by whether something can be done on it at once and by its deadline.
+abbrev pub agenda_with : NextWakeup → Bool → Option ℕ → NextWakeup
+agenda_with a ready due = record { at_once = a.at_once || ready; due = sooner a.due due }
+
+abbrev pub wait_until : Option ℕ → Wait
+wait_until None = Forever
+wait_until (Some moment) = Until moment
+
+abbrev pub wait_of : NextWakeup → Wait
+wait_of a = if a.at_once then No else wait_until a.due
+
+-- The wait is zero if something must be done at once. Otherwise it ends at the earliest time at which time alone may
+-- queue something, or never if there is none.
+abbrev pub wait_for : (at_once : Bool) → List PeerStatus → Wait
+wait_for at_once all = if at_once then No else wait_until (least_due all)
+
+-- The wait after a turn is zero if and only if the turn itself requires another one or a connection can be served at
+-- once.
+pub record IsWaitAfter (calls_again : Bool) (all : List PeerStatus) (wait : Wait) : Type 0 where
+  pub ready : Bool
+  pub can : CanAnyGoOn all ready
+  pub is : wait ≡ wait_for (calls_again || ready) all

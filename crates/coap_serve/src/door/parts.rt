@@ -1,0 +1,222 @@
+//! The parts of a turn of a service.
+
+ghost use Rattle.std.specs.Prelude.{ℕ, ◌≡◌, ◌≢◌, ◌==◌, false, All, Option, is_some};
+ghost use Rattle.coap_serve.specs.Prelude.{AnswersMore, AreAskedLater, AreRecorded, FollowsMore};
+ghost use Rattle.coap_serve.specs.Prelude.{IsAskedLater};
+ghost use Rattle.coap_serve.specs.listener.RecordedInterests.{IsNoted};
+
+use super::peer::Peers;
+use super::removal::record_on;
+use super::service::Service;
+use super::sweep::sweep;
+use super::turn::take_turn;
+use coap_io::{Door, Ready, Wait, Wire};
+use coap_model::Backwards;
+use coap_server_engine::{Application, Call, IoFault, Monitor, Server};
+
+/// Number of later responses that a turn takes from an application at most.
+const MOST_RESPONSES: usize = 256;
+
+impl<W: Wire + Ready + Drop> Service<W> {
+    ghost use Rattle.std.specs.Prelude.{true, ◌++◌, List, is_ok, nat_le, IfErr, IfOk, OnErr, OnOk};
+    ghost use Rattle.coap_serve.specs.Prelude.{HasTurned, known_by, known_of_turn, loop_state, way};
+    ghost use Rattle.coap_serve.specs.Prelude.{AcceptedCall, HasSwept, IsAskedOnce, IsMemory, IsTurnBy};
+    ghost use Rattle.coap_serve.specs.Prelude.{Shows, TellsMore, due_sweep, moved_to, short_wait};
+    ghost use Rattle.coap_serve.specs.Prelude.{ticked_calls, views_of};
+
+    /// Releases or drops the silent connections, if there is a limit and `second` differs from that of the last turn.
+    pub(super) fn end_silent<A: Application, M: Monitor<W>>(
+        &mut self,
+        second: u64,
+        application: &mut A,
+        monitor: &mut M,
+    )
+        requires { self.old.is_spent ≡ false }
+        ensures swept { HasSwept (known_by M.follows A.follows monitor.old monitor.new application.old application.new)
+            (due_sweep self.old.idle self.old.second second self.old.server self.old.peers.entries) self.old.server
+            self.new.server }
+        ensures entries { self.new.peers.entries
+            ≡ (due_sweep self.old.idle self.old.second second self.old.server self.old.peers.entries).entries }
+        ensures second { self.new.second ≡ second }
+        ensures idle { self.new.idle ≡ self.old.idle }
+        ensures spent { self.new.is_spent ≡ false }
+    {
+        let last = self.second;
+        self.second = second;
+        let Some(idle) = self.idle else {
+            return;
+        };
+        if second == last {
+            return;
+        }
+        sweep::<W, A, M>(
+            &mut self.server,
+            &mut self.peers,
+            idle,
+            second,
+            application,
+            monitor,
+        );
+        self.awake.wake_all();
+    }
+
+    /// Sets the time of the server, in seconds. If it has changed, the monitor receives the call.
+    ///
+    /// # Errors
+    ///
+    /// - `Backwards`: the time is earlier than that of the server, which is unchanged.
+    pub(super) fn tick<M: Monitor<W>>(&mut self, now: u64, monitor: &mut M) -> Result<(), Backwards>
+        ensures answer { is_ok result ≡ nat_le self.old.server.host.now now }
+        ensures moved { self.new.server ≡ moved_to self.old.server now }
+        ensures shows { OnOk result ((events : List AcceptedCall) → Shows self.old.server events →
+            Shows self.new.server (events ++ ticked_calls self.old.server now)) }
+        ensures told { OnOk result (FollowsMore (M.follows monitor.old) (M.follows monitor.new)
+            (ticked_calls self.old.server now)) }
+        ensures err { OnErr result ((self.new.server ≡ self.old.server) × (monitor.new ≡ monitor.old)) }
+        ensures peers { self.new.peers ≡ self.old.peers }
+        ensures times { (self.new.second ≡ self.old.second) × (self.new.idle ≡ self.old.idle) }
+        ensures spent { self.new.is_spent ≡ self.old.is_spent }
+    {
+        if now == self.server.stamp().moment {
+            return Ok(());
+        }
+        self.server.tick(now)?;
+        monitor.accepted(Call::Ticked(now), &self.server);
+        Ok(())
+    }
+
+    /// Asks the application for later responses, until it has none or has given 256 of them, and gives each as
+    /// `Server::respond` does. Returns `true` if the application may have more.
+    pub(super) fn answer_later<A: Application, M: Monitor<W>>(
+        &mut self,
+        application: &mut A,
+        monitor: &mut M,
+    ) -> bool
+        // The application received the result of each response. Those that the server accepted are its events.
+        ensures shows { AreAskedLater self.old.server 256 result self.new.server
+            (FollowsMore (M.follows monitor.old) (M.follows monitor.new))
+            (AnswersMore (A.follows application.old) (A.follows application.new)) }
+        ensures idle { result ≡ false → A.idle application.new }
+        // No wire is touched, and no byte that was read is discarded.
+        ensures peers { AreRecorded self.old.peers.entries self.new.peers.entries }
+        ensures times { (self.new.second ≡ self.old.second) × (self.new.idle ≡ self.old.idle) }
+        ensures spent { self.new.is_spent ≡ self.old.is_spent }
+    {
+        if !application.answers() {
+            return false;
+        }
+        let count = answer_each(
+            &mut self.server,
+            &mut self.peers,
+            application,
+            &mut self.response,
+            monitor,
+        );
+        if count > 0 {
+            self.awake.wake_all();
+        }
+        count == MOST_RESPONSES
+    }
+
+    /// Opens at most one connection, and serves each connection. Returns how long the listener may wait.
+    ///
+    /// # Errors
+    ///
+    /// - `Memory`: an allocation failed. No later turn does anything.
+    pub(super) fn visit<D: Door<Wire = W>, A: Application, M: Monitor<W>>(
+        &mut self,
+        door: &mut D,
+        application: &mut A,
+        monitor: &mut M,
+    ) -> Result<Wait, IoFault>
+        requires { self.old.is_spent ≡ false }
+        ensures shows { HasTurned (known_by M.follows A.follows monitor.old monitor.new application.old application.new)
+            self.old.server self.new.server }
+        ensures asks { IsAskedOnce (TellsMore (D.calls door.old) (D.calls door.new)) self.old.server }
+        ensures turn { IfOk result (λ wait. IsTurnBy (way A.follows self.old.second (views_of W.readable W.writable
+            W.given W.written W.answers W.rooms)) (known_of_turn (TellsMore (D.calls door.old) (D.calls door.new))
+            (known_by M.follows A.follows monitor.old monitor.new application.old application.new)) (loop_state
+            self.old.server self.old.peers.entries) (loop_state self.new.server self.new.peers.entries) wait) }
+        ensures fault { IfErr result IsMemory }
+        ensures times { (self.new.second ≡ self.old.second) × (self.new.idle ≡ self.old.idle) }
+        ensures ready { OnOk result (self.new.is_spent ≡ false) }
+        ensures spent { OnErr result (self.new.is_spent ≡ true) }
+    {
+        self.is_spent = true;
+        let wait = take_turn::<D, A, M>(
+            self.alloc,
+            &mut self.server,
+            &mut self.peers,
+            &mut self.awake,
+            self.second,
+            door,
+            application,
+            &mut self.response,
+            monitor,
+        )?;
+        self.is_spent = false;
+        Ok(wait)
+    }
+
+    /// Returns a wait that lasts at most until the next second of the server's time, if there are a limit of silence and a
+    /// connection.
+    pub(super) fn at_most_a_second(&self, wait: Wait) -> Wait
+        ensures { result ≡ short_wait self.now.idle self.now.server.host.now self.now.peers.entries wait }
+    {
+        if self.idle.is_none() || self.peers.is_empty() {
+            return wait;
+        }
+        wait.at_most(self.server.stamp().moment.saturating_add(1))
+    }
+}
+
+/// Asks the application for later responses, until it has none or has given `MOST_RESPONSES` of them, and gives each.
+/// Returns their number. The interest of each connection with a response is recorded anew.
+fn answer_each<W, A: Application, M: Monitor<W>>(
+    server: &mut Server,
+    peers: &mut Peers<W>,
+    application: &mut A,
+    response: &mut Vec<u8>,
+    monitor: &mut M,
+) -> usize
+    ensures shows { AreAskedLater server.old 256 (result == 256) server.new
+        (FollowsMore (M.follows monitor.old) (M.follows monitor.new))
+        (AnswersMore (A.follows application.old) (A.follows application.new)) }
+    ensures peers { AreRecorded peers.old.entries peers.new.entries }
+    ensures noted { All (IsNoted server.old) peers.old.entries → All (IsNoted server.new) peers.new.entries }
+    ensures none { result ≡ 0 → (server.new ≡ server.old) × (peers.new ≡ peers.old) }
+    // The application has no later response now.
+    ensures idle { result ≢ 256 → A.idle application.new }
+{
+    for count in 0..MOST_RESPONSES {
+        if !answer_once(server, peers, application, response, monitor) {
+            return count;
+        }
+    }
+    MOST_RESPONSES
+}
+
+/// Asks the application for one later response, and gives it. Returns `false` if there is none. The interest of its
+/// connection is recorded anew.
+fn answer_once<W, A: Application, M: Monitor<W>>(
+    server: &mut Server,
+    peers: &mut Peers<W>,
+    application: &mut A,
+    response: &mut Vec<u8>,
+    monitor: &mut M,
+) -> bool
+    ensures asked { (id : Option ℕ) × (result ≡ is_some id) × IsAskedLater server.old id server.new
+        (FollowsMore (M.follows monitor.old) (M.follows monitor.new))
+        (AnswersMore (A.follows application.old) (A.follows application.new)) }
+    ensures peers { AreRecorded peers.old.entries peers.new.entries }
+    ensures noted { All (IsNoted server.old) peers.old.entries → All (IsNoted server.new) peers.new.entries }
+    ensures none { result ≡ false → (server.new ≡ server.old) × (peers.new ≡ peers.old) }
+    ensures idle { result ≡ false → A.idle application.new }
+{
+    let _ = server.stamp();
+    let Some(id) = server.answer_next::<W, M, A>(application, response, monitor) else {
+        return false;
+    };
+    record_on(server, peers, id);
+    true
+}

@@ -1,5 +1,0 @@
-use Rattle.coap_server_listener.proofs.streams.LaterLemmas.{not_asked}
-use Rattle.coap_server_listener.proofs.door.service.Service.answer_later.Goals as goal
-
-pub returns-then-not-answers-clause-shows : goal.returns-then-not-answers-clause-shows
-returns-then-not-answers-clause-shows g c = not_asked (g.M.Monitor.follows c.args.monitor.now) (g.A.Application.follows c.args.application.now)

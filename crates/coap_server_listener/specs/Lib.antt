@@ -1,2 +1,0 @@
-pub mod streams
-pub mod Prelude

@@ -1,3 +1,0 @@
-pub mod RecordEnds
-pub mod Refusals
-pub mod ConnectionEnds
