@@ -51,12 +51,19 @@ def played(program, shim, run):
         return told.read().decode(), ran.returncode, ran.stdout, ran.stderr.decode()
 
 
+def calls_of(told):
+    """Returns the recorded calls: a word, the bytes or the size of the buffer, and the outcome of each."""
+    words = iter(told.split())
+    return list(zip(words, words, words))
+
+
 def wrong_of(program, shim, run):
     """Returns the differences of a run, or an empty text."""
     told, status, written, said = played(program, shim, run)
-    found = run.told(f"{told} {run.answer}")
+    calls = calls_of(told)
+    found = run.told_by(calls, run.answer)
     is_right = (status, said) == (0, "") if run.answer not in FAULTS else status == 3 and FAULTS[run.answer] in said
-    writes = [call for call in stdio.calls_of(told)[0] if call[0] == "write" and call[2] != "failed"]
+    writes = [call for call in calls if call[0] == "write" and call[2] != "failed"]
     is_written = written == b"".join(stdio.bytes_of(handed)[: int(count)] for _, handed, count in writes)
     if found == run.wanted() and is_right and is_written:
         return ""

@@ -75,7 +75,10 @@ class Run:
 
     def told(self, line):
         """Returns the line of the probe in the form of the row."""
-        calls, answer = calls_of(line)
+        return self.told_by(*calls_of(line))
+
+    def told_by(self, calls, answer):
+        """Returns calls and a result in the form of the row."""
         if self.calls is not None:
             return "; ".join([call_line(*call) for call in calls] + [answer])
         return told_counts(calls, answer, self.counts)
