@@ -1,7 +1,7 @@
 //! The fields of a request beside its method and target: `HEX OBSERVE PLAIN FORMAT ACCEPT OPTION BYTES BYTES`.
 //!
 //! OBSERVE and PLAIN are 1 or 0. FORMAT and ACCEPT are numbers of Content-Formats, OPTION is the number of a further
-//! option, and 65536 stands for none. The bytes of HEX are a token, the value of that option and the payload. The two
+//! option, and 65536 means none. The bytes of HEX are a token, the value of that option and the payload. The two
 //! fields BYTES are the lengths of the first two.
 
 use crate::row_words::{cut, numbers, read_hex};

@@ -112,7 +112,7 @@ fn tell_client(plan: &ClientPlan, told: &mut RowLine) {
     told.debug(&plan.log);
 }
 
-/// Writes the text of the error, in which byte 7 stands for a line feed, or `none` if the arguments are valid.
+/// Writes the text of the error, in which byte 7 means a line feed, or `none` if the arguments are valid.
 fn tell_text<P: Drop>(read: Result<P, WordsFault>, told: &mut RowLine) {
     match read {
         Ok(_) => told.word("none"),

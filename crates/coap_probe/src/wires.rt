@@ -22,7 +22,7 @@ fn moment_of(text: &str) -> usize {
 }
 
 /// Reads of a connection: words with `,` between them. Each word names the result of one read: `end`, `failed`, `zeros`
-/// for a buffer full of zeros, or a number of bytes. 0 stands for `Later`. Reads after the last word return `Later`.
+/// for a buffer full of zeros, or a number of bytes. 0 means `Later`. Reads after the last word return `Later`.
 #[derive(Clone, Copy)]
 pub(crate) struct Reads<'a> {
     pub text: &'a str,

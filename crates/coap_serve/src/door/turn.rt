@@ -131,7 +131,7 @@ fn accept<D: Door, M: Monitor<D::Wire>>(
     Ok(true)
 }
 
-/// Serves each connection in order of its number, except those that are idle, and drops those with the outcome `Over`.
+/// Serves each connection in order of its number, but skips idle ones, and drops those with the outcome `Over`.
 /// Returns the work that remains.
 ///
 /// # Errors
@@ -150,7 +150,7 @@ fn serve_each<W: Wire + Ready + Drop, A: Application, M: Monitor<W>>(
     requires asleep { AreAsleep W.readable W.writable awake.old peers.old.entries }
     ensures shows { HasServed (known_by M.follows A.follows monitor.old monitor.new application.old application.new)
         server.old server.new }
-    // Each connection in order is served, except those that are idle, and the result is the work that remains.
+    // Each connection in order is served, or skipped if nothing can be done on it. The result is the work that remains.
     ensures round { IfOk result (λ agenda. HasAccepted (IsRound
         (way A.follows second (views_of W.readable W.writable W.given W.written W.answers W.rooms))
         (loop_state server.old peers.old.entries) agenda (loop_state server.new peers.new.entries))
