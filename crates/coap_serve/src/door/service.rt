@@ -271,9 +271,9 @@ impl<W: Wire + Ready + Drop> Service<W> {
     ///   dropped (`silence_action`). The application receives the end of each one that is dropped.
     /// - The time of the server becomes `now`. An earlier time changes nothing.
     /// - The application gives later responses, at most 256.
-    /// - If another connection may be opened, the listener is asked for one. Then each connection is served, or skipped if
-    ///   nothing can be done on it. The application is shown each request that it answers directly after the call of `take`
-    ///   that accepted it, and may respond at once.
+    /// - If another connection may be opened, the listener is asked for one. Then each connection is served, or skipped
+    ///   if nothing can be done on it. The application is shown each request that it answers directly after the call of
+    ///   `take` that accepted it, and may respond at once.
     ///
     /// The wait is that of `serve_door`, at most as long as the application allows, and zero after 256 later responses. With a
     /// limit of silence and a connection, it lasts at most until the next second.
