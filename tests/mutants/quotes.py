@@ -109,10 +109,11 @@ def contracts_of(crate, name_of_block):
 
 @functools.cache
 def invariants_of(crate):
-    """Returns the types of a crate, and of those below it, that have an invariant."""
+    """Returns the types of a crate, and of those below it, that have an invariant, or ghost fields."""
     texts = [text for it in [crate, *crates()[crate]] for _, text in sources_of(f"{ROOT}/crates/{it}/src")]
-    blocks = (re.split(r"^impl(?:<.*?>)? Model for (\w+).*\{$", it, flags=re.MULTILINE) for it in texts)
-    return {name for it in blocks for name, body in zip(it[1::2], it[2::2]) if "ghost invariant" in body.split("\n}\n")[0]}
+    blocks = (re.split(r"^(?:impl(?:<.*?>)? Model for|pub struct) (\w+).*\{$", it, flags=re.MULTILINE) for it in texts)
+    said = re.compile(r"^    ghost (?:invariant\b|\w+: )", re.MULTILINE)
+    return {name for it in blocks for name, body in zip(it[1::2], it[2::2]) if said.search(body.split("\n}\n")[0])}
 
 
 class Quotes:

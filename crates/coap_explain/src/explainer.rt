@@ -101,7 +101,7 @@ impl<O: Outlet + Drop> Explainer<O> {
         ensures failure { O.is_failed self.new.printer.out ≡ fails_write result }
         ensures err { IfErr result (λ t. t ≡ trouble.Write) }
     {
-        let moment = self.server.stamp().moment;
+        let moment = self.server.moment();
         if moment > 0 {
             self.printer.show_time(moment)?;
         }

@@ -1,14 +1,14 @@
--- Lemmas on runs: on flushes, chunks and turns, on recorded interests, and on a service.
+-- Lemmas on runs: on the parts of a turn, on connections that sleep, and on a service.
+pub mod EntryLemmas
 pub mod PeerLemmas
-pub mod AgendaLemmas
+pub mod LookLemmas
+pub mod SleepLemmas
+pub mod RoundLemmas
 pub mod PassedLemmas
-pub mod NoteLemmas
 pub mod ServingLemmas
 pub mod RemovalLemmas
 pub mod SweepLemmas
 pub mod NextPartLemmas
-pub mod ServiceLemmas
-pub mod SleepLemmas
 pub mod LaterLemmas
 pub mod RunLemmas
 pub mod RunCallLemmas

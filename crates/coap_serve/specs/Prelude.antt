@@ -9,7 +9,7 @@ unfoldable pub use Rattle.std.specs.List.{IsDistinct}
 pub use Rattle.std.specs.Map.{keys_of, values_of}
 pub use Rattle.std.specs.Prelude.{OnErr, OnOk, is_ok}
 -- ---- coap_wire
-pub use Rattle.coap_server_engine.specs.Prelude.{RefusedBy, AddsBytes, Path, Change, Delete, Nothing, Put, RefusedOrMemory, WrittenFault, AcceptedCall, Stored, Removed, Opened, Took, Dropped, Released, ServerState, InResult, ShowsMore, in_result, fed_more, took, Answering, Exchange, Gone, AreAskedLater, IsAskedLater, Following, IsReasonFor, stop_on, open_refusal, written_refusal, released_refusal, status_of, IsOutside, bit_of, new_server, server_put, server_removed, server_ticked, AreSettled, server_dropped, ServerValue, LiesAt, server_opened, is_there, server_released, settled_entry, count_on, server_settled, server_taken_on, session_becomes, host_changed, SessionValue, session_written, session_ended, session_released, session_takes, Shows}
+pub use Rattle.coap_server_engine.specs.Prelude.{RefusedBy, AddsBytes, Nothing, RefusedOrMemory, WrittenFault, AcceptedCall, Stored, Removed, Opened, Took, Dropped, Released, InResult, ShowsMore, in_result, fed_more, took, Answering, Exchange, Gone, AreAskedLater, IsAskedLater, Following, IsReasonFor, stop_on, open_refusal, written_refusal, released_refusal, status_of, IsOutside, bit_of, new_server, server_put, server_removed, server_ticked, AreSettled, server_dropped, ServerValue, LiesAt, server_opened, is_there, server_released, settled_entry, count_on, session_becomes, SessionValue, session_written, session_ended, session_released, session_takes, Shows}
 pub use Rattle.coap_server_engine.specs.Prelude.{Stream, split_on, LimitValues, AreInRange, Reason, ConfigValues, Taken, count_of, handled_in, World, Step, IsNotTaken, RefusesPieceOn, server_written, session_shown, ShowsRefused}
 -- ---- coap_conn
 pub use Rattle.coap_conn.specs.Phases.{is_over, stop_of}
@@ -25,11 +25,8 @@ pub use Rattle.coap_io.specs.streams.Wires.{IsWithin, IsOneWrite, bytes_passed, 
 pub use Rattle.coap_io.specs.streams.Device.{DeviceTrace, HasGiven, pieces_read, WritesPart}
 -- ---- coap_store
 unfoldable pub use Rattle.coap_store.specs.Refusals.{put_refusal, remove_refusal}
-pub use Rattle.coap_store.specs.Store.{Resource}
-unfoldable pub use Rattle.coap_store.specs.Store.{removed_at}
 -- ---- declared
 pub use Rattle.coap_serve.specs.declared.door.silence.SilenceAction.{SilenceAction}
-pub use Rattle.coap_serve.specs.declared.door.next_wakeup.NextWakeup.{NextWakeup}
 pub use Rattle.coap_serve.specs.declared.door.peer.PeerOutcome.{PeerOutcome}
 pub use Rattle.coap_serve.specs.declared.door.peer.PeerOutcome.TheVariants.{Over}
 pub use Rattle.coap_serve.specs.declared.door.peer.Peer.{Peer}
@@ -38,18 +35,16 @@ pub use Rattle.coap_server_engine.specs.declared.io_fault.IoFault.{IoFault}
 pub use Rattle.coap_server_engine.specs.declared.io_fault.IoFault.TheVariants.{Memory}
 pub use Rattle.coap_server_engine.specs.declared.io_fault.IoFault.TheVariants.{Read, Turns, Write}
 pub use Rattle.coap_server_engine.specs.declared.server.ConnectionWork.{ConnectionWork}
-pub use Rattle.coap_server_engine.specs.declared.server.ChangeStamp.{ChangeStamp}
 -- ---- runs
 pub use Rattle.coap_serve.specs.declared.door.service.ServiceConfig.{ServiceConfig}
 pub use Rattle.coap_serve.specs.declared.door.service.Times.{Times}
 pub use Rattle.coap_serve.specs.listener.Histories.{AreCallsBetween, AreSteps, Continues, HasAccepted, History, IsAccepted, Journal, calls_only, history_then, journal, known_by, no_history, one_call, one_drop}
-pub use Rattle.coap_serve.specs.listener.RecordedInterests.{AreNoted, AreRecorded, AtFirst, But, Follows, GoesOnSparing, IsNoEarlier, IsNoted, KeepsNotes, Served, WhilePassedOver, recorded, recorded_on, released_at, released_on, true_end, unrecorded}
 pub use Rattle.coap_serve.specs.listener.Run.{AreTurns, EndsRun, Environment, HasRun, IsBegun, IsCutRun, IsCutTurn, IsRun, IsRunCall, IsRunStep, IsTurnFor, KnownOfRun, Matches, Resting, RunTrace, ServiceValue, Silent, Unlimited, clock_and_door, config_of, environment, exactly, known_of_run, limit_for, moved_calls, moved_to, no_trace, plain_config, service_of, short_wait, some_waits, ticked_calls, trace_then, turn_trace, wait_within, waited_behind}
-pub use Rattle.coap_serve.specs.listener.Serving.{AffectsEarlier, AreServed, AreTimesAfter, HasGoneOn, HasOneMore, HasOpened, HasServed, HasTurned, IsAskedOnce, IsOpening, IsRound, IsServedBy, IsTurnBy, IsVisited, KnownOfTurn, LoopState, NoMore, Skipped, Views, Visited, Way, asked_by, drop_history, drop_on, history_left, known_of_turn, loop_state, opening, opening_then, state_at, views_of, visit, way}
-pub use Rattle.coap_serve.specs.listener.Silence.{HasSwept, HasSweptAt, Sweep, acted, drop_one, due_sweep, quiet_action, silence_action, swept_one, unswept}
+pub use Rattle.coap_serve.specs.listener.Serving.{AreServed, AreTimesAfter, HasGoneOn, HasOneMore, HasOpened, HasServed, HasTurned, IsAskedOnce, IsOpening, IsServedBy, IsTurnBy, IsVisited, KnownOfTurn, LoopState, NoMore, Skipped, Views, Visited, Way, asked_by, history_left, known_of_turn, loop_state, opening, opening_then, state_at, status_of_peer, views_of, visit, way}
+pub use Rattle.coap_serve.specs.listener.Silence.{HasSwept, HasSweptAt, Sweep, acted, drop_one, due_sweep, quiet_action, released_at, released_on, silence_action, swept_one, unswept}
 unfoldable pub use Rattle.coap_serve.specs.listener.Silence.{swept}
-pub use Rattle.coap_serve.specs.listener.Sleepers.{AreAsleep, MaySleep, is_known_ready, known}
-pub use Rattle.coap_serve.specs.listener.Turns.{CanAnyGoOn, CanGoOn, IsAgendaOf, IsAsked, IsCarriedOn, IsCourseFor, IsIdle, IsInTurn, IsLaidOut, IsNoOp, IsOffered, IsRestAnswer, IsServedOnce, IsServedOnceBy, IsTakenAlone, IsTakenAndWritten, IsTakenInPart, IsTakenWith, IsWaitAfter, PeerStatus, Readiness, Taking, VisitState, activity_after, agenda_past, agenda_with, can_go_on, concerns_earlier, course_of, end_of, has_failed, has_written, heard_events, is_heard, is_over_in, least_with, left_behind, new_activity, readiness, refused_events, rest_behind, server_heard, server_wrote, visit_state, wait_for, wait_of, waiting_once, wants_in, wants_of, wrote_events}
+pub use Rattle.coap_serve.specs.listener.Sleepers.{ArePaired, AreAsleep, KeepsBeside, MaySleep, SleepOn, is_known_ready, known}
+pub use Rattle.coap_serve.specs.listener.Turns.{CanAnyGoOn, CanGoOn, IsAsked, IsCourseFor, IsLaidOut, IsNoOp, IsOffered, IsServedOnceBy, IsTakenAlone, IsTakenAndWritten, IsTakenInPart, IsTakenWith, IsWaitAfter, PeerStatus, Readiness, Taking, VisitState, activity_after, can_go_on, course_of, has_failed, has_written, heard_events, is_heard, is_over_in, least_with, left_behind, new_activity, peer_status, readiness, refused_events, rest_behind, server_heard, server_wrote, status_with, visit_state, wait_for, wait_until, waiting_once, wants_in, wants_of, wrote_events}
 pub use Rattle.coap_serve.specs.declared.serve.Report.{Report}
 pub use Rattle.coap_serve.specs.declared.serve.Turn.{Turn}
 pub use Rattle.coap_serve.specs.streams.StdioCalls.{AreTransfers, EndsReport, HasReported, HasReportedCut, HasReportedEnd, HasReportedStop, IsAfterOutput, IsCutFlush, IsReportedFlush, IsReportedRun, IsTransfer, flush_calls, written_in}
@@ -65,12 +60,12 @@ unfoldable pub use Rattle.coap_server_engine.specs.values.Calls.{FollowsMore}
 unfoldable pub use Rattle.coap_server_engine.specs.values.InResults.{fed_turns, took_turns}
 pub use Rattle.coap_server_engine.specs.values.Flushes.{waiting_at, waiting_in}
 pub use Rattle.coap_server_engine.specs.values.Flushes.{IsFlushed, IsFlushedOnce, more_at, more_in}
-pub use Rattle.coap_server_engine.specs.values.ServerDeadlines.{same_stamp, stamp_of, outlook_of, session_outlook}
+pub use Rattle.coap_server_engine.specs.values.ServerDeadlines.{KeepsOthers, KeepsWork, outlook_of, session_outlook}
 unfoldable pub use Rattle.coap_server_engine.specs.values.Servers.{session_of, count_taken, server_taken}
 unfoldable pub use Rattle.coap_server_engine.specs.values.Flushes.{flush_turns}
 pub use Rattle.coap_server_engine.specs.values.Exchanges.{Asked, Offered, Given, offers}
 pub use Rattle.coap_server_engine.specs.values.Calls.{call_value}
-unfoldable pub use Rattle.coap_server_session.specs.values.Sessions.{session_settled, taking}
+unfoldable pub use Rattle.coap_server_session.specs.values.Sessions.{taking}
 pub use Rattle.coap_model.specs.streams.Output.{only_id, stream_of, stdio_output, Outcome, more_of, waiting_of, outcome_on}
 unfoldable pub use Rattle.coap_model.specs.streams.Output.{flushed, flushed_after, outcome, world_for, written_times}
 pub use Rattle.coap_model.specs.world.Events.{Ended, stream_on, Wrote, beyond, spelled_on}

@@ -1,8 +1,7 @@
--- Runs of `serve_door`: histories, progress, turns and recorded interests, silent connections, and the definition of a
+-- Runs of `serve_door`: histories, progress, turns, silent connections, and the definition of a
 -- run.
 pub mod Histories
 pub mod Turns
-pub mod RecordedInterests
 pub mod Sleepers
 pub mod Serving
 pub mod Silence

@@ -5,7 +5,7 @@ ghost use Rattle.coap_serve.specs.Prelude.{IsRun, Resting, Silent, Unlimited, Te
 ghost use Rattle.coap_serve.specs.Prelude.{plain_config, views_of, waited_behind};
 
 mod awake;
-mod next_wakeup;
+mod looks;
 mod parts;
 mod peer;
 mod peer_interest;
@@ -48,23 +48,19 @@ impl Clock for NoUptime {
 ///
 /// - The time of the server becomes that of the clock. An earlier time changes nothing.
 /// - If another connection may be opened, the listener is asked once for one.
-/// - Each connection is served in order of its number. It processes the bytes left from an earlier read, or else those
-///   of one read of at most 16,384 bytes. Then its queued bytes are written once.
+/// - Each connection on which something can be done is served, in order of its number. It processes the bytes left from
+///   an earlier read, or else those of one read of at most 16,384 bytes. Then its queued bytes are written once.
 ///
 /// A connection is not read if it accepts no bytes. Either it has stopped or was released (RFC 8323 section 5.5), or
 /// its queue has no room for a message of the maximum size. A connection is read and written only if it is ready. A
 /// connection is dropped if its transport has failed or nothing more will be written. This affects no other connection.
 ///
-/// The listener waits between turns, and then the clock is read. The wait is zero in three cases:
-///
-/// - A connection was opened in the turn.
-/// - A change of the store affects a connection that was served earlier in the turn.
-/// - Something can be done at once on a connection.
+/// The listener waits between turns, and then the clock is read. The wait is zero if and only if a connection was opened
+/// in the turn, or something can be done at once on a connection.
 ///
 /// Otherwise the wait ends as soon as a connection is ready, or a client connects and another connection may be opened.
 /// The wait ends at the latest when time alone may queue something. At that time a delayed response is due or an
-/// observer of `/time` must be notified. A connection on which nothing can be done is skipped while neither the time
-/// nor the store changes.
+/// observer of `/time` must be notified. A connection on which nothing can be done is skipped.
 ///
 /// The server and its connections do not outlive the call, so the clause `run` states that matching values exist. The
 /// contract of `Service::turn` states how each connection is served, so it rejects an implementation that serves none.

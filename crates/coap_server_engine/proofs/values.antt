@@ -12,3 +12,4 @@ pub mod AtOnceLemmas
 pub mod DueAtOnceLemmas
 pub mod IndexSetLemmas
 pub mod ConcernedLemmas
+pub mod WorkLemmas

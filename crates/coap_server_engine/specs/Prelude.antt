@@ -136,11 +136,11 @@ pub use Rattle.coap_server_session.specs.values.SessionAnswers.{IsAnnounced, ann
 pub use Rattle.coap_server_engine.specs.values.ServerCauses.{UnaffectedAreSettled, AreOthersSettled, AreUntouched}
 pub use Rattle.coap_server_engine.specs.values.ServerCauses.{AreMarkedBut, AreMarkedAfter}
 pub use Rattle.coap_server_engine.specs.values.IndexSets.{IsOutside, bit_of}
-pub use Rattle.coap_server_engine.specs.values.ConcernSets.{Covers, AreCovered, AreCoveredBut}
+pub use Rattle.coap_server_engine.specs.values.ConcernSets.{Covers, AreCovered, AreCoveredBut, AddsConcerned}
 pub use Rattle.coap_server_engine.specs.declared.index_set.IndexSet.{IndexSet}
 pub use Rattle.coap_server_engine.specs.declared.server.concerned.Concerned.{Concerned}
 pub use Rattle.coap_server_session.specs.values.Causes.{may_concern, last_hash}
-pub use Rattle.coap_server_engine.specs.values.ServerDeadlines.{stamp_of, WaitsForDeadlines, outlook_of}
+pub use Rattle.coap_server_engine.specs.values.ServerDeadlines.{WaitsForDeadlines, outlook_of, KeepsWork, KeepsOthers, AddsAffected}
 pub use Rattle.coap_server_engine.specs.values.Servers.{config_with, new_server, server_put, server_removed, server_ticked, AreSettled}
 pub use Rattle.coap_server_engine.specs.values.Servers.{server_dropped, ServerValue, LiesAt, server_opened}
 pub use Rattle.coap_server_engine.specs.values.Servers.{is_there, server_written, server_ended, server_released}

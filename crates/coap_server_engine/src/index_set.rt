@@ -20,6 +20,14 @@ pub struct IndexSet {
 }
 
 impl IndexSet {
+    /// Returns the set without the indices below 256.
+    #[inline(always)]
+    pub fn empty() -> IndexSet
+        ensures { (i : ℕ) → bit_of result.words i ≡ 0 }
+    {
+        IndexSet { words: [0; WORDS] }
+    }
+
     /// Returns the set of all indices.
     pub fn full() -> IndexSet
         ensures { (i : ℕ) → i < 256 → bit_of result.words i ≡ 1 }
@@ -37,6 +45,22 @@ impl IndexSet {
         if at < LIMIT {
             self.words[at / WORD] |= 1 << (at % WORD);
         }
+    }
+
+    /// Adds all indices of another set.
+    #[inline(always)]
+    pub fn join(&mut self, other: &IndexSet)
+        ensures outside { (i : ℕ) → IsOutside self.new.words i →
+            IsOutside self.old.words i × IsOutside other.now.words i }
+        ensures only { (i : ℕ) → IsOutside self.old.words i → IsOutside other.now.words i →
+            IsOutside self.new.words i }
+    {
+        self.words = [
+            self.words[0] | other.words[0],
+            self.words[1] | other.words[1],
+            self.words[2] | other.words[2],
+            self.words[3] | other.words[3],
+        ];
     }
 
     /// Removes an index, if it is less than 256.

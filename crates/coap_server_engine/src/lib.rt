@@ -7,8 +7,9 @@
 //! - `Application` is the interface through which a program answers the requests that a server hands to it. `TakenRequest`
 //!   lends such a request.
 //! - `Server::replay` runs the events of a script (`coap_script`) and writes a line for each.
-//! - `ConnectionWork` is the work left on a connection. `ChangeStamp` changes with everything that may affect all connections.
-//! - `IndexSet` is a set of the indices of connections.
+//! - `ConnectionWork` is the work left on a connection.
+//! - `IndexSet` is a set of the indices of connections. By it, `Server::concerned_by` and `Served` name the connections
+//!   on which a call may change the work left.
 //! - `IoFault` is the error that ends a run of a server.
 //! - `laws` has the theorems on servers and on scripts.
 //!
@@ -33,5 +34,5 @@ pub use index_set::IndexSet;
 pub use io_fault::IoFault;
 pub use monitor::{Call, DropReason, Monitor, NoMonitor};
 pub use replay::ReplayFault;
-pub use server::{ChangeStamp, ConnIndex, ConnectionWork, FlushStep, Server};
+pub use server::{ConnIndex, ConnectionWork, FlushStep, Served, Server};
 pub use taken_request::TakenRequest;

@@ -18,6 +18,7 @@ mod responses;
 mod sessions;
 mod states;
 
+use crate::index_set::IndexSet;
 use coap_conn::Reason;
 use coap_model::{Config, ConnId};
 use coap_path::Applications;
@@ -26,17 +27,6 @@ use concerned::Concerned;
 use indexmap::IndexMap;
 use std::alloc::{AllocError, Global};
 use std::marker::Model;
-
-/// Change stamp of a server: if it is unchanged, nothing happened that may affect every connection.
-#[derive(Clone, Copy, PartialEq, Eq)]
-pub struct ChangeStamp {
-    /// Time of the server, in seconds.
-    pub moment: u64,
-    /// Number of representations stored so far.
-    pub versions: u64,
-    /// Number of stored resources.
-    pub resources: usize,
-}
 
 /// Work left on a connection.
 #[derive(Clone, Copy, PartialEq, Eq)]
@@ -62,6 +52,15 @@ pub struct FlushStep {
     pub more: usize,
     /// Reason for which the connection no longer accepts messages.
     pub stop: Option<Reason>,
+}
+
+/// Result of `Server::take_all_for`.
+#[derive(Clone, Copy)]
+pub struct Served {
+    /// Number of bytes accepted.
+    pub count: usize,
+    /// Indices of the connections on which the call may have changed the work left.
+    pub affected: IndexSet,
 }
 
 /// A connection by its id, and its index as `Server::index_of` returns it.

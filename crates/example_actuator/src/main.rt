@@ -49,14 +49,14 @@ fn receive(
     let mut rest = bytes;
     // Each turn accepts at least one byte.
     for _ in 0..bytes.len() {
-        let count = server
+        let served = server
             .take_all_for::<(), NoMonitor, Valve>(id, rest, valve, &mut response, &mut NoMonitor)
             .context("no memory")?;
-        if count == 0 {
+        if served.count == 0 {
             break;
         }
         send(rt, server, id)?;
-        rest = &rest[count..];
+        rest = &rest[served.count..];
     }
     Ok(())
 }

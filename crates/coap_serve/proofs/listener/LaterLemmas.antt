@@ -1,13 +1,10 @@
 -- Later responses of an application.
-use Rattle.std.proofs.Common.{◌≡◌, ℕ, ◌+◌, ◌≤◌, ◌==◌, Bool, true, false, List, [], ◌∷◌, ◌++◌, map, Option, Some, None, refl, ap, nat_eq, arith, add-one, is_some, if◌then◌else◌}
+use Rattle.std.proofs.Common.{◌≡◌, ℕ, ◌+◌, ◌≤◌, ◌==◌, Bool, true, false, List, [], ◌++◌, Option, Some, None, refl, arith, add-one, is_some}
 use Rattle.std.proofs.lemmas.List.{append-nil}
-use Rattle.std.proofs.lemmas.List.Elements.{All-from_recursion, recursion_from_All}
-use Rattle.coap_serve.specs.Prelude.{All, AcceptedCall, AreAskedLater, AreRecorded, AreSettled, Following, FollowsMore, Answering, AnswersMore, IsAskedLater, IsNoted, Peer, ServerValue, ShowsMore, recorded, recorded_on, unrecorded}
+use Rattle.coap_serve.specs.Prelude.{AcceptedCall, AreAskedLater, Following, FollowsMore, Answering, AnswersMore, IsAskedLater, ServerValue, ShowsMore}
 use Rattle.coap_server_engine.specs.Prelude.{Exchange, AreGivenLater, NothingGiven, OneMoreGiven}
 use Rattle.coap_server_engine.proofs.scripting.ShownLemmas.{shows_same, shows_then}
 use Rattle.coap_server_engine.proofs.scripting.FollowLemmas.{followed_none, followed_then}
-use Rattle.coap_serve.proofs.listener.NoteLemmas.{offers_sparing, stays_noted}
-use Rattle.coap_serve.proofs.listener.RemovalLemmas.{all_noted_on, recorded_noted}
 use Rattle.coap_serve.proofs.listener.ServingLemmas.{answered_none, answered_then}
 
 -- This number of later responses was given, with these events and exchanges.
@@ -54,24 +51,3 @@ no_more_given a b c p q r {v = v} {u = u} {w = w} {n = n} None so_far is asked n
   tells = followed_then a b c so_far.events [] so_far.tells asked.1.0;
   exchanged = answered_then p q r so_far.exchanges [] so_far.exchanged asked.1.1;
 }
-
--- ---- the recorded interests
-
--- To record an interest changes nothing else.
-recorded_aside : {W : Type 0} (v : ServerValue) (id : ℕ) (es : List (ℕ × Peer W)) → AreRecorded es (recorded_on v id es)
-recorded_aside v id [] = refl
-recorded_aside v id (e ∷ es) =
-    elim (nat_eq id e.0) as (λ b. unrecorded (if b then (e.0, recorded v e) else e) ∷ map unrecorded (recorded_on v id es) ≡ unrecorded e ∷ map unrecorded es) [
-      | true ↦ ap (λ xs. unrecorded e ∷ xs) (recorded_aside v id es)
-      | false ↦ ap (λ xs. unrecorded e ∷ xs) (recorded_aside v id es)
-    ]
-
-pub recorded_once : {W : Type 0} (v : ServerValue) (id : ℕ) (es : List (ℕ × Peer W)) {now : List (ℕ × Peer W)} → now ≡ recorded_on v id es → AreRecorded es now
-recorded_once v id es is = rw is (recorded_aside v id es)
-
--- The interest of the connection with a later response was recorded anew, and all others stay correct.
-pub noted_where_given : {W : Type 0} (monitor : List AcceptedCall → Type 0) (asks : List Exchange → Type 0) (v after : ServerValue) (id : ℕ) (es : List (ℕ × Peer W)) {now : List (ℕ × Peer W)} → AreSettled v.host v.sessions → IsAskedLater v (Some id) after monitor asks → now ≡ recorded_on after id es
-    → All (IsNoted v) es → All (IsNoted after) now
-noted_where_given monitor asks v after id es settled asked is noted =
-    rw is (All-from_recursion (IsNoted after) (recorded_on after id es)
-    (all_noted_on (recorded after) v after id (stays_noted (offers_sparing v id asked.bytes asked.server) settled) (recorded_noted after) es (recursion_from_All (IsNoted v) es noted)))

@@ -1,15 +1,16 @@
 -- To serve a connection on which nothing can be done has no effect.
-use Rattle.std.proofs.Common.{ℕ, ◌≡◌, zero, suc, Bool, true, false, ◌&&◌, List, [], ◌∷◌, ◌++◌, length, drop, Some, None, refl, sym, ap, ◌∙◌, arith, ◌||◌, ◌==◌, nat_lt, option_map, if◌then◌else◌}
+use Rattle.std.proofs.Common.{ℕ, ◌≡◌, not, zero, suc, Bool, true, false, ◌&&◌, List, [], ◌∷◌, ◌++◌, length, drop, Some, None, refl, sym, ap, ◌∙◌, arith, ◌||◌, ◌==◌, nat_lt, if◌then◌else◌}
 use Rattle.std.proofs.Math.Bool.{and-false}
 use Rattle.std.proofs.Math.Dec.{eqb-suc-zero}
 use Rattle.std.proofs.lemmas.Bool.{or_parts}
 use Rattle.std.proofs.lemmas.Bool.Decides.{nat_tests}
 use Rattle.std.proofs.lemmas.List.{append-nil, nil_from_length}
-use Rattle.coap_serve.specs.Prelude.{stop_of, is_over, Later, SessionValue, session_takes, ServerValue, LiesAt, AreSettled, session_of, server_taken, count_taken, count_on, stop_on, InResult, fed_turns, in_result, fed_more, IsTakenAndWritten, IsTakenAlone, IsNoOp, Readiness, VisitState, is_heard, visit_state, waiting_once, server_wrote, is_over_in, left_behind, rest_behind, wants_of, can_go_on, session_outlook, outlook_of, PeerInterest, PeerOutcome, calls_only, course_of, AcceptedCall, Took, heard_events, refused_events, took, took_turns, wrote_events}
+use Rattle.coap_serve.specs.Prelude.{values_of, stop_of, is_over, Later, SessionValue, session_takes, ServerValue, LiesAt, AreSettled, session_of, server_taken, count_taken, count_on, stop_on, InResult, fed_turns, in_result, fed_more, IsTakenAndWritten, IsTakenAlone, IsNoOp, Readiness, VisitState, is_heard, visit_state, waiting_once, server_wrote, is_over_in, left_behind, rest_behind, wants_of, can_go_on, outlook_of, PeerInterest, PeerOutcome, calls_only, course_of, AcceptedCall, Took, heard_events, refused_events, took, took_turns, wrote_events}
 use Rattle.coap_server_engine.specs.values.InResults.{goes_on, unfed}
 use Rattle.coap_serve.specs.declared.door.peer.PeerOutcome.TheVariants.{Open}
 use Rattle.coap_server_engine.proofs.values.ServerLemmas.{changed_one, written_at_index, written_back, all_settled_stay}
-use Rattle.coap_model.proofs.OptionLemmas.{there_is_none}
+use Rattle.coap_model.proofs.OptionLemmas.{there_at, there_is_none}
+use Rattle.std.proofs.lemmas.Map.Entries.{length-values_of}
 use Rattle.coap_server_engine.proofs.world.ShowLaws.{taking_stopped}
 
 -- ---- accepting bytes
@@ -47,12 +48,12 @@ untouched_where_stopped v id i s bytes (suc turns) lies here settled closed =
     ]
 
 -- If bytes are left that the connection does not accept, it accepts none.
-takes_nothing : (v : ServerValue) (id : ℕ) (s : SessionValue) (b : ℕ) (rest : List ℕ) → session_of id v.sessions ≡ Some s → (wants_of v id (b ∷ rest)).take ≡ false
+takes_nothing : (v : ServerValue) (id : ℕ) (s : SessionValue) (b : ℕ) (rest : List ℕ) → session_of id v.sessions ≡ Some s → (wants_of v id (b ∷ rest)).visit ≡ false
     → (session_takes s ≡ false) × (is_over s.link.phase ≡ false)
-takes_nothing v id s b rest here idle = or_parts (session_takes s) (is_over s.link.phase) (rw eqb-suc-zero at (rw here at idle))
+takes_nothing v id s b rest here idle = or_parts (session_takes s) (is_over s.link.phase) (or_parts (session_takes s || is_over s.link.phase) _ (rw eqb-suc-zero at (rw here at idle))).0
 
 -- Bytes that were read before and that do not fit stay; without such bytes, none are accepted.
-still_fed : (v : ServerValue) (id i : ℕ) (s : SessionValue) (rest : List ℕ) → LiesAt id i v.sessions → session_of id v.sessions ≡ Some s → AreSettled v.host v.sessions → (wants_of v id rest).take ≡ false → IsUnaffected v (in_result v id rest)
+still_fed : (v : ServerValue) (id i : ℕ) (s : SessionValue) (rest : List ℕ) → LiesAt id i v.sessions → session_of id v.sessions ≡ Some s → AreSettled v.host v.sessions → (wants_of v id rest).visit ≡ false → IsUnaffected v (in_result v id rest)
 unfolding fed_turns
 still_fed v id i s [] lies here settled idle = record { server = refl; count = refl }
 still_fed v id i s (b ∷ rest) lies here settled idle =
@@ -75,12 +76,12 @@ refused_once v id i s b bytes (suc turns) lies here settled closed =
     (rw (over, append-nil) so_far.0, rw over so_far.1)
 
 -- The event of bytes that were read before and that do not fit.
-still_refused : (v : ServerValue) (id i : ℕ) (s : SessionValue) (rest : List ℕ) → LiesAt id i v.sessions → session_of id v.sessions ≡ Some s → AreSettled v.host v.sessions → (wants_of v id rest).take ≡ false → took v id rest ≡ refused_events id rest
+still_refused : (v : ServerValue) (id i : ℕ) (s : SessionValue) (rest : List ℕ) → LiesAt id i v.sessions → session_of id v.sessions ≡ Some s → AreSettled v.host v.sessions → (wants_of v id rest).visit ≡ false → took v id rest ≡ refused_events id rest
 unfolding took_turns
 still_refused v id i s [] lies here settled idle = refl
 still_refused v id i s (b ∷ rest) lies here settled idle = (refused_once v id i s b rest (length rest) lies here settled (takes_nothing v id s b rest here idle).0).0
 
-left_as_it_is : (v : ServerValue) (id : ℕ) (s : SessionValue) (rest : List ℕ) → session_of id v.sessions ≡ Some s → (wants_of v id rest).take ≡ false → left_behind (stop_on (session_of id v.sessions)) rest ≡ rest
+left_as_it_is : (v : ServerValue) (id : ℕ) (s : SessionValue) (rest : List ℕ) → session_of id v.sessions ≡ Some s → (wants_of v id rest).visit ≡ false → left_behind (stop_on (session_of id v.sessions)) rest ≡ rest
 left_as_it_is v id s [] here idle = elim (stop_on (session_of id v.sessions)) as (λ why. left_behind why [] ≡ []) [ None ↦ refl | Some why ↦ refl ]
 left_as_it_is v id s (b ∷ rest) here idle = rw (here, there_is_none (stop_of s.link.phase) (takes_nothing v id s b rest here idle).1) refl
 
@@ -116,11 +117,12 @@ nothing_carried may_write id before after outcome events same refused left_so un
     )
 
 nothing_done : (v : ServerValue) (id i : ℕ) (s : SessionValue) (rest : List ℕ) (ready : Readiness) → LiesAt id i v.sessions → session_of id v.sessions ≡ Some s → AreSettled v.host v.sessions
-    → can_go_on (wants_of v id rest) ready ≡ false → is_over_in (outlook_of v id) ≡ false → IsNoOp ready v id rest
-nothing_done v id i s rest ready lies here settled idle on =
+    → can_go_on (wants_of v id rest) ready ≡ false → IsNoOp ready v id rest
+nothing_done v id i s rest ready lies here settled idle =
     let w : PeerInterest = wants_of v id rest in
-    let write = or_parts (w.take || (w.read && ready.read)) (w.write && ready.write) idle in
-    let read = or_parts w.take (w.read && ready.read) write.0 in
+    let write = or_parts (w.visit || (w.read && ready.read)) (w.write && ready.write) idle in
+    let read = or_parts w.visit (w.read && ready.read) write.0 in
+    let on : is_over_in (outlook_of v id) ≡ false = rw here (or_parts (not (length rest == 0) && (session_takes s || is_over s.link.phase)) _ (rw here at read.0)).1 in
     let unread : is_heard ready.read v id rest ≡ false = rw here (not_heard ready.read (length rest == 0) (session_takes s) (rw here at read.1)) in
     let unwritten : waiting_once ready.write id v ≡ [] = rw here (not_written ready.write s.link.waiting (rw here at write.1)) in
     let same = still_fed v id i s rest lies here settled read.0 in
@@ -155,9 +157,7 @@ nothing_done v id i s rest ready lies here settled idle on =
     }
 
 -- A connection on which nothing can be done may be skipped.
-pub passed_over : (v : ServerValue) (id i : ℕ) (rest : List ℕ) (ready : Readiness) → LiesAt id i v.sessions → AreSettled v.host v.sessions → can_go_on (wants_of v id rest) ready ≡ false → is_over_in (outlook_of v id) ≡ false → IsNoOp ready v id rest
-passed_over v id i rest ready lies settled idle on =
-    elim (session_of id v.sessions) as (λ o. session_of id v.sessions ≡ o → is_over_in (option_map (session_outlook v.host.now) o) ≡ false → IsNoOp ready v id rest) [
-      | None ↦ λ here over. absurd cc
-      | Some s ↦ λ here over. nothing_done v id i s rest ready lies here settled idle on
-    ] refl on
+pub passed_over : (v : ServerValue) (id i : ℕ) (rest : List ℕ) (ready : Readiness) → LiesAt id i v.sessions → AreSettled v.host v.sessions → can_go_on (wants_of v id rest) ready ≡ false → IsNoOp ready v id rest
+passed_over v id i rest ready lies settled idle =
+    let there = there_at (values_of v.sessions) i (rw (length-values_of v.sessions) lies.within) in
+    nothing_done v id i there.0 rest ready lies (lies.found ∙ there.1) settled idle

@@ -1,10 +1,10 @@
 -- The steps of serving a connection, and a value written at an index of a map whose keys are numbers.
-use Rattle.std.proofs.Common.{ℕ, ◌≡◌, ◌≢◌, zero, suc, Bool, true, false, List, [], ◌∷◌, ◌++◌, length, take, Option, Some, None, IfSome, is_some, is_none, option_map, refl, sym, ap, ◌∙◌, ◌||◌, ◌&&◌, ◌==◌, if◌then◌else◌, nat_lt, slice_get, remove, arith}
+use Rattle.std.proofs.Common.{ℕ, ◌≡◌, ◌≢◌, Bool, true, false, List, [], ◌∷◌, ◌++◌, length, Option, Some, None, IfSome, is_some, is_none, option_map, refl, sym, ap, ◌∙◌, ◌||◌, ◌&&◌, ◌==◌, if◌then◌else◌, nat_lt, arith}
 use Rattle.std.proofs.lemmas.Bool.{and_parts}
 use Rattle.coap_server_engine.specs.Prelude.{Reason, stop_of, takes_messages, can_take_on}
 use Rattle.coap_serve.specs.declared.door.peer.PeerOutcome.TheVariants.{Open}
 use Rattle.coap_server_session.specs.values.Sessions.{session_ready}
-use Rattle.coap_serve.specs.Prelude.{ConnectionWork, IsCourseFor, IsReasonFor, SessionValue, session_of, session_outlook, waiting_at, waiting_in, set_value_at, AcceptedCall, ServerValue, WireTrace, Got, Bytes, End, Failed, Later, PeerOutcome, Taking, is_heard, server_heard, server_wrote, has_failed, course_of, is_over_in, outlook_of, waiting_once, IsLaidOut, IsOffered, IsServedOnceBy, Readiness, VisitState, Answering, AreCallsBetween, Continues, Following, HasAccepted, Over, calls_only, heard_events, journal, no_history, wrote_events}
+use Rattle.coap_serve.specs.Prelude.{ConnectionWork, IsCourseFor, IsReasonFor, SessionValue, session_of, session_outlook, waiting_at, waiting_in, AcceptedCall, ServerValue, WireTrace, Got, Bytes, End, Failed, Later, PeerOutcome, Taking, is_heard, server_heard, server_wrote, has_failed, course_of, is_over_in, outlook_of, waiting_once, IsLaidOut, IsOffered, IsServedOnceBy, Readiness, VisitState, Answering, AreCallsBetween, Continues, Following, HasAccepted, Over, calls_only, heard_events, journal, no_history, wrote_events}
 use Rattle.std.proofs.lemmas.List.{append-nil}
 use Rattle.coap_serve.proofs.listener.ServingLemmas.{accepted_then, calls_accepted, moved_then}
 use Rattle.coap_serve.specs.listener.Turns.{IsTakenInPart, activity_after, have_moved, has_written}
@@ -139,23 +139,3 @@ write_reason may_write taken {after = after} id Later is idle = over_reason (out
 write_reason may_write taken {after = after} id End is idle = over_reason (outlook_of after id)
 write_reason may_write taken id Failed is idle =
     rw is (queue_left taken.host.now (session_of id taken.sessions) (λ none. let never : Failed ≡ Later = idle (none_offered may_write (waiting_at id taken) none) in absurd cc))
-
--- ---- entries
-
--- The entry at the index has the value.
-pub set_there : {X : Type 0} (es : List (ℕ × X)) (i : ℕ) (w : X) (k : ℕ) (x : X) → slice_get es i ≡ Some (k, x) → slice_get (set_value_at es i w) i ≡ Some (k, w)
-set_there [] i w k x at = absurd cc
-set_there (e ∷ es) zero w k x at = cc
-set_there (e ∷ es) (suc i) w k x at = set_there es i w k x at
-
--- The entries before it stay.
-pub before_written : {X : Type 0} (es : List (ℕ × X)) (i : ℕ) (w : X) → take i (set_value_at es i w) ≡ take i es
-before_written [] i w = refl
-before_written (e ∷ es) zero w = refl
-before_written (e ∷ es) (suc i) w = ap (λ xs. e ∷ xs) (before_written es i w)
-
--- The entries beside it stay.
-pub beside_written : {X : Type 0} (es : List (ℕ × X)) (i : ℕ) (w : X) → remove (set_value_at es i w) i ≡ remove es i
-beside_written [] i w = refl
-beside_written (e ∷ es) zero w = refl
-beside_written (e ∷ es) (suc i) w = ap (λ xs. e ∷ xs) (beside_written es i w)

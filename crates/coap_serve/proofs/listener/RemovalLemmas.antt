@@ -1,14 +1,12 @@
--- Recorded interests after a connection was released or dropped.
-use Rattle.std.proofs.Common.{◌≡◌, ◌≢◌, ℕ, zero, suc, Bool, true, false, List, [], ◌∷◌, Option, Some, None, refl, sym, ap, ◌∙◌, arith, nat_eq, slice_get, if◌then◌else◌, length, map, position, get_or, option_map, IfSome, ◌<◌, inl, inr, is_some}
-use Rattle.std.proofs.lemmas.Bool.{eq-eqb, eqb-true, eqb-false}
+-- The entry of a connection that was released.
+use Rattle.std.proofs.Common.{◌≡◌, ℕ, zero, suc, true, false, List, [], ◌∷◌, Option, Some, None, refl, sym, ap, ◌∙◌, arith, nat_eq, slice_get, if◌then◌else◌, length, map, position, get_or, option_map, IfSome, ◌<◌, inl, inr, is_some}
+use Rattle.std.proofs.lemmas.Bool.{eq-eqb, eqb-true}
 use Rattle.std.proofs.lemmas.Cmp.{nat_eq_equiv}
 use Rattle.std.proofs.lemmas.Map.{NonePasses, lookup-none}
 use Rattle.std.proofs.lemmas.Map.Entries.{none_past_head, lookup_from_place}
 use Rattle.std.proofs.lemmas.List.Quantifiers.{position-Some}
-use Rattle.std.proofs.lemmas.List.Elements.{All-from_recursion, recursion_from_All}
 use Rattle.std.proofs.lemmas.Option.{slice_get-map, slice_get_cases, get_or_from_slice_get}
-use Rattle.coap_serve.specs.Prelude.{AllByRecursion, All, IsDistinct, keys_of, set_value_at, shift_remove_entry, Peer, ServerValue, AreSettled, server_released, server_dropped, IsNoted, recorded, released_at, released_on}
-use Rattle.coap_serve.proofs.listener.NoteLemmas.{stays_noted, released_on_it, dropped_on, others_become, noted_now}
+use Rattle.coap_serve.specs.Prelude.{ArePaired, IsDistinct, keys_of, released_at, released_on, ServerValue, set_value_at, Peer}
 
 -- The entry at the place of a number has that number.
 pub number_at : {X : Type 0} (id : ℕ) (es : List (ℕ × X)) (i k : ℕ) (x : X) → Some i ≡ position (nat_eq id) (keys_of es) → slice_get es i ≡ Some (k, x) → k ≡ id
@@ -62,35 +60,15 @@ module _ {W : Type 0} (f : ℕ × Peer W → Peer W) where
     | inr h ↦ absurd (omega (arith, within, h.0))
   ]
 
-  -- Recorded interests stay correct.
-  pub all_noted_on : (v after : ServerValue) (id : ℕ) → ((e : ℕ × Peer W) → e.0 ≢ id → IsNoted v e → IsNoted after e) → ((e : ℕ × Peer W) → IsNoted after (e.0, f e))
-      → (es : List (ℕ × Peer W)) → AllByRecursion (IsNoted v) es → AllByRecursion (IsNoted after) (changed_on id es)
-  all_noted_on v after id each one [] all = tt
-  all_noted_on v after id each one (e ∷ es) all = (
-    elim (nat_eq id e.0) as (λ b. nat_eq id e.0 ≡ b → IsNoted after (if b then (e.0, f e) else e)) [
-      | true ↦ λ is. one e
-      | false ↦ λ is. each e (λ same. eqb-false id e.0 is (sym same)) all.0
-    ] refl,
-    all_noted_on v after id each one es all.1,
-  )
-
--- The interest that is recorded is correct.
-pub recorded_noted : {W : Type 0} (after : ServerValue) (e : ℕ × Peer W) → IsNoted after (e.0, recorded after e)
-recorded_noted after e = noted_now e.0 (recorded after e) refl
-
-pub released_noted : {W : Type 0} (now : ℕ) {after : ServerValue} (e : ℕ × Peer W) → IsNoted after (e.0, released_at now (recorded after e))
-released_noted now {after = after} e = noted_now e.0 (released_at now (recorded after e)) refl
-
-left_all : {X : Type 0} (P : ℕ × X → Type 0) (test : ℕ → Bool) (es : List (ℕ × X)) → AllByRecursion P es → AllByRecursion P (shift_remove_entry test es)
-left_all P test [] all = tt
-left_all P test (e ∷ es) all = grind (arith, left_all P test es all.1)
-
-pub noted_where_released : {W : Type 0} (now : ℕ) (v : ServerValue) {after : ServerValue} (id : ℕ) (es : List (ℕ × Peer W)) {left : List (ℕ × Peer W)} → AreSettled v.host v.sessions → after ≡ server_released v id → left ≡ released_on now after id es → All (IsNoted v) es → All (IsNoted after) left
-noted_where_released now v id es settled released is noted =
-    rw (is, released) (All-from_recursion (IsNoted (server_released v id)) (released_on now (server_released v id) id es)
-    (all_noted_on (λ e. released_at now (recorded (server_released v id) e)) v (server_released v id) id (stays_noted (released_on_it v id) settled) (released_noted now) es (recursion_from_All (IsNoted v) es noted)))
-
-pub noted_where_left : {W : Type 0} (v : ServerValue) {after : ServerValue} (id : ℕ) (es : List (ℕ × Peer W)) {now : List (ℕ × Peer W)} → AreSettled v.host v.sessions → after ≡ server_dropped v id → now ≡ shift_remove_entry (nat_eq id) es → NonePasses (nat_eq id) now → All (IsNoted v) es → All (IsNoted after) now
-noted_where_left v id es {now = now} settled dropped is apart noted =
-    rw dropped (All-from_recursion (IsNoted (server_dropped v id)) now
-    (others_become (IsNoted v) (IsNoted (server_dropped v id)) id (stays_noted (dropped_on id) settled) now apart (rw is (left_all (IsNoted v) (nat_eq id) es (recursion_from_All (IsNoted v) es noted)))))
+-- The numbers stay where a connection was released.
+pub paired_released_on : {W : Type 0} (now id : ℕ) {v after : ServerValue} {es left : List (ℕ × Peer W)} → keys_of after.sessions ≡ keys_of v.sessions → left ≡ released_on now id es → ArePaired v es → ArePaired after left
+paired_released_on now id {es = es} keys is paired =
+    let same = ap keys_of is ∙ same_keys now id es in
+    record { keys = same ∙ paired.keys ∙ sym keys; distinct = rw same paired.distinct }
+  where
+    same_keys : {W : Type 0} (now id : ℕ) (es : List (ℕ × Peer W)) → keys_of (released_on now id es) ≡ keys_of es
+    same_keys now id [] = refl
+    same_keys now id (e ∷ es) = elim (nat_eq id e.0) as (λ b. (if b then (e.0, released_at now e.1) else e).0 ∷ keys_of (released_on now id es) ≡ e.0 ∷ keys_of es) [
+      | true ↦ ap (λ ks. e.0 ∷ ks) (same_keys now id es)
+      | false ↦ ap (λ ks. e.0 ∷ ks) (same_keys now id es)
+    ]

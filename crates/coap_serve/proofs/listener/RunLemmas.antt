@@ -156,8 +156,6 @@ turn_named follows rests waits views one turn =
       record {
         start = turn.start;
         begun = turn.begun;
-        kept = turn.kept;
-        recorded = turn.recorded;
         limit = turn.limit;
         allowed = (one, turn.allowed);
         next = turn.next;
@@ -165,7 +163,6 @@ turn_named follows rests waits views one turn =
           opens = t.opens;
           between = t.between;
           opened = record { handed = t.opened.handed; asked = refl; opened = t.opened.opened; is = t.opened.is };
-          changed = t.changed;
           visits = t.visits;
           served = t.served;
           waits = t.waits;

@@ -5,7 +5,7 @@ use Rattle.std.proofs.lemmas.Bool.Decides.{nat_tests}
 use Rattle.std.proofs.lemmas.List.{append-nil, length-drop, length-take}
 use Rattle.std.proofs.Math.Bool.{or_assoc}
 use Rattle.coap_server_engine.specs.Prelude.{Reason, handed_by}
-use Rattle.coap_serve.specs.Prelude.{ShowsMore, FollowsMore, Following, opening, ServerValue, session_of, count_taken, server_taken, ConnectionWork, IsReasonFor, SessionValue, session_outlook, AcceptedCall, Opened, Took, Dropped, server_dropped, server_opened, Answering, AnswersMore, Exchange, Gone, HasServed, HasTurned, HasOpened, AreSteps, IsTakenWith, opening_then, AreCallsBetween, Continues, HasAccepted, History, IsAccepted, Journal, calls_only, drop_history, drop_on, history_then, journal, no_history, one_drop, Got, Bytes, End, heard_events, is_there, server_heard, server_wrote, wrote_events}
+use Rattle.coap_serve.specs.Prelude.{ShowsMore, FollowsMore, Following, opening, ServerValue, count_taken, server_taken, ConnectionWork, IsReasonFor, SessionValue, session_outlook, AcceptedCall, Opened, Took, Dropped, server_dropped, server_opened, Answering, AnswersMore, Exchange, Gone, HasServed, HasTurned, HasOpened, AreSteps, IsTakenWith, opening_then, AreCallsBetween, Continues, HasAccepted, History, IsAccepted, Journal, calls_only, history_then, journal, no_history, one_drop, Got, Bytes, End, heard_events, is_there, server_heard, server_wrote, wrote_events}
 use Rattle.coap_serve.specs.listener.Histories.{NoStep, OneMore}
 use Rattle.coap_serve.specs.listener.Turns.{IsTakenInPart, have_moved, left_behind, moves, rest_behind}
 use Rattle.coap_serve.specs.listener.Serving.{BytesTaken, BytesWritten, ConnectionDropped, InputEnded}
@@ -95,41 +95,7 @@ wrote_served id wrote is made = calls_made (rw is NoStep) made
 
 -- ---- dropped connections
 
--- The history of a drop of a connection that exists, or does not.
-drop_there : (id : ℕ) (o : Option SessionValue) → is_there o ≡ true → drop_on o id ≡ one_drop id
-drop_there id None there = absurd cc
-drop_there id (Some s) there = refl
-
-drop_nowhere : (id : ℕ) (o : Option SessionValue) → is_there o ≡ false → drop_on o id ≡ no_history
-drop_nowhere id None there = refl
-drop_nowhere id (Some s) there = absurd cc
-
--- A drop was made if the connection exists.
-pub drop_made : (a b : Following) (p q : Answering) (v after : ServerValue) (id : ℕ) → is_there (session_of id v.sessions) ≡ true → ShowsMore v after (Dropped id ∷ []) → FollowsMore a b (drop_history v id).events → AnswersMore p q (Gone id ∷ []) → IsAccepted (Continues (journal a p) (journal b q)) v after (drop_history v id)
-drop_made a b p q v after id there shows received gone =
-    let is = drop_there id (session_of id v.sessions) there in
-    record { shows = rw (ap (λ h. h.events) is) shows; known = record { calls = received; exchanged = rw (ap (λ h. h.exchanges) is) gone } }
-
-pub drop_served : (a b : Following) (p q : Answering) {v after : ServerValue} (id : ℕ) → is_there (session_of id v.sessions) ≡ true → after ≡ server_dropped v id → ShowsMore v after (Dropped id ∷ []) → FollowsMore a b (drop_history v id).events → AnswersMore p q (Gone id ∷ [])
-    → HasServed (Continues (journal a p) (journal b q)) v after
-drop_served a b p q {v = v} {after = after} id there is shows received gone = dropped_served a b p q v id is shows (rw (ap (λ h. h.events) (drop_there id (session_of id v.sessions) there)) at received) gone
-
-pub no_drop_made : (a b : Following) (p : Answering) {v after : ServerValue} (id : ℕ) → is_there (session_of id v.sessions) ≡ false → after ≡ v → FollowsMore a b (drop_history v id).events → IsAccepted (Continues (journal a p) (journal b p)) v after (drop_history v id)
-no_drop_made a b p {v = v} {after = after} id there is received =
-    let none = drop_nowhere id (session_of id v.sessions) there in
-    record { shows = rw (ap (λ h. h.events) none) (shows_same v after is); known = record { calls = received; exchanged = rw (ap (λ h. h.exchanges) none) (answered_none p) } }
-
-pub no_drop_served : (a b : Following) (p : Answering) {v after : ServerValue} (id : ℕ) → is_there (session_of id v.sessions) ≡ false → after ≡ v → FollowsMore a b (drop_history v id).events → HasServed (Continues (journal a p) (journal b p)) v after
-no_drop_served a b p {v = v} {after = after} id there is received =
-    calls_made (rw is NoStep) (record { shows = shows_same v after is; follows = rw (ap (λ h. h.events) (drop_nowhere id (session_of id v.sessions) there)) at received })
-
--- The drop is reported if the connection exists.
-pub drop_reported : (a b : Following) (v : ServerValue) (id : ℕ) → is_there (session_of id v.sessions) ≡ true → FollowsMore a b (Dropped id ∷ []) → FollowsMore a b (drop_history v id).events
-drop_reported a b v id there received = rw (ap (λ h. h.events) (drop_there id (session_of id v.sessions) there)) received
-
-pub no_drop_reported : (a : Following) (v : ServerValue) (id : ℕ) → is_there (session_of id v.sessions) ≡ false → FollowsMore a a (drop_history v id).events
-no_drop_reported a v id none = rw (ap (λ h. h.events) (drop_nowhere id (session_of id v.sessions) none)) (followed_none a)
-
+-- The reason of a drop is right for the work left on the connection.
 pub reason_left : (now : ℕ) (o : Option SessionValue) (why : DropReason) → is_there o ≡ true → IfSome (option_map (session_outlook now) o) (IsReasonFor why) → (work : ConnectionWork) × (option_map (session_outlook now) o ≡ Some work) × IsReasonFor why work
 reason_left now None why there is = absurd cc
 reason_left now (Some s) why there is = (session_outlook now s, refl, is)

@@ -1,14 +1,13 @@
 -- The effect of a sweep, connection by connection.
-use Rattle.std.proofs.Common.{ℕ, ◌≡◌, ◌==◌, true, zero, suc, ◌+◌, ◌<◌, ◌≤◌, List, [], ◌∷◌, ◌++◌, length, take, drop, Option, Some, None, refl, sym, ap, ◌∙◌, arith, slice_get, IfSome, remove, nat_eq, append_assoc, option_map, subst}
+use Rattle.std.proofs.Common.{ℕ, ◌≡◌, ◌==◌, true, ◌+◌, ◌<◌, ◌≤◌, List, ◌++◌, length, take, drop, Option, Some, None, refl, sym, ap, ◌∙◌, arith, slice_get, IfSome, remove, append_assoc, option_map, subst}
 use Rattle.std.proofs.lemmas.List.{append-nil, drop_all, take_all}
 use Rattle.std.proofs.lemmas.Option.{same_Some, slice_get-map}
 use Rattle.std.proofs.lemmas.Bool.Decides.{nat_tests}
-use Rattle.std.proofs.lemmas.Map.{NonePasses}
-use Rattle.coap_serve.specs.Prelude.{AllByRecursion, IsDistinct, keys_of, set_value_at, Peer, SilenceAction, LoopState, loop_state, Released, ServerValue, AreSettled, AreNoted, IsNoted, Continues, History, IsAccepted, Journal, history_then, no_history, one_call, one_drop, server_released, server_dropped, released_refusal, status_of, recorded, released_at, unswept, silence_action, acted, drop_one, due_sweep, Sweep, swept, swept_one, HasSwept, HasSweptAt}
+use Rattle.coap_serve.specs.Prelude.{IsReasonFor, outlook_of, keys_of, set_value_at, Peer, SilenceAction, LoopState, loop_state, Released, ServerValue, ArePaired, Continues, History, IsAccepted, Journal, history_then, no_history, one_call, one_drop, server_released, server_dropped, released_refusal, status_of, released_at, unswept, silence_action, acted, drop_one, due_sweep, Sweep, swept, swept_one, HasSwept, HasSweptAt}
+use Rattle.coap_server_engine.specs.declared.monitor.DropReason.TheVariants as drop
 use Rattle.coap_serve.specs.declared.door.silence.SilenceAction.TheVariants.{Keep, Release}
-use Rattle.coap_serve.proofs.listener.AgendaLemmas.{some_at_index, next_first, front_stays, back_removed, front_kept, front_written, back_written, length_written}
-use Rattle.coap_serve.proofs.listener.NoteLemmas.{stays_noted, released_on_it, dropped_on, others_become}
-use Rattle.coap_serve.proofs.listener.RemovalLemmas.{all_noted_on, changed_there, released_noted}
+use Rattle.coap_serve.proofs.listener.EntryLemmas.{some_at_index, next_first, front_stays, back_removed, front_kept, front_written, back_written, length_written}
+use Rattle.coap_serve.proofs.listener.SleepLemmas.{paired_written}
 use Rattle.coap_serve.proofs.listener.ServingLemmas.{accepted_none, accepted_then, then_none}
 
 -- A value was recorded at the index.
@@ -28,29 +27,36 @@ its_number {X} es i {e = e} at = slice_get-map (λ (e : ℕ × X). e.0) es i ∙
 
 -- ---- one connection
 
-module _ {W : Type 0} (Known : History → Type 0) (now : ℕ) (v after : ServerValue) (es left : List (ℕ × Peer W)) (i id : ℕ) (within : i < length es) (number : slice_get (keys_of es) i ≡ Some id) where
-  pub dropped_here : after ≡ server_dropped v id → left ≡ remove es i → IsAccepted Known v after (one_drop id) → IfSome (slice_get es i) (λ e. HasSweptAt Known (drop_one v e) (loop_state v es) i (loop_state after left) i)
-  dropped_here dropped is accepted =
-      let at = some_at_index es i within in
-      let same : at.0.0 ≡ id = number_there es i number at.1 in
-      rw at.1 (record {
-        has = record { server = rw (← same) at dropped; accepted = rw (← same) at accepted };
-        front = rw (is, append-nil) (front_stays es i within);
-        back = rw is (back_removed es i within);
-      })
+-- Any connection may be dropped as silent.
+pub silent_reason : {W : Type 0} (v : ServerValue) (es : List (ℕ × Peer W)) (i : ℕ) → IfSome (slice_get es i) (λ e. IfSome (outlook_of v e.0) (IsReasonFor drop.Silent))
+silent_reason v es i = elim (slice_get es i) as (λ o. IfSome o (λ e. IfSome (outlook_of v e.0) (IsReasonFor drop.Silent))) [
+  | None ↦ tt
+  | Some e ↦ elim (outlook_of v e.0) as (λ o. IfSome o (IsReasonFor drop.Silent)) [ None ↦ tt | Some work ↦ tt ]
+]
 
-  pub released_here : after ≡ server_released v id → IfSome (slice_get es i) (λ e. left ≡ set_value_at es i (released_at now (recorded after e))) → IsAccepted Known v after (one_call (Released id)) → released_refusal v id ≡ None
+pub dropped_here : {W : Type 0} (Known : History → Type 0) (v after : ServerValue) (es left : List (ℕ × Peer W)) (i : ℕ) → i < length es → IfSome (slice_get (keys_of es) i) (λ id. after ≡ server_dropped v id) → left ≡ remove es i
+    → IfSome (slice_get (keys_of es) i) (λ id. IsAccepted Known v after (one_drop id)) → IfSome (slice_get es i) (λ e. HasSweptAt Known (drop_one v e) (loop_state v es) i (loop_state after left) i)
+dropped_here Known v after es left i within dropped is accepted =
+    let at = some_at_index es i within in
+    rw at.1 (record {
+      has = record { server = rw (slice_get-map, at.1) at dropped; accepted = rw (slice_get-map, at.1) at accepted };
+      front = rw (is, append-nil) (front_stays es i within);
+      back = rw is (back_removed es i within);
+    })
+
+module _ {W : Type 0} (Known : History → Type 0) (now : ℕ) (v after : ServerValue) (es left : List (ℕ × Peer W)) (i id : ℕ) (within : i < length es) (number : slice_get (keys_of es) i ≡ Some id) where
+  pub released_here : after ≡ server_released v id → IfSome (slice_get es i) (λ e. left ≡ set_value_at es i (released_at now e.1)) → IsAccepted Known v after (one_call (Released id)) → released_refusal v id ≡ None
       → IfSome (slice_get es i) (λ e. HasSweptAt Known (acted Release (released_refusal v e.0) now v e) (loop_state v es) i (loop_state after left) (i + 1))
   released_here released is accepted may =
       let at = some_at_index es i within in
       let same : at.0.0 ≡ id = number_there es i number at.1 in
-      let is_so : left ≡ set_value_at es i (released_at now (recorded after at.0)) = rw at.1 at is in
+      let is_so : left ≡ set_value_at es i (released_at now at.0.1) = rw at.1 at is in
       let released_so : after ≡ server_released v at.0.0 = rw (← same) at released in
       let may_so : released_refusal v at.0.0 ≡ None = rw (← same) at may in
       rw (at.1, may_so) (record {
         has = record { server = released_so; accepted = rw (← same) at accepted };
-        front = rw (is_so, released_so) (front_written es i at.0.0 at.0.1 (released_at now (recorded (server_released v at.0.0) at.0)) at.1);
-        back = rw is_so (back_written es i (released_at now (recorded after at.0)));
+        front = rw is_so (front_written es i at.0.0 at.0.1 (released_at now at.0.1) at.1);
+        back = rw is_so (back_written es i (released_at now at.0.1));
       })
 
   -- `release` was refused, and the connection was dropped.
@@ -74,27 +80,10 @@ kept_here a now s i within =
     let at = some_at_index s.entries i within in
     rw at.1 (record { has = record { server = refl; accepted = accepted_none a s.server s.server refl }; front = front_kept s.entries i at.0 at.1; back = refl })
 
--- ---- recorded interests
+-- ---- pairs
 
-removed_all : {X : Type 0} (P : X → Type 0) (xs : List X) (i : ℕ) → AllByRecursion P xs → AllByRecursion P (remove xs i)
-removed_all P [] zero all = tt
-removed_all P [] (suc i) all = tt
-removed_all P (x ∷ xs) zero all = all.1
-removed_all P (x ∷ xs) (suc i) all = (all.0, removed_all P xs i all.1)
-
-pub noted_where_removed : {W : Type 0} (v : ServerValue) {after : ServerValue} (id i : ℕ) (es : List (ℕ × Peer W)) {left : List (ℕ × Peer W)} → AreSettled v.host v.sessions → after ≡ server_dropped v id → left ≡ remove es i → NonePasses (nat_eq id) left → AreNoted v es → AreNoted after left
-noted_where_removed v id i es {left = left} settled dropped is apart noted =
-    rw dropped (others_become (IsNoted v) (IsNoted (server_dropped v id)) id (stays_noted (dropped_on id) settled) left apart (rw is (removed_all (IsNoted v) es i noted)))
-
-pub noted_where_recorded : {W : Type 0} (now : ℕ) (v : ServerValue) {after : ServerValue} (id i : ℕ) (es left : List (ℕ × Peer W)) → AreSettled v.host v.sessions → after ≡ server_released v id → IsDistinct nat_eq (keys_of es) → i < length es → slice_get (keys_of es) i ≡ Some id
-    → IfSome (slice_get es i) (λ e. left ≡ set_value_at es i (released_at now (recorded after e))) → AreNoted v es → AreNoted after left
-noted_where_recorded now v {after = after} id i es left settled released distinct within number is noted =
-    let at = some_at_index es i within in
-    let same : at.0.0 ≡ id = number_there es i number at.1 in
-    let is_so : left ≡ set_value_at es i (released_at now (recorded after at.0)) = rw at.1 at is in
-    let released_so : after ≡ server_released v at.0.0 = rw (← same) at released in
-    rw (is_so, changed_there (λ e. released_at now (recorded after e)) at.0.0 es i at.0.1 distinct at.1, released_so)
-    (all_noted_on (λ e. released_at now (recorded (server_released v at.0.0) e)) v (server_released v at.0.0) at.0.0 (stays_noted (released_on_it v at.0.0) settled) (released_noted now) es noted)
+pub paired_released : {W : Type 0} (now : ℕ) {v after : ServerValue} (i : ℕ) {es left : List (ℕ × Peer W)} → keys_of after.sessions ≡ keys_of v.sessions → i < length es → IfSome (slice_get es i) (λ e. left ≡ set_value_at es i (released_at now e.1)) → ArePaired v es → ArePaired after left
+paired_released now i {es = es} keys within is paired = let at = some_at_index es i within in paired_written paired i (released_at now at.0.1) keys (rw at.1 at is)
 
 -- ---- all connections
 

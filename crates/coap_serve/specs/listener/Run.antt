@@ -14,7 +14,6 @@ use Rattle.coap_serve.specs.declared.door.peer.Peer.{Peer}
 use Rattle.coap_serve.specs.declared.door.service.ServiceConfig.{ServiceConfig}
 use Rattle.coap_serve.specs.declared.door.service.Times.{Times}
 use Rattle.coap_serve.specs.listener.Histories.{AreSteps, HasAccepted, History, calls_only, history_then, no_history, one_call, one_drop}
-use Rattle.coap_serve.specs.listener.RecordedInterests.{AreRecorded}
 use Rattle.coap_serve.specs.listener.Serving.{AreTurnSteps, HasTurned, IsAskedOnce, IsTurnBy, KnownOfTurn, LoopState, Views, loop_state, way}
 use Rattle.coap_serve.specs.listener.Silence.{Sweep, due_sweep}
 
@@ -124,12 +123,10 @@ known_after h K = record K { history = λ more. K.history (history_then h more) 
 pub record IsTurnFor {A W : Type 0} (E : Environment A W) (times : Times) (K : KnownOfTurn W) (s after : ServiceValue W) (wait : Wait) : Type 0 where
   pub start : TurnStart
   pub begun : IsBegun E.follows E.rests times s start
-  pub kept : List (ℕ × Peer W)
-  pub recorded : AreRecorded begun.sweep.entries kept
   pub limit : Wait
   pub allowed : E.waits times.now limit
   pub next : Wait
-  pub turn : IsTurnBy (way E.follows times.second E.views) (known_after start.history K) (loop_state start.server kept) after.state next
+  pub turn : IsTurnBy (way E.follows times.second E.views) (known_after start.history K) (loop_state start.server begun.sweep.entries) after.state next
   pub waits : wait ≡ short_wait s.idle after.state.server.host.now after.state.entries (wait_within (limit_for start.is_full limit) next)
   pub second : after.second ≡ times.second
   pub idle : after.idle ≡ s.idle

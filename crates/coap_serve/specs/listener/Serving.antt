@@ -1,19 +1,17 @@
 -- Defined by this project: one turn of the event loop, its history, and how each connection is served in it.
-use Rattle.std.specs.Prelude.{ℕ, ◌≡◌, ◌≢◌, ◌≤◌, ◌⊎◌, ◌+◌, Bool, true, false, List, [], ◌∷◌, ◌++◌, length, map, take, drop, slice_get, Option, Some, None, is_none, is_some, nat_eq, ◌||◌, if◌then◌else◌}
-use Rattle.coap_server_engine.specs.Prelude.{insert_entry, AcceptedCall, Opened, Wrote, Ended, ServerState, SessionValue, Answering, Following, stamp_of, open_refusal}
+use Rattle.std.specs.Prelude.{ℕ, ◌≡◌, ◌⊎◌, ◌+◌, Bool, true, false, List, [], ◌∷◌, ◌++◌, map, take, drop, slice_get, Option, Some, None, is_none, is_some, nat_eq, if◌then◌else◌}
+use Rattle.coap_server_engine.specs.Prelude.{insert_entry, AcceptedCall, Opened, Wrote, Ended, Answering, Following, open_refusal}
 use Rattle.coap_io.specs.streams.DeviceTraces.{DoorCall, Asked}
 use Rattle.coap_io.specs.streams.Wires.{MatchesTrace, WireTrace, trace_by}
 use Rattle.coap_io.specs.declared.wire.Got.{Got}
 use Rattle.coap_io.specs.declared.wire.Wait.{Wait}
 use Rattle.coap_server_engine.specs.values.ApplicationCalls.{IsPartlyServed, IsServed as IsServedWith}
-use Rattle.coap_server_engine.specs.values.Servers.{ServerValue, session_of, server_opened, server_dropped, server_ended, server_written}
+use Rattle.coap_server_engine.specs.values.Servers.{ServerValue, server_opened, server_dropped, server_ended, server_written}
 use Rattle.coap_serve.specs.declared.door.peer.PeerOutcome.{PeerOutcome}
 use Rattle.coap_serve.specs.declared.door.peer.PeerOutcome.TheVariants.{Open, Over}
 use Rattle.coap_serve.specs.declared.door.peer.Peer.{Peer}
-use Rattle.coap_serve.specs.declared.door.next_wakeup.NextWakeup.{NextWakeup}
 use Rattle.coap_serve.specs.listener.Histories.{AreCallsBetween, AreSteps, HasAccepted, History, IsAccepted, history_then, no_history, one_call, one_drop}
-use Rattle.coap_serve.specs.listener.RecordedInterests.{true_end}
-use Rattle.coap_serve.specs.listener.Turns.{CanGoOn, IsAgendaOf, IsServedOnceBy, IsTakenWith, IsWaitAfter, Readiness, Taking, VisitResult, VisitState, activity_after, end_of, have_moved, new_activity, visit_state}
+use Rattle.coap_serve.specs.listener.Turns.{CanGoOn, IsServedOnceBy, IsTakenWith, IsWaitAfter, PeerStatus, Readiness, Taking, VisitResult, VisitState, activity_after, have_moved, new_activity, peer_status, visit_state}
 
 -- ---- steps
 
@@ -97,15 +95,11 @@ pub record Way (W : Type 0) : Type 1 where
 abbrev pub way : {A W : Type 0} (follows : A → Answering) (second : ℕ) (views : Views W) → Way W
 way follows second views = record { takes = IsTakenWith follows; second = second; views = views }
 
+-- The status of a connection, by the records of the wires.
+abbrev pub status_of_peer : {W : Type 0} → Way W → ServerValue → ℕ × Peer W → PeerStatus
+status_of_peer S v e = peer_status S.views.readable S.views.writable v e
+
 -- ---- one connection
-
--- The history of a drop, if the connection exists.
-abbrev pub drop_on : Option SessionValue → ℕ → History
-drop_on None id = no_history
-drop_on (Some s) id = one_drop id
-
-abbrev pub drop_history : ServerValue → ℕ → History
-drop_history v id = drop_on (session_of id v.sessions) id
 
 -- The server, the entry of a connection, and the history after those of serving it. If the outcome is `Over`, the
 -- connection is dropped.
@@ -117,9 +111,9 @@ abbrev pub end_left : {W : Type 0} → PeerOutcome → ℕ → Peer W → List (
 end_left Open id p = (id, p) ∷ []
 end_left (Over reason) id p = []
 
-abbrev pub history_left : PeerOutcome → ServerValue → ℕ → History
-history_left Open v id = no_history
-history_left (Over reason) v id = drop_history v id
+abbrev pub history_left : PeerOutcome → ℕ → History
+history_left Open id = no_history
+history_left (Over reason) id = one_drop id
 
 -- A visit of a connection: the server and the transport side of the connection after it, and its result.
 pub record Visit (W : Type 0) : Type 0 where
@@ -158,43 +152,30 @@ pub record IsServedInTurn {W : Type 0} (S : Way W) (v : ServerValue) (e : ℕ ×
   pub part : IsVisited S v e its
   pub server : after.server ≡ server_left its.result.outcome its.server e.0
   pub far_end : after.entries ≡ end_left its.result.outcome e.0 its.peer
-  pub all : h ≡ history_then its.result.history (history_left its.result.outcome its.server e.0)
+  pub all : h ≡ history_then its.result.history (history_left its.result.outcome e.0)
 
--- The connection at an index was served, and the turn continues at the index `at`. The connections before and after it
--- are unchanged.
+-- The connection at an index was served, because something could be done on it, and the turn continues at the index
+-- `at`. The connections before and after it are unchanged.
 pub record HasGoneOn {W : Type 0} (S : Way W) (s : LoopState W) (i : ℕ) (after : LoopState W) (at : ℕ) (h : History) : Type 0 where
   pub e : ℕ × Peer W
   pub its : List (ℕ × Peer W)
   pub there : slice_get s.entries i ≡ Some e
+  pub can : CanGoOn (status_of_peer S s.server e) true
   pub part : IsServedInTurn S s.server e (loop_state after.server its) h
   pub front : take at after.entries ≡ take i s.entries ++ its
   pub back : drop at after.entries ≡ drop (i + 1) s.entries
 
 -- ---- each connection in order
 
--- `affects` is `true` if and only if there is an earlier connection, and the state that all connections share has
--- changed. Then serving a connection may affect those before it.
-abbrev pub AffectsEarlier : (earlier : ℕ) (host later : ServerState) (affects : Bool) → Type 0
-AffectsEarlier earlier host later true = (1 ≤ earlier) × (later ≢ host)
-AffectsEarlier earlier host later false = (earlier ≡ 0) ⊎ (later ≡ host)
-
--- Each connection in order was served, or skipped if nothing could be done on it. `earlier` is the number of
--- connections before these that still exist. `changed` is `true` if and only if serving one of these may affect a
--- connection before it, including those `earlier` ones. The history is that of the served connections, in order. A
--- connection that is skipped has none.
-pub data AreServed {W : Type 0} (S : Way W) : (earlier : ℕ) → LoopState W → (changed : Bool) → LoopState W → History → Type 0 where
-  NoMore : (earlier : ℕ) (v : ServerValue) → AreServed S earlier (loop_state v []) false (loop_state v []) no_history
-  Skipped : (earlier : ℕ) (v : ServerValue) (e : ℕ × Peer W) (es : List (ℕ × Peer W)) (changed : Bool) (after : LoopState W) (h : History) → CanGoOn (true_end S.views.readable S.views.writable v e) false
-      → AreServed S (earlier + 1) (loop_state v es) changed after h → AreServed S earlier (loop_state v (e ∷ es)) changed (loop_state after.server (e ∷ after.entries)) h
-  Visited : (earlier : ℕ) (v : ServerValue) (e : ℕ × Peer W) (es : List (ℕ × Peer W)) (between : LoopState W) (own : History) (affects changed : Bool) (after : LoopState W) (h : History) → IsServedInTurn S v e between own → AffectsEarlier earlier v.host between.server.host affects
-      → AreServed S (earlier + length between.entries) (loop_state between.server es) changed after h
-      → AreServed S earlier (loop_state v (e ∷ es)) (affects || changed) (loop_state after.server (between.entries ++ after.entries)) (history_then own h)
-
--- Each connection in order was served or skipped, and the agenda describes the work that remains.
-pub record IsRound {W : Type 0} (S : Way W) (s : LoopState W) (a : NextWakeup) (after : LoopState W) (h : History) : Type 0 where
-  pub changed : Bool
-  pub served : AreServed S 0 s changed after h
-  pub agenda : IsAgendaOf a changed (stamp_of after.server.host) (map (λ e. end_of S.views.readable S.views.writable e.1) after.entries)
+-- Each connection in order was served if something could be done on it by its present interest, and otherwise skipped.
+-- The history is that of the served connections, in order. A connection that is skipped has none.
+pub data AreServed {W : Type 0} (S : Way W) : LoopState W → LoopState W → History → Type 0 where
+  NoMore : (v : ServerValue) → AreServed S (loop_state v []) (loop_state v []) no_history
+  Skipped : (v : ServerValue) (e : ℕ × Peer W) (es : List (ℕ × Peer W)) (after : LoopState W) (h : History) → CanGoOn (status_of_peer S v e) false
+      → AreServed S (loop_state v es) after h → AreServed S (loop_state v (e ∷ es)) (loop_state after.server (e ∷ after.entries)) h
+  Visited : (v : ServerValue) (e : ℕ × Peer W) (es : List (ℕ × Peer W)) (between : LoopState W) (own : History) (after : LoopState W) (h : History) → CanGoOn (status_of_peer S v e) true
+      → IsServedInTurn S v e between own → AreServed S (loop_state between.server es) after h
+      → AreServed S (loop_state v (e ∷ es)) (loop_state after.server (between.entries ++ after.entries)) (history_then own h)
 
 -- ---- a turn
 
@@ -239,15 +220,14 @@ abbrev pub known_of_turn : {W : Type 0} (door : List (DoorCall W) → Type 0) (h
 known_of_turn door history = record { door = door; history = history }
 
 -- One turn of a server with its connections. If another connection may be opened, the listener is asked once, and a
--- connection is opened for the wire that it returns. Then each connection is served. The wait is zero if and only if a
--- connection was opened, a change may affect one served earlier, or one is ready. The history of the turn is that of
--- the opened connection and of the served ones, in order, and the server accepted its calls.
+-- connection is opened for the wire that it returns. Then each connection is served or skipped. The wait is zero if and
+-- only if a connection was opened or one is ready. The history of the turn is that of the opened connection and of the
+-- served ones, in order, and the server accepted its calls.
 pub record IsTurnBy {W : Type 0} (S : Way W) (K : KnownOfTurn W) (s after : LoopState W) (wait : Wait) : Type 0 where
   pub opens : Bool
   pub between : LoopState W
   pub opened : IsOpening S.second K.door s between opens
-  pub changed : Bool
   pub visits : History
-  pub served : AreServed S 0 between changed after visits
-  pub waits : IsWaitAfter (opens || changed) (map (λ e. true_end S.views.readable S.views.writable after.server e) after.entries) wait
+  pub served : AreServed S between after visits
+  pub waits : IsWaitAfter opens (map (status_of_peer S after.server) after.entries) wait
   pub accepted : IsAccepted K.history s.server after.server (opening_then s.server opens visits)

@@ -1,6 +1,6 @@
 -- Defined by this project: the activity of connections, which of them a sweep releases or drops, and the effect of a
 -- sweep.
-use Rattle.std.specs.Prelude.{ℕ, ◌≡◌, take, drop, ◌+◌, ◌-◌, List, [], ◌∷◌, ◌++◌, Option, Some, None, nat_lt, nat_le, ◌==◌, ◌&&◌, if◌then◌else◌}
+use Rattle.std.specs.Prelude.{ℕ, ◌≡◌, take, drop, ◌+◌, ◌-◌, List, [], ◌∷◌, ◌++◌, Option, Some, None, map, nat_eq, nat_lt, nat_le, ◌==◌, ◌&&◌, if◌then◌else◌}
 use Rattle.coap_conn.specs.Phases.{is_waiting}
 use Rattle.coap_server_engine.specs.Prelude.{ReleaseFault, Released, released_refusal, status_of, ServerValue, server_released, server_dropped}
 use Rattle.coap_model.specs.declared.answers.Status.{Status}
@@ -9,7 +9,6 @@ use Rattle.coap_serve.specs.declared.door.silence.SilenceAction.{SilenceAction}
 use Rattle.coap_serve.specs.declared.door.silence.SilenceAction.TheVariants.{Keep, Release, Drop}
 use Rattle.coap_serve.specs.declared.door.peer.Peer.{Peer}
 use Rattle.coap_serve.specs.listener.Histories.{History, IsAccepted, history_then, no_history, one_call, one_drop}
-use Rattle.coap_serve.specs.listener.RecordedInterests.{recorded, released_at}
 use Rattle.coap_serve.specs.listener.Serving.{LoopState}
 
 -- ---- the rule
@@ -50,9 +49,17 @@ unswept v es = record { server = v; entries = es; history = no_history }
 abbrev pub drop_one : {W : Type 0} → ServerValue → ℕ × Peer W → Sweep W
 drop_one v e = record { server = server_dropped v e.0; entries = []; history = one_drop e.0 }
 
--- A connection was released: its interest and the time were recorded.
+-- The transport side of a connection that the server releases at this time.
+abbrev pub released_at : {W : Type 0} → (now : ℕ) → Peer W → Peer W
+released_at now p = record p { activity = record p.activity { released = Some now } }
+
+-- The entries after the connection with this number was released, if it has an entry.
+abbrev pub released_on : {W : Type 0} → (now : ℕ) → ℕ → List (ℕ × Peer W) → List (ℕ × Peer W)
+released_on now id es = map (λ e. if nat_eq id e.0 then (e.0, released_at now e.1) else e) es
+
+-- A connection was released, and the time was recorded.
 abbrev pub release_one : {W : Type 0} (now : ℕ) → ServerValue → ℕ × Peer W → Sweep W
-release_one now v e = record { server = server_released v e.0; entries = (e.0, released_at now (recorded (server_released v e.0) e)) ∷ []; history = one_call (Released e.0) }
+release_one now v e = record { server = server_released v e.0; entries = (e.0, released_at now e.1) ∷ []; history = one_call (Released e.0) }
 
 -- The effect of an action. If `release` is refused, the connection is dropped.
 abbrev pub acted : {W : Type 0} → SilenceAction → Option ReleaseFault → (now : ℕ) → ServerValue → ℕ × Peer W → Sweep W

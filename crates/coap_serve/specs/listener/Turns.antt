@@ -1,12 +1,11 @@
 -- Defined by this project: how a turn of the event loop serves one connection, and the work that remains afterwards.
 use Rattle.std.specs.Prelude.{ℕ, ◌≡◌, ◌≢◌, fold, Bool, true, false, not, List, [], ◌∷◌, ◌++◌, length, drop, Option, Some, None, IfSome, nat_lt, ◌==◌, ◌&&◌, ◌||◌, if◌then◌else◌}
-use Rattle.std.specs.List.{AllByRecursion}
 use Rattle.coap_server_engine.specs.Prelude.{Reason, can_take_on, stop_on, AcceptedCall, Took, Wrote, Ended, in_result, took, IsReasonFor, waiting_at}
 use Rattle.coap_server_engine.specs.values.Servers.{ServerValue, session_of, server_ended, server_written}
 use Rattle.coap_server_session.specs.values.Deadlines.{sooner}
 use Rattle.coap_server_engine.specs.values.Exchanges.{Answering, AnswersMore}
 use Rattle.coap_server_engine.specs.values.ApplicationCalls.{IsServed as IsServedWith}
-use Rattle.coap_server_engine.specs.values.ServerDeadlines.{outlook_of, stamp_of, same_stamp}
+use Rattle.coap_server_engine.specs.values.ServerDeadlines.{outlook_of}
 use Rattle.coap_serve.specs.listener.Histories.{History, calls_only, no_history}
 use Rattle.coap_io.specs.streams.Wires.{MatchesTrace, WireTrace, IsReadOnce, IsWrittenOnce}
 use Rattle.coap_server_engine.specs.declared.monitor.DropReason.TheVariants as drop
@@ -14,12 +13,10 @@ use Rattle.coap_serve.specs.declared.door.peer.PeerOutcome.{PeerOutcome}
 use Rattle.coap_serve.specs.declared.door.peer.PeerOutcome.TheVariants.{Open, Over}
 use Rattle.coap_serve.specs.declared.door.peer_interest.PeerInterest.{PeerInterest}
 use Rattle.coap_serve.specs.declared.door.peer.Peer.{Peer}
-use Rattle.coap_serve.specs.declared.door.next_wakeup.NextWakeup.{NextWakeup}
 use Rattle.coap_serve.specs.declared.door.silence.Activity.{Activity}
 use Rattle.coap_io.specs.declared.wire.Wait.{Wait}
 use Rattle.coap_io.specs.declared.wire.Wait.TheVariants.{No, Until, Forever}
 use Rattle.coap_server_engine.specs.declared.server.ConnectionWork.{ConnectionWork}
-use Rattle.coap_server_engine.specs.declared.server.ChangeStamp.{ChangeStamp}
 use Rattle.coap_io.specs.declared.wire.Got.{Got}
 use Rattle.coap_io.specs.declared.wire.Got.TheVariants.{Bytes, Later, End, Failed}
 use Rattle.coap_io.specs.declared.read_buffer.TheConstants.{READ_SIZE}
@@ -216,25 +213,25 @@ pub record IsNoOp (ready : Readiness) (v : ServerValue) (id : ℕ) (rest : List 
 
 -- ---- remaining work
 
--- The I/O interest of a connection with this work left. It states if bytes read before can be accepted or must be
--- discarded, and if the wire must be read and written. Without a connection it is empty.
-abbrev pub wants_in : Option ConnectionWork → (is_empty : Bool) → ChangeStamp → PeerInterest
-wants_in None is_empty stamp = record { take = false; read = false; write = false; due = None; stamp = stamp }
-wants_in (Some o) is_empty stamp = record {
-  take = not is_empty && (o.takes || o.stopped);
+-- The I/O interest of a connection with this work left. It states if the connection must be visited whatever its wire
+-- does, and if the wire must be read and written. The first holds if bytes read before can be accepted or must be
+-- discarded, or nothing more will be written. Without a connection it is empty.
+abbrev pub wants_in : Option ConnectionWork → (is_empty : Bool) → PeerInterest
+wants_in None is_empty = record { visit = false; read = false; write = false; due = None }
+wants_in (Some o) is_empty = record {
+  visit = (not is_empty && (o.takes || o.stopped)) || o.finished;
   read = is_empty && o.takes;
   write = o.waits;
   due = o.due;
-  stamp = stamp;
 }
 
 -- The I/O interest of the connection with this number, for these bytes left from its reads.
 abbrev pub wants_of : ServerValue → ℕ → List ℕ → PeerInterest
-wants_of v id rest = wants_in (outlook_of v id) (length rest == 0) (stamp_of v.host)
+wants_of v id rest = wants_in (outlook_of v id) (length rest == 0)
 
 -- Something in this I/O interest can be done at once.
 abbrev pub can_go_on : PeerInterest → Readiness → Bool
-can_go_on w ready = w.take || (w.read && ready.read) || (w.write && ready.write)
+can_go_on w ready = w.visit || (w.read && ready.read) || (w.write && ready.write)
 
 -- The state that decides whether a connection can be served: its I/O interest and, if its wire records them, the wire's
 -- `may_read` and `may_write`.
@@ -243,89 +240,47 @@ pub record PeerStatus : Type 0 where
   pub writable : Option Bool
   pub wants : PeerInterest
 
-abbrev pub end_of : {W : Type 0} (readable writable : W → Option Bool) → Peer W → PeerStatus
-end_of readable writable p = record { readable = readable p.wire; writable = writable p.wire; wants = p.wants }
+abbrev pub status_with : {W : Type 0} (readable writable : W → Option Bool) → W → PeerInterest → PeerStatus
+status_with readable writable wire wants = record { readable = readable wire; writable = writable wire; wants = wants }
+
+-- The status of a connection, with its present interest.
+abbrev pub peer_status : {W : Type 0} (readable writable : W → Option Bool) → ServerValue → ℕ × Peer W → PeerStatus
+peer_status readable writable v e = status_with readable writable e.1.wire (wants_of v e.0 e.1.rest)
 
 -- `answer` is the readiness of a wire if that is wanted, and otherwise `false`.
 abbrev pub IsAsked : (wanted : Bool) (recorded : Option Bool) (answer : Bool) → Type 0
 IsAsked true recorded answer = MatchesTrace recorded answer
 IsAsked false recorded answer = answer ≡ false
 
--- `result` is `true` if something can be done at once. The connection has bytes to accept or to discard, its wire must
--- be read and may be, or it must be written and may be.
+-- `result` is `true` if something can be done at once. The connection must be visited, its wire must be read and may be,
+-- or it must be written and may be.
 pub record CanGoOn (e : PeerStatus) (result : Bool) : Type 0 where
   pub reads : Bool
   pub writes : Bool
   pub read : IsAsked e.wants.read e.readable reads
   pub write : IsAsked e.wants.write e.writable writes
-  pub is : result ≡ e.wants.take || reads || writes
-
--- The connection is idle: it was last served when the server had this stamp, and nothing can be done now.
-abbrev pub IsIdle : ChangeStamp → PeerStatus → Type 0
-IsIdle stamp e = (e.wants.stamp ≡ stamp) × CanGoOn e false
-
--- The connection is not idle: it was last served when the server had another stamp, or something can be done.
-pub record IsInTurn (stamp : ChangeStamp) (e : PeerStatus) : Type 0 where
-  pub ready : Bool
-  pub can : CanGoOn e ready
-  pub is : (same_stamp e.wants.stamp stamp && not ready) ≡ false
-
--- The connection is idle if the last argument is `true`, and not idle if it is `false`.
-abbrev pub IsRestAnswer : ChangeStamp → PeerStatus → Bool → Type 0
-IsRestAnswer stamp e true = IsIdle stamp e
-IsRestAnswer stamp e false = IsInTurn stamp e
-
--- The earliest of this time and of all times at which time alone may queue something on one of these connections.
-abbrev pub least_with : Option ℕ → List PeerStatus → Option ℕ
-least_with due all = fold (λ due e. sooner due e.wants.due) due all
-
-abbrev pub least_due : List PeerStatus → Option ℕ
-least_due all = least_with None all
-
--- `true` if serving a connection may affect the `earlier` connections before it, which were served earlier in the turn.
--- There must be at least one, and the stamp of the server must have changed.
-abbrev pub concerns_earlier : (earlier : ℕ) (before after : ChangeStamp) → Bool
-concerns_earlier earlier before after = nat_lt 0 earlier && not (same_stamp after before)
+  pub is : result ≡ e.wants.visit || reads || writes
 
 -- `result` is `true` if something can be done at once on any of these connections.
 abbrev pub CanAnyGoOn : List PeerStatus → Bool → Type 0
 CanAnyGoOn [] result = result ≡ false
 CanAnyGoOn (e ∷ es) result = (first others : Bool) × CanGoOn e first × CanAnyGoOn es others × (result ≡ (first || others))
 
--- The agenda describes the connections visited so far, on a server with this stamp. `changed` is `true` if serving one
--- of them may have affected others before it. Another turn must follow at once if and only if `changed` is `true` or
--- something can be done at once. The deadline is the earliest of all. If `changed` is `false`, all were last served
--- when the server had this stamp.
-pub record IsAgendaOf (a : NextWakeup) (changed : Bool) (stamp : ChangeStamp) (all : List PeerStatus) : Type 0 where
-  pub due : a.due ≡ least_due all
-  pub ready : Bool
-  pub can : CanAnyGoOn all ready
-  pub at_once : a.at_once ≡ (changed || ready)
-  pub fresh : changed ≡ false → AllByRecursion (λ e. e.wants.stamp ≡ stamp) all
-
--- The agenda after idle connections were skipped.
-abbrev pub agenda_past : NextWakeup → List PeerStatus → NextWakeup
-agenda_past a all = record a { due = least_with a.due all }
-
--- The agenda after one more connection was visited, by whether something can be done on it at once and by its deadline.
-abbrev pub agenda_with : NextWakeup → Bool → Option ℕ → NextWakeup
-agenda_with a ready due = record { at_once = a.at_once || ready; due = sooner a.due due }
+-- The earliest of this time and of all times at which time alone may queue something on one of these connections.
+abbrev pub least_with : Option ℕ → List PeerStatus → Option ℕ
+least_with due all = fold (λ due e. sooner due e.wants.due) due all
 
 abbrev pub wait_until : Option ℕ → Wait
 wait_until None = Forever
 wait_until (Some moment) = Until moment
 
-abbrev pub wait_of : NextWakeup → Wait
-wait_of a = if a.at_once then No else wait_until a.due
-
 -- The wait is zero if something must be done at once. Otherwise it ends at the earliest time at which time alone may
 -- queue something, or never if there is none.
 abbrev pub wait_for : (at_once : Bool) → List PeerStatus → Wait
-wait_for at_once all = if at_once then No else wait_until (least_due all)
+wait_for at_once all = if at_once then No else wait_until (least_with None all)
 
--- The wait after a turn is zero if and only if the turn itself requires another one or a connection can be served at
--- once.
-pub record IsWaitAfter (calls_again : Bool) (all : List PeerStatus) (wait : Wait) : Type 0 where
+-- The wait after a turn is zero if and only if a connection was opened or one can be served at once.
+pub record IsWaitAfter (opens : Bool) (all : List PeerStatus) (wait : Wait) : Type 0 where
   pub ready : Bool
   pub can : CanAnyGoOn all ready
-  pub is : wait ≡ wait_for (calls_again || ready) all
+  pub is : wait ≡ wait_for (opens || ready) all

@@ -1,60 +1,61 @@
-//! The connections that a turn must visit.
+//! The connections that a turn must look at.
 
 ghost use Rattle.std.specs.Prelude.{◌≡◌, ◌≢◌, ℕ, ◌<◌, ◌≤◌, ◌||◌, true, is_some};
-ghost use Rattle.coap_serve.specs.Prelude.{ChangeStamp, IsOutside, bit_of};
+ghost use Rattle.coap_serve.specs.Prelude.{IsOutside, bit_of};
 
-use coap_server_engine::{ChangeStamp, IndexSet};
+use coap_server_engine::IndexSet;
 
 /// Number of connections that may sleep: those with a smaller index, whose wires have a smaller place.
 const SLEEPERS: usize = 256;
 
-/// Connections that a turn must visit. The others *sleep*: nothing can be done on them while the stamp of the server is
-/// the same, and they have no deadline. A connection sleeps until its listener names its wire, or until all wake.
+/// Connections that a turn must look at. The others *sleep*: nothing can be done on them, and they have no deadline. A
+/// connection sleeps until its listener names its wire, until the server reports that its work may have changed, or
+/// until all wake.
 #[derive(Drop)]
 pub(super) struct Awake {
     /// Indices of the connections that are awake.
     set: IndexSet,
-    /// Stamp of the server when the connections that sleep were last visited.
-    stamp: ChangeStamp,
     /// Index of the connection that fell asleep last, for each place of a wire.
     indices: [u8; SLEEPERS],
 }
 
 impl Awake {
     /// Returns the state of a service in which all connections are awake.
-    pub(super) fn new(stamp: ChangeStamp) -> Awake
+    pub(super) fn new() -> Awake
         ensures { (i : ℕ) → i < 256 → bit_of result.set.words i ≡ 1 }
     {
         Awake {
             set: IndexSet::full(),
-            stamp,
             indices: [0; SLEEPERS],
         }
     }
 
     /// Wakes all connections.
     pub(super) fn wake_all(&mut self)
-        ensures all { (i : ℕ) → i < 256 → bit_of self.new.set.words i ≡ 1 }
-        ensures stamp { self.new.stamp ≡ self.old.stamp }
+        ensures { (i : ℕ) → i < 256 → bit_of self.new.set.words i ≡ 1 }
     {
         self.set = IndexSet::full();
     }
 
-    /// Wakes all connections if the server has another stamp than before.
-    pub(super) fn follow(&mut self, stamp: ChangeStamp)
-        ensures stamp { self.new.stamp ≡ stamp }
-        ensures asleep { (i : ℕ) → IsOutside self.new.set.words i → self.new ≡ self.old }
+    /// Wakes the connection at an index.
+    pub(super) fn wake(&mut self, at: usize)
+        ensures awake { IsOutside self.new.set.words at → ⊥ }
+        ensures asleep { (i : ℕ) → IsOutside self.new.set.words i → IsOutside self.old.set.words i }
     {
-        if self.stamp != stamp {
-            self.stamp = stamp;
-            self.wake_all();
-        }
+        self.set.insert(at);
+    }
+
+    /// Wakes the connections of a set.
+    pub(super) fn join(&mut self, affected: &IndexSet)
+        ensures { (i : ℕ) → IsOutside self.new.set.words i →
+            IsOutside self.old.set.words i × IsOutside affected.now.words i }
+    {
+        self.set.join(affected);
     }
 
     /// Wakes the connections whose wires have these places, or all if there is no list of places.
     pub(super) fn wake_places(&mut self, places: Option<&[usize]>)
-        ensures asleep { (i : ℕ) → IsOutside self.new.set.words i → IsOutside self.old.set.words i }
-        ensures stamp { self.new.stamp ≡ self.old.stamp }
+        ensures { (i : ℕ) → IsOutside self.new.set.words i → IsOutside self.old.set.words i }
     {
         match places {
             Some(places) => {
@@ -68,17 +69,16 @@ impl Awake {
 
     /// Wakes the connection whose wire has this place, if it sleeps.
     fn wake_place(&mut self, place: usize)
-        ensures asleep { (i : ℕ) → IsOutside self.new.set.words i → IsOutside self.old.set.words i }
-        ensures stamp { self.new.stamp ≡ self.old.stamp }
+        ensures { (i : ℕ) → IsOutside self.new.set.words i → IsOutside self.old.set.words i }
     {
         if let Some(at) = self.indices.get(place) {
             self.set.insert(usize::from(*at));
         }
     }
 
-    /// Records a visit of the connection at an index. If it is ready or has a deadline, it is awake. Otherwise it falls
+    /// Records a look at the connection at an index. If it is ready or has a deadline, it is awake. Otherwise it falls
     /// asleep, if its wire has a place.
-    pub(super) fn record_visit(
+    pub(super) fn record_look(
         &mut self,
         at: usize,
         place: Option<usize>,
@@ -87,7 +87,6 @@ impl Awake {
     )
         ensures asleep { (i : ℕ) → i ≢ at → IsOutside self.new.set.words i → IsOutside self.old.set.words i }
         ensures awake { (is_ready || is_some due) ≡ true → IsOutside self.new.set.words at → ⊥ }
-        ensures stamp { self.new.stamp ≡ self.old.stamp }
     {
         if is_ready || due.is_some() {
             self.set.insert(at);
@@ -100,8 +99,7 @@ impl Awake {
 
     /// Puts the connection at an index to sleep, if the index and the place of its wire are less than 256.
     fn sleep(&mut self, at: usize, place: usize)
-        ensures asleep { (i : ℕ) → i ≢ at → IsOutside self.new.set.words i → IsOutside self.old.set.words i }
-        ensures stamp { self.new.stamp ≡ self.old.stamp }
+        ensures { (i : ℕ) → i ≢ at → IsOutside self.new.set.words i → IsOutside self.old.set.words i }
     {
         if at < SLEEPERS && place < SLEEPERS {
             self.indices[place] = at as u8;

@@ -1,12 +1,9 @@
 //! The parts of a turn of a service.
 
-ghost use Rattle.std.specs.Prelude.{ℕ, ◌≡◌, ◌≢◌, ◌==◌, false, All, Option, is_some};
-ghost use Rattle.coap_serve.specs.Prelude.{AnswersMore, AreAskedLater, AreRecorded, FollowsMore};
-ghost use Rattle.coap_serve.specs.Prelude.{IsAskedLater};
-ghost use Rattle.coap_serve.specs.listener.RecordedInterests.{IsNoted};
+ghost use Rattle.std.specs.Prelude.{ℕ, ◌≡◌, ◌≢◌, ◌==◌, false, Option, is_some};
+ghost use Rattle.coap_serve.specs.Prelude.{AnswersMore, AreAskedLater, FollowsMore, IsAskedLater, SleepOn};
 
-use super::peer::Peers;
-use super::removal::record_on;
+use super::awake::Awake;
 use super::service::Service;
 use super::sweep::sweep;
 use super::turn::take_turn;
@@ -77,9 +74,10 @@ impl<W: Wire + Ready + Drop> Service<W> {
         ensures times { (self.new.second ≡ self.old.second) × (self.new.idle ≡ self.old.idle) }
         ensures spent { self.new.is_spent ≡ self.old.is_spent }
     {
-        if now == self.server.stamp().moment {
+        if now == self.server.moment() {
             return Ok(());
         }
+        self.awake.join(&self.server.concerned_by_time());
         self.server.tick(now)?;
         monitor.accepted(Call::Ticked(now), &self.server);
         Ok(())
@@ -98,23 +96,20 @@ impl<W: Wire + Ready + Drop> Service<W> {
             (AnswersMore (A.follows application.old) (A.follows application.new)) }
         ensures idle { result ≡ false → A.idle application.new }
         // No wire is touched, and no byte that was read is discarded.
-        ensures peers { AreRecorded self.old.peers.entries self.new.peers.entries }
+        ensures peers { self.new.peers ≡ self.old.peers }
         ensures times { (self.new.second ≡ self.old.second) × (self.new.idle ≡ self.old.idle) }
         ensures spent { self.new.is_spent ≡ self.old.is_spent }
     {
         if !application.answers() {
             return false;
         }
-        let count = answer_each(
+        let count = answer_each::<W, A, M>(
             &mut self.server,
-            &mut self.peers,
+            &mut self.awake,
             application,
             &mut self.response,
             monitor,
         );
-        if count > 0 {
-            self.awake.wake_all();
-        }
         count == MOST_RESPONSES
     }
 
@@ -166,15 +161,15 @@ impl<W: Wire + Ready + Drop> Service<W> {
         if self.idle.is_none() || self.peers.is_empty() {
             return wait;
         }
-        wait.at_most(self.server.stamp().moment.saturating_add(1))
+        wait.at_most(self.server.moment().saturating_add(1))
     }
 }
 
 /// Asks the application for later responses, until it has none or has given `MOST_RESPONSES` of them, and gives each.
-/// Returns their number. The interest of each connection with a response is recorded anew.
+/// Returns their number. Each connection with a response wakes.
 fn answer_each<W, A: Application, M: Monitor<W>>(
     server: &mut Server,
-    peers: &mut Peers<W>,
+    awake: &mut Awake,
     application: &mut A,
     response: &mut Vec<u8>,
     monitor: &mut M,
@@ -182,25 +177,22 @@ fn answer_each<W, A: Application, M: Monitor<W>>(
     ensures shows { AreAskedLater server.old 256 (result == 256) server.new
         (FollowsMore (M.follows monitor.old) (M.follows monitor.new))
         (AnswersMore (A.follows application.old) (A.follows application.new)) }
-    ensures peers { AreRecorded peers.old.entries peers.new.entries }
-    ensures noted { All (IsNoted server.old) peers.old.entries → All (IsNoted server.new) peers.new.entries }
-    ensures none { result ≡ 0 → (server.new ≡ server.old) × (peers.new ≡ peers.old) }
+    ensures kept { SleepOn awake.old awake.new server.old server.new }
     // The application has no later response now.
     ensures idle { result ≢ 256 → A.idle application.new }
 {
     for count in 0..MOST_RESPONSES {
-        if !answer_once(server, peers, application, response, monitor) {
+        if !answer_once::<W, A, M>(server, awake, application, response, monitor) {
             return count;
         }
     }
     MOST_RESPONSES
 }
 
-/// Asks the application for one later response, and gives it. Returns `false` if there is none. The interest of its
-/// connection is recorded anew.
+/// Asks the application for one later response, and gives it. Returns `false` if there is none. Its connection wakes.
 fn answer_once<W, A: Application, M: Monitor<W>>(
     server: &mut Server,
-    peers: &mut Peers<W>,
+    awake: &mut Awake,
     application: &mut A,
     response: &mut Vec<u8>,
     monitor: &mut M,
@@ -208,15 +200,16 @@ fn answer_once<W, A: Application, M: Monitor<W>>(
     ensures asked { (id : Option ℕ) × (result ≡ is_some id) × IsAskedLater server.old id server.new
         (FollowsMore (M.follows monitor.old) (M.follows monitor.new))
         (AnswersMore (A.follows application.old) (A.follows application.new)) }
-    ensures peers { AreRecorded peers.old.entries peers.new.entries }
-    ensures noted { All (IsNoted server.old) peers.old.entries → All (IsNoted server.new) peers.new.entries }
-    ensures none { result ≡ false → (server.new ≡ server.old) × (peers.new ≡ peers.old) }
+    ensures kept { SleepOn awake.old awake.new server.old server.new }
     ensures idle { result ≡ false → A.idle application.new }
 {
-    let _ = server.stamp();
     let Some(id) = server.answer_next::<W, M, A>(application, response, monitor) else {
         return false;
     };
-    record_on(server, peers, id);
+    let Some(at) = server.index_of(id) else {
+        awake.wake_all();
+        return true;
+    };
+    awake.wake(at);
     true
 }

@@ -1,15 +1,14 @@
 //! The transport side of a connection, and how a turn serves it.
 
-ghost use Rattle.std.specs.Prelude.{◌≡◌, ◌≢◌, ◌||◌, nat_lt, false, [], length, is_some, OnOk, IfOk, IfErr};
+ghost use Rattle.std.specs.Prelude.{◌≡◌, ◌≢◌, ◌||◌, nat_lt, false, [], length, is_some, IfOk, IfErr};
 ghost use Rattle.coap_serve.specs.Prelude.{AreTimesAfter, HasServed, IsServedBy, IsTakenInPart, known_by};
-ghost use Rattle.coap_serve.specs.Prelude.{readiness, visit, AddsBytes, AreCallsBetween, But, GoesOnSparing};
+ghost use Rattle.coap_serve.specs.Prelude.{readiness, visit, AddsBytes, AreCallsBetween, KeepsBeside};
 ghost use Rattle.coap_serve.specs.Prelude.{HasAccepted, IsTakenWith, TellsMore, heard_events, wrote_events};
 ghost use Rattle.coap_serve.specs.Prelude.{has_written, trace_by, IsLaidOut, is_heard, server_heard};
-ghost use Rattle.coap_serve.specs.Prelude.{server_wrote, waiting_once, is_over_in, has_failed, course_of};
+ghost use Rattle.coap_serve.specs.Prelude.{server_wrote, waiting_once, has_failed, course_of};
 ghost use Rattle.coap_serve.specs.Prelude.{wants_of, IsWithin, IsMemory, IsOneWrite, bytes_passed, stop_on};
-ghost use Rattle.coap_serve.specs.Prelude.{session_of, IsAsked, CanGoOn, IsRestAnswer, end_of, IsCourseFor};
-ghost use Rattle.coap_serve.specs.Prelude.{outlook_of};
-ghost use Rattle.coap_serve.specs.declared.door.peer.PeerOutcome.TheVariants.{Open};
+ghost use Rattle.coap_serve.specs.Prelude.{session_of, IsAsked, CanGoOn, status_with, IsCourseFor};
+ghost use Rattle.coap_serve.specs.Prelude.{outlook_of, KeepsOthers, KeepsWork, LiesAt};
 ghost use Rattle.coap_io.specs.declared.wire.Got.TheVariants.{Later, End};
 
 use super::peer_interest::{PeerInterest, wants_by};
@@ -18,7 +17,7 @@ use coap_conn::first_part;
 use coap_io::{Got, ReadBuffer, Ready, Wire};
 use coap_model::ConnId;
 use coap_server_engine::{
-    Application, Call, ChangeStamp, ConnectionWork, DropReason, IoFault, Monitor, Server,
+    Application, Call, ConnIndex, DropReason, IndexSet, IoFault, Monitor, Served, Server,
 };
 use indexmap::IndexMap;
 
@@ -29,8 +28,6 @@ pub(super) struct Peer<W> {
     pub(super) wire: W,
     /// Bytes that were read and that the server has not accepted yet.
     pub(super) rest: ReadBuffer,
-    /// I/O interest, recorded when the connection was last served.
-    pub(super) wants: PeerInterest,
     /// Times of the connection.
     pub(super) activity: Activity,
 }
@@ -38,32 +35,24 @@ pub(super) struct Peer<W> {
 impl<W: Ready> Peer<W> {
     /// Returns `true` if the connection must be read and its wire may have input. (The wire is asked first, because
     /// most wires have no input.)
-    pub(super) fn can_read(&self) -> bool
-        ensures { IsAsked self.now.wants.read (W.readable self.now.wire) result }
+    fn can_read(&self, wants: PeerInterest) -> bool
+        ensures { IsAsked wants.read (W.readable self.now.wire) result }
     {
-        self.wire.may_read() && self.wants.read
+        self.wire.may_read() && wants.read
     }
 
     /// Returns `true` if the connection must be written and its wire may have room.
-    pub(super) fn can_write(&self) -> bool
-        ensures { IsAsked self.now.wants.write (W.writable self.now.wire) result }
+    fn can_write(&self, wants: PeerInterest) -> bool
+        ensures { IsAsked wants.write (W.writable self.now.wire) result }
     {
-        self.wants.write && self.wire.may_write()
+        wants.write && self.wire.may_write()
     }
 
-    /// Returns `true` if something can be done on the connection at once.
-    pub(super) fn is_ready(&self) -> bool
-        ensures { CanGoOn (end_of W.readable W.writable self.now) result }
+    /// Returns `true` if something can be done at once on the connection, which has this I/O interest.
+    pub(super) fn is_ready(&self, wants: PeerInterest) -> bool
+        ensures { CanGoOn (status_with W.readable W.writable self.now.wire wants) result }
     {
-        self.wants.take || self.can_read() || self.can_write()
-    }
-
-    /// Returns `true` if the connection was last served when the server had this stamp, and nothing can be done on it
-    /// now.
-    pub(super) fn is_idle(&self, stamp: ChangeStamp) -> bool
-        ensures { IsRestAnswer stamp (end_of W.readable W.writable self.now) result }
-    {
-        self.wants.stamp == stamp && !self.is_ready()
+        wants.visit || self.can_read(wants) || self.can_write(wants)
     }
 }
 
@@ -79,18 +68,29 @@ pub(super) enum PeerOutcome {
     Over(DropReason),
 }
 
-/// Serves a connection once: reads, processes and writes. Then it records the connection's I/O interest.
+/// Result of serving a connection once.
+#[derive(Clone, Copy)]
+pub(super) struct PeerVisit {
+    /// Outcome for the connection.
+    pub(super) outcome: PeerOutcome,
+    /// Present I/O interest of the connection.
+    pub(super) wants: PeerInterest,
+    /// Indices of the other connections whose work left may have changed.
+    pub(super) affected: IndexSet,
+}
+
+/// Serves a connection once: reads, processes and writes.
 ///
 /// The wire is read once if `may_read` is `true`, all bytes of earlier reads were accepted, and the connection accepts
 /// bytes. The connection then processes the received bytes. If `may_write` is `true`, queued bytes are written once. If
-/// the read fails, the other steps are skipped, and nothing is recorded. `second` is the time of these steps.
+/// the read fails, the other steps are skipped. `second` is the time of these steps.
 ///
 /// # Errors
 ///
 /// - `Memory`: an allocation failed.
 pub(super) fn serve_peer<W: Wire, A: Application, M: Monitor<W>>(
     server: &mut Server,
-    id: ConnId,
+    index: ConnIndex,
     peer: &mut Peer<W>,
     may_read: bool,
     may_write: bool,
@@ -98,24 +98,30 @@ pub(super) fn serve_peer<W: Wire, A: Application, M: Monitor<W>>(
     application: &mut A,
     response: &mut Vec<u8>,
     monitor: &mut M,
-) -> Result<PeerOutcome, IoFault>
+) -> Result<PeerVisit, IoFault>
+    requires lies { LiesAt index.id index.at server.old.sessions }
     // The wire is read once if a read is due, and written once if bytes are queued and `may_write` is `true`. Otherwise
     // it is not touched. The monitor receives the calls of these steps, and no others.
-    ensures part { IfOk result (λ outcome. HasAccepted (λ h. IsServedBy (IsTakenWith A.follows)
-        (trace_by W.given W.written W.answers W.rooms) (readiness may_read may_write) server.old (id, peer.old)
-        (visit server.new peer.new outcome h) × AreTimesAfter second peer.old (visit server.new peer.new outcome h))
+    ensures part { IfOk result (λ x. HasAccepted (λ h. IsServedBy (IsTakenWith A.follows)
+        (trace_by W.given W.written W.answers W.rooms) (readiness may_read may_write) server.old (index.id, peer.old)
+        (visit server.new peer.new x.outcome h) × AreTimesAfter second peer.old (visit server.new peer.new x.outcome h))
         (known_by M.follows A.follows monitor.old monitor.new application.old application.new) server.old server.new) }
     ensures shows { HasServed (known_by M.follows A.follows monitor.old monitor.new application.old application.new)
         server.old server.new }
-    // The other connections are spared.
-    ensures spared { OnOk result (GoesOnSparing (But id) server.old server.new) }
-    ensures wants { IfOk result (λ course. course ≡ Open → peer.new.wants ≡ wants_of server.new id peer.new.rest) }
-    ensures reason { IfOk result (λ course. IsCourseFor course (outlook_of server.new id)) }
+    ensures wants { IfOk result (λ x. x.wants ≡ wants_of server.new index.id peer.new.rest) }
+    // Each other connection that is not affected has the same work left.
+    ensures kept { IfOk result (λ x. KeepsBeside index.id x.affected.words server.old server.new) }
+    ensures reason { IfOk result (λ x. IsCourseFor x.outcome (outlook_of server.new index.id)) }
     ensures fault { IfErr result IsMemory }
 {
+    let id = index.id;
     let heard = read_wire(server, id, peer, may_read, monitor);
     if failed(heard) {
-        return Ok(PeerOutcome::Over(DropReason::Failed));
+        return Ok(PeerVisit {
+            outcome: PeerOutcome::Over(DropReason::Failed),
+            wants: wants_by(server.outlook_at(index), peer.rest.is_empty()),
+            affected: IndexSet::empty(),
+        });
     }
     let taken = take_buffered::<W, A, M>(
         server,
@@ -126,12 +132,15 @@ pub(super) fn serve_peer<W: Wire, A: Application, M: Monitor<W>>(
         monitor,
     )?;
     let wrote = write_once(server, id, &mut peer.wire, may_write, monitor);
-    let moved = has_moved(taken, wrote);
+    let moved = has_moved(taken.count, wrote);
     let activity = peer.activity.after(second, moved);
     peer.activity = activity;
-    let outlook = server.outlook(id);
-    peer.wants = wants_by(outlook, peer.rest.is_empty(), server.stamp());
-    Ok(outcome(wrote, is_over(outlook)))
+    let work = server.outlook_at(index);
+    Ok(PeerVisit {
+        outcome: outcome(wrote, work.finished),
+        wants: wants_by(work, peer.rest.is_empty()),
+        affected: taken.affected,
+    })
 }
 
 /// Returns `true` for `Got::Failed`.
@@ -181,6 +190,7 @@ fn outcome(wrote: Got, is_over: bool) -> PeerOutcome
 
 /// Reads once if `may_read` is `true`, all bytes of earlier reads were accepted, and the connection accepts bytes.
 /// Returns the result of the read, or `Later` if there was none. The end of input is reported to the connection.
+#[tactic(auto, using(coap_server_engine::proofs::values::WorkLemmas::keeps_all))]
 fn read_wire<W: Wire, M: Monitor<W>>(
     server: &mut Server,
     id: ConnId,
@@ -199,6 +209,7 @@ fn read_wire<W: Wire, M: Monitor<W>>(
     ensures activity { peer.new.activity ≡ peer.old.activity }
     // If no read is due, nothing changes.
     ensures passed { is_heard may_read server.old id peer.old.rest ≡ false → peer.new ≡ peer.old }
+    ensures kept { KeepsOthers id server.old server.new }
 {
     if !may_read || !peer.rest.is_empty() || !server.can_take(id) {
         return Got::Later;
@@ -214,12 +225,13 @@ fn read_wire<W: Wire, M: Monitor<W>>(
 }
 
 /// Passes the bytes that were read to a connection, message by message, until all are accepted or none is. If the
-/// connection then processes no further message, the other bytes are discarded. Returns the number of bytes accepted.
+/// connection then processes no further message, the other bytes are discarded. Returns the number of bytes accepted,
+/// and the connections that they affected.
 ///
 /// # Errors
 ///
 /// - `Memory`: an allocation failed for a representation that a message stores.
-#[tactic(auto, using(crate::proofs::listener::NoteLemmas::with_spares, crate::proofs::listener::ServingLemmas::with_served, crate::proofs::listener::ServingLemmas::with_part_served, crate::proofs::listener::ServingLemmas::taken_in_part))]
+#[tactic(auto, using(crate::proofs::listener::ServingLemmas::with_served, crate::proofs::listener::ServingLemmas::with_part_served, crate::proofs::listener::ServingLemmas::taken_in_part))]
 fn take_buffered<W, A: Application, M: Monitor<W>>(
     server: &mut Server,
     id: ConnId,
@@ -227,29 +239,29 @@ fn take_buffered<W, A: Application, M: Monitor<W>>(
     application: &mut A,
     response: &mut Vec<u8>,
     monitor: &mut M,
-) -> Result<usize, IoFault>
-    ensures taken { IfOk result (λ n. HasAccepted (λ h. IsTakenInPart (IsTakenWith A.follows) server.old id rest.old
-        rest.new (record { server = server.new; count = n; history = h }))
+) -> Result<Served, IoFault>
+    ensures taken { IfOk result (λ s. HasAccepted (λ h. IsTakenInPart (IsTakenWith A.follows) server.old id rest.old
+        rest.new (record { server = server.new; count = s.count; history = h }))
         (known_by M.follows A.follows monitor.old monitor.new application.old application.new) server.old server.new) }
-    ensures spared { OnOk result (GoesOnSparing (But id) server.old server.new) }
+    ensures kept { IfOk result (λ s. KeepsWork s.affected.words server.old server.new) }
     ensures shows { HasServed (known_by M.follows A.follows monitor.old monitor.new application.old application.new)
         server.old server.new }
     ensures fault { IfErr result IsMemory }
 {
     let taken = server.take_all_for::<W, M, A>(id, rest.bytes(), application, response, monitor);
-    let Ok(count) = taken else {
+    let Ok(served) = taken else {
         return Err(IoFault::Memory);
     };
-    rest.advance(count);
+    rest.advance(served.count);
     if has_stopped(server, id) {
         rest.clear();
     }
-    Ok(count)
+    Ok(served)
 }
 
 /// Writes queued bytes of a connection once, from the first, if some are queued and `may_write` is `true`. Returns the
 /// result of the write, or `Later` if there was none. The result `End` of a write is returned as `Failed`.
-#[tactic(auto, using(coap_conn::proofs::NextPartLemmas::few_written))]
+#[tactic(auto, using(coap_conn::proofs::NextPartLemmas::few_written, coap_server_engine::proofs::values::WorkLemmas::keeps_all))]
 fn write_once<W: Wire, M: Monitor<W>>(
     server: &mut Server,
     id: ConnId,
@@ -271,6 +283,7 @@ fn write_once<W: Wire, M: Monitor<W>>(
     ensures answered { waiting_once may_write id server.old ≢ [] →
         IsOneWrite (W.answers wire.old) (W.answers wire.new) result }
     ensures no_end { result ≢ End }
+    ensures kept { KeepsOthers id server.old server.new }
 {
     if !may_write {
         return Got::Later;
@@ -304,14 +317,4 @@ fn has_stopped(server: &Server, id: ConnId) -> bool
         return false;
     };
     status.phase.stop().is_some()
-}
-
-/// Returns `true` if nothing more will be written on a connection with this work left, or if there is no connection.
-fn is_over(outlook: Option<ConnectionWork>) -> bool
-    ensures { result ≡ is_over_in outlook }
-{
-    match outlook {
-        Some(outlook) => outlook.finished,
-        None => true,
-    }
 }

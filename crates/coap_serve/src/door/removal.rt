@@ -1,54 +1,63 @@
-//! The record of a connection that was released, or has a later response.
+//! The drop of a connection, and the record of one that was released.
 
-ghost use Rattle.std.specs.Prelude.{◌≡◌, ◌<◌, length, slice_get, nat_eq, IfSome};
-ghost use Rattle.coap_serve.specs.Prelude.{IsDistinct, keys_of, recorded, recorded_on, set_value_at};
-ghost use Rattle.coap_serve.specs.Prelude.{released_at as released, released_on};
+ghost use Rattle.std.specs.Prelude.{◌≡◌, ◌<◌, ◌+◌, length, remove, slice_get, IfSome};
+ghost use Rattle.coap_serve.specs.Prelude.{ArePaired, HasServed, IsAccepted, IsReasonFor, keys_of, known_by};
+ghost use Rattle.coap_serve.specs.Prelude.{one_drop, outlook_of, released_at as released, released_on};
+ghost use Rattle.coap_serve.specs.Prelude.{server_dropped, set_value_at};
 
 use super::peer::Peers;
-use super::peer_interest::wants_on;
 use coap_model::ConnId;
-use coap_server_engine::Server;
+use coap_server_engine::{Application, Call, DropReason, Monitor, Server};
 
-/// Records the present I/O interest of the connection with this number, if it has an entry.
-pub(super) fn record_on<W>(server: &Server, peers: &mut Peers<W>, id: ConnId)
-    ensures { peers.new.entries ≡ recorded_on server.now id peers.old.entries }
+/// Records the release of the connection with this number at the time `now`, if it has an entry.
+pub(super) fn release_on<W>(peers: &mut Peers<W>, id: ConnId, now: u64)
+    ensures { peers.new.entries ≡ released_on now id peers.old.entries }
 {
     let Some(at) = peers.get_index_of(&id) else {
         return;
     };
-    record_at(server, peers, at);
+    release_at(peers, at, now);
 }
 
-/// Records the present I/O interest of the connection at an index.
-pub(super) fn record_at<W>(server: &Server, peers: &mut Peers<W>, at: usize)
+/// Records the release of the connection at an index at the time `now`.
+pub(super) fn release_at<W>(peers: &mut Peers<W>, at: usize, now: u64)
     requires { at < length peers.old.entries }
-    ensures distinct { IsDistinct nat_eq (keys_of peers.old.entries) }
-    ensures recorded { IfSome (slice_get peers.old.entries at)
-        (λ e. peers.new.entries ≡ set_value_at peers.old.entries at (recorded server.now e)) }
+    ensures { IfSome (slice_get peers.old.entries at)
+        (λ e. peers.new.entries ≡ set_value_at peers.old.entries at (released now e.1)) }
 {
-    let (id, peer) = peers.pair_mut(at);
-    peer.wants = wants_on(server, *id, &peer.rest);
-}
-
-/// Records the release of the connection with this number at the time `now`, and its present I/O interest, if it has an
-/// entry.
-pub(super) fn release_on<W>(server: &Server, peers: &mut Peers<W>, id: ConnId, now: u64)
-    ensures { peers.new.entries ≡ released_on now server.now id peers.old.entries }
-{
-    let Some(at) = peers.get_index_of(&id) else {
-        return;
-    };
-    release_at(server, peers, at, now);
-}
-
-/// Records the release of the connection at an index at the time `now`, and its present I/O interest.
-pub(super) fn release_at<W>(server: &Server, peers: &mut Peers<W>, at: usize, now: u64)
-    requires { at < length peers.old.entries }
-    ensures distinct { IsDistinct nat_eq (keys_of peers.old.entries) }
-    ensures recorded { IfSome (slice_get peers.old.entries at)
-        (λ e. peers.new.entries ≡ set_value_at peers.old.entries at (released now (recorded server.now e))) }
-{
-    let (id, peer) = peers.pair_mut(at);
-    peer.wants = wants_on(server, *id, &peer.rest);
+    let (_, peer) = peers.pair_mut(at);
     peer.activity = peer.activity.ended(now);
+}
+
+/// Drops the connection at an index, for this reason.
+pub(super) fn drop_at<W: Drop, A: Application, M: Monitor<W>>(
+    server: &mut Server,
+    peers: &mut Peers<W>,
+    at: usize,
+    reason: DropReason,
+    application: &mut A,
+    monitor: &mut M,
+)
+    requires there { at < length peers.old.entries }
+    requires paired { ArePaired server.old peers.old.entries }
+    requires reason { IfSome (slice_get peers.old.entries at)
+        (λ e. IfSome (outlook_of server.old e.0) (IsReasonFor reason)) }
+    ensures shows { HasServed (known_by M.follows A.follows monitor.old monitor.new application.old application.new)
+        server.old server.new }
+    ensures paired { ArePaired server.new peers.new.entries }
+    ensures peers { peers.new.entries ≡ remove peers.old.entries at }
+    ensures fewer { length peers.new.entries + 1 ≡ length peers.old.entries }
+    ensures server { IfSome (slice_get (keys_of peers.old.entries) at)
+        (λ id. server.new ≡ server_dropped server.old id) }
+    ensures accepted { IfSome (slice_get (keys_of peers.old.entries) at) (λ id. IsAccepted (known_by M.follows A.follows
+        monitor.old monitor.new application.old application.new) server.old server.new (one_drop id)) }
+{
+    let Some((id, _)) = peers.shift_remove_index(at) else {
+        unreachable!()
+    };
+    monitor.accepted(Call::Dropped(id, reason), server);
+    let Ok(()) = server.drop_conn(id) else {
+        unreachable!()
+    };
+    application.gone(id);
 }

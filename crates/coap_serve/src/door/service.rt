@@ -1,8 +1,8 @@
 //! A server over the connections of a listener, for a program that embeds it and runs the event loop.
 
-ghost use Rattle.std.specs.Prelude.{◌≡◌, false, All};
-ghost use Rattle.coap_serve.specs.listener.RecordedInterests.{IsNoted};
-ghost use Rattle.coap_serve.specs.listener.Sleepers.{AreAsleep};
+ghost use Rattle.std.specs.Prelude.{◌≡◌, false};
+ghost use Rattle.std.proofs.Props.{props};
+ghost use Rattle.coap_serve.specs.listener.Sleepers.{ArePaired, AreAsleep};
 
 use super::awake::Awake;
 use super::peer::Peers;
@@ -50,8 +50,8 @@ pub struct Times {
 }
 
 /// Server together with the transport connections that it serves. A program embeds it and calls `turn` for each
-/// iteration of its event loop. The recorded I/O interest of each connection is correct, unless an allocation failed in
-/// a turn.
+/// iteration of its event loop. Unless an allocation failed in a turn, each connection of the server has one transport
+/// connection, and nothing can be done on those that sleep.
 #[derive(Drop)]
 pub struct Service<W: Ready> {
     pub(super) alloc: Global,
@@ -65,8 +65,8 @@ pub struct Service<W: Ready> {
     /// `second` of the last turn.
     pub(super) second: u64,
     pub(super) is_spent: bool,
-    ghost noted: { is_spent ≡ false → All (IsNoted server) peers.entries },
-    ghost asleep: { is_spent ≡ false → AreAsleep W.readable W.writable awake peers.entries },
+    ghost paired: { is_spent ≡ false → ArePaired server peers.entries } by { Prim.hlevel props },
+    ghost asleep: { is_spent ≡ false → AreAsleep W.readable W.writable awake server peers.entries },
 }
 
 impl<W: Wire + Ready + Drop> Service<W> {
@@ -110,12 +110,11 @@ impl<W: Wire + Ready + Drop> Service<W> {
             Some(applications) => Server::with_applications(alloc, config, applications)?,
             None => Server::new(alloc, config)?,
         };
-        let stamp = server.stamp();
         Ok(Service {
             alloc,
             server,
             peers: IndexMap::with_capacity(alloc, config.connections())?,
-            awake: Awake::new(stamp),
+            awake: Awake::new(),
             response,
             idle,
             second: 0,
@@ -155,6 +154,7 @@ impl<W: Wire + Ready + Drop> Service<W> {
         ensures times { (self.new.second ≡ self.old.second) × (self.new.idle ≡ self.old.idle) }
         ensures spent { self.new.is_spent ≡ self.old.is_spent }
     {
+        self.awake.join(&self.server.concerned_by(path));
         let version = self.server.put(path, format, bytes)?;
         monitor.accepted(Call::Stored(path, format, bytes), &self.server);
         Ok(version)
@@ -182,6 +182,7 @@ impl<W: Wire + Ready + Drop> Service<W> {
         ensures times { (self.new.second ≡ self.old.second) × (self.new.idle ≡ self.old.idle) }
         ensures spent { self.new.is_spent ≡ self.old.is_spent }
     {
+        self.awake.join(&self.server.concerned_by(path));
         self.server.remove(path)?;
         monitor.accepted(Call::Removed(path), &self.server);
         Ok(())
@@ -210,9 +211,9 @@ impl<W: Wire + Ready + Drop> Service<W> {
         ensures shows { OnOk result ((events : List AcceptedCall) → Shows self.old.server events →
             Shows self.new.server (events ++ Released id ∷ [])) }
         ensures told { OnOk result (FollowsMore (M.follows monitor.old) (M.follows monitor.new) (Released id ∷ [])) }
-        // The release and the interest of the connection are recorded, and no wire is touched.
+        // The release is recorded, and no wire is touched.
         ensures peers { OnOk result (self.new.peers.entries
-            ≡ released_on self.old.second self.new.server id self.old.peers.entries) }
+            ≡ released_on self.old.second id self.old.peers.entries) }
         ensures err { OnErr result ((self.new.server ≡ self.old.server) × (self.new.peers ≡ self.old.peers)
             × (monitor.new ≡ monitor.old)) }
         ensures times { (self.new.second ≡ self.old.second) × (self.new.idle ≡ self.old.idle) }
@@ -220,7 +221,7 @@ impl<W: Wire + Ready + Drop> Service<W> {
     {
         self.server.release(id)?;
         monitor.accepted(Call::Released(id), &self.server);
-        release_on(&self.server, &mut self.peers, id, self.second);
+        release_on(&mut self.peers, id, self.second);
         self.awake.wake_all();
         Ok(())
     }
@@ -250,9 +251,9 @@ impl<W: Wire + Ready + Drop> Service<W> {
         ensures times { (self.new.second ≡ self.old.second) × (self.new.idle ≡ self.old.idle) }
         ensures spent { self.new.is_spent ≡ self.old.is_spent }
     {
-        if self.server.index_of(id).is_none() {
+        let Some(_) = self.server.index_of(id) else {
             return Err(NoSuch);
-        }
+        };
         monitor.accepted(Call::Dropped(id, DropReason::Requested), &self.server);
         let Ok(()) = self.server.drop_conn(id) else {
             unreachable!()

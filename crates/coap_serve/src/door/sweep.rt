@@ -1,13 +1,13 @@
 //! The sweep, which releases or drops silent connections.
 
-ghost use Rattle.std.specs.Prelude.{◌≡◌, ◌<◌, ◌≤◌, ◌+◌, ◌-◌, ◌^◌, Some, length, true, slice_get, IfSome};
-ghost use Rattle.coap_serve.specs.Prelude.{known_by, loop_state, AreNoted, HasSwept, HasSweptAt, acted};
-ghost use Rattle.coap_serve.specs.Prelude.{drop_one, is_there, keys_of, released_refusal, session_of, swept};
+ghost use Rattle.std.specs.Prelude.{◌≡◌, ◌<◌, ◌≤◌, ◌+◌, ◌-◌, ◌^◌, Some, length, slice_get, IfSome};
+ghost use Rattle.coap_serve.specs.Prelude.{known_by, loop_state, ArePaired, HasSwept, HasSweptAt, acted};
+ghost use Rattle.coap_serve.specs.Prelude.{drop_one, keys_of, released_refusal, swept};
 ghost use Rattle.coap_serve.specs.Prelude.{swept_one};
 ghost use Rattle.coap_serve.specs.declared.door.silence.SilenceAction.TheVariants.{Release};
 
 use super::peer::Peers;
-use super::removal::release_at as record_release;
+use super::removal::{drop_at as drop_for, release_at as record_release};
 use super::silence::{SilenceAction, silence_action};
 use coap_model::ConnId;
 use coap_server_engine::{Application, Call, DropReason, Monitor, Server};
@@ -22,11 +22,11 @@ pub(super) fn sweep<W: Drop, A: Application, M: Monitor<W>>(
     application: &mut A,
     monitor: &mut M,
 )
-    requires { AreNoted server.old peers.old.entries }
+    requires { ArePaired server.old peers.old.entries }
     ensures has { HasSwept (known_by M.follows A.follows monitor.old monitor.new application.old application.new)
         (swept idle now server.old peers.old.entries) server.old server.new }
     ensures entries { peers.new.entries ≡ (swept idle now server.old peers.old.entries).entries }
-    ensures noted { AreNoted server.new peers.new.entries }
+    ensures paired { ArePaired server.new peers.new.entries }
 {
     let mut at = 0;
     while at < peers.len() {
@@ -46,11 +46,11 @@ fn sweep_at<W: Drop, A: Application, M: Monitor<W>>(
 ) -> usize
     requires there { at < length peers.old.entries }
     requires fits { length peers.old.entries < 2 ^ 64 }
-    requires noted { AreNoted server.old peers.old.entries }
+    requires paired { ArePaired server.old peers.old.entries }
     ensures part { IfSome (slice_get peers.old.entries at) (λ e. HasSweptAt (known_by M.follows A.follows monitor.old
         monitor.new application.old application.new) (swept_one idle now server.old e)
         (loop_state server.old peers.old.entries) at (loop_state server.new peers.new.entries) result) }
-    ensures noted { AreNoted server.new peers.new.entries }
+    ensures paired { ArePaired server.new peers.new.entries }
     ensures within { result ≤ length peers.new.entries }
     // The number of connections still to visit is one lower.
     ensures fewer { length peers.new.entries - result + 1 ≡ length peers.old.entries - at }
@@ -67,7 +67,7 @@ fn sweep_at<W: Drop, A: Application, M: Monitor<W>>(
         SilenceAction::Release => {
             release_at::<W, A, M>(server, peers, at, id, now, application, monitor)
         }
-        SilenceAction::Drop => drop_at::<W, A, M>(server, peers, at, id, application, monitor),
+        SilenceAction::Drop => drop_at::<W, A, M>(server, peers, at, application, monitor),
     }
 }
 
@@ -84,20 +84,19 @@ fn release_at<W: Drop, A: Application, M: Monitor<W>>(
     requires there { at < length peers.old.entries }
     requires fits { length peers.old.entries < 2 ^ 64 }
     requires number { slice_get (keys_of peers.old.entries) at ≡ Some id }
-    requires exists { is_there (session_of id server.old.sessions) ≡ true }
-    requires noted { AreNoted server.old peers.old.entries }
+    requires paired { ArePaired server.old peers.old.entries }
     ensures part { IfSome (slice_get peers.old.entries at) (λ e. HasSweptAt (known_by M.follows A.follows monitor.old
         monitor.new application.old application.new) (acted Release (released_refusal server.old e.0) now server.old e)
         (loop_state server.old peers.old.entries) at (loop_state server.new peers.new.entries) result) }
-    ensures noted { AreNoted server.new peers.new.entries }
+    ensures paired { ArePaired server.new peers.new.entries }
     ensures within { result ≤ length peers.new.entries }
     ensures fewer { length peers.new.entries - result + 1 ≡ length peers.old.entries - at }
 {
     let Ok(()) = server.release(id) else {
-        return drop_at::<W, A, M>(server, peers, at, id, application, monitor);
+        return drop_at::<W, A, M>(server, peers, at, application, monitor);
     };
     monitor.accepted(Call::Released(id), server);
-    record_release(server, peers, at, now);
+    record_release(peers, at, now);
     at + 1
 }
 
@@ -106,26 +105,18 @@ fn drop_at<W: Drop, A: Application, M: Monitor<W>>(
     server: &mut Server,
     peers: &mut Peers<W>,
     at: usize,
-    id: ConnId,
     application: &mut A,
     monitor: &mut M,
 ) -> usize
     requires there { at < length peers.old.entries }
-    requires number { slice_get (keys_of peers.old.entries) at ≡ Some id }
-    requires exists { is_there (session_of id server.old.sessions) ≡ true }
-    requires noted { AreNoted server.old peers.old.entries }
+    requires paired { ArePaired server.old peers.old.entries }
     ensures part { IfSome (slice_get peers.old.entries at) (λ e. HasSweptAt
         (known_by M.follows A.follows monitor.old monitor.new application.old application.new) (drop_one server.old e)
         (loop_state server.old peers.old.entries) at (loop_state server.new peers.new.entries) result) }
-    ensures noted { AreNoted server.new peers.new.entries }
+    ensures paired { ArePaired server.new peers.new.entries }
     ensures within { result ≤ length peers.new.entries }
     ensures fewer { length peers.new.entries - result + 1 ≡ length peers.old.entries - at }
 {
-    monitor.accepted(Call::Dropped(id, DropReason::Silent), server);
-    let Ok(()) = server.drop_conn(id) else {
-        unreachable!()
-    };
-    application.gone(id);
-    let _ = peers.shift_remove_index(at);
+    drop_for::<W, A, M>(server, peers, at, DropReason::Silent, application, monitor);
     at
 }

@@ -1,26 +1,23 @@
 //! One turn of the event loop over the connections of a listener.
 
-ghost use Rattle.std.specs.Prelude.{◌≡◌, ◌<◌, ◌≤◌, ◌+◌, ◌-◌, ◌^◌, ◌||◌, Bool, false, Ok, Some, length, is_none};
-ghost use Rattle.std.specs.Prelude.{map, remove, slice_get, take, IfSome, IfOk, IfErr, OnOk, OnErr};
-ghost use Rattle.coap_serve.specs.Prelude.{set_value_at};
-ghost use Rattle.coap_serve.specs.Prelude.{Follows, HasServed, HasTurned, IsAccepted, drop_history, known_by};
-ghost use Rattle.coap_serve.specs.Prelude.{known_of_turn, loop_state, visit, way, keys_of, AreNoted};
-ghost use Rattle.coap_serve.specs.Prelude.{HasGoneOn, IsRound, IsOpening, IsAskedOnce, asked_by, TellsMore};
-ghost use Rattle.coap_serve.specs.Prelude.{AreCallsBetween, FollowsMore, HasAccepted, opening, views_of};
-ghost use Rattle.coap_serve.specs.Prelude.{IsVisited, IsAgendaOf, concerns_earlier, end_of, wants_of};
-ghost use Rattle.coap_serve.specs.Prelude.{IsMemory, stamp_of, open_refusal, AreSettled, server_dropped};
-ghost use Rattle.coap_serve.specs.Prelude.{AreAsleep, HasOpened, IsCourseFor, IsReasonFor, IsTurnBy};
+ghost use Rattle.std.specs.Prelude.{◌≡◌, ◌<◌, ◌≤◌, ◌+◌, ◌-◌, ◌^◌, Bool, false, true, Ok, Some, length, is_none};
+ghost use Rattle.std.specs.Prelude.{slice_get, IfSome, IfOk, IfErr, OnOk, OnErr};
+ghost use Rattle.coap_serve.specs.Prelude.{set_value_at, CanGoOn, peer_status, ArePaired, KeepsBeside};
+ghost use Rattle.coap_serve.specs.Prelude.{HasServed, HasTurned, known_by};
+ghost use Rattle.coap_serve.specs.Prelude.{known_of_turn, loop_state, visit, way, AreServed};
+ghost use Rattle.coap_serve.specs.Prelude.{HasGoneOn, IsOpening, IsAskedOnce, asked_by, TellsMore};
+ghost use Rattle.coap_serve.specs.Prelude.{AreCallsBetween, HasAccepted, opening, views_of};
+ghost use Rattle.coap_serve.specs.Prelude.{IsVisited, wants_of, IsMemory, open_refusal};
+ghost use Rattle.coap_serve.specs.Prelude.{AreAsleep, HasOpened, IsCourseFor, IsTurnBy};
 ghost use Rattle.coap_serve.specs.Prelude.{outlook_of};
-ghost use Rattle.coap_serve.specs.declared.door.peer.PeerOutcome.TheVariants.{Open};
 
 use super::awake::Awake;
-use super::next_wakeup::{NextWakeup, TurnProgress, affects_served_peers, skip_idle};
-use super::peer::{Peer, PeerOutcome, Peers, serve_peer};
-use super::peer_interest::wants_on;
+use super::looks::{next_ready, next_wait};
+use super::peer::{Peer, PeerOutcome, PeerVisit, Peers, serve_peer};
+use super::removal::drop_at;
 use super::silence::Activity;
 use coap_io::{Door, ReadBuffer, Ready, Wait, Wire};
-use coap_model::ConnId;
-use coap_server_engine::{Application, Call, DropReason, IoFault, Monitor, Server};
+use coap_server_engine::{Application, ConnIndex, IoFault, Monitor, Server};
 use std::alloc::Global;
 
 /// Runs one turn: opens at most one connection, if the listener returns one, and serves each connection. Returns how
@@ -40,8 +37,8 @@ pub(super) fn take_turn<D: Door, A: Application, M: Monitor<D::Wire>>(
     response: &mut Vec<u8>,
     monitor: &mut M,
 ) -> Result<Wait, IoFault>
-    requires noted { AreNoted server.old peers.old.entries }
-    requires asleep { AreAsleep D.Wire.readable D.Wire.writable awake.old peers.old.entries }
+    requires paired { ArePaired server.old peers.old.entries }
+    requires asleep { AreAsleep D.Wire.readable D.Wire.writable awake.old server.old peers.old.entries }
     ensures shows { HasTurned (known_by M.follows A.follows monitor.old monitor.new application.old application.new)
         server.old server.new }
     // The listener is asked once if another connection may be opened, and not otherwise.
@@ -52,23 +49,14 @@ pub(super) fn take_turn<D: Door, A: Application, M: Monitor<D::Wire>>(
         D.Wire.given D.Wire.written D.Wire.answers D.Wire.rooms)) (known_of_turn (TellsMore (D.calls door.old)
         (D.calls door.new)) (known_by M.follows A.follows monitor.old monitor.new application.old application.new))
         (loop_state server.old peers.old.entries) (loop_state server.new peers.new.entries) wait) }
-    ensures noted { OnOk result (AreNoted server.new peers.new.entries) }
-    ensures asleep { OnOk result (AreAsleep D.Wire.readable D.Wire.writable awake.new peers.new.entries) }
-    ensures settled { OnOk result (AreSettled server.new.host server.new.sessions) }
+    ensures paired { OnOk result (ArePaired server.new peers.new.entries) }
+    ensures asleep { OnOk result (AreAsleep D.Wire.readable D.Wire.writable awake.new server.new peers.new.entries) }
     ensures fault { IfErr result IsMemory }
 {
     awake.wake_places(door.woken());
     let opens = accept(alloc, server, peers, awake, second, door, monitor)?;
-    let agenda = serve_each::<D::Wire, A, M>(
-        server,
-        peers,
-        awake,
-        second,
-        application,
-        response,
-        monitor,
-    )?;
-    Ok(agenda.with(opens, None).wait())
+    serve_each::<D::Wire, A, M>(server, peers, awake, second, application, response, monitor)?;
+    Ok(next_wait(server, peers, awake, opens))
 }
 
 /// Opens one connection if another one may be opened and the listener returns one. Returns `true` if it did.
@@ -86,11 +74,11 @@ fn accept<D: Door, M: Monitor<D::Wire>>(
     door: &mut D,
     monitor: &mut M,
 ) -> Result<bool, IoFault>
-    requires noted { AreNoted server.old peers.old.entries }
-    requires asleep { AreAsleep D.Wire.readable D.Wire.writable awake.old peers.old.entries }
+    requires paired { ArePaired server.old peers.old.entries }
+    requires asleep { AreAsleep D.Wire.readable D.Wire.writable awake.old server.old peers.old.entries }
     ensures shows { HasOpened (M.follows monitor.old) (M.follows monitor.new) server.old server.new }
-    ensures noted { OnOk result (AreNoted server.new peers.new.entries) }
-    ensures asleep { OnOk result (AreAsleep D.Wire.readable D.Wire.writable awake.new peers.new.entries) }
+    ensures paired { OnOk result (ArePaired server.new peers.new.entries) }
+    ensures asleep { OnOk result (AreAsleep D.Wire.readable D.Wire.writable awake.new server.new peers.new.entries) }
     ensures fault { IfErr result IsMemory }
     // The listener is asked once if another connection may be opened. Otherwise it is not asked, so it returns no wire
     // for which none could be opened.
@@ -116,23 +104,21 @@ fn accept<D: Door, M: Monitor<D::Wire>>(
         return Err(IoFault::Memory);
     };
     monitor.opened(id, &wire, server);
-    let wants = wants_on(server, id, &rest);
     let activity = Activity::new(second);
     let peer = Peer {
         wire,
         rest,
-        wants,
         activity,
     };
+    awake.wake(peers.len());
     let Ok(_) = peers.insert(id, peer) else {
         return Err(IoFault::Memory);
     };
-    awake.wake_all();
     Ok(true)
 }
 
-/// Serves each connection in order of its number, but skips idle ones, and drops those with the outcome `Over`.
-/// Returns the work that remains.
+/// Serves each connection on which something can be done, in order of their numbers, and drops those with the outcome
+/// `Over`.
 ///
 /// # Errors
 ///
@@ -145,39 +131,38 @@ fn serve_each<W: Wire + Ready + Drop, A: Application, M: Monitor<W>>(
     application: &mut A,
     response: &mut Vec<u8>,
     monitor: &mut M,
-) -> Result<NextWakeup, IoFault>
-    requires noted { AreNoted server.old peers.old.entries }
-    requires asleep { AreAsleep W.readable W.writable awake.old peers.old.entries }
+) -> Result<(), IoFault>
+    requires paired { ArePaired server.old peers.old.entries }
+    requires asleep { AreAsleep W.readable W.writable awake.old server.old peers.old.entries }
     ensures shows { HasServed (known_by M.follows A.follows monitor.old monitor.new application.old application.new)
         server.old server.new }
-    // Each connection in order is served, or skipped if nothing can be done on it. The result is the work that remains.
-    ensures round { IfOk result (λ agenda. HasAccepted (IsRound
+    // Each connection in order is served, or skipped if nothing can be done on it.
+    ensures served { OnOk result (HasAccepted (AreServed
         (way A.follows second (views_of W.readable W.writable W.given W.written W.answers W.rooms))
-        (loop_state server.old peers.old.entries) agenda (loop_state server.new peers.new.entries))
+        (loop_state server.old peers.old.entries) (loop_state server.new peers.new.entries))
         (known_by M.follows A.follows monitor.old monitor.new application.old application.new) server.old server.new) }
-    ensures noted { OnOk result (AreNoted server.new peers.new.entries) }
-    ensures asleep { OnOk result (AreAsleep W.readable W.writable awake.new peers.new.entries) }
-    ensures settled { OnOk result (AreSettled server.new.host server.new.sessions) }
+    ensures paired { OnOk result (ArePaired server.new peers.new.entries) }
+    ensures asleep { OnOk result (AreAsleep W.readable W.writable awake.new server.new peers.new.entries) }
     ensures fault { IfErr result IsMemory }
 {
-    let mut seen = skip_idle(peers, awake, TurnProgress::none(), server.stamp());
-    while seen.at < peers.len() {
-        let served = serve_next::<W, A, M>(
+    let mut at = next_ready(server, peers, awake, 0);
+    while at < peers.len() {
+        let later = serve_next::<W, A, M>(
             server,
             peers,
             awake,
-            seen,
+            at,
             second,
             application,
             response,
             monitor,
         )?;
-        seen = skip_idle(peers, awake, served, server.stamp());
+        at = next_ready(server, peers, awake, later);
     }
-    Ok(seen.agenda)
+    Ok(())
 }
 
-/// Serves the next connection, and drops it if its outcome is `Over`. Returns the progress of the turn.
+/// Serves the connection at an index, and drops it if its outcome is `Over`. Returns the index of the next one.
 ///
 /// # Errors
 ///
@@ -186,71 +171,50 @@ fn serve_next<W: Wire + Ready + Drop, A: Application, M: Monitor<W>>(
     server: &mut Server,
     peers: &mut Peers<W>,
     awake: &mut Awake,
-    seen: TurnProgress,
+    at: usize,
     second: u64,
     application: &mut A,
     response: &mut Vec<u8>,
     monitor: &mut M,
-) -> Result<TurnProgress, IoFault>
-    requires there { seen.at < length peers.old.entries }
+) -> Result<usize, IoFault>
+    requires there { at < length peers.old.entries }
     requires fits { length peers.old.entries < 2 ^ 64 }
-    requires noted { AreNoted server.old peers.old.entries }
-    requires asleep { AreAsleep W.readable W.writable awake.old peers.old.entries }
+    requires paired { ArePaired server.old peers.old.entries }
+    requires asleep { AreAsleep W.readable W.writable awake.old server.old peers.old.entries }
+    requires ready { IfSome (slice_get peers.old.entries at)
+        (λ e. CanGoOn (peer_status W.readable W.writable server.old e) true) }
     ensures shows { HasServed (known_by M.follows A.follows monitor.old monitor.new application.old application.new)
         server.old server.new }
     // The connection was served, and the others are unchanged.
     ensures part { IfOk result (λ later. HasAccepted (HasGoneOn
         (way A.follows second (views_of W.readable W.writable W.given W.written W.answers W.rooms))
-        (loop_state server.old peers.old.entries) seen.at (loop_state server.new peers.new.entries) later.at)
+        (loop_state server.old peers.old.entries) at (loop_state server.new peers.new.entries) later)
         (known_by M.follows A.follows monitor.old monitor.new application.old application.new) server.old server.new) }
-    ensures noted { OnOk result (AreNoted server.new peers.new.entries) }
-    ensures asleep { OnOk result (AreAsleep W.readable W.writable awake.new peers.new.entries) }
-    // The work that remains on it is added to that of the connections before it.
-    ensures agenda { IfOk result (λ later. (changed : Bool) → IsAgendaOf seen.agenda changed (stamp_of server.old.host)
-        (map (λ e. end_of W.readable W.writable e.1) (take seen.at peers.old.entries)) →
-        IsAgendaOf later.agenda
-        (changed || concerns_earlier seen.at (stamp_of server.old.host) (stamp_of server.new.host))
-        (stamp_of server.new.host)
-        (map (λ e. end_of W.readable W.writable e.1) (take later.at peers.new.entries))) }
-    ensures follows { OnOk result (Follows server.old.host server.new.host) }
-    ensures within { IfOk result (λ later. later.at ≤ length peers.new.entries) }
+    ensures paired { OnOk result (ArePaired server.new peers.new.entries) }
+    ensures asleep { OnOk result (AreAsleep W.readable W.writable awake.new server.new peers.new.entries) }
+    ensures within { IfOk result (λ later. later ≤ length peers.new.entries) }
     // The number of connections still to visit is one lower.
-    ensures fewer { IfOk result (λ later. length peers.new.entries - later.at + 1 ≡ length peers.old.entries -
-        seen.at) }
+    ensures fewer { IfOk result (λ later. length peers.new.entries - later + 1 ≡ length peers.old.entries - at) }
     ensures fault { IfErr result IsMemory }
 {
-    let before = server.stamp();
-    let course = serve_at::<W, A, M>(
-        server,
-        peers,
-        seen.at,
-        second,
-        application,
-        response,
-        monitor,
-    )?;
-    let concerned = affects_served_peers(seen.at, before, server.stamp());
-    let agenda = seen.agenda.with(concerned, None);
-    match course {
+    let served = serve_at::<W, A, M>(server, peers, at, second, application, response, monitor)?;
+    match served.outcome {
         PeerOutcome::Over(reason) => {
-            drop_at::<W, A, M>(server, peers, seen.at, reason, application, monitor);
+            drop_at::<W, A, M>(server, peers, at, reason, application, monitor);
             awake.wake_all();
-            Ok(TurnProgress { agenda, ..seen })
+            Ok(at)
         }
         PeerOutcome::Open => {
-            let peer = &peers[seen.at];
-            let is_ready = peer.is_ready();
-            awake.follow(server.stamp());
-            awake.record_visit(seen.at, peer.wire.place(), is_ready, peer.wants.due);
-            Ok(TurnProgress {
-                at: seen.at + 1,
-                agenda: agenda.with(is_ready, peer.wants.due),
-            })
+            awake.join(&served.affected);
+            let peer = &peers[at];
+            let is_ready = peer.is_ready(served.wants);
+            awake.record_look(at, peer.wire.place(), is_ready, served.wants.due);
+            Ok(at + 1)
         }
     }
 }
 
-/// Serves the connection at an index, and returns its outcome.
+/// Serves the connection at an index.
 ///
 /// # Errors
 ///
@@ -263,25 +227,22 @@ fn serve_at<W: Wire + Ready, A: Application, M: Monitor<W>>(
     application: &mut A,
     response: &mut Vec<u8>,
     monitor: &mut M,
-) -> Result<PeerOutcome, IoFault>
+) -> Result<PeerVisit, IoFault>
     requires there { at < length peers.old.entries }
-    requires settled { AreSettled server.old.host server.old.sessions }
-    requires noted { AreNoted server.old peers.old.entries }
+    requires paired { ArePaired server.old peers.old.entries }
     ensures shows { HasServed (known_by M.follows A.follows monitor.old monitor.new application.old application.new)
         server.old server.new }
     ensures part { IfSome (slice_get peers.old.entries at) (λ was. IfSome (slice_get peers.new.entries at) (λ is. IfOk
-        result (λ outcome. HasAccepted (λ h. IsVisited (way A.follows second (views_of W.readable W.writable W.given
-        W.written W.answers W.rooms)) server.old was (visit server.new is.1 outcome h)) (known_by M.follows A.follows
+        result (λ x. HasAccepted (λ h. IsVisited (way A.follows second (views_of W.readable W.writable W.given
+        W.written W.answers W.rooms)) server.old was (visit server.new is.1 x.outcome h)) (known_by M.follows A.follows
         monitor.old monitor.new application.old application.new) server.old server.new))) }
     ensures wants { IfSome (slice_get peers.new.entries at)
-        (λ is. IfOk result (λ course. course ≡ Open → is.1.wants ≡ wants_of server.new is.0 is.1.rest)) }
+        (λ is. IfOk result (λ x. x.wants ≡ wants_of server.new is.0 is.1.rest)) }
     ensures reason { IfSome (slice_get peers.new.entries at)
-        (λ is. IfOk result (λ course. IsCourseFor course (outlook_of server.new is.0))) }
-    // The state that all connections share follows the one before.
-    ensures follows { OnOk result (Follows server.old.host server.new.host) }
-    // The recorded interests of the others are still correct, and so is that of this connection if it stays open.
-    ensures others { OnOk result (AreNoted server.new (remove peers.new.entries at)) }
-    ensures noted { IfOk result (λ course. course ≡ Open → AreNoted server.new peers.new.entries) }
+        (λ is. IfOk result (λ x. IsCourseFor x.outcome (outlook_of server.new is.0))) }
+    // Each other connection that is not affected has the same work left.
+    ensures kept { IfSome (slice_get peers.old.entries at)
+        (λ was. IfOk result (λ x. KeepsBeside was.0 x.affected.words server.old server.new)) }
     // Only the entry of this connection is changed.
     ensures peers { (peer : _) × (peers.new.entries ≡ set_value_at peers.old.entries at peer) }
     ensures as_many { length peers.new.entries ≡ length peers.old.entries }
@@ -292,7 +253,7 @@ fn serve_at<W: Wire + Ready, A: Application, M: Monitor<W>>(
     let may_write = peer.wire.may_write();
     serve_peer::<W, A, M>(
         server,
-        *id,
+        ConnIndex { id: *id, at },
         peer,
         may_read,
         may_write,
@@ -301,48 +262,4 @@ fn serve_at<W: Wire + Ready, A: Application, M: Monitor<W>>(
         response,
         monitor,
     )
-}
-
-/// Reports to the monitor that a connection is to be dropped for this reason, if the connection exists.
-fn report_drop<W, M: Monitor<W>>(server: &Server, id: ConnId, reason: DropReason, monitor: &mut M)
-    requires { IfSome (outlook_of server.now id) (IsReasonFor reason) }
-    ensures { FollowsMore (M.follows monitor.old) (M.follows monitor.new) (drop_history server.now id).events }
-{
-    if server.index_of(id).is_some() {
-        monitor.accepted(Call::Dropped(id, reason), server);
-    }
-}
-
-/// Drops the connection at an index, for this reason.
-#[tactic(auto, using(crate::proofs::listener::ServingLemmas::none_made, crate::proofs::listener::ServingLemmas::dropped_served))]
-fn drop_at<W: Wire + Drop, A: Application, M: Monitor<W>>(
-    server: &mut Server,
-    peers: &mut Peers<W>,
-    at: usize,
-    reason: DropReason,
-    application: &mut A,
-    monitor: &mut M,
-)
-    requires there { at < length peers.old.entries }
-    requires settled { AreSettled server.old.host server.old.sessions }
-    requires noted { AreNoted server.old (remove peers.old.entries at) }
-    requires reason { IfSome (slice_get peers.old.entries at)
-        (λ e. IfSome (outlook_of server.old e.0) (IsReasonFor reason)) }
-    ensures shows { HasServed (known_by M.follows A.follows monitor.old monitor.new application.old application.new)
-        server.old server.new }
-    ensures noted { AreNoted server.new peers.new.entries }
-    ensures peers { peers.new.entries ≡ remove peers.old.entries at }
-    ensures host { server.new.host ≡ server.old.host }
-    ensures server { IfSome (slice_get (keys_of peers.old.entries) at)
-        (λ id. server.new ≡ server_dropped server.old id) }
-    ensures accepted { IfSome (slice_get (keys_of peers.old.entries) at) (λ id. IsAccepted (known_by M.follows A.follows
-        monitor.old monitor.new application.old application.new) server.old server.new (drop_history server.old id)) }
-{
-    if let Some((id, _)) = peers.shift_remove_index(at) {
-        report_drop::<W, M>(server, id, reason, monitor);
-        match server.drop_conn(id) {
-            Ok(()) => application.gone(id),
-            Err(_) => {}
-        }
-    }
 }

@@ -1,9 +1,9 @@
 -- Bits of a set of indices.
-use Rattle.std.proofs.Common.{◌≡◌, ◌≢◌, ℕ, zero, suc, ◌+◌, ◌-◌, ◌*◌, ◌/◌, ◌%◌, ◌^◌, ◌<◌, ◌≤◌, List, [], ◌∷◌, length, get_or, set, bit_and, bit_or, w64, sym, ap, ◌∙◌, refl, inl, inr, arith, get_or-set_same, get_or-set_other}
+use Rattle.std.proofs.Common.{◌≡◌, ◌≢◌, ℕ, zero, suc, ◌+◌, ◌-◌, ◌*◌, ◌/◌, ◌%◌, ◌^◌, ◌<◌, ◌≤◌, max, List, [], ◌∷◌, length, get_or, set, bit_and, bit_or, w64, sym, ap, ◌∙◌, refl, inl, inr, arith, get_or-set_same, get_or-set_other}
 use Rattle.std.specs.Int.{bit_at, bit_not, trailing_zeros}
 use Rattle.std.proofs.lemmas.Bool.{cases_eq, cases_lt}
 use Rattle.std.proofs.lemmas.Nat.{shr-shr}
-use Rattle.std.proofs.lemmas.Nat.Bits.{bit_at-zero, bit_at-trailing_zeros, bit_at_set_same, bit_at_set_other, bit_at_clear_same, bit_at_clear_other, bit_at_ones, bit_at_above}
+use Rattle.std.proofs.lemmas.Nat.Bits.{bit_at-zero, bit_at_or, bit_at-trailing_zeros, bit_at_set_same, bit_at_set_other, bit_at_clear_same, bit_at_clear_other, bit_at_ones, bit_at_above}
 use Rattle.coap_server_engine.specs.Prelude.{bit_of, IsOutside}
 
 module _ (words : List ℕ) (at word : ℕ) (within : at / 64 < length words) where
@@ -39,6 +39,39 @@ module _ (words : List ℕ) (at : ℕ) (within : at / 64 < length words) where
 
   pub removed_other : (i : ℕ) → i ≢ at → bit_of removed i ≡ bit_of words i
   removed_other = set_other words at _ within (λ k below differs. bit_at_clear_other w64 (get_or words (at / 64) 0) (at % 64) index k below differs)
+
+-- No bit of four words of zeros is set.
+pub none_set : (i : ℕ) → bit_of (0 ∷ 0 ∷ 0 ∷ 0 ∷ []) i ≡ 0
+none_set i = ap (λ n. bit_at n (i % 64)) (each (i / 64)) ∙ bit_at-zero (i % 64)
+  where
+    each : (k : ℕ) → let words : List ℕ = 0 ∷ 0 ∷ 0 ∷ 0 ∷ [] in get_or words k 0 ≡ 0
+    each zero = refl
+    each (suc zero) = refl
+    each (suc (suc zero)) = refl
+    each (suc (suc (suc zero))) = refl
+    each (suc (suc (suc (suc k)))) = refl
+
+module _ (xs ys : List ℕ) where
+  abbrev joined : List ℕ
+  joined = bit_or (get_or xs 0 0) (get_or ys 0 0) ∷ bit_or (get_or xs 1 0) (get_or ys 1 0) ∷ bit_or (get_or xs 2 0) (get_or ys 2 0) ∷ bit_or (get_or xs 3 0) (get_or ys 3 0) ∷ []
+
+  word_joined : (k : ℕ) → k < 4 → get_or joined k 0 ≡ bit_or (get_or xs k 0) (get_or ys k 0)
+  word_joined zero small = refl
+  word_joined (suc zero) small = refl
+  word_joined (suc (suc zero)) small = refl
+  word_joined (suc (suc (suc zero))) small = refl
+  word_joined (suc (suc (suc (suc k)))) small = absurd (omega arith)
+
+  bit_joined : (i : ℕ) → i < 256 → bit_of joined i ≡ max (bit_of xs i) (bit_of ys i)
+  bit_joined i small = ap (λ n. bit_at n (i % 64)) (word_joined (i / 64) (omega arith)) ∙ bit_at_or (get_or xs (i / 64) 0) (get_or ys (i / 64) 0) (i % 64)
+
+  pub joined_outside : (i : ℕ) → IsOutside joined i → IsOutside xs i × IsOutside ys i
+  joined_outside i outside =
+      let most : max (bit_of xs i) (bit_of ys i) ≡ 0 = sym (bit_joined i outside.within) ∙ outside.bit in
+      (record { within = outside.within; bit = omega (arith, most) }, record { within = outside.within; bit = omega (arith, most) })
+
+  pub outside_joined : (i : ℕ) → IsOutside xs i → IsOutside ys i → IsOutside joined i
+  outside_joined i one other = record { within = one.within; bit = bit_joined i one.within ∙ rw (one.bit, other.bit) refl }
 
 -- Each bit of four words of ones is set.
 pub all_set : (i : ℕ) → i < 256 → bit_of (18446744073709551615 ∷ 18446744073709551615 ∷ 18446744073709551615 ∷ 18446744073709551615 ∷ []) i ≡ 1

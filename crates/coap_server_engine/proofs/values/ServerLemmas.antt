@@ -10,7 +10,7 @@ use Rattle.std.proofs.lemmas.Bool.{eqb-true, ne_eqb, cond_both}
 use Rattle.std.proofs.lemmas.List.{length-map, length_push}
 use Rattle.std.proofs.lemmas.List.Sums.{length-filter, count_by-le-length}
 use Rattle.std.proofs.lemmas.Bool.Decides.{nat_tests}
-use Rattle.std.proofs.lemmas.Map.Entries.{length-keys_of, length-values_of, lookup_from_place}
+use Rattle.std.proofs.lemmas.Map.Entries.{length-keys_of, length-values_of}
 use Rattle.std.proofs.lemmas.Map.Keys.{IsDistinct-head, IsDistinct-tail}
 use Rattle.std.proofs.lemmas.Map.Made.{keys_of-map_values}
 use Rattle.std.proofs.lemmas.Option.{cond_some, slice_get-map, slice_get_within}
@@ -41,7 +41,7 @@ unmarked_looked_up id (e ∷ es) =
     rw (nat_eq_equiv.symm e.0 id, unmarked_looked_up id es)
     (elim (nat_eq id e.0) as (λ b. cond b (Some e.1.session) (option_map (λ (s : MarkedSession). s.session) (lookup (nat_eq id) es)) ≡ option_map (λ (s : MarkedSession). s.session) (cond b (Some e.1) (lookup (nat_eq id) es))) [ true ↦ refl | false ↦ refl ])
 
-keys_unmarked : (es : MarkedEntries) → keys_of (unmarked es) ≡ keys_of es
+pub keys_unmarked : (es : MarkedEntries) → keys_of (unmarked es) ≡ keys_of es
 keys_unmarked [] = refl
 keys_unmarked (e ∷ es) = cc (keys_unmarked es)
 
@@ -122,19 +122,43 @@ first_of id (suc i) (k ∷ ks) distinct at =
     let rest = first_of id i ks (IsDistinct-tail nat_eq k ks distinct) at in
     grind (arith, nat_tests)
 
--- A connection lies where its id does.
+-- Induction for a property of the entries from the one with this id on, from the first entry.
+at_number : (P : Entries → ℕ → Type 0) (id : ℕ) → ((e : ℕ × SessionValue) (es : Entries) → nat_eq e.0 id ≡ true → AllByRecursion (λ k. nat_eq id k ≡ false) (keys_of es) → P (e ∷ es) 0)
+    → ((e : ℕ × SessionValue) (es : Entries) (i : ℕ) → nat_eq e.0 id ≡ false → P es i → P (e ∷ es) (suc i)) → (es : Entries) (i : ℕ) → IsDistinct nat_eq (keys_of es) → position_or_len (nat_eq id) (keys_of es) ≡ i → i < length es → P es i
+unfolding IsDistinct
+at_number P id here behind [] i distinct index within = absurd (omega arith)
+at_number P id here behind (e ∷ es) zero distinct index within =
+    let there : nat_eq id e.0 ≡ true = grind arith in
+    here e es (nat_eq_equiv.symm e.0 id ∙ there) (subst (λ n. AllByRecursion (λ k. nat_eq n k ≡ false) (keys_of es)) (sym (eqb-true id e.0 there)) distinct.0)
+at_number P id here behind (e ∷ es) (suc i) distinct index within =
+    let later : (nat_eq id e.0 ≡ false) × (position_or_len (nat_eq id) (keys_of es) ≡ i) = grind arith in
+    behind e es i (nat_eq_equiv.symm e.0 id ∙ later.0) (at_number P id here behind es i distinct.1 later.1 (omega arith))
+
+found_at : (id i : ℕ) (es : Entries) → IsDistinct nat_eq (keys_of es) → position_or_len (nat_eq id) (keys_of es) ≡ i → i < length es → session_of id es ≡ slice_get (values_of es) i
+unfolding session_of
+found_at id i es =
+    at_number (λ es i. session_of id es ≡ slice_get (values_of es) i) id (λ e es here apart. rw here refl) (λ e es i other rest. rw other rest) es i
+
+-- A connection is at the index of its id.
+pub lies_by_key : (id i : ℕ) (es : Entries) → IsDistinct nat_eq (keys_of es) → slice_get (keys_of es) i ≡ Some id → LiesAt id i es
+lies_by_key id i es distinct at =
+    let index = first_of id i (keys_of es) distinct at in
+    let within : i < length es = omega (arith, slice_get_within (keys_of es) i id at, length-keys_of es) in
+    record { distinct = distinct; index = index; within = within; found = found_at id i es distinct index within }
+
+-- It stays there while the ids are the same.
+pub lies_still : (id i : ℕ) (es fs : Entries) → keys_of fs ≡ keys_of es → LiesAt id i es → LiesAt id i fs
+lies_still id i es fs keys lies =
+    let distinct : IsDistinct nat_eq (keys_of fs) = rw keys lies.distinct in
+    let index = ap (position_or_len (nat_eq id)) keys ∙ lies.index in
+    let within : i < length fs = omega (arith, lies.within, length-keys_of fs, length-keys_of es, ap length keys) in
+    record { distinct = distinct; index = index; within = within; found = found_at id i fs distinct index within }
+
 pub lies_at_key : (id i : ℕ) (s : MarkedSession) (es : MarkedEntries) → IsDistinct nat_eq (keys_of es) → slice_get es i ≡ Some (id, s)
     → LiesAt id i (unmarked es)
 lies_at_key id i s es distinct at =
     let key : slice_get (keys_of es) i ≡ Some id = rw (slice_get-map, at) refl in
-    let value : slice_get (values_of es) i ≡ Some s = rw (slice_get-map, at) refl in
-    let found = lookup_from_place nat_eq_equiv es i id s distinct at in
-    record {
-      distinct = rw (keys_unmarked es) distinct;
-      index = rw (keys_unmarked es) (first_of id i (keys_of es) distinct key);
-      within = rw (length-map es unmarked_entry) (slice_get_within es i (id, s) at);
-      found = unmarked_looked_up id es ∙ ap (option_map (λ (s : MarkedSession). s.session)) (found ∙ sym value) ∙ sym (value_unmarked es i);
-    }
+    lies_by_key id i (unmarked es) (rw (keys_unmarked es) distinct) (rw (keys_unmarked es) key)
 
 -- ---- changes
 
@@ -204,18 +228,6 @@ pub others_same : (id : ℕ) (f : SessionValue → SessionValue) (es : Entries) 
 others_same id f [] apart = refl
 others_same id f (e ∷ es) apart = rw (nat_eq_equiv.symm e.0 id ∙ apart.0) (ap (λ (rest : Entries). e ∷ rest) (others_same id f es apart.1))
 
--- Induction for a property of the entries from the one with this id on, from the first entry.
-at_number : (P : Entries → ℕ → Type 0) (id : ℕ) → ((e : ℕ × SessionValue) (es : Entries) → nat_eq e.0 id ≡ true → AllByRecursion (λ k. nat_eq id k ≡ false) (keys_of es) → P (e ∷ es) 0)
-    → ((e : ℕ × SessionValue) (es : Entries) (i : ℕ) → nat_eq e.0 id ≡ false → P es i → P (e ∷ es) (suc i)) → (es : Entries) (i : ℕ) → IsDistinct nat_eq (keys_of es) → position_or_len (nat_eq id) (keys_of es) ≡ i → i < length es → P es i
-unfolding IsDistinct
-at_number P id here behind [] i distinct index within = absurd (omega arith)
-at_number P id here behind (e ∷ es) zero distinct index within =
-    let there : nat_eq id e.0 ≡ true = grind arith in
-    here e es (nat_eq_equiv.symm e.0 id ∙ there) (subst (λ n. AllByRecursion (λ k. nat_eq n k ≡ false) (keys_of es)) (sym (eqb-true id e.0 there)) distinct.0)
-at_number P id here behind (e ∷ es) (suc i) distinct index within =
-    let later : (nat_eq id e.0 ≡ false) × (position_or_len (nat_eq id) (keys_of es) ≡ i) = grind arith in
-    behind e es i (nat_eq_equiv.symm e.0 id ∙ later.0) (at_number P id here behind es i distinct.1 later.1 (omega arith))
-
 -- A change at the index of an id is a change of the connection with this id alone.
 pub changed_one : (id : ℕ) (f : SessionValue → SessionValue) (es : Entries) (i : ℕ) → IsDistinct nat_eq (keys_of es) → position_or_len (nat_eq id) (keys_of es) ≡ i → i < length es → changed_at i f es ≡ map (session_becomes id f) es
 unfolding changed_at
@@ -264,20 +276,15 @@ taken_server_with v id f host server =
     settled_server (record (on_session id f v) { host = host }) _ refl (all_still (λ e. e.0 ≤ v.ids) id f (λ e low. low) v.sessions server.numbered) few
 
 -- Ids keep their index.
-keys_where_one_changed : (id : ℕ) (f : SessionValue → SessionValue) (es : Entries) → keys_of (map (session_becomes id f) es) ≡ keys_of es
+pub keys_where_one_changed : (id : ℕ) (f : SessionValue → SessionValue) (es : Entries) → keys_of (map (session_becomes id f) es) ≡ keys_of es
 keys_where_one_changed id f [] = refl
 keys_where_one_changed id f (e ∷ es) = cc (cond_both (nat_eq e.0 id) (e.0, f e.1) e (λ x. x.0 ≡ e.0) (λ _. refl) (λ _. refl), keys_where_one_changed id f es)
 
+pub keys_where_settled : (id : ℕ) (f : SessionValue → SessionValue) (host : ServerState) (es : Entries) → keys_of (map (settled_entry host) (map (session_becomes id f) es)) ≡ keys_of es
+keys_where_settled id f host es = keys_of-map_values (session_settled host) (map (session_becomes id f) es) ∙ keys_where_one_changed id f es
+
 pub lies_where_taken : (id i : ℕ) (f : SessionValue → SessionValue) (host : ServerState) (es : Entries) → LiesAt id i es → LiesAt id i (map (settled_entry host) (map (session_becomes id f) es))
-unfolding session_of
-lies_where_taken id i f host es lies =
-    let now : Entries = map (settled_entry host) (map (session_becomes id f) es) in
-    let keys : keys_of now ≡ keys_of es = keys_of-map_values (session_settled host) (map (session_becomes id f) es) ∙ keys_where_one_changed id f es in
-    let distinct : IsDistinct nat_eq (keys_of now) = rw keys lies.distinct in
-    let index = ap (position_or_len (nat_eq id)) keys ∙ lies.index in
-    let within : i < length now = omega (arith, lies.within, length-keys_of now, length-keys_of es, ap length keys) in
-    let found = at_number (λ es i. session_of id es ≡ slice_get (values_of es) i) id (λ e es here apart. rw here refl) (λ e es i other rest. rw other rest) now i distinct index within in
-    record { distinct = distinct; index = index; within = within; found = found }
+lies_where_taken id i f host es = lies_still id i es (map (settled_entry host) (map (session_becomes id f) es)) (keys_where_settled id f host es)
 
 module _ (v : ServerValue) (id i : ℕ) (f : SessionValue → SessionValue) (entries : Entries) (server : IsServer v) (lies : LiesAt id i v.sessions) (is : entries ≡ changed_at i (settling v.host f) v.sessions) where
   entries_changed : entries ≡ map (settled_entry v.host) (map (session_becomes id f) v.sessions)
@@ -362,14 +369,20 @@ others_are_kept : (id : ℕ) (es : Entries) → AllByRecursion (λ k. nat_eq id 
 others_are_kept id [] apart = refl
 others_are_kept id (e ∷ es) apart = rw (nat_eq_equiv.symm e.0 id ∙ apart.0) (ap (λ (rest : Entries). e ∷ rest) (others_are_kept id es apart.1))
 
+pub others_settle : (v : ServerValue) (id : ℕ) → AreSettled v.host v.sessions → map (settled_entry v.host) (filter (is_other id) v.sessions) ≡ filter (is_other id) v.sessions
+others_settle v id settled =
+    all_settled_stay v.host (filter (is_other id) v.sessions) (all_filter (λ e. IsSettled v.host e.1) (is_other id) v.sessions settled)
+
 -- The connection at the index of its id is removed.
+pub one_removed : (v : ServerValue) (id i : ℕ) → AreSettled v.host v.sessions → LiesAt id i v.sessions → remove v.sessions i ≡ map (settled_entry v.host) (filter (is_other id) v.sessions)
+one_removed v id i settled lies =
+    at_number (λ es i. remove es i ≡ filter (is_other id) es) id (λ e es here apart. cc (here, others_are_kept id es apart))
+    (λ e es i other rest. cc (other, rest)) v.sessions i lies.distinct lies.index lies.within
+    ∙ sym (others_settle v id settled)
+
 module _ (v : ServerValue) (id i : ℕ) (entries : Entries) (server : IsServer v) (lies : LiesAt id i v.sessions) (is : entries ≡ remove v.sessions i) where
   one_gone : entries ≡ map (settled_entry v.host) (filter (is_other id) v.sessions)
-  one_gone =
-      is
-      ∙ at_number (λ es i. remove es i ≡ filter (is_other id) es) id (λ e es here apart. cc (here, others_are_kept id es apart))
-      (λ e es i other rest. cc (other, rest)) v.sessions i lies.distinct lies.index lies.within
-      ∙ sym (all_settled_stay v.host (filter (is_other id) v.sessions) (all_filter (λ e. IsSettled v.host e.1) (is_other id) v.sessions server.settled))
+  one_gone = is ∙ one_removed v id i server.settled lies
 
   pub dropped_value : record v { sessions = entries } ≡ server_dropped v id
   dropped_value = ap (λ (es : Entries). record v { sessions = es }) one_gone
@@ -386,16 +399,27 @@ goes_last : (n : ℕ) (s : SessionValue) (es : Entries) → AllByRecursion (λ e
 goes_last n s [] all = refl
 goes_last n s (e ∷ es) all = rw (ne_eqb (n + 1) e.0 (λ is. omega (arith, all.0))) (ap (λ (rest : Entries). e ∷ rest) (goes_last n s es all.1))
 
-module _ (v : ServerValue) (entries : Entries) (server : IsServer v) (is : entries ≡ insert_entry nat_eq v.sessions (v.ids + 1) (new_session v.config.limits)) where
-  abbrev with_new : Entries
-  with_new = v.sessions ++ (v.ids + 1, new_session v.config.limits) ∷ []
+abbrev pub with_new : ServerValue → Entries
+with_new v = v.sessions ++ (v.ids + 1, new_session v.config.limits) ∷ []
 
-  one_more_last : entries ≡ map (settled_entry v.host) with_new
-  one_more_last =
-      let quiet = settled_quiet v.host (new_session v.config.limits) (none_held v.host.now [] (omega arith)) refl in
-      is
-      ∙ goes_last v.ids (new_session v.config.limits) v.sessions server.numbered
-      ∙ sym (all_settled_stay v.host with_new (all_append (λ e. IsSettled v.host e.1) v.sessions _ server.settled (quiet, tt)))
+pub one_opened : (v : ServerValue) → AreSettled v.host v.sessions → map (settled_entry v.host) (with_new v) ≡ with_new v
+one_opened v settled =
+    let quiet = settled_quiet v.host (new_session v.config.limits) (none_held v.host.now [] (omega arith)) refl in
+    all_settled_stay v.host (with_new v) (all_append (λ e. IsSettled v.host e.1) v.sessions _ settled (quiet, tt))
+
+module _ (v : ServerValue) (entries : Entries) (server : IsServer v) (is : entries ≡ insert_entry nat_eq v.sessions (v.ids + 1) (new_session v.config.limits)) where
+  one_last : entries ≡ with_new v
+  one_last = is ∙ goes_last v.ids (new_session v.config.limits) v.sessions server.numbered
+
+  one_more_last : entries ≡ map (settled_entry v.host) (with_new v)
+  one_more_last = one_last ∙ sym (one_opened v server.settled)
+
+  pub opened_lies : IsDistinct nat_eq (keys_of entries) → LiesAt (v.ids + 1) (length v.sessions) entries
+  opened_lies distinct = lies_by_key (v.ids + 1) (length v.sessions) entries distinct (rw one_last (last_key v.sessions))
+    where
+      last_key : (es : Entries) → slice_get (keys_of (es ++ (v.ids + 1, new_session v.config.limits) ∷ [])) (length es) ≡ Some (v.ids + 1)
+      last_key [] = refl
+      last_key (e ∷ es) = last_key es
 
   pub opened_value : record v { ids = v.ids + 1; sessions = entries } ≡ server_opened v
   opened_value = ap (λ (es : Entries). record v { ids = v.ids + 1; sessions = es }) one_more_last
@@ -403,7 +427,7 @@ module _ (v : ServerValue) (entries : Entries) (server : IsServer v) (is : entri
   pub opened_server : length v.sessions < v.config.connections → IsServer (record v { ids = v.ids + 1; sessions = entries })
   opened_server room =
       let lower = all_to (λ e. e.0 ≤ v.ids) (λ e. e.0 ≤ v.ids + 1) (λ e low. omega (arith, low)) v.sessions server.numbered in
-      settled_server (record v { ids = v.ids + 1; sessions = with_new }) entries one_more_last (all_append (λ e. e.0 ≤ v.ids + 1) v.sessions _ lower (omega arith, tt))
+      settled_server (record v { ids = v.ids + 1; sessions = with_new v }) entries one_more_last (all_append (λ e. e.0 ≤ v.ids + 1) v.sessions _ lower (omega arith, tt))
       (omega (arith, length_push v.sessions (v.ids + 1, new_session v.config.limits)))
 
 -- ---- the results of calls

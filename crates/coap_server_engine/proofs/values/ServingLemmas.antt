@@ -6,8 +6,8 @@ use Rattle.std.proofs.Math.Bool.{and-false}
 use Rattle.coap_server_engine.specs.Prelude.{ServerValue, session_of, is_there, count_taken, AcceptedCall, Took, ShowsMore, Following, FollowsMore}
 use Rattle.coap_server_engine.specs.Prelude.{InResult, Exchange, Answering, AnswersMore, AreUnanswered, AskResult, asked_by, served, AreMade}
 use Rattle.coap_server_engine.specs.Prelude.{IsServed, IsPartlyServed, IsTakenFor, IsNotTakenFor, asking, asks_for, handed_by, message_limit, server_offered, offered_events, response_for}
-use Rattle.coap_server_engine.specs.Prelude.{Message, LiesAt, server_taken, server_taken_on, taking, host_changed}
-use Rattle.coap_server_engine.proofs.values.ServerLemmas.{lies_where_taken}
+use Rattle.coap_server_engine.specs.Prelude.{Message, LiesAt, keys_of, server_taken, server_taken_on, taking, host_changed}
+use Rattle.coap_server_engine.proofs.values.ServerLemmas.{keys_where_settled, lies_still}
 use Rattle.coap_server_engine.specs.values.InResults.{goes_on}
 use Rattle.coap_server_engine.proofs.scripting.ShownLemmas.{shows_same, shows_then}
 use Rattle.coap_server_engine.proofs.scripting.FollowLemmas.{followed_none, followed_then}
@@ -144,13 +144,16 @@ module _ (v : ServerValue) (id : ℕ) (bytes : List ℕ) (now : ServerValue) (ta
 
 -- ---- the connection stays at its index
 
-pub taken_stays : (v : ServerValue) (id i : ℕ) (piece : List ℕ) → LiesAt id i v.sessions → LiesAt id i (server_taken v id piece).sessions
+pub taken_keys : (v : ServerValue) (id : ℕ) (piece : List ℕ) → keys_of (server_taken v id piece).sessions ≡ keys_of v.sessions
 unfolding server_taken
-taken_stays v id i piece lies =
-    elim (session_of id v.sessions) as (λ o. LiesAt id i (server_taken_on v id piece o).sessions) [
-      | None ↦ lies
-      | Some s ↦ lies_where_taken id i (λ _. (taking v.host s piece).session) (host_changed v.host (taking v.host s piece).change) v.sessions lies
+taken_keys v id piece =
+    elim (session_of id v.sessions) as (λ o. keys_of (server_taken_on v id piece o).sessions ≡ keys_of v.sessions) [
+      | None ↦ refl
+      | Some s ↦ keys_where_settled id (λ _. (taking v.host s piece).session) (host_changed v.host (taking v.host s piece).change) v.sessions
     ]
+
+pub taken_stays : (v : ServerValue) (id i : ℕ) (piece : List ℕ) → LiesAt id i v.sessions → LiesAt id i (server_taken v id piece).sessions
+taken_stays v id i piece = lies_still id i v.sessions (server_taken v id piece).sessions (taken_keys v id piece)
 
 -- ---- one take
 

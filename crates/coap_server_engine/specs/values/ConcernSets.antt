@@ -1,6 +1,6 @@
 -- Defined by this project: the sets of the connections that a change may concern. They have each such connection, and may
 -- have others.
-use Rattle.std.specs.Prelude.{◌≡◌, ◌≢◌, ℕ, List, length, slice_get, Some, false}
+use Rattle.std.specs.Prelude.{◌≡◌, ◌≢◌, ℕ, List, length, slice_get, Option, Some, IfSome, false}
 use Rattle.std.specs.Map.{values_of}
 use Rattle.coap_server_session.specs.declared.cause.Cause.{Cause}
 use Rattle.coap_server_session.specs.declared.cause.Cause.TheVariants as cause
@@ -26,3 +26,9 @@ pub record AreCoveredBut (at : ℕ) (c : Concerned) (sessions : List (ℕ × Ses
   pub many : length c.paths.items ≡ 256
   pub paths : (hash : ℕ) (set : IndexSet) → slice_get c.paths.items hash ≡ Some set → (i : ℕ) (s : SessionValue) → slice_get (values_of sessions) i ≡ Some s → IsOutside set.words i → (i ≡ at → last_hash s.observers ≢ Some hash) → may_concern (cause.Path hash) s ≡ false
   pub time : (before i : ℕ) (s : SessionValue) → slice_get (values_of sessions) i ≡ Some s → IsOutside c.time.words i → i ≢ at → may_concern (cause.Moment before) s ≡ false
+
+-- Holds if each connection that a change of a path with this hash may concern was added to a set, if anything changed.
+-- The set had the words `before`.
+pub record AddsConcerned (found : Option ℕ) (before words : List ℕ) (sessions : List (ℕ × SessionValue)) : Type 0 where
+  pub kept : (i : ℕ) → IsOutside words i → IsOutside before i
+  pub covers : IfSome found (λ hash. Covers (cause.Path hash) words sessions)

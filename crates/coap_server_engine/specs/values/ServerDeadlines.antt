@@ -1,14 +1,14 @@
--- Defined by this project: the deadlines of a server, the work left on a connection, and the change stamp of a server.
-use Rattle.std.specs.Prelude.{◌≡◌, ◌&&◌, ℕ, Bool, length, Option, nat_lt, option_map, ◌==◌}
+-- Defined by this project: the deadlines of a server, and the work left on a connection.
+use Rattle.std.specs.Prelude.{◌≡◌, ◌≢◌, ℕ, List, length, Option, nat_lt, option_map}
 use Rattle.std.specs.List.{AllByRecursion}
+use Rattle.std.specs.Map.{keys_of}
 use Rattle.coap_conn.specs.Phases.{is_over}
 use Rattle.coap_conn.specs.LinkValue.{is_finished}
-use Rattle.coap_server_session.specs.declared.server_state.ServerState.{ServerState}
-use Rattle.coap_server_engine.specs.declared.server.ChangeStamp.{ChangeStamp}
 use Rattle.coap_server_engine.specs.declared.server.ConnectionWork.{ConnectionWork}
 use Rattle.coap_server_session.specs.values.Sessions.{SessionValue, session_takes}
 use Rattle.coap_server_session.specs.values.Deadlines.{IsBefore, due_on}
-use Rattle.coap_server_engine.specs.values.Servers.{ServerValue, session_of, server_ticked}
+use Rattle.coap_server_engine.specs.values.Servers.{ServerValue, LiesAt, session_of, server_ticked}
+use Rattle.coap_server_engine.specs.values.IndexSets.{IsOutside}
 
 -- States that only the time changes when it advances to `later`, if `later` is before each deadline. The queued bytes,
 -- the pending entries and the observers of every connection stay the same.
@@ -31,12 +31,21 @@ session_outlook now s = record {
 abbrev pub outlook_of : ServerValue → ℕ → Option ConnectionWork
 outlook_of v id = option_map (session_outlook v.host.now) (session_of id v.sessions)
 
--- ---- change stamps
+-- Holds if each connection outside the set with these words has the same work left as before. No connection was added,
+-- removed or moved.
+pub record KeepsWork (words : List ℕ) (v after : ServerValue) : Type 0 where
+  pub keys : keys_of after.sessions ≡ keys_of v.sessions
+  pub work : (i id : ℕ) → LiesAt id i v.sessions → IsOutside words i → outlook_of after id ≡ outlook_of v id
 
--- `true` if two stamps are equal.
-abbrev pub same_stamp : ChangeStamp → ChangeStamp → Bool
-same_stamp one other = (one.moment == other.moment) && (one.versions == other.versions) && (one.resources == other.resources)
+-- The same for each connection with another id than this one.
+pub record KeepsOthers (id : ℕ) (v after : ServerValue) : Type 0 where
+  pub keys : keys_of after.sessions ≡ keys_of v.sessions
+  pub work : (other : ℕ) → other ≢ id → outlook_of after other ≡ outlook_of v other
 
--- The change stamp: the time, and the counts that differ for any two states of the store in its history.
-abbrev pub stamp_of : ServerState → ChangeStamp
-stamp_of host = record { moment = host.now; versions = host.store.versions; resources = length host.store.resources }
+-- The same for those of them that are outside the set with these words. The set has all connections that it had with the
+-- words `before`.
+pub record AddsAffected (id : ℕ) (before words : List ℕ) (v after : ServerValue) : Type 0 where
+  pub keys : keys_of after.sessions ≡ keys_of v.sessions
+  pub kept : (i : ℕ) → IsOutside words i → IsOutside before i
+  pub work : (i other : ℕ) → other ≢ id → LiesAt other i v.sessions → IsOutside words i
+      → outlook_of after other ≡ outlook_of v other

@@ -7,6 +7,7 @@ ghost use Rattle.coap_server_engine.specs.Prelude.{in_result, took, where_there,
 ghost use Rattle.coap_server_engine.specs.Prelude.{request_lines};
 ghost use Rattle.coap_server_engine.specs.Prelude.{ShowsPart, In, IsTakeRefused, IsLineRefused, IsUnfinishedIn};
 
+use crate::index_set::IndexSet;
 use crate::server::{ConnIndex, Server};
 use coap_model::{ConnId, TakeFault};
 use coap_script::append_request_line;
@@ -76,7 +77,8 @@ impl Server {
         ensures err { OnErr result (IsTakeRefused self.old id rest.now self.new
             ⊎ IsLineRefused self.old id rest.now self.new) }
     {
-        match self.take_request_at(ConnIndex { id, at }, rest) {
+        let mut affected = IndexSet::empty();
+        match self.take_request_at(ConnIndex { id, at }, rest, &mut affected) {
             Ok(taken) => {
                 let count = taken.taken.bytes;
                 list_request(taken.frame, id, requests)?;

@@ -2,6 +2,7 @@
 
 use super::sessions::{find, flush_at, written_at};
 use super::{ConnIndex, FlushStep, Server};
+use crate::index_set::IndexSet;
 use crate::monitor::{Call, Monitor};
 use coap_io::{Outlet, WriteFailed};
 use coap_model::{ConnId, Handled, TakeFault, Taken, WrittenFault};
@@ -123,7 +124,8 @@ impl Server {
             IsRefusedFor self.old.config events index.id piece.now fault) }
         ensures lies { OnOk result (LiesAt index.id index.at self.new.sessions) }
     {
-        Ok(self.take_request_at(index, piece)?.taken)
+        let mut affected = IndexSet::empty();
+        Ok(self.take_request_at(index, piece, &mut affected)?.taken)
     }
 
     /// Accepts bytes until none is left or none is accepted, and returns the number accepted.
@@ -209,6 +211,7 @@ impl Server {
     /// - `TooMany`: `count` exceeds the number of queued bytes.
     #[tactic(auto, using(crate::proofs::values::ServerLemmas::unmarked_at, crate::proofs::values::ServerLemmas::within_unmarked))]
     pub fn written(&mut self, id: ConnId, count: usize) -> Result<(), WrittenFault>
+        ensures settled { AreSettled self.old.host self.old.sessions }
         ensures answer { RefusedBy result (written_refusal self.old id count) }
         ensures ok { OnOk result (self.new ≡ server_written self.old id count) }
         ensures shows { OnOk result ((events : List AcceptedCall) → Shows self.old events →

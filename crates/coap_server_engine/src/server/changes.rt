@@ -1,16 +1,19 @@
 //! The changes that may affect every connection of a server: of the time, and of the store.
 
+use super::Server;
 use super::sessions::{next_touched, settle_observers, settle_touched};
-use super::{ChangeStamp, Server};
+use crate::index_set::IndexSet;
 use coap_model::Backwards;
 use coap_server_session::{Cause, hash_of};
 use coap_store::{PathKey, StoreFault};
 
 impl Server {
-    ghost use Rattle.std.specs.Prelude.{◌≡◌, ◌+◌, ◌++◌, ◌∷◌, List, [], is_ok, is_none, nat_le, IfOk, OnOk, OnErr};
+    ghost use Rattle.std.specs.Prelude.{◌≡◌, ◌+◌, ◌++◌, ◌∷◌, ℕ, Option, List, [], is_ok, is_none, nat_le};
+    ghost use Rattle.std.specs.Prelude.{length, IfOk, OnOk, OnErr};
     ghost use Rattle.coap_server_engine.specs.Prelude.{RefusedBy, IsStore, RefusedOrMemory, put_refusal};
-    ghost use Rattle.coap_server_engine.specs.Prelude.{remove_refusal, stamp_of, AreSettled, server_ticked, server_put};
+    ghost use Rattle.coap_server_engine.specs.Prelude.{remove_refusal, AreSettled, server_ticked, server_put};
     ghost use Rattle.coap_server_engine.specs.Prelude.{server_removed, AcceptedCall, Ticked, Stored, Removed, Shows};
+    ghost use Rattle.coap_server_engine.specs.Prelude.{KeepsWork};
 
     /// Sets the time of the server, in seconds.
     ///
@@ -31,11 +34,11 @@ impl Server {
         if now < self.host.now {
             return Err(Backwards);
         }
-        let before = self.stamp();
-        if now == before.moment {
+        let before = self.moment();
+        if now == before {
             return Ok(());
         }
-        let cause = Cause::Moment(before.moment);
+        let cause = Cause::Moment(before);
         self.host.move_to(now);
         if next_touched(&mut self.sets.time, &self.sessions, 0, cause, now).is_some() {
             self.host.keep_moment();
@@ -104,17 +107,39 @@ impl Server {
         self.host.store.can_remove(path)
     }
 
-    /// Returns the change stamp of the server. Its contract also states that every connection is settled, as after
+    /// Returns the time of the server, in seconds. Its contract also states that every connection is settled, as after
     /// every call.
-    pub fn stamp(&self) -> ChangeStamp
-        ensures stamp { result ≡ stamp_of self.now.host }
+    pub fn moment(&self) -> u64
+        ensures moment { result ≡ self.now.host.now }
         ensures store { IsStore self.now.host.store }
         ensures settled { AreSettled self.now.host self.now.sessions }
     {
-        ChangeStamp {
-            moment: self.host.now,
-            versions: self.host.store.versions(),
-            resources: self.host.store.count(),
-        }
+        self.host.store.count();
+        self.host.now
+    }
+
+    /// Returns the connections on which a change of the time may change the work left.
+    pub fn concerned_by_time(&self) -> IndexSet
+        ensures { (later : ℕ) → KeepsWork result.words self.now (server_ticked self.now later) }
+    {
+        // Gives the proof the invariant of the store.
+        self.host.store.count();
+        self.sets.time
+    }
+
+    /// Returns the connections on which a change of the resource at a path may change the work left.
+    pub fn concerned_by(&self, path: &PathKey) -> IndexSet
+        ensures put { (format : Option ℕ) (bytes : List ℕ) →
+            KeepsWork result.words self.now (server_put self.now path.now format bytes) }
+        ensures removed { KeepsWork result.words self.now (server_removed self.now path.now) }
+    {
+        *self.sets.of_path(hash_of(path))
+    }
+
+    /// Returns the number of stored resources.
+    pub fn resource_count(&self) -> usize
+        ensures { result ≡ length self.now.host.store.resources }
+    {
+        self.host.store.count()
     }
 }

@@ -36,6 +36,15 @@ impl Concerned {
         })
     }
 
+    /// Returns the connections that a change of a path with this hash may concern.
+    #[inline(always)]
+    pub(super) fn of_path(&self, hash: u8) -> &IndexSet
+        requires { length self.now.paths.items ≡ 256 }
+        ensures { slice_get self.now.paths.items hash ≡ Some result.now }
+    {
+        &self.paths[usize::from(hash)]
+    }
+
     /// Follows the removal of the connection at an index, of this number of connections. Those after it change their
     /// indices: unless there is none, all indices are added to each set.
     pub(super) fn follow_removal(&mut self, at: usize, count: usize)

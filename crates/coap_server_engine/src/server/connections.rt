@@ -1,17 +1,17 @@
 //! The connections of a server: opened, ended, released, dropped, and their status.
 
 use super::sessions::{announce_at, end_at, find, release_at};
-use super::{ConnectionWork, Server};
+use super::{ConnIndex, ConnectionWork, Server};
 use coap_model::{AnnounceFault, ConnId, NoSuch, OpenFault, ReleaseFault, Status};
 use coap_server_session::Session;
 
 impl Server {
-    ghost use Rattle.std.specs.Prelude.{◌≡◌, ◌+◌, ◌++◌, ◌∷◌, List, [], is_ok, is_none, IfOk, OnOk, OnErr};
+    ghost use Rattle.std.specs.Prelude.{◌≡◌, ◌+◌, ◌++◌, ◌∷◌, List, [], Some, length, is_ok, is_none, IfOk, OnOk, OnErr};
     ghost use Rattle.coap_server_engine.specs.Prelude.{RefusedBy, AreInRange, AreSettled, session_of, is_there};
     ghost use Rattle.coap_server_engine.specs.Prelude.{server_opened, server_ended, server_released, server_announced};
     ghost use Rattle.coap_server_engine.specs.Prelude.{server_dropped, OpenedOrMemory, open_refusal, released_refusal};
     ghost use Rattle.coap_server_engine.specs.Prelude.{IsAnnounced, status_of, outlook_of, AcceptedCall, Opened, Ended};
-    ghost use Rattle.coap_server_engine.specs.Prelude.{Released, Announced, Dropped, Shows};
+    ghost use Rattle.coap_server_engine.specs.Prelude.{Released, Announced, Dropped, Shows, LiesAt};
 
     /// Returns `true` if `open` can fail only for lack of memory.
     pub fn can_open(&self) -> bool
@@ -36,6 +36,7 @@ impl Server {
         ensures answer { OpenedOrMemory result (open_refusal self.old) }
         ensures id { IfOk result (λ id. id ≡ self.old.ids + 1) }
         ensures ok { OnOk result (self.new ≡ server_opened self.old) }
+        ensures lies { IfOk result (λ id. LiesAt id (length self.old.sessions) self.new.sessions) }
         ensures ranges { OnOk result (AreInRange self.old.config.limits) }
         ensures shows { IfOk result (λ id. (events : List AcceptedCall) → Shows self.old events →
             Shows self.new (events ++ Opened id ∷ [])) }
@@ -66,6 +67,7 @@ impl Server {
     /// - `NoSuch`: no connection has this id. Nothing has changed.
     #[tactic(auto, using(crate::proofs::values::ServerLemmas::unmarked_at, crate::proofs::values::ServerLemmas::within_unmarked))]
     pub fn ended(&mut self, id: ConnId) -> Result<(), NoSuch>
+        ensures settled { AreSettled self.old.host self.old.sessions }
         ensures answer { is_ok result ≡ is_there (session_of id self.old.sessions) }
         ensures ok { OnOk result (self.new ≡ server_ended self.old id) }
         ensures shows { OnOk result ((events : List AcceptedCall) → Shows self.old events →
@@ -174,18 +176,24 @@ impl Server {
         })
     }
 
-    /// Returns the work left on a connection, or `None` if no connection has this id.
-    pub fn outlook(&self, id: ConnId) -> Option<ConnectionWork>
-        ensures { result ≡ outlook_of self.now id }
+    /// Returns the work left on the connection at an index.
+    ///
+    /// # Preconditions
+    ///
+    /// The connection is at the index, as `index_of` returned it.
+    #[tactic(auto, using(crate::proofs::values::ServerLemmas::unmarked_at, crate::proofs::values::ServerLemmas::within_unmarked))]
+    #[inline(always)]
+    pub fn outlook_at(&self, index: ConnIndex) -> ConnectionWork
+        requires { LiesAt index.id index.at self.now.sessions }
+        ensures { outlook_of self.now index.id ≡ Some result }
     {
-        let at = find(&self.sessions, self.recent, id)?;
-        let session = &self.sessions[at];
-        Some(ConnectionWork {
+        let session = &self.sessions[index.at];
+        ConnectionWork {
             takes: session.takes(),
             stopped: session.phase().stop().is_some(),
             waits: session.waiting() > 0,
             finished: session.finished(),
             due: session.due(self.host.now),
-        })
+        }
     }
 }

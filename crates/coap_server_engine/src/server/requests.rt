@@ -4,8 +4,9 @@ ghost use Rattle.std.specs.Prelude.{◌≡◌};
 ghost use Rattle.coap_server_engine.specs.Prelude.{failure_with, spelling};
 
 use super::sessions::{find, settle_after, what_was_handled};
-use super::{ConnIndex, Server};
+use super::{ConnIndex, Served, Server};
 use crate::application::Application;
+use crate::index_set::IndexSet;
 use crate::monitor::{Call, Monitor};
 use crate::taken_request::{TakenRequest, frame_of, lent_if, lent_unless_stopped};
 use arrayvec::ArrayVec;
@@ -32,6 +33,7 @@ impl Server {
     ghost use Rattle.coap_server_engine.specs.Prelude.{IsTakenRequest, server_offered};
     ghost use Rattle.coap_server_engine.specs.Prelude.{offered_events, response_for, IsTakenFor, IsNotTakenFor};
     ghost use Rattle.coap_server_engine.specs.Prelude.{asks_for, message_limit, changing_frame, frame_key, ChangesBy};
+    ghost use Rattle.coap_server_engine.specs.Prelude.{KeepsWork, AreSettled, AddsAffected};
     ghost use Rattle.coap_server_engine.specs.contracts.server.Server.{the_row};
 
     /// Accepts bytes as `take` does, and lends the request that it handed to the application, if the accepted bytes end with
@@ -97,10 +99,12 @@ impl Server {
         let Some(at) = find(&self.sessions, self.recent, id) else {
             return Err(TakeFault::NoSuch);
         };
-        self.take_request_at(ConnIndex { id, at }, piece)
+        let mut affected = IndexSet::empty();
+        self.take_request_at(ConnIndex { id, at }, piece, &mut affected)
     }
 
-    /// Accepts bytes as `take_request` does, on the connection at an index.
+    /// Accepts bytes as `take_request` does, on the connection at an index. The other connections on which the message
+    /// may have changed the work left are added to `affected`.
     ///
     /// # Errors
     ///
@@ -114,6 +118,7 @@ impl Server {
         &'a mut self,
         index: ConnIndex,
         piece: &'a [u8],
+        affected: &mut IndexSet,
     ) -> Result<TakenRequest<'a>, TakeFault>
         requires { LiesAt index.id index.at self.old.sessions }
         ensures* after { sem 𝓛 (follows_so the_row the_row self.entry.ghost_name none (λ _ _. ⊤)
@@ -138,6 +143,8 @@ impl Server {
         ensures refused_for { IfErr result (λ fault.
             (events : List AcceptedCall) → Shows self.old events →
             IsRefusedFor self.old.config events index.id piece.now fault) }
+        ensures affected { OnOk result (AddsAffected index.id affected.old.words affected.new.words self.old
+            (server_taken self.old index.id piece.now)) }
     {
         let takes = self.sessions[index.at].takes();
         match self.sessions[index.at].take(&mut self.host, piece) {
@@ -149,6 +156,7 @@ impl Server {
                     &mut self.sessions,
                     index.at,
                     &self.host,
+                    affected,
                 );
                 let session = &self.sessions[index.at];
                 let stop = session.phase().stop();
@@ -194,6 +202,7 @@ impl Server {
         application: &mut A,
         limit: usize,
         response: &mut Vec<u8>,
+        affected: &mut IndexSet,
     ) -> Result<(Taken, Option<Token>), TakeFault>
         requires lies { LiesAt id at self.old.sessions }
         requires empty { response.old.items ≡ [] }
@@ -213,8 +222,10 @@ impl Server {
         ensures shows_refused { IfErr result (λ fault. (events : List AcceptedCall) → Shows self.old events →
             ShowsRefused events id rest.now fault self.new) }
         ensures silent { OnErr result (application.new ≡ application.old) }
+        ensures affected { OnOk result (AddsAffected id affected.old.words affected.new.words self.old
+            (server_taken self.old id rest.now)) }
     {
-        let taken = self.take_request_at(ConnIndex { id, at }, rest)?;
+        let taken = self.take_request_at(ConnIndex { id, at }, rest, affected)?;
         if !application.answers() {
             return Ok((taken.taken, None));
         }
@@ -272,6 +283,7 @@ impl Server {
         application: &mut A,
         response: &mut Vec<u8>,
         monitor: &mut M,
+        affected: &mut IndexSet,
     ) -> Result<usize, AllocError>
         requires { LiesAt id at self.old.sessions }
         ensures within { IfOk result (λ n. n ≤ length rest.now) }
@@ -284,10 +296,11 @@ impl Server {
         ensures err { OnErr result (IsNotTakenFor self.old id rest.now self.new
             (FollowsMore (M.follows monitor.old) (M.follows monitor.new))) }
         ensures silent { OnErr result (application.new ≡ application.old) }
+        ensures affected { OnOk result (AddsAffected id affected.old.words affected.new.words self.old self.new) }
     {
         response.clear();
         let limit = self.message_limit(ConnIndex { id, at });
-        match self.take_and_ask(at, id, rest, application, limit, response) {
+        match self.take_and_ask(at, id, rest, application, limit, response, affected) {
             Ok((taken, token)) => {
                 let took = Call::Took {
                     id,
@@ -315,7 +328,8 @@ impl Server {
 
     /// Accepts bytes as `take_all` does, and shows each request that is handed over to the application. A response that the
     /// application writes at once is given as `respond` gives it, directly after the take. The monitor receives each call of
-    /// `take`, also one that accepts no byte.
+    /// `take`, also one that accepts no byte. Returns the number of bytes accepted, and the connections on which the
+    /// messages may have changed the work left.
     ///
     /// If the server does not accept the response, it sends 5.00 (Internal Server Error) with the token of the request. The
     /// monitor receives `Call::Responded` after `Call::Took`. `response` is the buffer for the responses: it is cleared, and
@@ -331,28 +345,45 @@ impl Server {
         application: &mut A,
         response: &mut Vec<u8>,
         monitor: &mut M,
-    ) -> Result<usize, AllocError>
-        ensures within { IfOk result (λ n. n ≤ length bytes.now) }
-        ensures served { IfOk result (λ n. IsServed self.old id bytes.now n self.new
+    ) -> Result<Served, AllocError>
+        ensures within { IfOk result (λ s. s.count ≤ length bytes.now) }
+        ensures served { IfOk result (λ s. IsServed self.old id bytes.now s.count self.new
             (FollowsMore (M.follows monitor.old) (M.follows monitor.new))
             (AnswersMore (A.follows application.old) (A.follows application.new))) }
+        ensures affected { IfOk result (λ s. KeepsWork s.affected.words self.old self.new) }
         ensures partly { OnErr result (IsPartlyServed self.old id bytes.now self.new
             (FollowsMore (M.follows monitor.old) (M.follows monitor.new))
             (AnswersMore (A.follows application.old) (A.follows application.new))) }
     {
+        let mut affected = IndexSet::empty();
         let Some(at) = self.seek(id) else {
-            return Ok(0);
+            return Ok(Served { count: 0, affected });
         };
+        affected.insert(at);
         let mut taken = 0;
         while taken < bytes.len() {
             let rest = &bytes[taken..];
-            let count = self.take_for::<W, M, A>(at, id, rest, application, response, monitor)?;
+            let count = self.take_for::<W, M, A>(
+                at,
+                id,
+                rest,
+                application,
+                response,
+                monitor,
+                &mut affected,
+            )?;
             if count == 0 {
-                return Ok(taken);
+                return Ok(Served {
+                    count: taken,
+                    affected,
+                });
             }
             taken += count;
         }
-        Ok(taken)
+        Ok(Served {
+            count: taken,
+            affected,
+        })
     }
 
     /// Asks the application for one later response, and gives it as `respond` does. Returns the connection of the response,
@@ -366,6 +397,7 @@ impl Server {
         response: &mut Vec<u8>,
         monitor: &mut M,
     ) -> Option<ConnId>
+        ensures settled { IfSome result (λ id. AreSettled self.old.host self.old.sessions) }
         ensures asked { IsAskedLater self.old result self.new
             (FollowsMore (M.follows monitor.old) (M.follows monitor.new))
             (AnswersMore (A.follows application.old) (A.follows application.new)) }

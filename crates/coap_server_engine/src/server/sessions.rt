@@ -10,7 +10,7 @@ ghost use Rattle.coap_server_engine.specs.Prelude.{settled_entry, AreSettled, Un
 ghost use Rattle.coap_server_engine.specs.Prelude.{AreOthersSettled, settled_held, released_refusal_on, IsAnnounced};
 ghost use Rattle.coap_server_engine.specs.Prelude.{handled_so, responded_refusal_on, IsReplyOn, message_of};
 ghost use Rattle.coap_server_engine.specs.Prelude.{session_given_by, splits_of, Covers, AreCovered};
-ghost use Rattle.coap_server_engine.specs.Prelude.{AreCoveredBut};
+ghost use Rattle.coap_server_engine.specs.Prelude.{AreCoveredBut, AddsConcerned};
 ghost use Rattle.coap_server_session.specs.declared.cause.Cause.TheVariants as causes;
 
 use super::Sessions;
@@ -138,7 +138,8 @@ pub(super) fn settle_observers(
 }
 
 /// Settles every connection if the one at an index, which received a message, changed the resource at a path with this
-/// hash. If nothing changed, settles only that connection, and only if an entry is pending.
+/// hash. If nothing changed, settles only that connection, and only if an entry is pending. The connections that the
+/// change may concern are added to `affected`.
 // Always inlined: a message that changes nothing then costs two comparisons, and no call.
 #[inline(always)]
 pub(super) fn settle_after(
@@ -147,6 +148,7 @@ pub(super) fn settle_after(
     sessions: &mut Sessions,
     at: usize,
     host: &ServerState,
+    affected: &mut IndexSet,
 )
     requires within { at < length sessions.old.entries }
     requires covered { AreCoveredBut at sets.old (unmarked sessions.old.entries) }
@@ -159,11 +161,13 @@ pub(super) fn settle_after(
         (unmarked sessions.old.entries)) }
     ensures marked { AreAllMarked host.entry.now sessions.new.entries }
     ensures splits { splits_of sessions.new.entries ≡ splits_of sessions.old.entries }
+    ensures affected { AddsConcerned changed affected.old.words affected.new.words (unmarked sessions.old.entries) }
 {
     sets.note(&sessions[at], at);
     match changed {
         None => sessions[at].settle_if_pending(host),
         Some(hash) => {
+            affected.join(sets.of_path(hash));
             sessions[at].settle(host);
             settle_observers(sets, sessions, host, hash);
         }

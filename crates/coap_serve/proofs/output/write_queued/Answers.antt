@@ -1,5 +1,4 @@
 use Rattle.coap_server_engine.proofs.scripting.FollowLemmas.{followed_none}
-use Rattle.coap_serve.specs.Prelude.{waiting_at}
 use Rattle.coap_serve.proofs.streams.FlushLemmas.{whole_part}
 use Rattle.coap_serve.proofs.output.write_queued.Goals as goal
 

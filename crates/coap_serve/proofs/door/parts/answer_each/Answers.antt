@@ -1,13 +1,12 @@
-use Rattle.std.proofs.Common.{refl, arith, ◌∙◌}
+use Rattle.std.proofs.Common.{refl, arith}
 use Rattle.coap_serve.proofs.listener.LaterLemmas.{none_given, one_more_given, no_more_given}
+use Rattle.coap_serve.proofs.listener.SleepLemmas.{sleep_same, sleep_then}
 use Rattle.coap_serve.proofs.door.parts.answer_each.Goals as goal
 
 pub loop-count-init : goal.loop-count-init
 loop-count-init g c = record {
   given = none_given (g.M.Monitor.follows c.args.monitor.now) (g.A.Application.follows c.args.application.now);
-  peers = refl;
-  noted = λ noted. noted;
-  none = λ none. (refl, refl);
+  kept = sleep_same;
 }
 
 pub loop-count-preserved : goal.loop-count-preserved
@@ -16,12 +15,13 @@ loop-count-preserved g c =
     let so_far = c.loop-count.invariant in
     record {
       given = one_more_given (g.M.Monitor.follows c.args.monitor.now) (g.M.Monitor.follows c.loop-count.monitor) (g.M.Monitor.follows c.answer_once.new.monitor) (g.A.Application.follows c.args.application.now) (g.A.Application.follows c.loop-count.application) (g.A.Application.follows c.answer_once.new.application) one.asked.0 so_far.given one.asked.1 one.asked.2 refl;
-      peers = one.peers ∙ so_far.peers;
-      noted = λ noted. one.noted (so_far.noted noted);
-      none = λ none. absurd (omega (arith, none));
+      kept = sleep_then so_far.kept one.kept;
     }
 
 pub returns-then-not-answer_once-clause-shows : goal.returns-then-not-answer_once-clause-shows
 returns-then-not-answer_once-clause-shows g c =
     let one = c.if-not-answer_once.ensures in
     no_more_given (g.M.Monitor.follows c.args.monitor.now) (g.M.Monitor.follows c.loop-count.monitor) (g.M.Monitor.follows c.answer_once.new.monitor) (g.A.Application.follows c.args.application.now) (g.A.Application.follows c.loop-count.application) (g.A.Application.follows c.answer_once.new.application) one.asked.0 c.loop-count.invariant.given one.asked.1 one.asked.2 refl (omega (arith, c.loop-count-test.true))
+
+pub returns-then-not-answer_once-clause-kept : goal.returns-then-not-answer_once-clause-kept
+returns-then-not-answer_once-clause-kept g c = sleep_then c.loop-count.invariant.kept c.if-not-answer_once.ensures.kept

@@ -1,8 +1,18 @@
-use Rattle.coap_serve.proofs.listener.LaterLemmas.{noted_where_given, recorded_once}
+use Rattle.std.proofs.Common.{Some, refl}
+use Rattle.coap_server_engine.proofs.values.WorkLemmas.{offered_keeps}
+use Rattle.coap_serve.proofs.listener.SleepLemmas.{sleep_none, sleep_woken}
 use Rattle.coap_serve.proofs.door.parts.answer_once.Goals as goal
 
-pub returns-clause-peers : goal.returns-clause-peers
-returns-clause-peers g c = recorded_once c.answer_next.new.self _ c.args.peers.now.entries c.record_on.ensures
+-- No connection has the number.
+pub returns-in_default-index_of-clause-kept : goal.returns-in_default-index_of-clause-kept
+returns-in_default-index_of-clause-kept g c =
+    let asked = c.in-Some.ensures.asked in
+    sleep_none c.in-Some.id (rw asked.server (offered_keeps c.args.server.now c.in-Some.id asked.bytes c.in-Some.ensures.settled)) c.wake_all.ensures
 
-pub returns-clause-noted : goal.returns-clause-noted
-returns-clause-noted g c = noted_where_given _ _ c.args.server.now c.answer_next.new.self c.in-Some.id c.args.peers.now.entries c.stamp.ensures.settled c.in-Some.ensures.asked c.record_on.ensures
+pub returns-clause-kept : goal.returns-clause-kept
+returns-clause-kept g c =
+    let asked = c.in-Some.ensures.asked in
+    sleep_woken c.in-Some.id c.in-Some-index_of.at (rw asked.server (offered_keeps c.args.server.now c.in-Some.id asked.bytes c.in-Some.ensures.settled)) c.in-Some-index_of.ensures.at c.wake.ensures.awake c.wake.ensures.asleep
+
+pub returns-clause-asked : goal.returns-clause-asked
+returns-clause-asked g c = (Some c.in-Some.id, refl, c.in-Some.ensures.asked)

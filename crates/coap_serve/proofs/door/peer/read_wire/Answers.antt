@@ -1,5 +1,6 @@
 use Rattle.std.proofs.Common.{◌≡◌, ◌≢◌, refl, rules}
-use Rattle.coap_serve.specs.Prelude.{End}
+use Rattle.coap_server_engine.proofs.values.WorkLemmas.{keeps_others}
+use Rattle.coap_serve.specs.Prelude.{End, session_ended}
 use Rattle.coap_serve.proofs.listener.ServingLemmas.{none_called, read_called}
 use Rattle.coap_serve.proofs.door.peer.read_wire.Goals as goal
 
@@ -15,3 +16,6 @@ pub returns-in-Ok-clause-accepted : goal.returns-in-Ok-clause-accepted
 returns-in-Ok-clause-accepted g c =
     let is : c.read-got.result ≡ End = search rules in
     rw is (record { shows = c.in-Ok.ensures.shows; follows = c.accepted.ensures })
+
+pub returns-in-Ok-clause-kept : goal.returns-in-Ok-clause-kept
+returns-in-Ok-clause-kept g c = rw c.in-Ok.ensures.ok (keeps_others c.args.server.now c.args.id session_ended c.ended.ensures.settled)

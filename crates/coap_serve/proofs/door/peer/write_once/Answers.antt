@@ -1,6 +1,7 @@
 use Rattle.std.proofs.Common.{refl, sym, add-zero}
 use Rattle.std.proofs.lemmas.List.{length-take-le}
-use Rattle.coap_serve.specs.Prelude.{Answered, waiting_at, Bytes, Later, End, Failed}
+use Rattle.coap_server_engine.proofs.values.WorkLemmas.{keeps_others}
+use Rattle.coap_serve.specs.Prelude.{Answered, session_written, waiting_at, Bytes, Later, End, Failed}
 use Rattle.coap_serve.proofs.listener.NextPartLemmas.{first_written, none_refused}
 use Rattle.coap_io.proofs.streams.DeviceLemmas.{part_written}
 use Rattle.coap_serve.proofs.listener.ServingLemmas.{none_called}
@@ -56,3 +57,6 @@ returns-in-End-clause-accepted g c = none_called refl
 
 pub returns-in-Failed-clause-accepted : goal.returns-in-Failed-clause-accepted
 returns-in-Failed-clause-accepted g c = none_called refl
+
+pub returns-in-Ok-clause-kept : goal.returns-in-Ok-clause-kept
+returns-in-Ok-clause-kept g c = rw c.in-Ok.ensures.ok (keeps_others c.args.server.now c.args.id (λ s. session_written s c.in-Bytes.count) c.written.ensures.settled)

@@ -10,11 +10,11 @@ loop-at-preserved g c = (
   c.sweep_at-at.ensures.within,
   one_more_swept _ _ c.loop-at.peers.entries c.sweep_at-at.new.peers.entries c.loop-at.at c.sweep_at-at.result
       (omega (arith, c.loop-at-test.true, c.len.ensures.len)) c.loop-at.invariant.1 c.sweep_at-at.ensures.part,
-  c.sweep_at-at.ensures.noted,
+  c.sweep_at-at.ensures.paired,
 )
 
 pub returns : goal.returns
 returns g c =
     let most : length c.loop-at.peers.entries ≤ c.loop-at.at = omega (arith, c.loop-at-test.false, c.len.ensures.len) in
     let all = all_swept c.loop-at.peers.entries c.loop-at.at most c.loop-at.invariant.1 in
-    record { has = all.0; entries = all.1; noted = c.loop-at.invariant.2 }
+    record { has = all.0; entries = all.1; paired = c.loop-at.invariant.2 }

@@ -1,5 +1,5 @@
 use Rattle.std.proofs.Common.{◌-◌, ◌≤◌, length, take, drop}
-use Rattle.coap_serve.specs.Prelude.{AreNoted, known_by, swept}
+use Rattle.coap_serve.specs.Prelude.{ArePaired, known_by, swept}
 use Rattle.coap_serve.proofs.listener.SweepLemmas.{IsSweptTo}
 use Rattle.coap_serve.proofs.door.sweep.sweep.Given as goal
 
@@ -9,7 +9,7 @@ invariant-loop-at g l =
     (l.at ≤ length l.peers.entries)
     × IsSweptTo (known_by g.M.Monitor.follows g.A.Application.follows l.fn.monitor l.monitor l.fn.application l.application)
     (swept l.fn.idle l.fn.now l.fn.server l.fn.peers.entries) l.fn.idle l.fn.now l.fn.server l.server (take l.at l.peers.entries) (drop l.at l.peers.entries)
-    × AreNoted l.server l.peers.entries
+    × ArePaired l.server l.peers.entries
 
 abbrev pub decreases-loop-at : goal.decreases-loop-at
 decreases-loop-at g l = length l.peers.entries - l.at

@@ -7,9 +7,6 @@ use Rattle.coap_serve.proofs.door.sweep.sweep_at.Goals as goal
 pub release_at-requires-clause-number : goal.release_at-requires-clause-number
 release_at-requires-clause-number g c = its_number c.args.peers.now.entries c.args.at (sym c.in-Some.ensures.entry)
 
-pub drop_at-requires-clause-number : goal.drop_at-requires-clause-number
-drop_at-requires-clause-number g c = its_number c.args.peers.now.entries c.args.at (sym c.in-Some.ensures.entry)
-
 pub returns-in_default-status-clause-part : goal.returns-in_default-status-clause-part
 returns-in_default-status-clause-part g c =
     acted_here _ c.args.idle c.args.now (loop_state c.args.server.now c.args.peers.now.entries) (loop_state c.args.server.now c.args.peers.now.entries) c.args.at Keep (c.args.at + 1)

@@ -1,13 +1,18 @@
 use Rattle.std.proofs.Common.{Some, refl, rules}
-use Rattle.coap_serve.proofs.listener.NoteLemmas.{noted_with_one_more}
-use Rattle.coap_serve.proofs.listener.AgendaLemmas.{one_more_opened}
+use Rattle.coap_serve.proofs.listener.RoundLemmas.{one_more_opened}
 use Rattle.coap_serve.proofs.listener.ServingLemmas.{none_called}
+use Rattle.coap_serve.proofs.listener.SleepLemmas.{asleep_with_one, paired_with_one}
 use Rattle.coap_serve.proofs.door.turn.accept.Goals as goal
 
-pub returns-clause-noted : goal.returns-clause-noted
-returns-clause-noted g c =
-    noted_with_one_more c.args.server.now _ _ c.args.peers.now.entries c.can_open.ensures.settled c.requires.noted
-    c.in-Ok-open.ensures.id c.in-Ok-open.ensures.ok c.wants_on-wants.ensures c.in-Ok-insert.ensures.entries c.in-Ok-insert.ensures.unique
+pub returns-clause-paired : goal.returns-clause-paired
+returns-clause-paired g c =
+    paired_with_one g.D.Wire.Ready.readable g.D.Wire.Ready.writable _ c.can_open.ensures.settled c.requires.paired c.in-Ok-open.ensures.id c.in-Ok-open.ensures.ok c.in-Ok-open.ensures.lies
+    c.in-Ok-insert.ensures.entries c.in-Ok-insert.ensures.unique
+
+pub returns-clause-asleep : goal.returns-clause-asleep
+returns-clause-asleep g c =
+    asleep_with_one g.D.Wire.Ready.readable g.D.Wire.Ready.writable _ c.can_open.ensures.settled c.requires.paired c.in-Ok-open.ensures.id c.in-Ok-open.ensures.ok c.in-Ok-open.ensures.lies
+    c.in-Ok-insert.ensures.entries c.in-Ok-insert.ensures.unique c.len.ensures.len c.wake.ensures.awake c.wake.ensures.asleep c.requires.asleep
 
 pub returns-clause-opened : goal.returns-clause-opened
 returns-clause-opened g c = record {

@@ -4,9 +4,12 @@ use Rattle.coap_server_engine.proofs.scripting.FollowLemmas.{followed_none}
 use Rattle.coap_server_engine.proofs.server.Server.answer_next.Goals as goal
 
 -- The application has no response now.
-pub returns-in_err-id : goal.returns-in_err-id
-returns-in_err-id g c =
-    rw c.from_residual.ensures (record { asked = (refl, (followed_none (g.M.Monitor.follows c.args.monitor.now), c.in_err-id.ensures.offered)); none = c.in_err-id.ensures.none })
+pub returns-in_err-id-clause-asked : goal.returns-in_err-id-clause-asked
+returns-in_err-id-clause-asked g c =
+    rw c.from_residual.ensures (refl, (followed_none (g.M.Monitor.follows c.args.monitor.now), c.in_err-id.ensures.offered))
+
+pub returns-in_err-id-clause-none : goal.returns-in_err-id-clause-none
+returns-in_err-id-clause-none g c = rw c.from_residual.ensures c.in_err-id.ensures.none
 
 pub returns-clause-asked : goal.returns-clause-asked
 returns-clause-asked g c =

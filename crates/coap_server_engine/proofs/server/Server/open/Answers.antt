@@ -2,7 +2,7 @@ use Rattle.std.proofs.Common.{arith, ◌+◌, Ok, rules, ap, sym, ◌∙◌, map
 use Rattle.std.proofs.lemmas.List.{length-map}
 use Rattle.coap_server_engine.specs.Prelude.{LimitValues, MarkedSession, IsMarked, unmarked, unmarked_entry, insert_entry}
 use Rattle.coap_server_engine.specs.Prelude.{new_session, changed_mark, server_value}
-use Rattle.coap_server_engine.proofs.values.ServerLemmas.{opens, opened_server, opened_value, inserted_unmarked, all_inserted}
+use Rattle.coap_server_engine.proofs.values.ServerLemmas.{opens, keys_unmarked, opened_server, opened_value, opened_lies, inserted_unmarked, all_inserted}
 use Rattle.coap_server_engine.proofs.world.CallLaws.{open_shows}
 use Rattle.coap_server_engine.proofs.values.ConcernedLemmas.{covered_opened}
 use Rattle.coap_server_engine.proofs.server.Server.open.Goals as goal
@@ -39,3 +39,12 @@ pub returns-clause-shows : goal.returns-clause-shows
 returns-clause-shows c = open_shows (Ok (c.self.inside.ids + 1)) c.args.self.now _ (omega arith)
     (rw (← c.self.view_is) (opens (server_value c.self.inside) (omega (arith, length-map c.self.inside.sessions.entries unmarked_entry)) (λ e. omega (arith, e))))
     (search rules) (returns-clause-ok c)
+
+pub returns-clause-lies : goal.returns-clause-lies
+returns-clause-lies c =
+    let es = c.self.inside.sessions.entries in
+    let id = c.self.inside.ids + 1 in
+    let inserted =
+    ap unmarked c.in-Ok-insert.ensures.entries ∙ inserted_unmarked es id c.in-Ok.session ∙ ap (λ (s : MarkedSession). insert_entry nat_eq (unmarked es) id s.session) c.in-Ok.ensures.value
+    ∙ ap (λ (l : LimitValues). insert_entry nat_eq (unmarked es) id (new_session l)) c.limits.ensures in
+    rw (← c.self.view_is) (opened_lies _ _ c.self.invariant.server inserted (rw (keys_unmarked c.insert.new.self.entries) c.in-Ok-insert.ensures.unique))

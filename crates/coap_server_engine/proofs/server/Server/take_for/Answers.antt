@@ -3,6 +3,7 @@ use Rattle.coap_server_engine.specs.Prelude.{WasRefused, WasTaken}
 use Rattle.coap_server_engine.proofs.values.ResponseLemmas.{token_made}
 use Rattle.coap_server_engine.proofs.values.ServingLemmas.{taken_stays, taken_asked, taken_silent}
 use Rattle.coap_server_engine.proofs.scripting.ReplayLemmas.{not_taken_within}
+use Rattle.coap_server_engine.proofs.values.WorkLemmas.{adds_offered}
 use Rattle.coap_server_engine.proofs.server.Server.take_for.Goals as goal
 
 -- Fewer bytes than those of the slice were accepted.
@@ -47,3 +48,11 @@ give_at_once-requires g c =
 
 pub returns-in_default-clause-lies : goal.returns-in_default-clause-lies
 returns-in_default-clause-lies g c = rw c.in-Ok.ensures.ok (taken_stays c.args.self.now c.args.id c.args.at c.args.rest.now c.requires)
+
+pub returns-in-Some-clause-affected : goal.returns-in-Some-clause-affected
+returns-in-Some-clause-affected g c =
+    rw (c.give_at_once.ensures.after, c.in-Ok.ensures.ok)
+    (adds_offered c.args.self.now c.args.id c.args.at c.args.rest.now _ _ _ c.requires c.in-Ok.ensures.affected)
+
+pub returns-in_default-clause-affected : goal.returns-in_default-clause-affected
+returns-in_default-clause-affected g c = rw c.in-Ok.ensures.ok c.in-Ok.ensures.affected

@@ -18,10 +18,11 @@ use Rattle.coap_server_engine.proofs.values.ServerLemmas.{read_written, same_spl
 use Rattle.coap_server_engine.proofs.values.ServerTakenLemmas.{applications_stay, taken_request, taken_change}
 use Rattle.coap_server_engine.proofs.values.ChangedLemmas.{handed_given, changing_given, take_alters}
 use Rattle.coap_server_engine.proofs.world.RequestLaws.{take_hands_over}
-use Rattle.coap_server_engine.specs.Prelude.{AreCovered, AreCoveredBut}
+use Rattle.coap_server_engine.specs.Prelude.{AreCovered, AreCoveredBut, AddsConcerned}
 use Rattle.coap_server_session.proofs.values.ConcernLemmas.{AddsNone, AddsLast, same_adds, taking_adds_last}
 use Rattle.coap_server_session.proofs.values.TakenLemmas.{refused_kept}
 use Rattle.coap_server_engine.proofs.values.ConcernedLemmas.{covered_kept, covered_taken}
+use Rattle.coap_server_engine.proofs.values.WorkLemmas.{taken_adds}
 use Rattle.coap_server_engine.proofs.server.Server.take_request_at.Goals as goal
 
 pub take-requires : goal.take-requires
@@ -127,6 +128,7 @@ returns-in-Err c =
         changed = tt;
         alters = tt;
         refused_for = take_refused_for memory _ _ id piece (refuses, value);
+        affected = tt;
       },
     )
 
@@ -164,6 +166,8 @@ returns-in-Ok c =
     let frame = c.lent_unless_stopped-handed.ensures ∙ handed_given (server_value c.self.inside) piece _ _ shown c.in-Ok.taking.handed c.stop-stop.result e.handed ∙ asks in
     let alters = c.lent_if-changed.ensures ∙ changing_given (server_value c.self.inside) piece _ _ shown _ (c.is_some.ensures ∙ changed) ∙ taken_change _ id _ _ piece c.self.invariant.server lies here _ _ _ _ e.after e.host changed entries in
     let shows = take_shows taken _ _ id piece count there ok in
+    let adds = subst (AddsConcerned c.in-Ok.taking.changed c.args.affected.now.words c.settle_after.new.affected.words) (set_unmarked es at new new.session refl) c.settle_after.ensures.affected in
+    let affected = taken_adds _ id _ _ piece c.self.invariant.server.settled lies here new.session c.in-Ok.taking.changed _ _ e.after e.changed adds in
     rw (← c.self.view_is) (
       (refl, (λ _. tt), (ok, shows)),
       record {
@@ -179,5 +183,6 @@ returns-in-Ok c =
         changed = alters;
         alters = take_alters _ _ id piece c.in-Ok.taking.count _ alters ok shows;
         refused_for = tt;
+        affected = affected;
       },
     )

@@ -12,12 +12,12 @@ use Rattle.coap_server_engine.proofs.server.Server.tick.Goals.{Else-is_some}
 use Rattle.coap_server_engine.proofs.server.Server.tick.Goals as goal
 
 pub next_touched-requires : goal.next_touched-requires
-next_touched-requires c = record { from = omega arith; covered = c.self.invariant.covered.time c.stamp-before.result.moment }
+next_touched-requires c = record { from = omega arith; covered = c.self.invariant.covered.time c.moment-before.result }
 
 pub settle_touched-requires : goal.settle_touched-requires
 settle_touched-requires c =
-    let store = rw (← c.self.view_is) at c.stamp-before.ensures.store in
-    let before : c.stamp-before.result.moment ≡ c.self.inside.host.now = rw (c.stamp-before.ensures.stamp, ← c.self.view_is) in
+    let store = rw (← c.self.view_is) at c.moment-before.ensures.store in
+    let before : c.moment-before.result ≡ c.self.inside.host.now = rw (c.moment-before.ensures.moment, ← c.self.view_is) in
     rw (c.keep_moment.ensures, c.move_to.ensures) (record {
       covered = c.next_touched.ensures.covered;
       settled = rw before (untouched_by_moment c.self.inside.host c.args.now _ store (omega (arith, before)) c.ranges.now.fits c.self.invariant.server.settled);
@@ -41,9 +41,9 @@ all_stay : (c : Else-is_some) → let es = c.self.inside.sessions.entries in (un
 all_stay c =
     let host = c.self.inside.host in
     let es = c.self.inside.sessions.entries in
-    let why = cause.Moment c.stamp-before.result.moment in
-    let store = rw (← c.self.view_is) at c.stamp-before.ensures.store in
-    let before : c.stamp-before.result.moment ≡ host.now = rw (c.stamp-before.ensures.stamp, ← c.self.view_is) in
+    let why = cause.Moment c.moment-before.result in
+    let store = rw (← c.self.view_is) at c.moment-before.ensures.store in
+    let before : c.moment-before.result ≡ host.now = rw (c.moment-before.ensures.moment, ← c.self.view_is) in
     let none = there_is_none c.next_touched.result (sym c.is_some.ensures ∙ c.if-is_some.false) in
     let calm = subst (λ (o : Option ℕ). IfNone o (AreUntouched why c.args.now 0 (length es) es)) none c.next_touched.ensures.none in
     let settled = untouched_by_moment host c.args.now _ store (omega (arith, before)) c.ranges.now.fits c.self.invariant.server.settled in
@@ -67,6 +67,6 @@ returns-else-is_some c =
 
 pub returns-then-now-before : goal.returns-then-now-before
 returns-then-now-before c =
-    let before : c.stamp-before.result.moment ≡ c.self.inside.host.now = rw (c.stamp-before.ensures.stamp, ← c.self.view_is) in
+    let before : c.moment-before.result ≡ c.self.inside.host.now = rw (c.moment-before.ensures.moment, ← c.self.view_is) in
     let ok : c.args.self.now ≡ server_ticked c.args.self.now c.args.now = rw (← c.self.view_is) (same_moment _ c.args.now c.self.invariant.server (omega (arith, before))) in
     search (rules, ok, tick_shows {T = Unit {0}} {F = Unit {0}} (Ok tt) c.args.self.now _ c.args.now c.ranges.now.fits (search rules) ok)

@@ -1,6 +1,6 @@
-use Rattle.std.proofs.Common.{IfSome, Option, refl, sym, ap, subst, ◌∙◌, map}
+use Rattle.std.proofs.Common.{IfSome, Option, Some, refl, sym, ap, subst, ◌∙◌, map}
 use Rattle.coap_server_engine.specs.Prelude.{MarkedSession, IsMarked, IsMarkedBut, UnaffectedAreSettled, settled_entry}
-use Rattle.coap_server_engine.specs.Prelude.{settled_held}
+use Rattle.coap_server_engine.specs.Prelude.{settled_held, unmarked, AddsConcerned}
 use Rattle.coap_server_session.specs.declared.cause.Cause.TheVariants as cause
 use Rattle.coap_server_engine.proofs.values.ServerLemmas.{splits_written, written_unmarked, set_unmarked, unmarked_at, all_written}
 use Rattle.coap_server_session.proofs.values.CauseLemmas.{but_none}
@@ -24,6 +24,7 @@ returns-in-None c =
       splits = splits_written es c.args.at c.index_mut.result.now _ c.index_mut.ensures.value e.split;
       after = written_unmarked (settled_held host) es c.args.at _ _ c.index_mut.ensures.value e.after;
       marked = all_written (IsMarked host) es c.args.at _ (rw c.in-None.is at c.requires.marked) e.marked;
+      affected = record { kept = λ i outside. outside; covers = tt };
       covered = covered_changed_by _ c.args.at (settled_held host) _ _ (held_adds host) (written_unmarked (settled_held host) es c.args.at _ _ c.index_mut.ensures.value e.after) (c.note.ensures _ (unmarked_at es c.args.at _ c.index.ensures) c.requires.covered);
     })
 
@@ -50,5 +51,13 @@ returns-in-Some c =
     let es = c.args.sessions.now.entries in
     let now = c.settle.new.self in
     let e = c.settle_observers.ensures in
+    let covered = c.note.ensures _ (unmarked_at es c.args.at _ c.index.ensures) c.requires.covered in
+    let affected : AddsConcerned (Some c.in-Some.hash) c.args.affected.now.words c.join.new.self.words (unmarked es) = record {
+      kept = λ i outside. (c.join.ensures.outside i outside).0;
+      covers = λ i s at outside. covered.paths c.in-Some.hash c.of_path.result.now c.of_path.ensures i s at (c.join.ensures.outside i outside).1;
+    } in
     let all = all_settle host c.args.at c.in-Some.hash _ _ _ (unmarked_at es c.args.at _ c.index_mut-in-Some.ensures.value) c.settle.ensures.after in
-    rw c.in-Some.is (record { splits = e.splits ∙ splits_written es c.args.at c.index_mut-in-Some.result.now now c.index_mut-in-Some.ensures.value c.settle.ensures.split; after = e.after ∙ ap (map (settled_entry host)) (set_unmarked es c.args.at now now.session refl) ∙ all; marked = e.marked; covered = e.covered })
+    rw c.in-Some.is (record { affected = affected; splits = e.splits ∙ splits_written es c.args.at c.index_mut-in-Some.result.now now c.index_mut-in-Some.ensures.value c.settle.ensures.split; after = e.after ∙ ap (map (settled_entry host)) (set_unmarked es c.args.at now now.session refl) ∙ all; marked = e.marked; covered = e.covered })
+
+pub of_path-requires : goal.of_path-requires
+of_path-requires c = (c.note.ensures _ (unmarked_at c.args.sessions.now.entries c.args.at _ c.index.ensures) c.requires.covered).many

@@ -1,5 +1,3 @@
-use Rattle.std.proofs.lemmas.List.Elements.{recursion_from_All}
-use Rattle.coap_serve.specs.Prelude.{IsNoted}
 use Rattle.coap_serve.proofs.listener.SweepLemmas.{made_before, unswept_made}
 use Rattle.coap_serve.proofs.door.service.Service.end_silent.Goals as goal
 
@@ -12,4 +10,4 @@ returns-then-second-last-clause-swept g c =
     made_before _ c.args.self.now.idle c.args.self.now.peers.entries c.if-second-last.true
 
 pub sweep-requires : goal.sweep-requires
-sweep-requires g c = recursion_from_All (IsNoted c.args.self.now.server) c.args.self.now.peers.entries (c.args.self.now.noted c.requires)
+sweep-requires g c = c.args.self.now.paired c.requires

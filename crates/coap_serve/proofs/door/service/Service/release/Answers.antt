@@ -1,10 +1,14 @@
-use Rattle.coap_serve.proofs.listener.RemovalLemmas.{noted_where_released}
+use Rattle.coap_server_engine.proofs.values.WorkLemmas.{keeps_others}
+use Rattle.coap_serve.specs.Prelude.{session_released}
+use Rattle.coap_serve.proofs.listener.RemovalLemmas.{paired_released_on}
 use Rattle.coap_serve.proofs.listener.SleepLemmas.{none_asleep}
 use Rattle.coap_serve.proofs.door.service.Service.release.Goals as goal
 
 pub invariant_of-self-2 : goal.invariant_of-self-2
-invariant_of-self-2 g c = record {
-  noted = λ ready. noted_where_released c.args.self.now.second c.args.self.now.server c.args.id c.args.self.now.peers.entries c.release.ensures.settled c.in_ok-release.ensures.ok
-      c.release_on.ensures (c.args.self.now.noted ready);
-  asleep = λ ready. none_asleep g.W.Ready.readable g.W.Ready.writable c.wake_all.ensures.all;
-}
+invariant_of-self-2 g c =
+    let v = c.args.self.now in
+    let keys = (keeps_others v.server c.args.id session_released c.release.ensures.settled).keys in
+    record {
+      paired = λ ready. paired_released_on v.second c.args.id (rw c.in_ok-release.ensures.ok keys) c.release_on.ensures (v.paired ready);
+      asleep = λ ready. none_asleep g.W.Ready.readable g.W.Ready.writable c.wake_all.ensures;
+    }

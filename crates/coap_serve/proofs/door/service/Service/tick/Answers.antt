@@ -1,27 +1,21 @@
-use Rattle.std.proofs.Common.{ap, sym, ◌∙◌}
-use Rattle.std.proofs.lemmas.Bool.{leb-true}
+use Rattle.std.proofs.Common.{◌∙◌}
 use Rattle.coap_server_engine.proofs.scripting.FollowLemmas.{followed_none}
-use Rattle.coap_serve.specs.Prelude.{ChangeStamp}
-use Rattle.coap_serve.proofs.listener.NoteLemmas.{moment_follows}
 use Rattle.coap_serve.proofs.listener.RunLemmas.{none_ticked, same_time}
-use Rattle.coap_serve.proofs.listener.ServiceLemmas.{kept_where_another_host}
+use Rattle.coap_serve.proofs.listener.SleepLemmas.{asleep_on, kept_or_not, paired_on, sleep_joined}
 use Rattle.coap_serve.proofs.door.service.Service.tick.Goals as goal
 
-pub invariant_of-self : goal.invariant_of-self
-invariant_of-self g c = record {
-  noted = λ ready. kept_where_another_host c.tick.result c.args.self.now.server c.tick.new.self _ c.args.self.now.peers.entries c.tick.ensures.settled
-      (λ ok. moment_follows c.args.self.now.server.host c.args.now (leb-true _ _ (sym c.tick.ensures.answer ∙ ok)))
-      c.tick.ensures.ok c.tick.ensures.err (c.args.self.now.noted ready);
-  asleep = c.args.self.now.asleep;
-}
+pub invariant_of-self-2 : goal.invariant_of-self-2
+invariant_of-self-2 g c =
+    let kept = kept_or_not c.tick.result c.concerned_by_time.result.words (c.concerned_by_time.ensures c.args.now) c.tick.ensures.ok c.tick.ensures.err in
+    record {
+      paired = λ ready. paired_on (c.args.self.now.paired ready) kept.keys;
+      asleep = λ ready. asleep_on g.W.Ready.readable g.W.Ready.writable (sleep_joined kept c.join.ensures) (c.args.self.now.paired ready) (c.args.self.now.asleep ready);
+    }
 
 -- The time is that of the server.
-pub returns-then-now-stamp-clause-moved : goal.returns-then-now-stamp-clause-moved
-returns-then-now-stamp-clause-moved g c =
-    same_time c.stamp.ensures.settled
-    (c.if-now-stamp.true ∙ ap (λ (s : ChangeStamp). s.moment) c.stamp.ensures.stamp)
+pub returns-then-now-moment-clause-moved : goal.returns-then-now-moment-clause-moved
+returns-then-now-moment-clause-moved g c = same_time c.moment.ensures.settled (c.if-now-moment.true ∙ c.moment.ensures.moment)
 
-pub returns-then-now-stamp-clause-told : goal.returns-then-now-stamp-clause-told
-returns-then-now-stamp-clause-told g c =
-    rw (none_ticked c.args.self.now.server (c.if-now-stamp.true ∙ ap (λ (s : ChangeStamp). s.moment) c.stamp.ensures.stamp))
-    (followed_none (g.M.Monitor.follows c.args.monitor.now))
+pub returns-then-now-moment-clause-told : goal.returns-then-now-moment-clause-told
+returns-then-now-moment-clause-told g c =
+    rw (none_ticked c.args.self.now.server (c.if-now-moment.true ∙ c.moment.ensures.moment)) (followed_none (g.M.Monitor.follows c.args.monitor.now))

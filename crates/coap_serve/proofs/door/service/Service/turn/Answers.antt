@@ -1,6 +1,6 @@
-use Rattle.std.proofs.Common.{ap, refl, ◌∙◌}
+use Rattle.std.proofs.Common.{ap, refl, sym, ◌∙◌}
 use Rattle.std.proofs.lemmas.Result.{err_from_is_err_and}
-use Rattle.coap_serve.specs.Prelude.{short_wait, wait_within}
+use Rattle.coap_serve.specs.Prelude.{service_of, short_wait, wait_within}
 use Rattle.coap_serve.proofs.listener.RunLemmas.{continued_to_end, later_ran, parts_begin, ran_to_end, sweep_ran, time_called, time_ran, turn_ran}
 use Rattle.coap_serve.proofs.listener.ServingLemmas.{both_made, continued_then, none_made}
 use Rattle.coap_serve.proofs.door.service.Service.turn.Goals as goal
@@ -29,18 +29,17 @@ returns-clause-turn g c =
     let v = c.args.self.now in
     let later = c.answer_later-is_full in
     let begun =
-    parts_begin (g.M.Monitor.follows c.args.monitor.now) (g.M.Monitor.follows c.end_silent.new.monitor) (g.M.Monitor.follows c.tick.new.monitor) (g.M.Monitor.follows later.new.monitor)
+    parts_begin {follows = g.A.Application.follows} {rests = g.A.Application.idle} {times = c.args.times} {s = service_of v.server v.peers.entries v.second v.idle} (g.M.Monitor.follows c.args.monitor.now) (g.M.Monitor.follows c.end_silent.new.monitor) (g.M.Monitor.follows c.tick.new.monitor) (g.M.Monitor.follows later.new.monitor)
     (g.A.Application.follows c.args.application.now) c.end_silent.new.application later.new.application c.end_silent.ensures.swept c.tick.ensures.moved
     (time_called g.M.Monitor.follows c.end_silent.new.monitor c.tick.new.monitor c.tick.result c.args.times.now c.tick.ensures.answer c.tick.ensures.shows c.tick.ensures.told c.tick.ensures.err).follows
     later.ensures.shows later.ensures.idle in
     let second = later.ensures.times.0 ∙ c.tick.ensures.times.0 ∙ c.end_silent.ensures.second in
     let idle = c.visit.ensures.times.1 ∙ later.ensures.times.1 ∙ c.tick.ensures.times.1 ∙ c.end_silent.ensures.idle in
-    let turn = rw second at c.in_ok-next.ensures.turn in
+    let entries = ap (λ peers. peers.entries) (later.ensures.peers ∙ c.tick.ensures.peers) ∙ c.end_silent.ensures.entries in
+    let turn = rw (second, entries ∙ sym (ap (λ s. s.entries) begun.begun.is_swept)) at c.in_ok-next.ensures.turn in
     record {
       start = record { server = later.new.self.server; is_full = later.result; history = begun.history };
       begun = begun.begun;
-      kept = later.new.self.peers.entries;
-      recorded = rw (begun.begun.is_swept, ← c.end_silent.ensures.entries, ← ap (λ peers. peers.entries) c.tick.ensures.peers) later.ensures.peers;
       limit = c.wait.result;
       allowed = c.wait.ensures;
       next = c.in_ok-next.next;
@@ -48,7 +47,6 @@ returns-clause-turn g c =
         opens = turn.opens;
         between = turn.between;
         opened = turn.opened;
-        changed = turn.changed;
         visits = turn.visits;
         served = turn.served;
         waits = turn.waits;
