@@ -110,6 +110,14 @@ STARTS_SCRIPTS = [
     ("0,00,000", "put /a - 78\nopen\n", "put 1\nopen 1\n"),
 ]
 
+# A list of resources with the attributes of an entry: spaces, `;` and quoted quotes in a quoted string.
+LISTED = '</>;ct=0,</time>;ct=0;obs,</async>;ct=0,</a>;title="a; \\"b\\"";sz=7;obs'
+LISTED_SCRIPT = (
+    ["--application", '/a;get;title="a; \\"b\\"";sz=7;obs'],
+    "open\ndrain 1\nin 1 00e1d1040106bb2e77656c6c2d6b6e6f776e04636f7265\ndrain 1\n",
+    f"open 1\nout 1 {CSM}\nin 1 23\nout 1 d13c4506c128ff{LISTED.encode().hex()}\n",
+)
+
 BAD_SCRIPTS = [
     # A script, and the number of the first line that is not an event.
     ("opens\n", 1),
@@ -182,7 +190,10 @@ SERVER_VALUES = [
     (["--record=", "--starts", "x"], "--starts", STARTS, "x"),
     *((["--script", "-", f"--application={it}"], "--application", ENTRY, it or "an empty text") for it in (
         "", "/a", "/a;", "a;get", "/;get", "/time", "/a;GET", "/a;get,get", "/a;0.32", "/a;get;x=", "/..;get",
+        "/a;get;rt=a b", "/a;get;obs; ct=0",
     )),
+    (["--script", "-", '--application=/a;get;rt="a'], "--application", ENTRY, "/a;get;rt=\\x22a"),
+    (["--script", "-", '--application=/a;get;rt="\n"'], "--application", ENTRY, "/a;get;rt=\\x22\\x0a\\x22"),
     (["--script", "-", "--application", "/a;get", "--application", "/a;post"], "--application", ENTRY, "/a;post"),
     (["--script=-", *(f"--application=/{it};get" for it in range(17))], "--application", ENTRY, "/16;get"),
     (["--application", "x", "--record-limit", "0"], "--record-limit", SIZE, "0"), (["--stdio", "--application", "x"], "--application", ENTRY, "x"),
@@ -352,6 +363,8 @@ def check_scripts(program, checks):
         checks.same("lines for %r" % script, replay(program, script.encode()), [(0, lines.encode(), b"")] * 2)
     for starts, script, lines in STARTS_SCRIPTS:
         checks.same("lines from %s" % starts, replay(program, script.encode(), ["-d", "1", "--starts", starts]), [(0, lines.encode(), b"")] * 2)
+    words, script, lines = LISTED_SCRIPT
+    checks.same("lines with an entry", replay(program, script.encode(), words), [(0, lines.encode(), b"")] * 2)
     for script, number in BAD_SCRIPTS:
         told = b"coap-server: bad script line %d\n" % number
         checks.same("bad script %r" % script, replay(program, script.encode()), [(1, b"", told)] * 2)

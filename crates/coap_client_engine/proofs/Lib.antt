@@ -12,6 +12,4 @@ pub mod StandLemmas
 pub mod RunTraceLaws
 pub mod TakenLemmas
 pub mod RunLemmas
-mod WorkedClient
-mod WorkedLaws
 mod LineRules

@@ -18,4 +18,3 @@ pub mod WaitingLaws
 pub mod GrowLaws
 pub mod NextPartLemmas
 mod RingLemmas
-mod Worked

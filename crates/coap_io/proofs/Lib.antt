@@ -1,2 +1,1 @@
 pub mod streams
-mod Worked

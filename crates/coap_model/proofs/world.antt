@@ -1,13 +1,5 @@
--- Theorems on the server model with their lemmas, and worked lists of events.
-pub mod Rows
-pub mod Worked
-mod WorkedEvents
-mod WorkedMore
-mod WorkedSizes
-mod WorkedViews
-mod WorkedHeld
-mod WorkedCustody
-mod WorkedFates
+-- Theorems on the server model with their lemmas, and worked examples of views, sizes, pending entries and requests.
+mod Worked
 pub mod StepLaws
 pub mod TookLaws
 pub mod PlaceLaws

@@ -1,4 +1,3 @@
 pub mod TextLaws
 pub mod LineLaws
 pub mod EscapeLaws
-mod Worked

@@ -1,5 +1,4 @@
 mod WorkedLines
-mod WorkedRecords
 pub mod EscapeLemmas
 pub mod WordLaws
 pub mod LineLaws

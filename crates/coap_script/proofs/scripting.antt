@@ -1,5 +1,4 @@
--- Lemmas on the words and lines of scripts, with worked texts.
+-- Lemmas on the words and lines of scripts.
 pub mod WordLemmas
 pub mod ScriptLemmas
 pub mod LineLemmas
-mod Worked

@@ -1,5 +1,4 @@
--- Lemmas on the effects and lines of script events, on scripts that divide their input differently, and worked scripts.
-pub mod WorkedCuts
+-- Lemmas on the effects and lines of script events, and on scripts that divide their input differently.
 pub mod ShownLemmas
 pub mod FollowLemmas
 pub mod ReplayLemmas

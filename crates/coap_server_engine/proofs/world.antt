@@ -1,5 +1,4 @@
 -- Lemmas: each call of a server shows its event, and the messages that a server has processed or rejected after events.
-pub mod WorkedRefusals
 pub mod SameServers
 pub mod ShowLaws
 pub mod CallLaws
@@ -9,4 +8,3 @@ pub mod RequestLaws
 pub mod DeadlineLaws
 pub mod AtOnceLaws
 pub mod RequestFates
-mod WorkedAtOnce

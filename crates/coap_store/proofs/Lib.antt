@@ -1,4 +1,3 @@
-mod Worked
 mod TargetLemmas
 mod GetLemmas
 pub mod RequestLemmas

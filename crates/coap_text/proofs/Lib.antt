@@ -1,2 +1,1 @@
-pub mod HexDigits
 pub mod WordLemmas

@@ -1,5 +1,4 @@
 pub mod BodyLemmas
-mod Worked
 pub mod OptionLists
 pub mod UintLemmas
 pub mod UintLaws

@@ -1,270 +1,150 @@
--- Worked examples of the definitions in `specs/world`: the results of a server's calls in order.
-use Rattle.std.proofs.Common.{ℕ, List, [], ◌∷◌, ◌++◌, Some, None, refl, codes, replicate}
-use Rattle.coap_model.specs.Prelude.{LimitValues, Path, ConfigValues}
-use Rattle.coap_conn.specs.declared.phase.Phase.TheVariants as phase
-use Rattle.coap_conn.specs.declared.reason.Reason.TheVariants as reason
-use Rattle.coap_text.proofs.HexDigits.{hex}
-use Rattle.coap_model.proofs.world.Rows.{Open, In, Drain, Put, Remove, Tick, End, Release, Drop, Look, Done, Taken, Out, Version, Stands, Absent, Row, ◌=>◌, told, Plays}
+-- Worked examples of definitions that no program computes: views, sizes of bytes, the order of
+-- pending entries, and the fates of requests for the application.
+use Rattle.std.proofs.Common.{◌≡◌, ℕ, Bool, true, false, List, [], ◌∷◌, ◌++◌, map, Some, None, refl, sym, codes, inl, inr, true≢false}
+use Rattle.coap_model.specs.Prelude.{digits, kind_of, is_recognised, known_behind, first_critical_behind}
+use Rattle.coap_model.specs.Prelude.{announced, due_index, first_due, without_due, react, live_reaction, is_path, found_in, put_at}
+use Rattle.coap_model.specs.Prelude.{removed_at, encoded_byte, path_bytes, entry_bytes, listing, kind_of_path, key_for, state_at}
+use Rattle.coap_model.specs.Prelude.{has_option, value_of, number_of, match_holds, is_seconds, get_answer, store_answer}
+use Rattle.coap_model.specs.Prelude.{method_answer, resource_answer, answer_at, answer_of, immediate_answer, prompt_answer, application_deadline}
+use Rattle.coap_model.specs.Prelude.{notification_at, put_refusal, is_due, without_token, first_becomes, side_after, change_after}
+use Rattle.coap_model.specs.Prelude.{side_faulted, side_written, side_ended, side_released, settled_once, settled_within, settled}
+use Rattle.coap_model.specs.Prelude.{side_announced, side_of, acted, step, after_steps, taken_on, size_on, sizes_on, stream_on}
+use Rattle.coap_model.specs.Prelude.{steps_by, steps_behind, steps_of, world_after, takes, concerns, view_step, view_of}
+use Rattle.coap_model.specs.Prelude.{is_answered, response_refusal, without_request, side_responded, with_fate, requests_after}
+use Rattle.coap_model.specs.Prelude.{requests_responded, requests_once, requests_within, requests_settled, requests_acted}
+use Rattle.coap_model.specs.Prelude.{requests_then, requests_by, requests_on}
+use Rattle.coap_model.specs.Prelude.{ConfigValues, Message, new_world, PendingEntryValue, Answer, Pong, Engine, Application, CorrespondTo}
+use Rattle.coap_model.specs.Prelude.{AcceptedCall, Opened, Took, Wrote, Ticked, Ended, Responded, Dropped, Announced, Stored}
+use Rattle.coap_model.specs.Prelude.{Fate, Unanswered, Answered, ApplicationRequest, held_message, refusal_of}
+use Rattle.coap_store.specs.Requests.{values_of}
+use Rattle.coap_wire.specs.StreamPrefix.{prefix_kind}
+use Rattle.coap_wire.specs.Frames.{frames_within, sized_frames}
+use Rattle.coap_wire.specs.Reading.{body_at, body_within, declared_of, four_bytes_at, head_at, length_at, message_of}
+use Rattle.coap_wire.specs.Reading.{one_byte_at, option_at, option_head_at, option_number_at, two_bytes_at}
+use Rattle.coap_wire.specs.Spelling.{spelling}
+use Rattle.coap_wire.specs.Stream.{sized_split, split}
+use Rattle.coap_wire.specs.Uint.{bytes_of_uint}
+use Rattle.coap_wire.specs.Codes as code
+use Rattle.coap_wire.specs.OptionNumbers as numbers
+use Rattle.coap_conn.specs.SignalOptions as option
+use Rattle.coap_frame.specs.Framing.{framing}
+use Rattle.coap_model.specs.world.World as step
 
--- ---- configurations
+-- Unfolding this unfolds all definitions that the examples compute with.
+computed : Unit {0}
+unfolding split sized_split sized_frames frames_within framing prefix_kind declared_of length_at one_byte_at two_bytes_at four_bytes_at message_of head_at option_number_at option_head_at option_at body_at body_within spelling bytes_of_uint prompt_answer application_deadline immediate_answer answer_of answer_at resource_answer method_answer get_answer store_answer kind_of is_recognised known_behind first_critical_behind values_of has_option value_of number_of match_holds is_seconds is_path kind_of_path key_for state_at found_in put_at removed_at listing entry_bytes path_bytes encoded_byte digits notification_at put_refusal announced react live_reaction due_index first_due without_due is_due without_token first_becomes side_after change_after side_faulted side_written side_ended side_released side_announced settled_once settled_within settled side_of acted step after_steps taken_on size_on sizes_on steps_by steps_behind steps_of world_after takes concerns view_step view_of with_fate requests_after requests_responded requests_once requests_within requests_settled requests_acted requests_then requests_by requests_on response_refusal without_request is_answered side_responded CorrespondTo
+computed = tt
 
-abbrev pub limits_with : (max_message max_sent queue observers : ℕ) → LimitValues
-limits_with max_message max_sent queue observers =
-    record { max_message = max_message; max_sent = max_sent; queue = queue; pending = 16; observers = observers; outstanding = 16 }
-
--- At most this number of dynamic resources.
-abbrev pub config_with : LimitValues → ℕ → ConfigValues
-config_with limits dynamic = record {
-  limits = limits;
+-- A server with at most one dynamic resource, whose application answers POST below `/rd`. `most` limits pending entries.
+abbrev config : (most : ℕ) → ConfigValues
+config most = record {
+  limits = record { max_message = 65536; max_sent = 65536; queue = 131072; pending = most; observers = 16; outstanding = 16 };
   connections = 16;
-  dynamic_max = dynamic;
+  dynamic_max = 1;
   rep_max = 65000;
   turns = 1000;
   starts = record { moment = 0; versions = 0; ids = 0 };
-  applications = None;
+  applications = Some (record { deadline = 60; entries = record { prefix = codes "rd" ∷ []; methods = code.post ∷ []; attributes = [] } ∷ [] });
 }
 
-abbrev pub usual_limits : LimitValues
-usual_limits = limits_with 65536 65536 131072 16
+-- A CSM without options.
+abbrev csm : List ℕ
+csm = 0x00 ∷ 0xe1 ∷ []
 
-abbrev pub usual : ConfigValues
-usual = config_with usual_limits 0
+-- ---- the view that a connection has of the others
 
-abbrev pub one_resource : ConfigValues
-one_resource = config_with usual_limits 1
+-- Two connections. The second one stores x at `/a`, fails to store at `/time`, gets `/a`, deletes it, and is removed.
+both : List AcceptedCall
+both = Opened 1 ∷ Wrote 1 8 ∷ Opened 2 ∷ Wrote 2 8 ∷ Took 2 csm ∷ Took 1 csm ∷ Took 2 (0x40 ∷ 0x03 ∷ 0xb1 ∷ 0x61 ∷ 0xff ∷ 0x78 ∷ [])
+    ∷ Took 2 (0x70 ∷ 0x03 ∷ 0xb4 ∷ (codes "time" ++ 0xff ∷ 0x78 ∷ [])) ∷ Took 2 (0x20 ∷ 0x01 ∷ 0xb1 ∷ 0x61 ∷ []) ∷ Ticked 5
+    ∷ Took 2 (0x20 ∷ 0x04 ∷ 0xb1 ∷ 0x61 ∷ []) ∷ Dropped 2 ∷ []
 
--- The queue has space for one message of the largest size and for no other.
-abbrev pub narrow_limits : ℕ → LimitValues
-narrow_limits max_message = limits_with max_message 1152 1152 16
+-- In the view of the first one, x is stored at `/a` and removed. The view does not say who did it.
+seen_by_first : view_of (config 16).limits 1 (new_world (config 16)) (steps_of 65536 both)
+    ≡ step.Opened 1 ∷ step.Written 1 8 ∷ step.Handled 1 (record { code = code.csm; token = []; options = []; payload = [] })
+    ∷ step.Stored (codes "a" ∷ []) None (codes "x") ∷ step.Ticked 5 ∷ step.Removed (codes "a" ∷ []) ∷ []
+unfolding computed both
+seen_by_first = refl
 
--- ---- first rows
+-- ---- sizes
 
--- A connection is opened, and the server's CSM is written.
-abbrev pub opened : ℕ → List Row
-opened id = Open id => Done ∷ Drain id => Out (hex "60e1230100004140") ∷ []
+-- The size of each byte is the one that was current when it came.
+sizes_of_bytes : map (sizes_on 1152 1 (Took 1 (0xe1 ∷ 0x03 ∷ []) ∷ Announced 1 2000 ∷ Took 1 (0x6f ∷ []) ∷ [])) (0 ∷ 1 ∷ 2 ∷ 3 ∷ []) ≡ 1152 ∷ 1152 ∷ 2000 ∷ 2000 ∷ []
+unfolding computed
+sizes_of_bytes = refl
 
--- The same if messages of at most 1,152 bytes are accepted.
-abbrev opened_small : ℕ → List Row
-opened_small id = Open id => Done ∷ Drain id => Out (hex "50e12204804140") ∷ []
+-- Of two announced sizes the larger one counts, and one of another connection does not.
+size_now : size_on 1152 1 (Announced 1 4000 ∷ Announced 1 2000 ∷ Announced 2 9000 ∷ []) ≡ 4000
+unfolding computed
+size_now = refl
 
-abbrev pub path_a : Path
-path_a = codes "a" ∷ []
+-- ---- the order of pending entries
 
--- The byte x is stored at `/a`.
-abbrev pub stored_x : List Row
-stored_x = Put path_a (Some 0) (hex "78") => Version 1 ∷ []
+abbrev late_get : Message
+late_get = record { code = code.get; token = 5 ∷ []; options = record { number = numbers.uri_path; value = codes "async" } ∷ []; payload = [] }
 
--- A CSM, and a request to observe `/a`.
-abbrev pub observed : ℕ → List Row
-observed id = In id (hex "00e1310101605161") => Taken 8 ∷ Drain id => Out (hex "61450141012060ff78") ∷ []
+abbrev custody_ping : Message
+custody_ping = record { code = code.ping; token = 6 ∷ []; options = record { number = option.custody; value = [] } ∷ []; payload = [] }
 
--- ---- signalling and input slices
+-- Pending entries are in the order of the messages that asked for them, and each has its own message.
+in_order : CorrespondTo None (late_get ∷ custody_ping ∷ []) (Answer Engine (5 ∷ []) 3 ∷ Pong (6 ∷ []) ∷ [])
+unfolding computed
+in_order = inl (refl, inl (refl, tt))
 
--- A GET of `/` has a response, and then no bytes are queued.
-root : Plays usual (opened 1
-    ++ In 1 (hex "00e1010101") => Taken 5
-    ∷ Drain 1 => Out (hex "a14501c0ff636f61702b746370")
-    ∷ Drain 1 => Out []
-    ∷ [])
-unfolding told
-root = refl
+not_turned : CorrespondTo None (custody_ping ∷ late_get ∷ []) (Answer Engine (5 ∷ []) 3 ∷ Pong (6 ∷ []) ∷ []) → ⊥
+unfolding computed
+not_turned (inl (asks, rest)) = true≢false (sym asks)
+not_turned (inr (inl (asks, rest))) = rest
+not_turned (inr (inr rest)) = rest
 
--- An Empty message before the CSM changes nothing.
-empty_first : Plays usual (opened 1
-    ++ In 1 (hex "0000") => Taken 2
-    ∷ In 1 (hex "00e1") => Taken 2
-    ∷ Look 1 => Stands phase.Open 0 0 0 0
-    ∷ [])
-unfolding told
-empty_first = refl
+not_twice : CorrespondTo None (late_get ∷ []) (Answer Engine (5 ∷ []) 3 ∷ Answer Engine (5 ∷ []) 3 ∷ []) → ⊥
+unfolding computed
+not_twice (inl (asks, rest)) = rest
+not_twice (inr rest) = rest
 
--- A request in one slice, and in eight slices of one byte each.
-time_in_one_piece : Plays usual (opened 1
-    ++ In 1 (hex "00e1") => Taken 2
-    ∷ In 1 (hex "510107b474696d65") => Taken 8
-    ∷ Drain 1 => Out (hex "514507c02101ff30")
-    ∷ [])
-unfolding told
-time_in_one_piece = refl
+-- ---- the fates of requests for the application
 
-time_byte_by_byte : Plays usual (opened 1
-    ++ In 1 (hex "00e1") => Taken 2
-    ∷ In 1 (hex "51") => Taken 1
-    ∷ In 1 (hex "01") => Taken 1
-    ∷ In 1 (hex "07") => Taken 1
-    ∷ In 1 (hex "b4") => Taken 1
-    ∷ In 1 (hex "74") => Taken 1
-    ∷ In 1 (hex "69") => Taken 1
-    ∷ In 1 (hex "6d") => Taken 1
-    ∷ In 1 (hex "65") => Taken 1
-    ∷ Drain 1 => Out (hex "514507c02101ff30")
-    ∷ [])
-unfolding told
-time_byte_by_byte = refl
+abbrev post : ℕ → Message
+post token = record { code = code.post; token = token ∷ []; options = record { number = numbers.uri_path; value = codes "rd" } ∷ []; payload = [] }
 
--- ---- the peer's limit
+abbrev posted : ℕ → AcceptedCall
+posted token = Took 1 (0x31 ∷ 0x02 ∷ token ∷ 0xb2 ∷ codes "rd")
 
--- A response is sent bare, whole and not at all, after the peer announced 40, 1,000 and 0 bytes.
-announced_sizes : Plays one_resource (opened 1
-    ++ Put path_a (Some 0) (replicate 100 0x41) => Version 1
-    ∷ In 1 (hex "20e12128") => Taken 4
-    ∷ In 1 (hex "210101b161") => Taken 5
-    ∷ Drain 1 => Out (hex "01a001")
-    ∷ In 1 (hex "30e12203e8") => Taken 5
-    ∷ In 1 (hex "210102b161") => Taken 5
-    ∷ Drain 1 => Out (hex "d15b4502410180ff" ++ replicate 100 0x41)
-    ∷ In 1 (hex "10e120") => Taken 3
-    ∷ In 1 (hex "210103b161") => Taken 5
-    ∷ Look 1 => Stands (phase.Stopped reason.PeerTooSmall) 0 0 0 0
-    ∷ Drain 1 => Out []
-    ∷ [])
-unfolding told
-announced_sizes = refl
+-- The response 2.01 of the application, and the 5.04 of the server.
+abbrev created : ℕ → Message
+created token = record { code = code.created; token = token ∷ []; options = []; payload = [] }
 
--- A response that was queued whole stays whole.
-announced_later : Plays one_resource (opened 1
-    ++ Put path_a (Some 0) (replicate 100 0x41) => Version 1
-    ∷ In 1 (hex "00e1") => Taken 2
-    ∷ In 1 (hex "210101b161") => Taken 5
-    ∷ In 1 (hex "20e1210a") => Taken 4
-    ∷ In 1 (hex "210102b161") => Taken 5
-    ∷ Drain 1 => Out (hex "d15b4501410180ff" ++ (replicate 100 0x41 ++ hex "01a002"))
-    ∷ [])
-unfolding told
-announced_later = refl
+abbrev expired : ℕ → Message
+expired token = held_message Application (token ∷ [])
 
--- ---- observers
+-- The requests of connection 1 after these calls: whether each is the only one with its token, whether the application
+-- got it, and its fate.
+abbrev fates : ℕ → List AcceptedCall → List (ℕ × Bool × Bool × Fate)
+fates most calls = map (λ r. (r.deadline, r.alone, r.handed, r.fate)) (requests_on (config most) 1 (Opened 1 ∷ Wrote 1 8 ∷ Took 1 csm ∷ calls))
 
--- Connection 1 is not written, so it has no room: it is sent the last state alone. Connection 2 is sent each state.
-slow_and_quick : Plays (config_with (narrow_limits 1152) 1) (opened_small 1 ++ (opened_small 2 ++ (stored_x
-    ++ In 1 (hex "00e1310101605161") => Taken 8
-    ∷ In 2 (hex "00e1310101605161") => Taken 8
-    ∷ Drain 2 => Out (hex "61450141012060ff78")
-    ∷ Put path_a (Some 0) (hex "79") => Version 2
-    ∷ Drain 2 => Out (hex "61450141022060ff79")
-    ∷ Put path_a (Some 0) (hex "7a") => Version 3
-    ∷ Drain 2 => Out (hex "61450141032060ff7a")
-    ∷ Drain 1 => Out (hex "61450141012060ff78")
-    ∷ Drain 1 => Out (hex "61450141032060ff7a")
-    ∷ Drain 1 => Out []
-    ∷ [])))
-unfolding told
-slow_and_quick = refl
+-- The application answers the second of two requests. The first is answered by 5.04 at its deadline.
+one_expires : fates 16 (posted 5 ∷ posted 6 ∷ Responded 1 (created 6) ∷ Ticked 60 ∷ [])
+    ≡ (60, true, true, Answered Engine (expired 5) (expired 5) 3 2)
+    ∷ (60, true, true, Answered Application (created 6) (created 6) 3 1)
+    ∷ []
+unfolding computed
+one_expires = refl
 
--- Another format is notified as 4.06, and an absent path as 4.04. Then the request observes nothing.
-last_notifications : Plays one_resource (opened 1 ++ (stored_x ++ (observed 1
-    ++ Put path_a (Some 50) (hex "7b") => Version 2
-    ∷ Drain 1 => Out (hex "018601")
-    ∷ Put path_a (Some 0) (hex "7c") => Version 3
-    ∷ Drain 1 => Out []
-    ∷ In 1 (hex "310102605161") => Taken 6
-    ∷ Drain 1 => Out (hex "61450241032060ff7c")
-    ∷ Remove path_a => Done
-    ∷ Drain 1 => Out (hex "018402")
-    ∷ Look 1 => Stands phase.Open 0 0 0 0
-    ∷ [])))
-unfolding told
-last_notifications = refl
+-- If the list is full, a request is not handed to the application, and is answered by 5.03 at once.
+full_list : fates 1 (posted 5 ∷ posted 6 ∷ [])
+    ≡ (60, true, true, Unanswered) ∷ (60, true, false, Answered Engine (refusal_of (post 6)) (refusal_of (post 6)) 3 1) ∷ []
+unfolding computed
+full_list = refl
 
--- One place for an observer: another request has a response without Observe, and the same token gets the place again.
-one_place : Plays (config_with (limits_with 65536 65536 131072 1) 1) (opened 1 ++ (stored_x
-    ++ In 1 (hex "00e1") => Taken 2
-    ∷ In 1 (hex "310101605161") => Taken 6
-    ∷ Drain 1 => Out (hex "61450141012060ff78")
-    ∷ In 1 (hex "310102605161") => Taken 6
-    ∷ Drain 1 => Out (hex "514502410180ff78")
-    ∷ In 1 (hex "310101605161") => Taken 6
-    ∷ Drain 1 => Out (hex "61450141012060ff78")
-    ∷ Look 1 => Stands phase.Open 0 0 0 1
-    ∷ []))
-unfolding told
-one_place = refl
+-- The end of input gives up the request.
+given_up : fates 16 (posted 5 ∷ Ended 1 ∷ Ticked 60 ∷ []) ≡ (60, true, true, Unanswered) ∷ []
+unfolding computed
+given_up = refl
 
--- A notification is queued between the responses to a PUT and a GET that came in one slice.
-between_answers : Plays one_resource (opened 1 ++ (stored_x ++ (observed 1
-    ++ In 1 (hex "510302b16110ff79010103") => Taken 11
-    ∷ Drain 1 => Out (hex "01440261450141022060ff79a14503c0ff636f61702b746370")
-    ∷ [])))
-unfolding told
-between_answers = refl
-
--- Two observers of one path, and room for one message: the second is notified after the first.
-one_by_one : Plays (config_with (narrow_limits 65536) 1) (opened 1 ++ (stored_x ++ (observed 1
-    ++ In 1 (hex "310102605161") => Taken 6
-    ∷ Drain 1 => Out (hex "61450241012060ff78")
-    ∷ Put path_a (Some 0) (hex "79") => Version 2
-    ∷ Look 1 => Stands phase.Open 0 9 0 2
-    ∷ Drain 1 => Out (hex "61450141022060ff79")
-    ∷ Look 1 => Stands phase.Open 0 9 0 2
-    ∷ Drain 1 => Out (hex "61450241022060ff79")
-    ∷ Drain 1 => Out []
-    ∷ [])))
-unfolding told
-one_by_one = refl
-
--- The time is observed.
-time_observed : Plays usual (opened 1
-    ++ In 1 (hex "00e1") => Taken 2
-    ∷ In 1 (hex "6101076054" ++ codes "time") => Taken 9
-    ∷ Drain 1 => Out (hex "61450760602101ff" ++ codes "0")
-    ∷ Tick 5 => Done
-    ∷ Drain 1 => Out (hex "61450760602101ff" ++ codes "5")
-    ∷ Drain 1 => Out []
-    ∷ [])
-unfolding told
-time_observed = refl
-
--- ---- resources
-
--- PUT a, PUT b, DELETE a, DELETE a again, PUT b, and the listing, with at most one resource.
-one_at_a_time : Plays one_resource (opened 1
-    ++ In 1 (hex "00e1") => Taken 2
-    ∷ In 1 (hex "410301b161ff78") => Taken 7
-    ∷ Drain 1 => Out (hex "014101")
-    ∷ In 1 (hex "410302b162ff79") => Taken 7
-    ∷ Drain 1 => Out (hex "018602")
-    ∷ In 1 (hex "210403b161") => Taken 5
-    ∷ Drain 1 => Out (hex "014203")
-    ∷ In 1 (hex "210404b161") => Taken 5
-    ∷ Drain 1 => Out (hex "014204")
-    ∷ In 1 (hex "410305b162ff79") => Taken 7
-    ∷ Drain 1 => Out (hex "014105")
-    ∷ In 1 (hex "d1040106bb2e77656c6c2d6b6e6f776e04636f7265") => Taken 21
-    ∷ Drain 1 => Out (hex "d1264506c128ff" ++ codes "</>;ct=0,</time>;ct=0;obs,</async>;ct=0,</b>;obs")
-    ∷ [])
-unfolding told
-one_at_a_time = refl
-
--- ---- ends
-
--- The input ends within a frame.
-cut : Plays usual (opened 1
-    ++ In 1 (hex "00e13101") => Taken 4
-    ∷ Look 1 => Stands phase.Open 2 0 0 0
-    ∷ End 1 => Done
-    ∷ Look 1 => Stands (phase.Stopped reason.Cut) 2 0 0 0
-    ∷ [])
-unfolding told
-cut = refl
-
--- If the server's CSM leaves no room for the largest message, no input is accepted.
-no_room_for_pong : Plays (config_with (narrow_limits 65536) 0) (
-    Open 1 => Done
-    ∷ In 1 (hex "00e1") => Taken 0
-    ∷ Drain 1 => Out (hex "60e1230100004140")
-    ∷ In 1 (hex "00e1") => Taken 2
-    ∷ [])
-unfolding told
-no_room_for_pong = refl
-
--- An open connection is released, and then dropped.
-released : Plays usual (opened 1
-    ++ In 1 (hex "00e1") => Taken 2
-    ∷ Release 1 => Done
-    ∷ Drain 1 => Out (hex "00e4")
-    ∷ Look 1 => Stands (phase.Stopped reason.ReleasedHere) 0 0 0 0
-    ∷ Drop 1 => Done
-    ∷ Look 1 => Absent
-    ∷ [])
-unfolding told
-released = refl
+-- Of two requests with one token the first is answered first.
+token_twice : fates 16 (posted 5 ∷ posted 5 ∷ Responded 1 (created 5) ∷ Ticked 60 ∷ [])
+    ≡ (60, true, true, Answered Application (created 5) (created 5) 3 1)
+    ∷ (60, false, true, Answered Engine (expired 5) (expired 5) 3 2)
+    ∷ []
+unfolding computed
+token_twice = refl
