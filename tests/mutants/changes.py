@@ -14,10 +14,12 @@ A crate differs from its run in each of these cases. Comments do not count.
 
 import contextlib
 import datetime
+import io
 import os
 import re
 import subprocess
 import sys
+import tarfile
 
 TESTS = os.path.dirname(os.path.dirname(os.path.abspath(__file__)))
 sys.path[:0] = [f"{TESTS}/harness", f"{TESTS}/tools"]
@@ -30,9 +32,13 @@ LINE = re.compile(r"(\w+): (\w+), \d{4}-\d\d-\d\d, .+")
 # Maximum number of commits after a run.
 MOST_COMMITS = 200
 
-# The files of crates and edits, and a line of a comment in them.
-FILES = ["crates/*/src/*", "crates/*/specs/*", "crates/*/proofs/*", "tests/mutants/edits/*"]
+# The files of crates, and a line of a comment in them.
+FILES = ["crates/*/src/*", "crates/*/specs/*", "crates/*/proofs/*"]
 COMMENT = "^ *(//|--)"
+
+# The folder with the edits of each crate, in a file CRATE.edits, and the line before an edit.
+EDITS = "tests/mutants/edits"
+HEADING = re.compile(r"^= (\w+)\n", re.M)
 
 
 class BadRun(Exception):
@@ -72,27 +78,67 @@ def last_runs():
     return runs
 
 
+def split_edits(text):
+    """Returns the name and the text of each edit of a file."""
+    parts = HEADING.split(text)
+    return [(name, body.strip("\n")) for name, body in zip(parts[1::2], parts[2::2])]
+
+
+def edits_now():
+    """Returns the texts of all edits, by crate and name."""
+    found = {}
+    for file in sorted(os.listdir(f"{ROOT}/{EDITS}")):
+        with open(f"{ROOT}/{EDITS}/{file}", encoding="utf-8") as it:
+            found |= {(file.removesuffix(".edits"), name): text for name, text in split_edits(it.read())}
+    return found
+
+
+def edits_at(commit):
+    """Returns the same for a commit. (Until 2026-11-30 there was a file EDITS/CRATE/NAME.edit for each edit.)"""
+    found, words = {}, ["git", "-C", ROOT, "archive", commit, EDITS]
+    archive = subprocess.run(words, stdin=subprocess.DEVNULL, stdout=subprocess.PIPE, check=True).stdout
+    with tarfile.open(fileobj=io.BytesIO(archive)) as files:
+        for it in filter(tarfile.TarInfo.isfile, files):
+            text, file = files.extractfile(it).read().decode(), it.name.removeprefix(f"{EDITS}/")
+            crate, slash, name = file.removesuffix(".edit").rpartition("/")
+            if slash:
+                found[crate, name] = text.strip("\n")
+            else:
+                found |= {(file.removesuffix(".edits"), name): body for name, body in split_edits(text)}
+    return found
+
+
+def edits_since(commit):
+    """Returns the crate and the name of each edit that differs from a commit."""
+    then, now = edits_at(commit), edits_now()
+    return {it for it in then.keys() | now.keys() if then.get(it) != now.get(it)}
+
+
 def files_since(commit):
-    """Returns the files of crates and edits that differ from a commit, also those that git does not know yet."""
+    """Returns the files of crates that differ from a commit, also those that git does not know yet."""
     lines = git("diff", "--numstat", "--no-renames", "-I", COMMENT, commit, "--", *FILES)
     return {it.split("\t")[2] for it in lines} | set(git("ls-files", "--others", "--exclude-standard", "--", *FILES))
 
 
 def changed_files(runs):
-    """Returns the files of crates and edits that differ from the last run of their crate."""
+    """Returns the files of crates that differ from the last run of their crate."""
     return {it for commit in set(runs.values()) for it in files_since(commit) if runs.get(crate_of(it)) == commit}
+
+
+def changed_edits(runs):
+    """Returns the crate and the name of each edit that differs from the last run of its crate."""
+    return {it for commit in set(runs.values()) for it in edits_since(commit) if runs.get(it[0]) == commit}
 
 
 def crate_of(file):
     """Returns the crate of a file of FILES."""
-    names = file.split("/")
-    return names[1] if names[0] == "crates" else names[-2]
+    return file.split("/")[1]
 
 
 def changes_since(commit, below):
     """Returns the crates that differ from a commit themselves, and those that differ in what they state to others."""
     files = files_since(commit)
-    own = {crate_of(it) for it in files}
+    own = {crate_of(it) for it in files} | {crate for crate, _ in edits_since(commit)}
     stated = {crate_of(it) for it in files if "/specs/" in it}
     coded = {crate_of(it) for it in files if "/src/" in it and crate_of(it) in below} - stated
     stated |= {it for it in coded if contract_diff.contracts(commit, it) != contract_diff.contracts(None, it)}
@@ -109,9 +155,9 @@ def differing(runs):
         return crate in own or not stated.isdisjoint(below[crate])
 
     def changed_at(crate):
-        files = f"crates/{crate}", f"tests/mutants/edits/{crate}"
-        is_changed = git("status", "--porcelain", "--", *files) != []
-        return is_changed, git("log", "-1", "--format=%ct", "--", *files) or [""]
+        file = f"crates/{crate}"
+        is_changed = git("status", "--porcelain", "--", file) != []
+        return is_changed, git("log", "-1", "--format=%ct", "--", file) or [""]
 
     found = [it for it in below if it not in runs or differs(it)]
     return sorted(found, key=changed_at, reverse=True)

@@ -11,7 +11,8 @@
     tests/mutants/mutants.py --quotes [CRATE ..]  tries no edit; checks that each quotes a clause and applies, in a second
     tests/mutants/mutants.py --list [CRATE ..]  tries no edit; prints for each its function, the clause that rejects it, and its name
 
-An edit is a file tests/mutants/edits/CRATE/NAME.edit. Its first line has what detects it. Each of its parts has four lines:
+The edits of a crate are in the file tests/mutants/edits/CRATE.edits, one after another. A line `= NAME` begins an edit. The next line has what detects
+it. Then each of its parts has four lines:
 
     clause: 'after' of Link::on  the clause that rejects it; or, if no clause can reject it,
     rows: tests/vectors/rows/script/a_mebibyte.rows    the rows that detect it, because it only reports allocation failures; or
@@ -72,6 +73,7 @@ A test that measures processor time may fail with an unproved program without an
 """
 
 import collections
+import contextlib
 import os
 import pathlib
 import re
@@ -240,10 +242,6 @@ class Edit:
     def functions(self):
         return {it.path() for it in self.parts}
 
-    def path(self):
-        """Returns the file of the edit, in the form of git."""
-        return f"tests/mutants/edits/{self.crate}/{self.name}.edit"
-
     def files(self):
         """Returns the files that the edit changes, in the form of git."""
         return {f"crates/{self.crate}/{it.file}" for it in self.parts}
@@ -259,23 +257,23 @@ class Edit:
         return texts
 
 
-def read_edit(crate, file):
-    edit, said = Edit(crate, os.path.basename(file).removesuffix(".edit")), {}
-    with open(file, encoding="utf-8") as lines:
-        for number, line in enumerate(lines.read().splitlines()):
-            word, colon, text = line.partition(":")
-            if number == 0 and FIRST_LINE.fullmatch(line):
-                edit.layer, edit.detected_by = word, text.strip()
-                continue
-            if not colon or word not in ("file", "in", "old", "new"):
-                raise BadEdit(f"{file}: not understood: {line}")
-            said[word] = text.removeprefix(" ")
-            if word == "new":
-                edit.parts.append(Part(said["file"], said["in"], said["old"], said["new"]))
+def read_edit(crate, name, text):
+    """Returns the edit that these lines describe."""
+    edit, said = Edit(crate, name), {}
+    for number, line in enumerate(text.splitlines()):
+        word, colon, rest = line.partition(":")
+        if number == 0 and FIRST_LINE.fullmatch(line):
+            edit.layer, edit.detected_by = word, rest.strip()
+            continue
+        if not colon or word not in ("file", "in", "old", "new"):
+            raise BadEdit(f"{crate}/{name}: not understood: {line}")
+        said[word] = rest.removeprefix(" ")
+        if word == "new":
+            edit.parts.append(Part(said["file"], said["in"], said["old"], said["new"]))
     if not edit.layer:
-        raise BadEdit(f"{file}: its first line does not say what detects it")
+        raise BadEdit(f"{crate}/{name}: its first line does not say what detects it")
     if not edit.parts:
-        raise BadEdit(f"{file}: nothing is edited")
+        raise BadEdit(f"{crate}/{name}: nothing is edited")
     return edit
 
 
@@ -334,12 +332,14 @@ def tell_wrong_counts(edits):
 
 
 def edits_of(folder, names):
-    """Returns the edits in a folder with one folder for each crate."""
+    """Returns the edits of these crates, in the files of a folder."""
     found = []
     for crate in names:
-        if os.path.isdir(f"{folder}/{crate}"):
-            for name in sorted(os.listdir(f"{folder}/{crate}")):
-                found.append(read_edit(crate, f"{folder}/{crate}/{name}"))
+        with contextlib.suppress(FileNotFoundError), open(f"{folder}/{crate}.edits", encoding="utf-8") as file:
+            texts = changes.split_edits(file.read())
+            if twice := [it for it, count in collections.Counter(name for name, _ in texts).items() if count > 1]:
+                raise BadEdit(f"{crate} has two edits {twice[0]}")
+            found += [read_edit(crate, name, text) for name, text in texts]
     return found
 
 
@@ -696,13 +696,13 @@ class Plan:
         return {**verdicts, **judge_by_rows(self.by_rows), **judge_by_tests(self.by_tests)}
 
 
-def in_turn_from_each(edits, files):
-    """Returns the edits, one of each crate in turn. In a crate, edits of different functions come first; among them those that are in these
-    files, or that change one of them."""
+def in_turn_from_each(edits, changed, files):
+    """Returns the edits, one of each crate in turn. In a crate, edits of different functions come first; among them those that are `changed`,
+    by crate and name, and then those of these files."""
     order, names = {}, dict.fromkeys(it.crate for it in edits)
     for name in names:
         own = [it for it in edits if it.crate == name]
-        own.sort(key=lambda it: (it.path() not in files, files.isdisjoint(it.files())))
+        own.sort(key=lambda it: ((it.crate, it.name) not in changed, files.isdisjoint(it.files())))
         order[name] = [it for one in rounds_of(own) for it in one]
     return [it for one in zip_longest(*order.values()) for it in one if it]
 
@@ -718,7 +718,7 @@ def gate_edits(edits):
     names = [it for it in changes.differing(runs) if it in every]
     tried = names[:MOST_CRATES]
     order = [edit for name in tried for edit in edits if edit.crate == name]
-    chosen = in_turn_from_each(order, changes.changed_files(runs))[:MOST_IN_GATE]
+    chosen = in_turn_from_each(order, changes.changed_edits(runs), changes.changed_files(runs))[:MOST_IN_GATE]
     print(f"{len(chosen)} edits are tried, of {', '.join(tried) or 'no crate'}", flush=True)
     if rest := names[MOST_CRATES:]:
         print(f"Not tried, but different from their last runs: {', '.join(rest)}; `make mutants` tries these", flush=True)
@@ -727,7 +727,7 @@ def gate_edits(edits):
 
 def planned(modes, names, whole):
     """Returns the plan of a run with these modes, for these crates or for all."""
-    control = [] if names else edits_of(f"{ROOT}/tests/mutants/edits/control", crates())
+    control = [] if names else edits_of(f"{ROOT}/tests/mutants/control", crates())
     alone = modes & {"--control", "--rows", "--tests", "--types"}
     plan = Plan()
     if not alone - {"--control"}:
@@ -780,9 +780,9 @@ def main(words):
     modes, names = {it for it in words if it.startswith("--")}, [it for it in words if not it.startswith("--")]
     if unknown := (modes - MODES) | (set(names) - below.keys()):
         raise SystemExit(f"no crate {min(unknown)}\n0 passed, 1 failed")
-    if strange := set(os.listdir(f"{ROOT}/tests/mutants/edits")) - {*below, "control"}:
-        raise SystemExit(f"tests/mutants/edits/{min(strange)} is no crate\n0 passed, 1 failed")
-    every = edits_of(f"{ROOT}/tests/mutants/edits", names or below)
+    if strange := set(os.listdir(f"{ROOT}/{changes.EDITS}")) - {f"{it}.edits" for it in below}:
+        raise SystemExit(f"{changes.EDITS}/{min(strange)} is of no crate\n0 passed, 1 failed")
+    every = edits_of(f"{ROOT}/{changes.EDITS}", names or below)
     unquoted = tell_wrong_quotes(every)
     miscounted = 0 if names else tell_wrong_counts(every)
     if modes & {"--list", "--quotes"}:
