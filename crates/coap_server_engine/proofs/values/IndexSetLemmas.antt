@@ -1,9 +1,52 @@
 -- Bits of a set of indices.
-use Rattle.std.proofs.Common.{◌≡◌, ◌≢◌, ℕ, zero, suc, ◌+◌, ◌-◌, ◌*◌, ◌/◌, ◌%◌, ◌^◌, ◌<◌, ◌≤◌, max, List, [], ◌∷◌, length, get_or, set, bit_and, bit_or, w64, sym, ap, ◌∙◌, refl, inl, inr, arith, get_or-set_same, get_or-set_other}
+use Rattle.std.proofs.Common.{
+  ◌≡◌,
+  ◌≢◌,
+  ℕ,
+  zero,
+  suc,
+  ◌+◌,
+  ◌-◌,
+  ◌*◌,
+  ◌/◌,
+  ◌%◌,
+  ◌^◌,
+  ◌<◌,
+  ◌≤◌,
+  max,
+  List,
+  [],
+  ◌∷◌,
+  length,
+  get_or,
+  set,
+  bit_and,
+  bit_or,
+  w64,
+  sym,
+  ap,
+  ◌∙◌,
+  refl,
+  inl,
+  inr,
+  arith,
+  get_or-set_same,
+  get_or-set_other,
+}
 use Rattle.std.specs.Int.{bit_at, bit_not, trailing_zeros}
 use Rattle.std.proofs.lemmas.Bool.{cases_eq, cases_lt}
 use Rattle.std.proofs.lemmas.Nat.{shr-shr}
-use Rattle.std.proofs.lemmas.Nat.Bits.{bit_at-zero, bit_at_or, bit_at-trailing_zeros, bit_at_set_same, bit_at_set_other, bit_at_clear_same, bit_at_clear_other, bit_at_ones, bit_at_above}
+use Rattle.std.proofs.lemmas.Nat.Bits.{
+  bit_at-zero,
+  bit_at_or,
+  bit_at-trailing_zeros,
+  bit_at_set_same,
+  bit_at_set_other,
+  bit_at_clear_same,
+  bit_at_clear_other,
+  bit_at_ones,
+  bit_at_above,
+}
 use Rattle.coap_server_engine.specs.Prelude.{bit_of, IsOutside}
 
 module _ (words : List ℕ) (at word : ℕ) (within : at / 64 < length words) where
@@ -11,10 +54,12 @@ module _ (words : List ℕ) (at word : ℕ) (within : at / 64 < length words) wh
   set_same = ap (λ n. bit_at n (at % 64)) (get_or-set_same words (at / 64) word 0 within)
 
   -- A word that keeps its other bits keeps the bit of each other index.
-  set_other : ((k : ℕ) → k < 64 → k ≢ at % 64 → bit_at word k ≡ bit_at (get_or words (at / 64) 0) k) → (i : ℕ) → i ≢ at → bit_of (set words (at / 64) word) i ≡ bit_of words i
+  set_other : ((k : ℕ) → k < 64 → k ≢ at % 64 → bit_at word k ≡ bit_at (get_or words (at / 64) 0) k) → (i : ℕ) → i ≢ at
+      → bit_of (set words (at / 64) word) i ≡ bit_of words i
   set_other kept i differs =
       elim (cases_eq (i / 64) (at / 64)) [
-        | inl same ↦ rw (same, get_or-set_same words (at / 64) word 0 within) (kept (i % 64) (omega arith) (λ bit. differs (omega arith)))
+        | inl same ↦ rw (same, get_or-set_same words (at / 64) word 0 within) (kept (i % 64) (omega arith)
+            (λ bit. differs (omega arith)))
         | inr apart ↦ ap (λ n. bit_at n (i % 64)) (get_or-set_other words (at / 64) (i / 64) word 0 apart)
       ]
 
@@ -32,13 +77,15 @@ module _ (words : List ℕ) (at : ℕ) (within : at / 64 < length words) where
   inserted_same = set_same words at _ within ∙ bit_at_set_same w64 (get_or words (at / 64) 0) (at % 64) index
 
   pub inserted_other : (i : ℕ) → i ≢ at → bit_of inserted i ≡ bit_of words i
-  inserted_other = set_other words at _ within (λ k below differs. bit_at_set_other w64 (get_or words (at / 64) 0) (at % 64) index k differs)
+  inserted_other = set_other words at _ within (λ k below differs. bit_at_set_other w64 (get_or words (at / 64) 0)
+      (at % 64) index k differs)
 
   pub removed_same : bit_of removed at ≡ 0
   removed_same = set_same words at _ within ∙ bit_at_clear_same w64 (get_or words (at / 64) 0) (at % 64) index
 
   pub removed_other : (i : ℕ) → i ≢ at → bit_of removed i ≡ bit_of words i
-  removed_other = set_other words at _ within (λ k below differs. bit_at_clear_other w64 (get_or words (at / 64) 0) (at % 64) index k below differs)
+  removed_other = set_other words at _ within (λ k below differs. bit_at_clear_other w64 (get_or words (at / 64) 0)
+      (at % 64) index k below differs)
 
 -- No bit of four words of zeros is set.
 pub none_set : (i : ℕ) → bit_of (0 ∷ 0 ∷ 0 ∷ 0 ∷ []) i ≡ 0
@@ -53,7 +100,8 @@ none_set i = ap (λ n. bit_at n (i % 64)) (each (i / 64)) ∙ bit_at-zero (i % 6
 
 module _ (xs ys : List ℕ) where
   abbrev joined : List ℕ
-  joined = bit_or (get_or xs 0 0) (get_or ys 0 0) ∷ bit_or (get_or xs 1 0) (get_or ys 1 0) ∷ bit_or (get_or xs 2 0) (get_or ys 2 0) ∷ bit_or (get_or xs 3 0) (get_or ys 3 0) ∷ []
+  joined = bit_or (get_or xs 0 0) (get_or ys 0 0) ∷ bit_or (get_or xs 1 0) (get_or ys 1 0) ∷ bit_or (get_or xs 2 0)
+      (get_or ys 2 0) ∷ bit_or (get_or xs 3 0) (get_or ys 3 0) ∷ []
 
   word_joined : (k : ℕ) → k < 4 → get_or joined k 0 ≡ bit_or (get_or xs k 0) (get_or ys k 0)
   word_joined zero small = refl
@@ -63,25 +111,38 @@ module _ (xs ys : List ℕ) where
   word_joined (suc (suc (suc (suc k)))) small = absurd (omega arith)
 
   bit_joined : (i : ℕ) → i < 256 → bit_of joined i ≡ max (bit_of xs i) (bit_of ys i)
-  bit_joined i small = ap (λ n. bit_at n (i % 64)) (word_joined (i / 64) (omega arith)) ∙ bit_at_or (get_or xs (i / 64) 0) (get_or ys (i / 64) 0) (i % 64)
+  bit_joined i small = ap (λ n. bit_at n (i % 64)) (word_joined (i / 64) (omega arith)) ∙ bit_at_or (get_or xs (i / 64)
+      0) (get_or ys (i / 64) 0) (i % 64)
 
   pub joined_outside : (i : ℕ) → IsOutside joined i → IsOutside xs i × IsOutside ys i
   joined_outside i outside =
-      let most : max (bit_of xs i) (bit_of ys i) ≡ 0 = sym (bit_joined i outside.within) ∙ outside.bit in
-      (record { within = outside.within; bit = omega (arith, most) }, record { within = outside.within; bit = omega (arith, most) })
+      let most : max (bit_of xs i) (bit_of ys i) ≡ 0 = sym (bit_joined i outside.within) ∙ outside.bit in (
+        record { within = outside.within; bit = omega (arith, most) },
+        record {
+          within = outside.within;
+          bit = omega
+              (arith, most);
+        },
+      )
 
   pub outside_joined : (i : ℕ) → IsOutside xs i → IsOutside ys i → IsOutside joined i
-  outside_joined i one other = record { within = one.within; bit = bit_joined i one.within ∙ rw (one.bit, other.bit) refl }
+  outside_joined i one other = record {
+    within = one.within;
+    bit = bit_joined i one.within ∙ rw (one.bit, other.bit)
+        refl;
+  }
 
 -- Each bit of four words of ones is set.
-pub all_set : (i : ℕ) → i < 256 → bit_of (18446744073709551615 ∷ 18446744073709551615 ∷ 18446744073709551615 ∷ 18446744073709551615 ∷ []) i ≡ 1
+pub all_set : (i : ℕ) → i < 256 → bit_of (18446744073709551615 ∷ 18446744073709551615 ∷ 18446744073709551615 ∷
+    18446744073709551615 ∷ []) i ≡ 1
 all_set i within =
     let word = i / 64 in
     let ones : bit_at (2 ^ 64 - 1) (i % 64) ≡ 1 = bit_at_ones 64 (i % 64) (omega arith) in
     let small : word < 4 = omega arith in
     ap (λ n. bit_at n (i % 64)) (each word small) ∙ ones
   where
-    each : (k : ℕ) → k < 4 → get_or (18446744073709551615 ∷ 18446744073709551615 ∷ 18446744073709551615 ∷ 18446744073709551615 ∷ []) k 0 ≡ 2 ^ 64 - 1
+    each : (k : ℕ) → k < 4 → get_or (18446744073709551615 ∷ 18446744073709551615 ∷ 18446744073709551615 ∷
+        18446744073709551615 ∷ []) k 0 ≡ 2 ^ 64 - 1
     each zero small = refl
     each (suc zero) small = refl
     each (suc (suc zero)) small = refl
@@ -94,18 +155,26 @@ all_set i within =
 shifted : (word low k : ℕ) → bit_at (word / 2 ^ low) k ≡ bit_at word (low + k)
 shifted word low k = ap (λ x. x % 2) (shr-shr word low k)
 
-module _ (words : List ℕ) (from : ℕ) (small : from < 256) (fits : get_or words (from / 64) 0 < 2 ^ 64) (some : 0 < get_or words (from / 64) 0 / 2 ^ (from % 64)) where
+module _ (words : List ℕ) (from : ℕ) (small : from < 256) (fits : get_or words (from / 64) 0 < 2 ^ 64)
+    (some : 0 < get_or words (from / 64) 0 / 2 ^ (from % 64)) where
   abbrev left : ℕ
   left = get_or words (from / 64) 0 / 2 ^ (from % 64)
 
-  lowest : (trailing_zeros w64 left < 64) × (bit_at left (trailing_zeros w64 left) ≡ 1) × ((k : ℕ) → k < trailing_zeros w64 left → bit_at left k ≡ 0)
+  lowest : (trailing_zeros w64 left < 64) × (bit_at left (trailing_zeros w64 left) ≡ 1) × ((k : ℕ) → k < trailing_zeros
+      w64 left → bit_at left k ≡ 0)
   lowest = bit_at-trailing_zeros w64 left some (omega arith)
 
   in_word : from % 64 + trailing_zeros w64 left < 64
   in_word =
       elim (cases_lt (from % 64 + trailing_zeros w64 left) 64) [
         | inl below ↦ below
-        | inr above ↦ absurd (omega (arith, lowest.1, shifted (get_or words (from / 64) 0) (from % 64) (trailing_zeros w64 left), bit_at_above (get_or words (from / 64) 0) 64 (from % 64 + trailing_zeros w64 left) fits above))
+        | inr above ↦ absurd (omega (
+          arith,
+          lowest.1,
+          shifted (get_or words (from / 64) 0) (from % 64) (trailing_zeros
+              w64 left),
+          bit_at_above (get_or words (from / 64) 0) 64 (from % 64 + trailing_zeros w64 left) fits above,
+        ))
       ]
 
   pub first_between : (i : ℕ) → from ≤ i → i < from + trailing_zeros w64 left → IsOutside words i
@@ -147,7 +216,8 @@ module _ (words : List ℕ) (k : ℕ) (small : k < 4) (fits : get_or words k 0 <
       rw (word, bit) lowest_of.1
 
 -- The word of an index has no bit from the index on.
-pub none_from : (words : List ℕ) (from i : ℕ) → from < 256 → get_or words (from / 64) 0 / 2 ^ (from % 64) ≡ 0 → from ≤ i → i / 64 ≡ from / 64 → IsOutside words i
+pub none_from : (words : List ℕ) (from i : ℕ) → from < 256 → get_or words (from / 64) 0 / 2 ^ (from % 64) ≡ 0 → from ≤ i
+    → i / 64 ≡ from / 64 → IsOutside words i
 none_from words from i small none after word =
     let k = i - from in
     let bit : i % 64 ≡ from % 64 + k = omega arith in

@@ -1,18 +1,119 @@
 -- The connections on which a call leaves the same work.
-use Rattle.std.proofs.Common.{◌≡◌, ◌≢◌, ℕ, ◌+◌, ◌<◌, ◌≤◌, Bool, nat_eq, nat_lt, inl, inr, subst, List, [], ◌∷◌, ◌++◌, length, Option, Some, refl, sym, ap, ◌∙◌, arith, map, remove, option_map, is_none, is_some, IfSome, None, slice_get, true, false, if◌then◌else◌}
+use Rattle.std.proofs.Common.{
+  ◌≡◌,
+  ◌≢◌,
+  ℕ,
+  ◌+◌,
+  ◌<◌,
+  ◌≤◌,
+  Bool,
+  nat_eq,
+  nat_lt,
+  inl,
+  inr,
+  subst,
+  List,
+  [],
+  ◌∷◌,
+  ◌++◌,
+  length,
+  Option,
+  Some,
+  refl,
+  sym,
+  ap,
+  ◌∙◌,
+  arith,
+  map,
+  remove,
+  option_map,
+  is_none,
+  is_some,
+  IfSome,
+  None,
+  slice_get,
+  true,
+  false,
+  if◌then◌else◌,
+}
 use Rattle.std.proofs.lemmas.Bool.{cases_eq, or_parts, ltb-false}
 use Rattle.std.proofs.lemmas.Bool.Decides.{nat_tests}
 use Rattle.std.proofs.lemmas.Map.Entries.{length-values_of}
 use Rattle.std.proofs.lemmas.Map.Made.{keys_of-map_values}
 use Rattle.indexmap.proofs.SetLemmas.{map-remove}
-use Rattle.coap_server_engine.specs.Prelude.{keys_of, values_of, Path, Change, Put, Delete, IsStore, ServerState, SessionValue, host_changed, due_on, path_hash, change_hash}
-use Rattle.coap_server_engine.specs.Prelude.{new_session, session_settled, IsSettled, ServerValue, LiesAt, session_of, session_becomes, settled_entry}
-use Rattle.coap_server_engine.specs.Prelude.{on_session, server_settled, server_opened, server_dropped, server_ticked, server_put, server_removed}
-use Rattle.coap_server_engine.specs.Prelude.{server_given, server_offered, session_given_by, message_of, responded_refusal, AreSettled}
-use Rattle.coap_server_engine.specs.Prelude.{Covers, IsOutside, bit_of, outlook_of, KeepsWork, KeepsOthers, AddsAffected, AddsConcerned, TakeOutcome, taking}
-use Rattle.coap_server_engine.specs.Prelude.{server_taken, server_taken_on, server_taken_so, set_value_at, position_or_len}
+use Rattle.coap_server_engine.specs.Prelude.{
+  keys_of,
+  values_of,
+  Path,
+  Change,
+  Put,
+  Delete,
+  IsStore,
+  ServerState,
+  SessionValue,
+  host_changed,
+  due_on,
+  path_hash,
+  change_hash,
+}
+use Rattle.coap_server_engine.specs.Prelude.{
+  new_session,
+  session_settled,
+  IsSettled,
+  ServerValue,
+  LiesAt,
+  session_of,
+  session_becomes,
+  settled_entry,
+}
+use Rattle.coap_server_engine.specs.Prelude.{
+  on_session,
+  server_settled,
+  server_opened,
+  server_dropped,
+  server_ticked,
+  server_put,
+  server_removed,
+}
+use Rattle.coap_server_engine.specs.Prelude.{
+  server_given,
+  server_offered,
+  session_given_by,
+  message_of,
+  responded_refusal,
+  AreSettled,
+}
+use Rattle.coap_server_engine.specs.Prelude.{
+  Covers,
+  IsOutside,
+  bit_of,
+  outlook_of,
+  KeepsWork,
+  KeepsOthers,
+  AddsAffected,
+  AddsConcerned,
+  TakeOutcome,
+  taking,
+}
+use Rattle.coap_server_engine.specs.Prelude.{
+  server_taken,
+  server_taken_on,
+  server_taken_so,
+  set_value_at,
+  position_or_len,
+}
 use Rattle.coap_server_engine.specs.values.ServerDeadlines.{session_outlook}
-use Rattle.coap_server_session.specs.Prelude.{AllByRecursion, find, list_any, ObserverValue, is_stale, is_time_observer, changed_mark, may_concern, IsBefore}
+use Rattle.coap_server_session.specs.Prelude.{
+  AllByRecursion,
+  find,
+  list_any,
+  ObserverValue,
+  is_stale,
+  is_time_observer,
+  changed_mark,
+  may_concern,
+  IsBefore,
+}
 use Rattle.coap_server_session.specs.declared.cause.Cause.TheVariants as cause
 use Rattle.coap_server_session.proofs.values.SettleLemmas.{settled_stays, settled_still, none_held}
 use Rattle.coap_server_session.proofs.values.CauseLemmas.{hash_where_changed, settled_elsewhere}
@@ -21,21 +122,37 @@ use Rattle.coap_server_session.proofs.values.TakenLemmas.{host_stays}
 use Rattle.coap_server_session.proofs.values.ConcernLemmas.{unconcerned}
 use Rattle.coap_model.proofs.OptionLemmas.{there_at}
 use Rattle.coap_model.proofs.world.EntryLemmas.{none_due}
-use Rattle.coap_server_engine.proofs.values.ServerLemmas.{Entries, settling, one_of_all, one_settles, one_opened, one_removed, keys_where_settled, keys_where_one_changed, lies_still, written_at_index, changed_one, all_are_settled}
+use Rattle.coap_server_engine.proofs.values.ServerLemmas.{
+  Entries,
+  settling,
+  one_of_all,
+  one_settles,
+  one_opened,
+  one_removed,
+  keys_where_settled,
+  keys_where_one_changed,
+  lies_still,
+  written_at_index,
+  changed_one,
+  all_are_settled,
+}
 
 -- ---- the other connections
 
-pub other_stays : (other id : ℕ) (f : SessionValue → SessionValue) (es : Entries) → other ≢ id → session_of other (map (session_becomes id f) es) ≡ session_of other es
+pub other_stays : (other id : ℕ) (f : SessionValue → SessionValue) (es : Entries) → other ≢ id → session_of other
+    (map (session_becomes id f) es) ≡ session_of other es
 unfolding session_of
 other_stays other id f [] apart = refl
 other_stays other id f (e ∷ es) apart = grind (arith, nat_tests, other_stays other id f es apart)
 
-other_is_there : (other id : ℕ) (s : SessionValue) (es : Entries) → other ≢ id → session_of other (es ++ (id, s) ∷ []) ≡ session_of other es
+other_is_there : (other id : ℕ) (s : SessionValue) (es : Entries) → other ≢ id → session_of other (es ++ (id, s) ∷ []) ≡
+    session_of other es
 unfolding session_of
 other_is_there other id s [] apart = grind (arith, nat_tests)
 other_is_there other id s (e ∷ es) apart = rw (other_is_there other id s es apart) refl
 
-each_settles : (other : ℕ) (host : ServerState) (es : Entries) → session_of other (map (settled_entry host) es) ≡ option_map (session_settled host) (session_of other es)
+each_settles : (other : ℕ) (host : ServerState) (es : Entries) → session_of other (map (settled_entry host) es) ≡
+    option_map (session_settled host) (session_of other es)
 unfolding session_of
 each_settles other host [] = refl
 each_settles other host (e ∷ es) = grind (arith, each_settles other host es)
@@ -49,16 +166,19 @@ pub keeps_all : (id : ℕ) (v : ServerValue) → KeepsOthers id v v
 keeps_all id v = record { keys = refl; work = λ other apart. refl }
 
 -- One connection changes, and all settle.
-pub keeps_others : (v : ServerValue) (id : ℕ) (f : SessionValue → SessionValue) → AreSettled v.host v.sessions → KeepsOthers id v (server_settled (on_session id f v))
+pub keeps_others : (v : ServerValue) (id : ℕ) (f : SessionValue → SessionValue) → AreSettled v.host v.sessions
+    → KeepsOthers id v (server_settled (on_session id f v))
 keeps_others v id f settled =
     let same = sym (one_settles v.host id f v.sessions settled) in
     record {
       keys = keys_where_settled id f v.host v.sessions;
-      work = λ other apart. ap (option_map (session_outlook v.host.now)) (ap (session_of other) same ∙ other_stays other id (settling v.host f) v.sessions apart);
+      work = λ other apart. ap (option_map (session_outlook v.host.now)) (ap (session_of other) same ∙ other_stays other
+          id (settling v.host f) v.sessions apart);
     }
 
 -- A response is given, if the server accepts it.
-pub offered_keeps : (v : ServerValue) (id : ℕ) (bytes : List ℕ) → AreSettled v.host v.sessions → KeepsOthers id v (server_offered v id bytes)
+pub offered_keeps : (v : ServerValue) (id : ℕ) (bytes : List ℕ) → AreSettled v.host v.sessions → KeepsOthers id v
+    (server_offered v id bytes)
 offered_keeps v id bytes settled =
     elim (is_none (responded_refusal v id bytes)) as (λ b. KeepsOthers id v (if b then server_given v id bytes else v)) [
       | true ↦ keeps_others v id (session_given_by (message_of bytes)) settled
@@ -69,24 +189,29 @@ module _ (v : ServerValue) (settled : AreSettled v.host v.sessions) where
   pub opened_keys : keys_of (server_opened v).sessions ≡ keys_of v.sessions ++ (v.ids + 1) ∷ []
   opened_keys = ap keys_of (one_opened v settled) ∙ keys_with v.sessions
     where
-      keys_with : (es : Entries) → keys_of (es ++ (v.ids + 1, new_session v.config.limits) ∷ []) ≡ keys_of es ++ (v.ids + 1) ∷ []
+      keys_with : (es : Entries) → keys_of (es ++ (v.ids + 1, new_session v.config.limits) ∷ []) ≡ keys_of es ++
+          (v.ids + 1) ∷ []
       keys_with [] = refl
       keys_with (e ∷ es) = ap (λ (ks : List ℕ). e.0 ∷ ks) (keys_with es)
 
   pub opened_keeps : (other : ℕ) → other ≢ v.ids + 1 → outlook_of (server_opened v) other ≡ outlook_of v other
   opened_keeps other apart =
-      ap (option_map (session_outlook v.host.now)) (ap (session_of other) (one_opened v settled) ∙ other_is_there other (v.ids + 1) (new_session v.config.limits) v.sessions apart)
+      ap (option_map (session_outlook v.host.now)) (ap (session_of other) (one_opened v settled) ∙ other_is_there other
+      (v.ids + 1) (new_session v.config.limits) v.sessions apart)
 
-  pub dropped_keys : (id i : ℕ) → LiesAt id i v.sessions → keys_of (server_dropped v id).sessions ≡ remove (keys_of v.sessions) i
+  pub dropped_keys : (id i : ℕ) → LiesAt id i v.sessions → keys_of (server_dropped v id).sessions ≡ remove
+      (keys_of v.sessions) i
   dropped_keys id i lies = ap keys_of (sym (one_removed v id i settled lies)) ∙ map-remove (λ e. e.0) v.sessions i
 
 -- ---- changes that concern several connections
 
 -- A connection that is settled already.
-same_work : (v : ServerValue) (host : ServerState) (es : Entries) (id : ℕ) (s : SessionValue) → session_of id v.sessions ≡ Some s → session_of id es ≡ Some s → IsSettled host s → due_on host.now s ≡ due_on v.host.now s
+same_work : (v : ServerValue) (host : ServerState) (es : Entries) (id : ℕ) (s : SessionValue) → session_of id v.sessions
+    ≡ Some s → session_of id es ≡ Some s → IsSettled host s → due_on host.now s ≡ due_on v.host.now s
     → outlook_of (record v { host = host; sessions = map (settled_entry host) es }) id ≡ outlook_of v id
 same_work v host es id s before now settled due =
-    ap (option_map (session_outlook host.now)) (each_settles id host es ∙ ap (option_map (session_settled host)) now ∙ ap Some (settled_stays host s settled))
+    ap (option_map (session_outlook host.now)) (each_settles id host es ∙ ap (option_map (session_settled host)) now ∙
+    ap Some (settled_stays host s settled))
     ∙ ap (λ (d : Option ℕ). Some (record (session_outlook host.now s) { due = d })) due
     ∙ sym (ap (option_map (session_outlook v.host.now)) before)
 
@@ -94,12 +219,15 @@ one_at : (id i : ℕ) (es : Entries) → LiesAt id i es → (s : SessionValue) �
 one_at id i es lies = there_at (values_of es) i (rw (length-values_of es) lies.within)
 
 -- An observer that does not observe the time is not stale later.
-fresh_later : (host : ServerState) (later : ℕ) (os : List ObserverValue) → IsStore host.store → list_any is_time_observer os ≡ false → AllByRecursion (λ o. is_stale host o ≡ false) os → find (is_stale (at_moment host later)) os ≡ None
+fresh_later : (host : ServerState) (later : ℕ) (os : List ObserverValue) → IsStore host.store
+    → list_any is_time_observer os ≡ false → AllByRecursion (λ o. is_stale host o ≡ false) os
+    → find (is_stale (at_moment host later)) os ≡ None
 unfolding changed_mark
 fresh_later host later [] store none fresh = refl
 fresh_later host later (o ∷ os) store none fresh =
     let parts = or_parts (is_time_observer o) (list_any is_time_observer os) none in
-    let unmarked : changed_mark (at_moment host later) o ≡ None = rw (← mark_later host later o store parts.0, fresh.0) refl in
+    let unmarked : changed_mark (at_moment host later) o ≡ None = rw (← mark_later host later o store parts.0, fresh.0)
+    refl in
     rw (not_marked _ _ unmarked) (fresh_later host later os store parts.1 fresh.1)
   where
     not_marked : (stale : Bool) (mark : ℕ) → (if stale then Some mark else None) ≡ None → stale ≡ false
@@ -107,12 +235,15 @@ fresh_later host later (o ∷ os) store none fresh =
     not_marked false mark none = refl
 
 -- A connection that no change of the time concerns has no deadline, and stays settled.
-timeless : (host : ServerState) (before later : ℕ) (s : SessionValue) → IsStore host.store → may_concern (cause.Moment before) s ≡ false → IsSettled host s → IsSettled (at_moment host later) s × ((now : ℕ) → due_on now s ≡ None)
+timeless : (host : ServerState) (before later : ℕ) (s : SessionValue) → IsStore host.store → may_concern
+    (cause.Moment before) s ≡ false → IsSettled host s → IsSettled (at_moment host later) s
+    × ((now : ℕ) → due_on now s ≡ None)
 timeless host before later s store none settled =
     let parts = or_parts (nat_lt 0 (length s.link.held)) (list_any is_time_observer s.observers) none in
     let few : length s.link.held ≤ 0 = omega (arith, ltb-false 0 (length s.link.held) parts.0) in (
       settled_still host (at_moment host later) s (λ _. none_held later s.link.held few)
-          (λ fresh. fresh_later host later s.observers store parts.1 (none_due (is_stale host) s.observers fresh)) settled,
+          (λ fresh. fresh_later host later s.observers store parts.1 (none_due (is_stale host) s.observers fresh))
+          settled,
       λ now. never (due_on now s) (λ due. (unconcerned (cause.Moment now) due s none).0),
     )
   where
@@ -121,38 +252,48 @@ timeless host before later s store none settled =
     never (Some due) each = absurd (omega (arith, each due))
 
 -- The time changes.
-pub moment_keeps : (v : ServerValue) (words : List ℕ) (later : ℕ) → IsStore v.host.store → AreSettled v.host v.sessions → Covers (cause.Moment later) words v.sessions → KeepsWork words v (server_ticked v later)
+pub moment_keeps : (v : ServerValue) (words : List ℕ) (later : ℕ) → IsStore v.host.store → AreSettled v.host v.sessions
+    → Covers (cause.Moment later) words v.sessions → KeepsWork words v (server_ticked v later)
 moment_keeps v words later store settled covers = record {
   keys = keys_of-map_values (session_settled (at_moment v.host later)) v.sessions;
   work =
       λ i id lies outside.
       let one = one_at id i v.sessions lies in
       let found = lies.found ∙ one.1 in
-      let calm = timeless v.host later later one.0 store (covers i one.0 one.1 outside) (one_of_all (IsSettled v.host) i v.sessions one.0 settled one.1) in
-      same_work v (at_moment v.host later) v.sessions id one.0 found found calm.0 (calm.1 later ∙ sym (calm.1 v.host.now));
+      let calm = timeless v.host later later one.0 store (covers i one.0 one.1 outside) (one_of_all (IsSettled v.host) i
+      v.sessions one.0 settled one.1) in
+      same_work v (at_moment v.host later) v.sessions id one.0 found found calm.0 (calm.1 later ∙
+      sym (calm.1 v.host.now));
 }
 
 -- A change of the store leaves the connections settled that it does not concern.
-calm_after : (host : ServerState) (c : Change) (found : Option ℕ) (words : List ℕ) (es : Entries) (i : ℕ) (s : SessionValue) → found ≡ change_hash c → IfSome found (λ hash. Covers (cause.Path hash) words es) → slice_get (values_of es) i ≡ Some s → IsOutside words i
+calm_after : (host : ServerState) (c : Change) (found : Option ℕ) (words : List ℕ) (es : Entries) (i : ℕ)
+    (s : SessionValue) → found ≡ change_hash c → IfSome found (λ hash. Covers (cause.Path hash) words es)
+    → slice_get (values_of es) i ≡ Some s → IsOutside words i
     → IsSettled host s → IsSettled (host_changed host c) s
 calm_after host c None words es i s is covers at outside settled =
     rw (host_stays host c (sym (ap is_some is ∙ hash_where_changed c))) settled
 calm_after host c (Some hash) words es i s is covers at outside settled =
-    settled_elsewhere host c hash s (sym is) (unconcerned (cause.Path hash) host.now s (covers i s at outside)).0 settled
+    settled_elsewhere host c hash s (sym is) (unconcerned (cause.Path hash) host.now s (covers i s at outside)).0
+    settled
 
 -- The resource at a path changes.
-change_keeps : (v : ServerValue) (words : List ℕ) (c : Change) (hash : ℕ) → Some hash ≡ change_hash c → AreSettled v.host v.sessions → Covers (cause.Path hash) words v.sessions → KeepsWork words v (server_settled (record v { host = host_changed v.host c }))
+change_keeps : (v : ServerValue) (words : List ℕ) (c : Change) (hash : ℕ) → Some hash ≡ change_hash c → AreSettled
+    v.host v.sessions → Covers (cause.Path hash) words v.sessions → KeepsWork words v (server_settled
+    (record v { host = host_changed v.host c }))
 change_keeps v words c hash is settled covers = record {
   keys = keys_of-map_values (session_settled (host_changed v.host c)) v.sessions;
   work =
       λ i id lies outside.
       let one = one_at id i v.sessions lies in
       let found = lies.found ∙ one.1 in
-      let calm = calm_after v.host c (Some hash) words v.sessions i one.0 is covers one.1 outside (one_of_all (IsSettled v.host) i v.sessions one.0 settled one.1) in
+      let calm = calm_after v.host c (Some hash) words v.sessions i one.0 is covers one.1 outside
+      (one_of_all (IsSettled v.host) i v.sessions one.0 settled one.1) in
       same_work v (host_changed v.host c) v.sessions id one.0 found found calm refl;
 }
 
-module _ (v : ServerValue) (words : List ℕ) (path : Path) (hash : ℕ) (is : hash ≡ path_hash path) (settled : AreSettled v.host v.sessions) (covers : Covers (cause.Path hash) words v.sessions) where
+module _ (v : ServerValue) (words : List ℕ) (path : Path) (hash : ℕ) (is : hash ≡ path_hash path) (settled : AreSettled
+    v.host v.sessions) (covers : Covers (cause.Path hash) words v.sessions) where
   pub put_keeps : (format : Option ℕ) (bytes : List ℕ) → KeepsWork words v (server_put v path format bytes)
   put_keeps format bytes = change_keeps v words (Put path format bytes) hash (ap Some is) settled covers
 
@@ -161,7 +302,8 @@ module _ (v : ServerValue) (words : List ℕ) (path : Path) (hash : ℕ) (is : h
 
 -- ---- takes, which may change a resource
 
-module _ (v : ServerValue) (id i : ℕ) (s : SessionValue) (piece : List ℕ) (settled : AreSettled v.host v.sessions) (lies : LiesAt id i v.sessions) (here : slice_get (values_of v.sessions) i ≡ Some s) where
+module _ (v : ServerValue) (id i : ℕ) (s : SessionValue) (piece : List ℕ) (settled : AreSettled v.host v.sessions)
+    (lies : LiesAt id i v.sessions) (here : slice_get (values_of v.sessions) i ≡ Some s) where
   abbrev took : TakeOutcome
   took = taking v.host s piece
 
@@ -172,10 +314,14 @@ module _ (v : ServerValue) (id i : ℕ) (s : SessionValue) (piece : List ℕ) (s
   unfolding server_taken
   taken_is = ap (server_taken_on v id piece) (lies.found ∙ here)
 
-  pub taken_adds : (after : SessionValue) (found : Option ℕ) (before words : List ℕ) → after ≡ took.session → found ≡ change_hash took.change → AddsConcerned found before words (set_value_at v.sessions i after) → AddsAffected id before words v (server_taken v id piece)
+  pub taken_adds : (after : SessionValue) (found : Option ℕ) (before words : List ℕ) → after ≡ took.session → found ≡
+      change_hash took.change → AddsConcerned found before words (set_value_at v.sessions i after) → AddsAffected id
+      before words v (server_taken v id piece)
   taken_adds after found before words after_is is adds =
-      let written = ap (set_value_at v.sessions i) after_is ∙ written_at_index (λ _. took.session) v.sessions i s here ∙ changed_one id (λ _. took.session) v.sessions i lies.distinct lies.index lies.within in
-      let covers = subst (λ (es : Entries). IfSome found (λ hash. Covers (cause.Path hash) words es)) written adds.covers in
+      let written = ap (set_value_at v.sessions i) after_is ∙ written_at_index (λ _. took.session) v.sessions i s here ∙
+      changed_one id (λ _. took.session) v.sessions i lies.distinct lies.index lies.within in
+      let covers = subst (λ (es : Entries). IfSome found (λ hash. Covers (cause.Path hash) words es)) written
+      adds.covers in
       rw taken_is (record {
         keys = keys_where_settled id (λ _. took.session) (host_changed v.host took.change) v.sessions;
         kept = adds.kept;
@@ -184,19 +330,25 @@ module _ (v : ServerValue) (id i : ℕ) (s : SessionValue) (piece : List ℕ) (s
             let one = one_at other k v.sessions there in
             let was = there.found ∙ one.1 in
             let now = other_stays other id (λ _. took.session) v.sessions apart ∙ was in
-            let at = sym (lies_still other k v.sessions with_it (keys_where_one_changed id (λ _. took.session) v.sessions) there).found ∙ now in
+            let at = sym (lies_still other k v.sessions with_it (keys_where_one_changed id (λ _. took.session)
+            v.sessions) there).found ∙ now in
             same_work v (host_changed v.host took.change) with_it other one.0 was now
-            (calm_after v.host took.change found words with_it k one.0 is covers at outside (one_of_all (IsSettled v.host) k v.sessions one.0 settled one.1)) refl;
+            (calm_after v.host took.change found words with_it k one.0 is covers at outside
+            (one_of_all (IsSettled v.host) k v.sessions one.0 settled one.1)) refl;
       })
 
-taken_settled : (v : ServerValue) (id i : ℕ) (piece : List ℕ) → LiesAt id i v.sessions → AreSettled (server_taken v id piece).host (server_taken v id piece).sessions
+taken_settled : (v : ServerValue) (id i : ℕ) (piece : List ℕ) → LiesAt id i v.sessions → AreSettled (server_taken v id
+    piece).host (server_taken v id piece).sessions
 unfolding server_taken
 taken_settled v id i piece lies =
     let one = one_at id i v.sessions lies in
-    subst (λ (o : Option SessionValue). AreSettled (server_taken_on v id piece o).host (server_taken_on v id piece o).sessions) (sym (lies.found ∙ one.1)) (all_are_settled _ _)
+    subst (λ (o : Option SessionValue). AreSettled (server_taken_on v id piece o).host (server_taken_on v id piece
+    o).sessions) (sym (lies.found ∙ one.1)) (all_are_settled _ _)
 
 -- The response of the application may be given after it.
-pub adds_offered : (v : ServerValue) (id i : ℕ) (piece bytes before words : List ℕ) → LiesAt id i v.sessions → AddsAffected id before words v (server_taken v id piece) → AddsAffected id before words v (server_offered (server_taken v id piece) id bytes)
+pub adds_offered : (v : ServerValue) (id i : ℕ) (piece bytes before words : List ℕ) → LiesAt id i v.sessions
+    → AddsAffected id before words v (server_taken v id piece) → AddsAffected id before words v (server_offered
+    (server_taken v id piece) id bytes)
 adds_offered v id i piece bytes before words lies adds =
     let offered = offered_keeps (server_taken v id piece) id bytes (taken_settled v id i piece lies) in
     record {
@@ -212,10 +364,19 @@ pub record IsReported (at : ℕ) (words : List ℕ) (v now : ServerValue) : Type
   pub own : IsOutside words at → ⊥
   pub keeps : KeepsWork words v now
 
-pub none_reported : (at : ℕ) (words : List ℕ) (v now : ServerValue) → now ≡ v → (at < 256 → bit_of words at ≡ 1) → IsReported at words v now
-none_reported at words v now same own = rw same (record { own = λ outside. omega (arith, own outside.within, outside.bit); keeps = keeps_all_work words v })
+pub none_reported : (at : ℕ) (words : List ℕ) (v now : ServerValue) → now ≡ v → (at < 256 → bit_of words at ≡ 1)
+    → IsReported at words v now
+none_reported at words v now same own = rw same (record {
+  own = λ outside. omega (
+    arith,
+    own outside.within,
+    outside.bit,
+  );
+  keeps = keeps_all_work words v;
+})
 
-pub one_reported : (id at : ℕ) (before words : List ℕ) (v now after : ServerValue) → LiesAt id at now.sessions → AddsAffected id before words now after → IsReported at before v now → IsReported at words v after
+pub one_reported : (id at : ℕ) (before words : List ℕ) (v now after : ServerValue) → LiesAt id at now.sessions
+    → AddsAffected id before words now after → IsReported at before v now → IsReported at words v after
 one_reported id at before words v now after here adds so = record {
   own = λ outside. so.own (adds.kept at outside);
   keeps = record {
@@ -225,7 +386,8 @@ one_reported id at before words v now after here adds so = record {
         let still = lies_still other i v.sessions now.sessions so.keeps.keys there in
         elim (cases_eq other id) [
           | inl same ↦
-              let place : i ≡ at = sym still.index ∙ ap (λ (k : ℕ). position_or_len (nat_eq k) (keys_of now.sessions)) same ∙ here.index in
+              let place : i ≡ at = sym still.index ∙ ap (λ (k : ℕ). position_or_len (nat_eq k) (keys_of now.sessions))
+              same ∙ here.index in
               absurd (so.own (subst (IsOutside before) place (adds.kept i outside)))
           | inr apart ↦ adds.work i other apart still outside ∙ so.keeps.work i other there (adds.kept i outside)
         ];
