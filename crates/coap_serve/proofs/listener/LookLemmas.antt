@@ -1,8 +1,50 @@
 -- Looks at connections: whether something can be done on them, and how long the listener may wait.
-use Rattle.std.proofs.Common.{◌≡◌, ℕ, zero, suc, ◌+◌, ◌-◌, ◌<◌, ◌≤◌, Bool, true, false, List, ◌∷◌, [], drop, length, Option, Some, None, refl, sym, ap, subst, ◌∙◌, arith, slice_get, ◌||◌, ◌&&◌}
+use Rattle.std.proofs.Common.{
+  ◌≡◌,
+  ℕ,
+  zero,
+  suc,
+  ◌+◌,
+  ◌-◌,
+  ◌<◌,
+  ◌≤◌,
+  Bool,
+  true,
+  false,
+  List,
+  ◌∷◌,
+  [],
+  drop,
+  length,
+  Option,
+  Some,
+  None,
+  refl,
+  sym,
+  ap,
+  subst,
+  ◌∙◌,
+  arith,
+  slice_get,
+  ◌||◌,
+  ◌&&◌,
+}
 use Rattle.std.proofs.lemmas.Bool.{or_parts, or_left}
 use Rattle.std.proofs.lemmas.List.{drop_all}
-use Rattle.coap_serve.specs.Prelude.{CanAnyGoOn, CanGoOn, IsAsked, IsWaitAfter, MaySleep, PeerStatus, No, is_known_ready, known, least_with, sooner, wait_until}
+use Rattle.coap_serve.specs.Prelude.{
+  CanAnyGoOn,
+  CanGoOn,
+  IsAsked,
+  IsWaitAfter,
+  MaySleep,
+  PeerStatus,
+  No,
+  is_known_ready,
+  known,
+  least_with,
+  sooner,
+  wait_until,
+}
 use Rattle.coap_serve.proofs.listener.EntryLemmas.{next_first, some_at_index}
 
 -- ---- one connection
@@ -14,29 +56,44 @@ an_answer true (Some recorded) = (recorded, refl)
 an_answer false recorded = (false, refl)
 
 -- The readiness of a connection whose wire returned `reads` for a read.
-can_with : (e : PeerStatus) (reads : Bool) → IsAsked e.wants.read e.readable reads → CanGoOn e (e.wants.visit || reads || (an_answer e.wants.write e.writable).0)
-can_with e reads asked = let writes = an_answer e.wants.write e.writable in record { reads = reads; writes = writes.0; read = asked; write = writes.1; is = refl }
+can_with : (e : PeerStatus) (reads : Bool) → IsAsked e.wants.read e.readable reads → CanGoOn e (e.wants.visit || reads
+    || (an_answer e.wants.write e.writable).0)
+can_with e reads asked = let writes = an_answer e.wants.write e.writable in record {
+  reads = reads;
+  writes = writes.0;
+  read = asked;
+  write = writes.1;
+  is = refl;
+}
 
 -- The connection is ready: it must be visited whatever its wire does, or its wire must be read and may be.
-pub can_go_on_so : (e : PeerStatus) (reads : Bool) {result : Bool} → IsAsked e.wants.read e.readable reads → (e.wants.visit || reads) ≡ true → result ≡ true → CanGoOn e result
-can_go_on_so e reads asked may is = subst (CanGoOn e) (or_left (e.wants.visit || reads) _ may ∙ sym is) (can_with e reads asked)
+pub can_go_on_so : (e : PeerStatus) (reads : Bool) {result : Bool} → IsAsked e.wants.read e.readable reads
+    → (e.wants.visit || reads) ≡ true → result ≡ true → CanGoOn e result
+can_go_on_so e reads asked may is = subst (CanGoOn e) (or_left (e.wants.visit || reads) _ may ∙ sym is)
+    (can_with e reads asked)
 
-known_asked : (wanted : Bool) {answer : Bool} (told : Option Bool) → IsAsked wanted told answer → answer ≡ false → (wanted && known told) ≡ false
+known_asked : (wanted : Bool) {answer : Bool} (recorded : Option Bool) → IsAsked wanted recorded answer → answer ≡ false
+    → (wanted && known recorded) ≡ false
 known_asked true None asked is = refl
-known_asked true (Some told) asked is = sym asked ∙ is
-known_asked false told asked is = refl
+known_asked true (Some recorded) asked is = sym asked ∙ is
+known_asked false recorded asked is = refl
 
-asked_known : (wanted : Bool) (told : Option Bool) → IsAsked wanted told (wanted && known told)
+asked_known : (wanted : Bool) (recorded : Option Bool) → IsAsked wanted recorded (wanted && known recorded)
 asked_known true None = tt
-asked_known true (Some told) = refl
-asked_known false told = refl
+asked_known true (Some recorded) = refl
+asked_known false recorded = refl
 
 -- Nothing can be done on the connection.
 pub calm_from : (e : PeerStatus) → CanGoOn e false → is_known_ready e ≡ false
 calm_from e can =
     let writes = or_parts (e.wants.visit || can.reads) can.writes (sym can.is) in
     let reads = or_parts e.wants.visit can.reads writes.0 in
-    rw (reads.0, known_asked e.wants.read e.readable can.read reads.1, known_asked e.wants.write e.writable can.write writes.1) refl
+    rw (
+      reads.0,
+      known_asked e.wants.read e.readable can.read reads.1,
+      known_asked e.wants.write e.writable can.write
+          writes.1,
+    ) refl
 
 pub idle_from : {e : PeerStatus} → MaySleep e → CanGoOn e false
 idle_from {e = e} sleeps = record {
@@ -66,28 +123,39 @@ pub record IsSeenTo (all : List PeerStatus) (at : ℕ) (due : Option ℕ) : Type
 pub none_seen : {all : List PeerStatus} → IsSeenTo all 0 None
 none_seen = record { any = λ ready can. can; least = refl }
 
-pub one_seen : {all : List PeerStatus} (at : ℕ) {due later : Option ℕ} {e : PeerStatus} → slice_get all at ≡ Some e → CanGoOn e false → later ≡ sooner due e.wants.due → IsSeenTo all at due → IsSeenTo all (at + 1) later
+pub one_seen : {all : List PeerStatus} (at : ℕ) {due later : Option ℕ} {e : PeerStatus} → slice_get all at ≡ Some e
+    → CanGoOn e false → later ≡ sooner due e.wants.due → IsSeenTo all at due → IsSeenTo all (at + 1) later
 one_seen {all = all} at {e = e} there calm is seen =
     let first = next_first all at there in
-    record { any = λ ready can. seen.any ready (rw first (false, ready, calm, can, refl)); least = rw is (rw first at seen.least) }
+    record {
+      any = λ ready can. seen.any ready (rw first (false, ready, calm, can, refl));
+      least = rw is
+          (rw first at seen.least);
+    }
 
 sooner_never : {due : Option ℕ} → due ≡ sooner due None
 sooner_never = grind arith
 
 -- Connections that sleep are skipped.
-sleepers_by : (n : ℕ) {all : List PeerStatus} (at : ℕ) {due : Option ℕ} → at + n ≤ length all → ((i : ℕ) (e : PeerStatus) → slice_get all i ≡ Some e → at ≤ i → i < at + n → MaySleep e) → IsSeenTo all at due → IsSeenTo all (at + n) due
+sleepers_by : (n : ℕ) {all : List PeerStatus} (at : ℕ) {due : Option ℕ} → at + n ≤ length all
+    → ((i : ℕ) (e : PeerStatus) → slice_get all i ≡ Some e → at ≤ i → i < at + n → MaySleep e) → IsSeenTo all at due
+    → IsSeenTo all (at + n) due
 sleepers_by zero at within sleep seen = let none : at + 0 ≡ at = omega arith in rw none seen
 sleepers_by (suc n) {all = all} at {due = due} within sleep seen =
     let there = some_at_index all at (omega (arith, within)) in
     let sleeps = sleep at there.0 there.1 (omega arith) (omega arith) in
     let next : (at + 1) + n ≡ at + suc n = omega arith in
-    rw next at (sleepers_by n (at + 1) {due = due} (omega (arith, within)) (λ i e here after below. sleep i e here (omega (arith, after)) (omega (arith, below)))
+    rw next at (sleepers_by n (at + 1) {due = due} (omega (arith, within)) (λ i e here after below. sleep i e here
+    (omega (arith, after)) (omega (arith, below)))
     (one_seen at {due = due} there.1 (idle_from sleeps) (rw sleeps.never (sooner_never)) seen))
 
-pub sleepers_seen : {all : List PeerStatus} (at to : ℕ) {due : Option ℕ} → at ≤ to → to ≤ length all → ((i : ℕ) (e : PeerStatus) → slice_get all i ≡ Some e → at ≤ i → i < to → MaySleep e) → IsSeenTo all at due → IsSeenTo all to due
+pub sleepers_seen : {all : List PeerStatus} (at to : ℕ) {due : Option ℕ} → at ≤ to → to ≤ length all
+    → ((i : ℕ) (e : PeerStatus) → slice_get all i ≡ Some e → at ≤ i → i < to → MaySleep e) → IsSeenTo all at due
+    → IsSeenTo all to due
 sleepers_seen {all = all} at to on within sleep seen =
     let there : at + (to - at) ≡ to = omega (arith, on) in
-    rw there at (sleepers_by (to - at) at (omega (arith, on, within)) (λ i e here after below. sleep i e here after (omega (arith, on, below))) seen)
+    rw there at (sleepers_by (to - at) at (omega (arith, on, within)) (λ i e here after below. sleep i e here after
+    (omega (arith, on, below))) seen)
 
 -- ---- the wait
 
@@ -96,13 +164,19 @@ pub opened_wait : (all : List PeerStatus) → IsWaitAfter true all No
 opened_wait all = let some = some_answer all in record { ready = some.0; can = some.1; is = refl }
 
 -- Something can be done at once on the next connection.
-pub ready_wait : {all : List PeerStatus} (at : ℕ) {due : Option ℕ} {e : PeerStatus} → slice_get all at ≡ Some e → CanGoOn e true → IsSeenTo all at due → IsWaitAfter false all No
+pub ready_wait : {all : List PeerStatus} (at : ℕ) {due : Option ℕ} {e : PeerStatus} → slice_get all at ≡ Some e
+    → CanGoOn e true → IsSeenTo all at due → IsWaitAfter false all No
 ready_wait {all = all} at there can seen =
     let others = some_answer (drop (at + 1) all) in
-    record { ready = true; can = seen.any true (rw (next_first all at there) (true, others.0, can, others.1, refl)); is = refl }
+    record {
+      ready = true;
+      can = seen.any true (rw (next_first all at there) (true, others.0, can, others.1, refl));
+      is = refl;
+    }
 
 -- Nothing can be done at once.
-pub calm_wait : {all : List PeerStatus} (at : ℕ) {due : Option ℕ} → length all ≤ at → IsSeenTo all at due → IsWaitAfter false all (wait_until due)
+pub calm_wait : {all : List PeerStatus} (at : ℕ) {due : Option ℕ} → length all ≤ at → IsSeenTo all at due → IsWaitAfter
+    false all (wait_until due)
 calm_wait {all = all} at {due = due} most seen =
     let least = rw (drop_all at all most) at seen.least in
     record { ready = false; can = seen.any false (rw (drop_all at all most) refl); is = ap wait_until least }

@@ -1,5 +1,46 @@
 -- The connections of a server and their transport sides, and those that sleep.
-use Rattle.std.proofs.Common.{◌≡◌, ◌≢◌, ℕ, zero, suc, ◌+◌, ◌<◌, ◌≤◌, Bool, true, false, List, ◌∷◌, [], ◌++◌, length, map, nat_eq, Option, Some, None, IfSome, OnOk, OnErr, Result, Ok, Err, refl, sym, ap, subst, ◌∙◌, inl, inr, arith, remove, slice_get, ◌==◌, ◌||◌, is_some}
+use Rattle.std.proofs.Common.{
+  ◌≡◌,
+  ◌≢◌,
+  ℕ,
+  zero,
+  suc,
+  ◌+◌,
+  ◌<◌,
+  ◌≤◌,
+  Bool,
+  true,
+  false,
+  List,
+  ◌∷◌,
+  [],
+  ◌++◌,
+  length,
+  map,
+  nat_eq,
+  Option,
+  Some,
+  None,
+  IfSome,
+  OnOk,
+  OnErr,
+  Result,
+  Ok,
+  Err,
+  refl,
+  sym,
+  ap,
+  subst,
+  ◌∙◌,
+  inl,
+  inr,
+  arith,
+  remove,
+  slice_get,
+  ◌==◌,
+  ◌||◌,
+  is_some,
+}
 use Rattle.std.specs.List.{position_or_len}
 use Rattle.std.specs.Set.{remove_key}
 use Rattle.std.proofs.lemmas.Bool.{cases_eq, cases_lt, or_parts}
@@ -11,7 +52,36 @@ use Rattle.indexmap.proofs.CallerLemmas.{keys-shift_remove_entry}
 use Rattle.indexmap.proofs.SetLemmas.{map-remove}
 use Rattle.coap_model.proofs.OptionLemmas.{one_made}
 use Rattle.coap_server_engine.specs.Prelude.{KeepsOthers, KeepsWork}
-use Rattle.coap_serve.specs.Prelude.{AreAsleep, ArePaired, AreSettled, CanGoOn, ConnectionWork, IsDistinct, IsOutside, KeepsBeside, LiesAt, MaySleep, Peer, PeerInterest, PeerStatus, ServerValue, SleepOn, bit_of, insert_entry, keys_of, outlook_of, peer_status, server_dropped, server_opened, set_value_at, shift_remove_entry, status_with, values_of, wants_in, wants_of}
+use Rattle.coap_serve.specs.Prelude.{
+  AreAsleep,
+  ArePaired,
+  AreSettled,
+  CanGoOn,
+  ConnectionWork,
+  IsDistinct,
+  IsOutside,
+  KeepsBeside,
+  LiesAt,
+  MaySleep,
+  Peer,
+  PeerInterest,
+  PeerStatus,
+  ServerValue,
+  SleepOn,
+  bit_of,
+  insert_entry,
+  keys_of,
+  outlook_of,
+  peer_status,
+  server_dropped,
+  server_opened,
+  set_value_at,
+  shift_remove_entry,
+  status_with,
+  values_of,
+  wants_in,
+  wants_of,
+}
 use Rattle.coap_serve.specs.declared.door.awake.Awake.{Awake}
 use Rattle.coap_server_engine.proofs.values.ServerLemmas.{lies_by_key, lies_still}
 use Rattle.coap_server_engine.proofs.values.WorkLemmas.{dropped_keys, opened_keeps, opened_keys}
@@ -23,46 +93,62 @@ use Rattle.coap_serve.proofs.listener.LookLemmas.{calm_from, idle_from}
 module _ {W : Type 0} {v : ServerValue} {es : List (ℕ × Peer W)} (paired : ArePaired v es) where
   -- A connection has the index of its entry.
   pub lies_there : (i : ℕ) {e : ℕ × Peer W} → slice_get es i ≡ Some e → LiesAt e.0 i v.sessions
-  lies_there i {e = e} at = lies_by_key e.0 i v.sessions (rw (← paired.keys) paired.distinct) (rw (← paired.keys, slice_get-map, at) refl)
+  lies_there i {e = e} at = lies_by_key e.0 i v.sessions (rw (← paired.keys) paired.distinct) (rw (
+    ← paired.keys,
+    slice_get-map,
+    at,
+  ) refl)
 
   pub paired_on : {after : ServerValue} → keys_of after.sessions ≡ keys_of v.sessions → ArePaired after es
   paired_on keys = record { keys = paired.keys ∙ sym keys; distinct = paired.distinct }
 
   -- One entry was written.
-  pub paired_written : {after : ServerValue} {now : List (ℕ × Peer W)} (at : ℕ) (p : Peer W) → keys_of after.sessions ≡ keys_of v.sessions → now ≡ set_value_at es at p → ArePaired after now
+  pub paired_written : {after : ServerValue} {now : List (ℕ × Peer W)} (at : ℕ) (p : Peer W) → keys_of after.sessions ≡
+      keys_of v.sessions → now ≡ set_value_at es at p → ArePaired after now
   paired_written at p keys is =
       let same = ap keys_of is ∙ keys_written es at p in
       record { keys = same ∙ paired.keys ∙ sym keys; distinct = rw same paired.distinct }
 
   -- A connection was dropped.
-  pub paired_without : {after : ServerValue} {now : List (ℕ × Peer W)} (id i : ℕ) → AreSettled v.host v.sessions → slice_get (keys_of es) i ≡ Some id → after ≡ server_dropped v id → now ≡ remove es i → IsDistinct nat_eq (keys_of now) → ArePaired after now
+  pub paired_without : {after : ServerValue} {now : List (ℕ × Peer W)} (id i : ℕ) → AreSettled v.host v.sessions
+      → slice_get (keys_of es) i ≡ Some id → after ≡ server_dropped v id → now ≡ remove es i → IsDistinct nat_eq
+      (keys_of now) → ArePaired after now
   paired_without id i settled number dropped is distinct =
       let lies = lies_by_key id i v.sessions (rw (← paired.keys) paired.distinct) (rw (← paired.keys) number) in
       record {
-        keys = rw (is, dropped) (map-remove (λ e. e.0) es i ∙ ap (λ ks. remove ks i) paired.keys ∙ sym (dropped_keys v settled id i lies));
+        keys = rw (is, dropped) (map-remove (λ e. e.0) es i ∙ ap (λ ks. remove ks i) paired.keys ∙ sym (dropped_keys v
+            settled id i lies));
         distinct = distinct;
       }
 
   -- The same by its number.
-  pub paired_left : {after : ServerValue} {now : List (ℕ × Peer W)} (id i : ℕ) → AreSettled v.host v.sessions → LiesAt id i v.sessions → after ≡ server_dropped v id → now ≡ shift_remove_entry (nat_eq id) es → IsDistinct nat_eq (keys_of now) → ArePaired after now
+  pub paired_left : {after : ServerValue} {now : List (ℕ × Peer W)} (id i : ℕ) → AreSettled v.host v.sessions
+      → LiesAt id i v.sessions → after ≡ server_dropped v id → now ≡ shift_remove_entry (nat_eq id) es → IsDistinct
+      nat_eq (keys_of now) → ArePaired after now
   paired_left id i settled lies dropped is distinct = record {
     keys = rw (is, dropped) (
-        keys-shift_remove_entry (nat_eq id) es ∙ ap (remove_key (nat_eq id)) paired.keys ∙ removed_key id (keys_of v.sessions)
+        keys-shift_remove_entry (nat_eq id) es ∙ ap (remove_key (nat_eq id)) paired.keys ∙ removed_key id
+        (keys_of v.sessions)
         ∙ ap (remove (keys_of v.sessions)) lies.index ∙ sym (dropped_keys v settled id i lies));
     distinct = distinct;
   }
     where
       removed_key : (id : ℕ) (ks : List ℕ) → remove_key (nat_eq id) ks ≡ remove ks (position_or_len (nat_eq id) ks)
       removed_key id [] = refl
-      removed_key id (k ∷ ks) = elim (nat_eq id k) as (λ b. nat_eq id k ≡ b → remove_key (nat_eq id) (k ∷ ks) ≡ remove (k ∷ ks) (position_or_len (nat_eq id) (k ∷ ks))) [
-        | true ↦ λ is. rw is refl
-        | false ↦ λ is.
-            let next : position_or_len (nat_eq id) (k ∷ ks) ≡ suc (position_or_len (nat_eq id) ks) = grind (arith, nat_tests) in
-            rw (next, is) (ap (λ xs. k ∷ xs) (removed_key id ks))
-      ] refl
+      removed_key id (k ∷ ks) = elim (nat_eq id k) as (λ b. nat_eq id k ≡ b → remove_key (nat_eq id) (k ∷ ks) ≡ remove
+          (k ∷ ks) (position_or_len (nat_eq id) (k ∷ ks))) [
+            | true ↦ λ is. rw is refl
+            | false ↦ λ is.
+                let next : position_or_len (nat_eq id) (k ∷ ks) ≡ suc (position_or_len (nat_eq id) ks) = grind (
+                  arith,
+                  nat_tests,
+                ) in
+                rw (next, is) (ap (λ xs. k ∷ xs) (removed_key id ks))
+          ] refl
 
 -- A number that no entry has goes last.
-goes_last : {P : Type 0} (id : ℕ) (p : P) (es : List (ℕ × P)) → position_or_len (nat_eq id) (keys_of es ++ id ∷ []) ≡ length es → insert_entry nat_eq es id p ≡ es ++ (id, p) ∷ []
+goes_last : {P : Type 0} (id : ℕ) (p : P) (es : List (ℕ × P)) → position_or_len (nat_eq id) (keys_of es ++ id ∷ []) ≡
+    length es → insert_entry nat_eq es id p ≡ es ++ (id, p) ∷ []
 goes_last id p [] first = refl
 goes_last id p (e ∷ es) first =
     let apart : nat_eq id e.0 ≡ false = grind (arith, nat_tests) in
@@ -84,36 +170,61 @@ sleep_then {u = u} {v = v} one two = record {
 }
 
 -- The connections of a set woke, and the others have the same work left.
-pub sleep_joined : {a b : Awake} {v after : ServerValue} {words : List ℕ} → KeepsWork words v after → ((i : ℕ) → IsOutside b.set.words i → IsOutside a.set.words i × IsOutside words i) → SleepOn a b v after
-sleep_joined keeps outside = record { keys = keeps.keys; each = λ i id lies out. ((outside i out).0, keeps.work i id lies (outside i out).1) }
+pub sleep_joined : {a b : Awake} {v after : ServerValue} {words : List ℕ} → KeepsWork words v after
+    → ((i : ℕ) → IsOutside b.set.words i → IsOutside a.set.words i × IsOutside words i) → SleepOn a b v after
+sleep_joined keeps outside = record {
+  keys = keeps.keys;
+  each = λ i id lies out. (
+    (outside i out).0,
+    keeps.work i id
+        lies (outside i out).1,
+  );
+}
 
 -- All connections woke.
-pub sleep_none : {a b : Awake} {v after : ServerValue} (id : ℕ) → KeepsOthers id v after → ((i : ℕ) → i < 256 → bit_of b.set.words i ≡ 1) → SleepOn a b v after
-sleep_none id keeps all = record { keys = keeps.keys; each = λ i other lies out. absurd (omega (arith, all i out.within, out.bit)) }
+pub sleep_none : {a b : Awake} {v after : ServerValue} (id : ℕ) → KeepsOthers id v after → ((i : ℕ) → i < 256
+    → bit_of b.set.words i ≡ 1) → SleepOn a b v after
+sleep_none id keeps all = record {
+  keys = keeps.keys;
+  each = λ i other lies out. absurd (omega (
+    arith,
+    all i out.within,
+    out.bit,
+  ));
+}
 
 -- The connection at an index woke, and the others have the same work left.
-pub sleep_woken : {a b : Awake} {v after : ServerValue} (id at : ℕ) → KeepsOthers id v after → LiesAt id at after.sessions → (IsOutside b.set.words at → ⊥) → ((i : ℕ) → IsOutside b.set.words i → IsOutside a.set.words i) → SleepOn a b v after
+pub sleep_woken : {a b : Awake} {v after : ServerValue} (id at : ℕ) → KeepsOthers id v after → LiesAt id at
+    after.sessions → (IsOutside b.set.words at → ⊥) → ((i : ℕ) → IsOutside b.set.words i → IsOutside a.set.words i)
+    → SleepOn a b v after
 sleep_woken {b = b} {v = v} {after = after} id at keeps lies awake asleep = record {
   keys = keeps.keys;
   each = λ i other there out.
-      let was = lies_still id at after.sessions v.sessions (sym keeps.keys) lies in
-      (asleep i out, keeps.work other (λ (same : other ≡ id). let here : i ≡ at = sym there.index ∙ ap (λ k. position_or_len (nat_eq k) (keys_of v.sessions)) same ∙ was.index in awake (rw here at out)));
+      let was = lies_still id at after.sessions v.sessions (sym keeps.keys) lies in (
+        asleep i out,
+        keeps.work other (λ (same : other ≡ id). let here : i ≡ at = sym there.index ∙
+            ap (λ k. position_or_len (nat_eq k) (keys_of v.sessions)) same ∙ was.index in awake (rw here at out)),
+      );
 }
 
 -- A call that fails changes nothing.
-pub kept_or_not : {T E : Type 0} (r : Result T E) {v after next : ServerValue} (words : List ℕ) → KeepsWork words v next → OnOk r (after ≡ next) → OnErr r (after ≡ v) → KeepsWork words v after
+pub kept_or_not : {T E : Type 0} (r : Result T E) {v after next : ServerValue} (words : List ℕ) → KeepsWork words v next
+    → OnOk r (after ≡ next) → OnErr r (after ≡ v) → KeepsWork words v after
 kept_or_not (Ok x) words keeps ok err = rw ok keeps
 kept_or_not (Err e) words keeps ok err = rw err (record { keys = refl; work = λ i id lies outside. refl })
 
 -- A read, then bytes that are passed, then a write.
-pub beside_served : {v heard taken after : ServerValue} {words : List ℕ} (id : ℕ) → KeepsOthers id v heard → KeepsWork words heard taken → KeepsOthers id taken after → KeepsBeside id words v after
+pub beside_served : {v heard taken after : ServerValue} {words : List ℕ} (id : ℕ) → KeepsOthers id v heard
+    → KeepsWork words heard taken → KeepsOthers id taken after → KeepsBeside id words v after
 beside_served {v = v} {heard = heard} id first took last = record {
   keys = last.keys ∙ took.keys ∙ first.keys;
-  work = λ i other lies apart outside. last.work other apart ∙ took.work i other (lies_still other i v.sessions heard.sessions first.keys lies) outside ∙ first.work other apart;
+  work = λ i other lies apart outside. last.work other apart ∙ took.work i other (lies_still other i v.sessions
+      heard.sessions first.keys lies) outside ∙ first.work other apart;
 }
 
 -- A read that failed.
-pub beside_heard : {v heard : ServerValue} {words : List ℕ} (id : ℕ) → KeepsOthers id v heard → KeepsBeside id words v heard
+pub beside_heard : {v heard : ServerValue} {words : List ℕ} (id : ℕ) → KeepsOthers id v heard → KeepsBeside id words v
+    heard
 beside_heard id first = record { keys = first.keys; work = λ i other lies apart outside. first.work other apart }
 
 -- ---- connections that sleep
@@ -123,7 +234,8 @@ without None none = refl
 without (Some moment) none = absurd cc
 
 -- If a connection sleeps after a look, it may do so.
-pub looked_sleeps : (b : Awake) (at : ℕ) (e : PeerStatus) (ready : Bool) → CanGoOn e ready → ((ready || is_some e.wants.due) ≡ true → IsOutside b.set.words at → ⊥) → IsOutside b.set.words at → MaySleep e
+pub looked_sleeps : (b : Awake) (at : ℕ) (e : PeerStatus) (ready : Bool) → CanGoOn e ready
+    → ((ready || is_some e.wants.due) ≡ true → IsOutside b.set.words at → ⊥) → IsOutside b.set.words at → MaySleep e
 looked_sleeps b at e ready can awake outside =
     elim (ready || is_some e.wants.due) as (λ stays. (ready || is_some e.wants.due) ≡ stays → MaySleep e) [
       | true ↦ λ stays. absurd (awake stays outside)
@@ -137,7 +249,8 @@ early (x ∷ xs) ys zero within = refl
 early (x ∷ xs) ys (suc i) within = early xs ys i (omega (arith, within))
 
 -- A fact on the indices up to one index, of this one, and on those after it.
-pub each_on : {P : ℕ → Type 0} {from to : ℕ} (at : ℕ) → ((i : ℕ) → from ≤ i → i < at → P i) → P at → ((i : ℕ) → at + 1 ≤ i → i < to → P i) → (i : ℕ) → from ≤ i → i < to → P i
+pub each_on : {P : ℕ → Type 0} {from to : ℕ} (at : ℕ) → ((i : ℕ) → from ≤ i → i < at → P i) → P at
+    → ((i : ℕ) → at + 1 ≤ i → i < to → P i) → (i : ℕ) → from ≤ i → i < to → P i
 each_on {P = P} at before one later i after below = elim (cases_lt i at) [
   | inl less ↦ before i after less
   | inr most ↦ elim (cases_eq i at) [ inl same ↦ rw same one | inr apart ↦ later i (omega (arith, most, apart)) below ]
@@ -145,44 +258,59 @@ each_on {P = P} at before one later i after below = elim (cases_lt i at) [
 
 module _ {W : Type 0} (readable writable : W → Option Bool) where
   -- A connection with the same work left has the same status.
-  still_sleeps : (v after : ServerValue) (e : ℕ × Peer W) → outlook_of after e.0 ≡ outlook_of v e.0 → MaySleep (peer_status readable writable v e) → MaySleep (peer_status readable writable after e)
-  still_sleeps v after e same sleeps = subst (λ (o : Option ConnectionWork). MaySleep (status_with readable writable e.1.wire (wants_in o (length e.1.rest == 0)))) (sym same) sleeps
+  still_sleeps : (v after : ServerValue) (e : ℕ × Peer W) → outlook_of after e.0 ≡ outlook_of v e.0
+      → MaySleep (peer_status readable writable v e) → MaySleep (peer_status readable writable after e)
+  still_sleeps v after e same sleeps = subst (λ (o : Option ConnectionWork). MaySleep (status_with readable writable
+      e.1.wire (wants_in o (length e.1.rest == 0)))) (sym same) sleeps
 
   -- If all connections are awake, none sleeps.
-  pub none_asleep : {a : Awake} {v : ServerValue} {es : List (ℕ × Peer W)} → ((i : ℕ) → i < 256 → bit_of a.set.words i ≡ 1) → AreAsleep readable writable a v es
+  pub none_asleep : {a : Awake} {v : ServerValue} {es : List (ℕ × Peer W)} → ((i : ℕ) → i < 256 → bit_of a.set.words i ≡
+      1) → AreAsleep readable writable a v es
   none_asleep all = record { each = λ i e at outside. absurd (omega (arith, all i outside.within, outside.bit)) }
 
-  pub some_woken : {a b : Awake} {v : ServerValue} {es : List (ℕ × Peer W)} → ((i : ℕ) → IsOutside b.set.words i → IsOutside a.set.words i) → AreAsleep readable writable a v es → AreAsleep readable writable b v es
+  pub some_woken : {a b : Awake} {v : ServerValue} {es : List (ℕ × Peer W)} → ((i : ℕ) → IsOutside b.set.words i
+      → IsOutside a.set.words i) → AreAsleep readable writable a v es → AreAsleep readable writable b v es
   some_woken kept asleep = record { each = λ i e at outside. asleep.each i e at (kept i outside) }
 
-  pub asleep_on : {a b : Awake} {v after : ServerValue} {es : List (ℕ × Peer W)} → SleepOn a b v after → ArePaired v es → AreAsleep readable writable a v es → AreAsleep readable writable b after es
+  pub asleep_on : {a b : Awake} {v after : ServerValue} {es : List (ℕ × Peer W)} → SleepOn a b v after → ArePaired v es
+      → AreAsleep readable writable a v es → AreAsleep readable writable b after es
   asleep_on {v = v} {after = after} on paired asleep = record {
-    each = λ i e at outside. let same = on.each i e.0 (lies_there paired i at) outside in still_sleeps v after e same.1 (asleep.each i e at same.0);
+    each = λ i e at outside. let same = on.each i e.0 (lies_there paired i at) outside in still_sleeps v after e same.1
+        (asleep.each i e at same.0);
   }
 
   -- The connection at an index was served.
-  pub asleep_beside : {a b : Awake} {v after : ServerValue} {es now : List (ℕ × Peer W)} (words : List ℕ) (at id : ℕ) (was p : Peer W) → KeepsBeside id words v after → ArePaired v es → slice_get es at ≡ Some (id, was) → now ≡ set_value_at es at p
-      → ((i : ℕ) → i ≢ at → IsOutside b.set.words i → IsOutside a.set.words i × IsOutside words i) → (IsOutside b.set.words at → MaySleep (peer_status readable writable after (id, p))) → AreAsleep readable writable a v es → AreAsleep readable writable b after now
+  pub asleep_beside : {a b : Awake} {v after : ServerValue} {es now : List (ℕ × Peer W)} (words : List ℕ) (at id : ℕ)
+      (was p : Peer W) → KeepsBeside id words v after → ArePaired v es → slice_get es at ≡ Some (id, was)
+      → now ≡ set_value_at es at p
+      → ((i : ℕ) → i ≢ at → IsOutside b.set.words i → IsOutside a.set.words i × IsOutside words i)
+      → (IsOutside b.set.words at → MaySleep (peer_status readable writable after (id, p))) → AreAsleep readable
+      writable a v es → AreAsleep readable writable b after now
   asleep_beside {v = v} {after = after} {es = es} words at id was p keeps paired there is outside sleeps asleep = record {
     each = λ i e here out.
         elim (cases_eq i at) [
           | inl same ↦
-              let found : Some e ≡ Some (id, p) = sym here ∙ ap (λ (xs : List (ℕ × Peer W)). slice_get xs i) is ∙ ap (slice_get (set_value_at es at p)) same ∙ set_there es at p id was there in
+              let found : Some e ≡ Some (id, p) = sym here ∙ ap (λ (xs : List (ℕ × Peer W)). slice_get xs i) is ∙
+              ap (slice_get (set_value_at es at p)) same ∙ set_there es at p id was there in
               let entry : e ≡ (id, p) = cc in
               rw entry (sleeps (rw same at out))
           | inr apart ↦
-              let before : slice_get es i ≡ Some e = sym (each_written es at p i apart) ∙ sym (ap (λ (xs : List (ℕ × Peer W)). slice_get xs i) is) ∙ here in
+              let before : slice_get es i ≡ Some e = sym (each_written es at p i apart) ∙
+              sym (ap (λ (xs : List (ℕ × Peer W)). slice_get xs i) is) ∙ here in
               let parts = outside i apart out in
               let lies = lies_there paired i before in
-              let other : e.0 ≢ id = λ (same : e.0 ≡ id). apart (sym lies.index ∙ ap (λ k. position_or_len (nat_eq k) (keys_of v.sessions)) same ∙ (lies_there paired at there).index) in
+              let other : e.0 ≢ id = λ (same : e.0 ≡ id). apart (sym lies.index ∙ ap (λ k. position_or_len (nat_eq k)
+              (keys_of v.sessions)) same ∙ (lies_there paired at there).index) in
               still_sleeps v after e (keeps.work i e.0 lies other parts.1) (asleep.each i e before parts.0)
         ];
   }
 
   -- ---- an opened connection
 
-  module _ {v after : ServerValue} {es now : List (ℕ × Peer W)} {id : ℕ} (p : Peer W) (settled : AreSettled v.host v.sessions) (paired : ArePaired v es) (number : id ≡ v.ids + 1) (opened : after ≡ server_opened v)
-      (lies : LiesAt id (length v.sessions) after.sessions) (is : now ≡ insert_entry nat_eq es id p) (distinct : IsDistinct nat_eq (keys_of now)) where
+  module _ {v after : ServerValue} {es now : List (ℕ × Peer W)} {id : ℕ} (p : Peer W) (settled : AreSettled v.host
+      v.sessions) (paired : ArePaired v es) (number : id ≡ v.ids + 1) (opened : after ≡ server_opened v)
+      (lies : LiesAt id (length v.sessions) after.sessions) (is : now ≡ insert_entry nat_eq es id p)
+      (distinct : IsDistinct nat_eq (keys_of now)) where
     as_many : length es ≡ length v.sessions
     as_many = sym (length-keys_of es) ∙ ap length paired.keys ∙ length-keys_of v.sessions
 
@@ -193,20 +321,33 @@ module _ {W : Type 0} (readable writable : W → Option Bool) where
     last_one = is ∙ goes_last id p es (ap (position_or_len (nat_eq id)) (sym all_keys) ∙ lies.index ∙ sym as_many)
 
     pub paired_with_one : ArePaired after now
-    paired_with_one = record { keys = ap keys_of last_one ∙ map-append (λ e. e.0) es ((id, p) ∷ []) ∙ sym all_keys; distinct = distinct }
+    paired_with_one = record {
+      keys = ap keys_of last_one ∙ map-append (λ e. e.0) es ((id, p) ∷ []) ∙ sym all_keys;
+      distinct = distinct;
+    }
 
-    pub asleep_with_one : {a b : Awake} {count : ℕ} → count ≡ length es → (IsOutside b.set.words count → ⊥) → ((i : ℕ) → IsOutside b.set.words i → IsOutside a.set.words i) → AreAsleep readable writable a v es → AreAsleep readable writable b after now
+    pub asleep_with_one : {a b : Awake} {count : ℕ} → count ≡ length es → (IsOutside b.set.words count → ⊥)
+        → ((i : ℕ) → IsOutside b.set.words i → IsOutside a.set.words i) → AreAsleep readable writable a v es
+        → AreAsleep readable writable b after now
     asleep_with_one {count = count} counted awake kept asleep = record {
       each = λ i e here outside.
           let place : slice_get (es ++ (id, p) ∷ []) i ≡ Some e = rw last_one at here in
           elim (cases_lt i (length es)) [
             | inl early_on ↦
                 let apart : e.0 ≢ v.ids + 1 = λ (same : e.0 ≡ v.ids + 1).
-                let again : i ≡ length v.sessions = sym (lies_there paired_with_one i here).index ∙ ap (λ k. position_or_len (nat_eq k) (keys_of after.sessions)) (same ∙ sym number) ∙ lies.index in
+                let again : i ≡ length v.sessions = sym (lies_there paired_with_one i here).index ∙
+                ap (λ k. position_or_len (nat_eq k) (keys_of after.sessions)) (same ∙ sym number) ∙ lies.index in
                 omega (arith, again, early_on, as_many) in
-                still_sleeps v after e (rw opened (opened_keeps v settled e.0 apart)) (asleep.each i e (sym (early es ((id, p) ∷ []) i early_on) ∙ place) (kept i outside))
+                still_sleeps v after e (rw opened (opened_keeps v settled e.0 apart)) (asleep.each i e
+                (sym (early es ((id, p) ∷ []) i early_on) ∙ place) (kept i outside))
             | inr late ↦
-                let last : i ≡ count = omega (arith, late, counted, slice_get_within (es ++ (id, p) ∷ []) i e place, length-append es ((id, p) ∷ [])) in
+                let last : i ≡ count = omega (
+                  arith,
+                  late,
+                  counted,
+                  slice_get_within (es ++ (id, p) ∷ []) i e place,
+                  length-append es ((id, p) ∷ []),
+                ) in
                 absurd (awake (rw last at outside))
           ];
     }
@@ -214,39 +355,51 @@ module _ {W : Type 0} (readable writable : W → Option Bool) where
   -- ---- looks
 
   -- A look at the connection at an index.
-  pub looked_at : (v : ServerValue) (es : List (ℕ × Peer W)) (at : ℕ) {p : Peer W} {wants : PeerInterest} {ready : Bool} → IfSome (slice_get es at) (λ e. wants ≡ wants_of v e.0 e.1.rest) → slice_get (values_of es) at ≡ Some p → CanGoOn (status_with readable writable p.wire wants) ready
-      → (e : ℕ × Peer W) × (slice_get es at ≡ Some e) × (wants ≡ wants_of v e.0 e.1.rest) × CanGoOn (peer_status readable writable v e) ready
+  pub looked_at : (v : ServerValue) (es : List (ℕ × Peer W)) (at : ℕ) {p : Peer W} {wants : PeerInterest} {ready : Bool}
+      → IfSome (slice_get es at) (λ e. wants ≡ wants_of v e.0 e.1.rest) → slice_get (values_of es) at ≡ Some p
+      → CanGoOn (status_with readable writable p.wire wants) ready
+      → (e : ℕ × Peer W) × (slice_get es at ≡ Some e) × (wants ≡ wants_of v e.0 e.1.rest)
+      × CanGoOn (peer_status readable writable v e) ready
   looked_at v es at {p = p} {wants = wants} {ready = ready} is there can =
       let here = value_at es at p there in
       let so = rw here.1 at is in (
         here.0,
         here.1,
         so,
-        subst (λ (w : PeerInterest). CanGoOn (status_with readable writable here.0.1.wire w) ready) so (subst (λ (q : Peer W). CanGoOn (status_with readable writable q.wire wants) ready) (sym here.2) can),
+        subst (λ (w : PeerInterest). CanGoOn (status_with readable writable here.0.1.wire w) ready) so
+            (subst (λ (q : Peer W). CanGoOn (status_with readable writable q.wire wants) ready) (sym here.2) can),
       )
 
   module _ {a : Awake} {v : ServerValue} {es : List (ℕ × Peer W)} (asleep : AreAsleep readable writable a v es) where
     -- Nothing can be done on connections that sleep.
-    pub sleepers_skipped : {from to : ℕ} → ((i : ℕ) → from ≤ i → i < to → IsOutside a.set.words i) → (i : ℕ) → from ≤ i → i < to → IfSome (slice_get es i) (λ e. CanGoOn (peer_status readable writable v e) false)
-    sleepers_skipped outside i after below = elim (slice_get es i) as (λ o. slice_get es i ≡ o → IfSome o (λ e. CanGoOn (peer_status readable writable v e) false)) [
-      | None ↦ λ none. tt
-      | Some e ↦ λ here. idle_from (asleep.each i e here (outside i after below))
-    ] refl
+    pub sleepers_skipped : {from to : ℕ} → ((i : ℕ) → from ≤ i → i < to → IsOutside a.set.words i) → (i : ℕ) → from ≤ i
+        → i < to → IfSome (slice_get es i) (λ e. CanGoOn (peer_status readable writable v e) false)
+    sleepers_skipped outside i after below = elim (slice_get es i) as (λ o. slice_get es i ≡ o
+        → IfSome o (λ e. CanGoOn (peer_status readable writable v e) false)) [
+          | None ↦ λ none. tt
+          | Some e ↦ λ here. idle_from (asleep.each i e here (outside i after below))
+        ] refl
 
-    pub sleepers_rest : {from to : ℕ} → ((i : ℕ) → from ≤ i → i < to → IsOutside a.set.words i) → (i : ℕ) (s : PeerStatus) → slice_get (map (peer_status readable writable v) es) i ≡ Some s → from ≤ i → i < to → MaySleep s
+    pub sleepers_rest : {from to : ℕ} → ((i : ℕ) → from ≤ i → i < to → IsOutside a.set.words i)
+        → (i : ℕ) (s : PeerStatus) → slice_get (map (peer_status readable writable v) es) i ≡ Some s → from ≤ i → i < to
+        → MaySleep s
     sleepers_rest outside i s here after below =
-        let one = one_made (peer_status readable writable v) (slice_get es i) s (sym (slice_get-map (peer_status readable writable v) es i) ∙ here) in
+        let one = one_made (peer_status readable writable v) (slice_get es i) s
+        (sym (slice_get-map (peer_status readable writable v) es i) ∙ here) in
         rw (← one.2) (asleep.each i one.0 one.1 (outside i after below))
 
     -- A look at one connection may put it to sleep.
-    pub one_looked : {b : Awake} (at : ℕ) {e : ℕ × Peer W} {ready : Bool} {due : Option ℕ} → slice_get es at ≡ Some e → CanGoOn (peer_status readable writable v e) ready → due ≡ (wants_of v e.0 e.1.rest).due
-        → ((i : ℕ) → i ≢ at → IsOutside b.set.words i → IsOutside a.set.words i) → ((ready || is_some due) ≡ true → IsOutside b.set.words at → ⊥) → AreAsleep readable writable b v es
+    pub one_looked : {b : Awake} (at : ℕ) {e : ℕ × Peer W} {ready : Bool} {due : Option ℕ} → slice_get es at ≡ Some e
+        → CanGoOn (peer_status readable writable v e) ready → due ≡ (wants_of v e.0 e.1.rest).due
+        → ((i : ℕ) → i ≢ at → IsOutside b.set.words i → IsOutside a.set.words i) → ((ready || is_some due) ≡ true
+        → IsOutside b.set.words at → ⊥) → AreAsleep readable writable b v es
     one_looked {b = b} at {e = e} {ready = ready} there can is kept awake = record {
       each = λ i f here outside.
           elim (cases_eq i at) [
             | inl same ↦
                 let found : f ≡ e = cc (here, there, same) in
-                rw found (looked_sleeps b at (peer_status readable writable v e) ready can (rw is at awake) (rw same at outside))
+                rw found (looked_sleeps b at (peer_status readable writable v e) ready can (rw is at awake)
+                (rw same at outside))
             | inr apart ↦ asleep.each i f here (kept i apart outside)
           ];
     }

@@ -1,41 +1,121 @@
 -- The effect of a sweep, connection by connection.
-use Rattle.std.proofs.Common.{ℕ, ◌≡◌, ◌==◌, true, ◌+◌, ◌<◌, ◌≤◌, List, ◌++◌, length, take, drop, Option, Some, None, refl, sym, ap, ◌∙◌, arith, slice_get, IfSome, remove, append_assoc, option_map, subst}
+use Rattle.std.proofs.Common.{
+  ℕ,
+  ◌≡◌,
+  ◌==◌,
+  true,
+  ◌+◌,
+  ◌<◌,
+  ◌≤◌,
+  List,
+  ◌++◌,
+  length,
+  take,
+  drop,
+  Option,
+  Some,
+  None,
+  refl,
+  sym,
+  ap,
+  ◌∙◌,
+  arith,
+  slice_get,
+  IfSome,
+  remove,
+  append_assoc,
+  option_map,
+  subst,
+}
 use Rattle.std.proofs.lemmas.List.{append-nil, drop_all, take_all}
 use Rattle.std.proofs.lemmas.Option.{same_Some, slice_get-map}
 use Rattle.std.proofs.lemmas.Bool.Decides.{nat_tests}
-use Rattle.coap_serve.specs.Prelude.{IsReasonFor, outlook_of, keys_of, set_value_at, Peer, SilenceAction, LoopState, loop_state, Released, ServerValue, ArePaired, Continues, History, IsAccepted, Journal, history_then, no_history, one_call, one_drop, server_released, server_dropped, released_refusal, status_of, released_at, unswept, silence_action, acted, drop_one, due_sweep, Sweep, swept, swept_one, HasSwept, HasSweptAt}
+use Rattle.coap_serve.specs.Prelude.{
+  IsReasonFor,
+  outlook_of,
+  keys_of,
+  set_value_at,
+  Peer,
+  SilenceAction,
+  LoopState,
+  loop_state,
+  Released,
+  ServerValue,
+  ArePaired,
+  Continues,
+  History,
+  IsAccepted,
+  Journal,
+  history_then,
+  no_history,
+  one_call,
+  one_drop,
+  server_released,
+  server_dropped,
+  released_refusal,
+  status_of,
+  released_at,
+  unswept,
+  silence_action,
+  acted,
+  drop_one,
+  due_sweep,
+  Sweep,
+  swept,
+  swept_one,
+  HasSwept,
+  HasSweptAt,
+}
 use Rattle.coap_server_engine.specs.declared.monitor.DropReason.TheVariants as drop
 use Rattle.coap_serve.specs.declared.door.silence.SilenceAction.TheVariants.{Keep, Release}
-use Rattle.coap_serve.proofs.listener.EntryLemmas.{some_at_index, next_first, front_stays, back_removed, front_kept, front_written, back_written, length_written}
+use Rattle.coap_serve.proofs.listener.EntryLemmas.{
+  some_at_index,
+  next_first,
+  front_stays,
+  back_removed,
+  front_kept,
+  front_written,
+  back_written,
+  length_written,
+}
 use Rattle.coap_serve.proofs.listener.SleepLemmas.{paired_written}
 use Rattle.coap_serve.proofs.listener.ServingLemmas.{accepted_none, accepted_then, then_none}
 
 -- A value was recorded at the index.
-pub as_many_recorded : {X : Type 0} (f : ℕ × X → X) (es left : List (ℕ × X)) (i : ℕ) → i < length es → IfSome (slice_get es i) (λ e. left ≡ set_value_at es i (f e)) → length left ≡ length es
+pub as_many_recorded : {X : Type 0} (f : ℕ × X → X) (es left : List (ℕ × X)) (i : ℕ) → i < length es
+    → IfSome (slice_get es i) (λ e. left ≡ set_value_at es i (f e)) → length left ≡ length es
 as_many_recorded f es left i within is =
     let at = some_at_index es i within in
     let is_so : left ≡ set_value_at es i (f at.0) = rw at.1 at is in
     ap (λ (es : List _). length es) is_so ∙ length_written es i (f at.0)
 
 -- The entry at the index has the number.
-pub number_there : {X : Type 0} (es : List (ℕ × X)) (i : ℕ) {id : ℕ} {e : ℕ × X} → slice_get (keys_of es) i ≡ Some id → slice_get es i ≡ Some e → e.0 ≡ id
-number_there {X} es i {e = e} number at = same_Some _ _ (sym (slice_get-map (λ (e : ℕ × X). e.0) es i ∙ ap (λ (o : Option (ℕ × X)). option_map (λ e. e.0) o) at) ∙ number)
+pub number_there : {X : Type 0} (es : List (ℕ × X)) (i : ℕ) {id : ℕ} {e : ℕ × X} → slice_get (keys_of es) i ≡ Some id
+    → slice_get es i ≡ Some e → e.0 ≡ id
+number_there {X} es i {e = e} number at = same_Some _ _ (sym (slice_get-map (λ (e : ℕ × X). e.0) es i ∙
+    ap (λ (o : Option (ℕ × X)). option_map (λ e. e.0) o) at) ∙ number)
 
 -- The number of the entry at the index.
-pub its_number : {X : Type 0} (es : List (ℕ × X)) (i : ℕ) {e : ℕ × X} → slice_get es i ≡ Some e → slice_get (keys_of es) i ≡ Some e.0
-its_number {X} es i {e = e} at = slice_get-map (λ (e : ℕ × X). e.0) es i ∙ ap (λ (o : Option (ℕ × X)). option_map (λ e. e.0) o) at
+pub its_number : {X : Type 0} (es : List (ℕ × X)) (i : ℕ) {e : ℕ × X} → slice_get es i ≡ Some e → slice_get (keys_of es)
+    i ≡ Some e.0
+its_number {X} es i {e = e} at = slice_get-map (λ (e : ℕ × X). e.0) es i ∙ ap (λ (o : Option (ℕ × X)). option_map
+    (λ e. e.0) o) at
 
 -- ---- one connection
 
 -- Any connection may be dropped as silent.
-pub silent_reason : {W : Type 0} (v : ServerValue) (es : List (ℕ × Peer W)) (i : ℕ) → IfSome (slice_get es i) (λ e. IfSome (outlook_of v e.0) (IsReasonFor drop.Silent))
-silent_reason v es i = elim (slice_get es i) as (λ o. IfSome o (λ e. IfSome (outlook_of v e.0) (IsReasonFor drop.Silent))) [
-  | None ↦ tt
-  | Some e ↦ elim (outlook_of v e.0) as (λ o. IfSome o (IsReasonFor drop.Silent)) [ None ↦ tt | Some work ↦ tt ]
-]
+pub silent_reason : {W : Type 0} (v : ServerValue) (es : List (ℕ × Peer W)) (i : ℕ) → IfSome (slice_get es i)
+    (λ e. IfSome (outlook_of v e.0) (IsReasonFor drop.Silent))
+silent_reason v es i = elim (slice_get es i) as (λ o. IfSome o (λ e. IfSome (outlook_of v e.0)
+    (IsReasonFor drop.Silent))) [
+      | None ↦ tt
+      | Some e ↦ elim (outlook_of v e.0) as (λ o. IfSome o (IsReasonFor drop.Silent)) [ None ↦ tt | Some work ↦ tt ]
+    ]
 
-pub dropped_here : {W : Type 0} (Known : History → Type 0) (v after : ServerValue) (es left : List (ℕ × Peer W)) (i : ℕ) → i < length es → IfSome (slice_get (keys_of es) i) (λ id. after ≡ server_dropped v id) → left ≡ remove es i
-    → IfSome (slice_get (keys_of es) i) (λ id. IsAccepted Known v after (one_drop id)) → IfSome (slice_get es i) (λ e. HasSweptAt Known (drop_one v e) (loop_state v es) i (loop_state after left) i)
+pub dropped_here : {W : Type 0} (Known : History → Type 0) (v after : ServerValue) (es left : List (ℕ × Peer W)) (i : ℕ)
+    → i < length es → IfSome (slice_get (keys_of es) i) (λ id. after ≡ server_dropped v id) → left ≡ remove es i
+    → IfSome (slice_get (keys_of es) i) (λ id. IsAccepted Known v after (one_drop id)) → IfSome (slice_get es i)
+    (λ e. HasSweptAt Known (drop_one v e) (loop_state v es) i (loop_state after left) i)
 dropped_here Known v after es left i within dropped is accepted =
     let at = some_at_index es i within in
     rw at.1 (record {
@@ -44,9 +124,12 @@ dropped_here Known v after es left i within dropped is accepted =
       back = rw is (back_removed es i within);
     })
 
-module _ {W : Type 0} (Known : History → Type 0) (now : ℕ) (v after : ServerValue) (es left : List (ℕ × Peer W)) (i id : ℕ) (within : i < length es) (number : slice_get (keys_of es) i ≡ Some id) where
-  pub released_here : after ≡ server_released v id → IfSome (slice_get es i) (λ e. left ≡ set_value_at es i (released_at now e.1)) → IsAccepted Known v after (one_call (Released id)) → released_refusal v id ≡ None
-      → IfSome (slice_get es i) (λ e. HasSweptAt Known (acted Release (released_refusal v e.0) now v e) (loop_state v es) i (loop_state after left) (i + 1))
+module _ {W : Type 0} (Known : History → Type 0) (now : ℕ) (v after : ServerValue) (es left : List (ℕ × Peer W))
+    (i id : ℕ) (within : i < length es) (number : slice_get (keys_of es) i ≡ Some id) where
+  pub released_here : after ≡ server_released v id → IfSome (slice_get es i) (λ e. left ≡ set_value_at es i
+      (released_at now e.1)) → IsAccepted Known v after (one_call (Released id)) → released_refusal v id ≡ None
+      → IfSome (slice_get es i) (λ e. HasSweptAt Known (acted Release (released_refusal v e.0) now v e)
+      (loop_state v es) i (loop_state after left) (i + 1))
   released_here released is accepted may =
       let at = some_at_index es i within in
       let same : at.0.0 ≡ id = number_there es i number at.1 in
@@ -60,8 +143,10 @@ module _ {W : Type 0} (Known : History → Type 0) (now : ℕ) (v after : Server
       })
 
   -- `release` was refused, and the connection was dropped.
-  pub refused_here : (next : ℕ) (is_there : (refusal : _) × (released_refusal v id ≡ Some refusal)) → IfSome (slice_get es i) (λ e. HasSweptAt Known (drop_one v e) (loop_state v es) i (loop_state after left) next)
-      → IfSome (slice_get es i) (λ e. HasSweptAt Known (acted Release (released_refusal v e.0) now v e) (loop_state v es) i (loop_state after left) next)
+  pub refused_here : (next : ℕ) (is_there : (refusal : _) × (released_refusal v id ≡ Some refusal))
+      → IfSome (slice_get es i) (λ e. HasSweptAt Known (drop_one v e) (loop_state v es) i (loop_state after left) next)
+      → IfSome (slice_get es i) (λ e. HasSweptAt Known (acted Release (released_refusal v e.0) now v e)
+      (loop_state v es) i (loop_state after left) next)
   refused_here next is_there part =
       let at = some_at_index es i within in
       let same : at.0.0 ≡ id = number_there es i number at.1 in
@@ -69,43 +154,67 @@ module _ {W : Type 0} (Known : History → Type 0) (now : ℕ) (v after : Server
       rw (at.1, refused_so) (rw at.1 at part)
 
 -- The action is that of the rule.
-pub acted_here : {W : Type 0} (Known : History → Type 0) (idle now : ℕ) (s after : LoopState W) (i : ℕ) {e : ℕ × Peer W} (action : SilenceAction) (next : ℕ)
-    → slice_get s.entries i ≡ Some e → action ≡ silence_action idle now (status_of s.server e.0) e.1.activity → IfSome (slice_get s.entries i) (λ e. HasSweptAt Known (acted action (released_refusal s.server e.0) now s.server e) s i after next)
+pub acted_here : {W : Type 0} (Known : History → Type 0) (idle now : ℕ) (s after : LoopState W) (i : ℕ) {e : ℕ × Peer W}
+    (action : SilenceAction) (next : ℕ)
+    → slice_get s.entries i ≡ Some e → action ≡ silence_action idle now (status_of s.server e.0) e.1.activity
+    → IfSome (slice_get s.entries i) (λ e. HasSweptAt Known (acted action (released_refusal s.server e.0) now
+    s.server e) s i after next)
     → IfSome (slice_get s.entries i) (λ e. HasSweptAt Known (swept_one idle now s.server e) s i after next)
 acted_here Known idle now s after i action next at is part = rw (at, ← is) (rw at at part)
 
 -- The connection stays.
-pub kept_here : {W : Type 0} (a : Journal) (now : ℕ) (s : LoopState W) (i : ℕ) → i < length s.entries → IfSome (slice_get s.entries i) (λ e. HasSweptAt (Continues a a) (acted Keep (released_refusal s.server e.0) now s.server e) s i s (i + 1))
+pub kept_here : {W : Type 0} (a : Journal) (now : ℕ) (s : LoopState W) (i : ℕ) → i < length s.entries
+    → IfSome (slice_get s.entries i) (λ e. HasSweptAt (Continues a a) (acted Keep (released_refusal s.server e.0) now
+    s.server e) s i s (i + 1))
 kept_here a now s i within =
     let at = some_at_index s.entries i within in
-    rw at.1 (record { has = record { server = refl; accepted = accepted_none a s.server s.server refl }; front = front_kept s.entries i at.0 at.1; back = refl })
+    rw at.1 (record {
+      has = record { server = refl; accepted = accepted_none a s.server s.server refl };
+      front = front_kept s.entries i at.0 at.1;
+      back = refl;
+    })
 
 -- ---- pairs
 
-pub paired_released : {W : Type 0} (now : ℕ) {v after : ServerValue} (i : ℕ) {es left : List (ℕ × Peer W)} → keys_of after.sessions ≡ keys_of v.sessions → i < length es → IfSome (slice_get es i) (λ e. left ≡ set_value_at es i (released_at now e.1)) → ArePaired v es → ArePaired after left
-paired_released now i {es = es} keys within is paired = let at = some_at_index es i within in paired_written paired i (released_at now at.0.1) keys (rw at.1 at is)
+pub paired_released : {W : Type 0} (now : ℕ) {v after : ServerValue} (i : ℕ) {es left : List (ℕ × Peer W)}
+    → keys_of after.sessions ≡ keys_of v.sessions → i < length es → IfSome (slice_get es i) (λ e. left ≡ set_value_at es
+    i (released_at now e.1)) → ArePaired v es → ArePaired after left
+paired_released now i {es = es} keys within is paired = let at = some_at_index es i within in paired_written paired i
+    (released_at now at.0.1) keys (rw at.1 at is)
 
 -- ---- all connections
 
 -- The part of a sweep with the effect `s` that was made: `front` are the entries that were visited, and `rest` those
 -- still to visit.
-pub record IsSweptTo {W : Type 0} (Known : History → Type 0) (s : Sweep W) (idle now : ℕ) (u v : ServerValue) (front rest : List (ℕ × Peer W)) : Type 0 where
+pub record IsSweptTo {W : Type 0} (Known : History → Type 0) (s : Sweep W) (idle now : ℕ) (u v : ServerValue)
+    (front rest : List (ℕ × Peer W)) : Type 0 where
   pub history : History
   pub accepted : IsAccepted Known u v history
   pub server : (swept idle now v rest).server ≡ s.server
   pub entries : front ++ (swept idle now v rest).entries ≡ s.entries
   pub made : history_then history (swept idle now v rest).history ≡ s.history
 
-pub none_swept : {W : Type 0} (a : Journal) {idle now : ℕ} {v : ServerValue} (es : List (ℕ × Peer W)) → IsSweptTo (Continues a a) (swept idle now v es) idle now v v (take 0 es) (drop 0 es)
-none_swept a {v = v} es = record { history = no_history; accepted = accepted_none a v v refl; server = refl; entries = refl; made = refl }
+pub none_swept : {W : Type 0} (a : Journal) {idle now : ℕ} {v : ServerValue} (es : List (ℕ × Peer W))
+    → IsSweptTo (Continues a a) (swept idle now v es) idle now v v (take 0 es) (drop 0 es)
+none_swept a {v = v} es = record {
+  history = no_history;
+  accepted = accepted_none a v v refl;
+  server = refl;
+  entries =
+      refl;
+  made = refl;
+}
 
-pub one_more_swept : {W : Type 0} {a b c : Journal} {s : Sweep W} (idle now : ℕ) {u v w : ServerValue} (es left : List (ℕ × Peer W)) (i at : ℕ) → i < length es
-    → IsSweptTo (Continues a b) s idle now u v (take i es) (drop i es) → IfSome (slice_get es i) (λ e. HasSweptAt (Continues b c) (swept_one idle now v e) (loop_state v es) i (loop_state w left) at)
+pub one_more_swept : {W : Type 0} {a b c : Journal} {s : Sweep W} (idle now : ℕ) {u v w : ServerValue} (es left : List
+    (ℕ × Peer W)) (i at : ℕ) → i < length es
+    → IsSweptTo (Continues a b) s idle now u v (take i es) (drop i es) → IfSome (slice_get es i) (λ e. HasSweptAt
+    (Continues b c) (swept_one idle now v e) (loop_state v es) i (loop_state w left) at)
     → IsSweptTo (Continues a c) s idle now u w (take at left) (drop at left)
 unfolding swept
 one_more_swept {b = b} {c = c} idle now {v = v} {w = w} es left i at within so_far part =
     let there = some_at_index es i within in
-    let one : HasSweptAt (Continues b c) (swept_one idle now v there.0) (loop_state v es) i (loop_state w left) at = rw there.1 at part in
+    let one : HasSweptAt (Continues b c) (swept_one idle now v there.0) (loop_state v es) i (loop_state w left) at = rw
+    there.1 at part in
     let before = rw (next_first es i there.1) at so_far in
     rw (one.front, one.back, one.has.server) (record {
       history = history_then before.history (swept_one idle now v there.0).history;
@@ -115,21 +224,27 @@ one_more_swept {b = b} {c = c} idle now {v = v} {w = w} es left i at within so_f
       made = rw (append_assoc, append_assoc) before.made;
     })
 
-pub all_swept : {W : Type 0} {Known : History → Type 0} {s : Sweep W} {idle now : ℕ} {u v : ServerValue} (es : List (ℕ × Peer W)) (i : ℕ) → length es ≤ i → IsSweptTo Known s idle now u v (take i es) (drop i es)
+pub all_swept : {W : Type 0} {Known : History → Type 0} {s : Sweep W} {idle now : ℕ} {u v : ServerValue}
+    (es : List (ℕ × Peer W)) (i : ℕ) → length es ≤ i → IsSweptTo Known s idle now u v (take i es) (drop i es)
     → HasSwept Known s u v × (es ≡ s.entries)
 unfolding swept
 all_swept {Known = Known} {s = s} {u = u} {v = v} es i most so_far =
     let done = rw (drop_all i es most, take_all i es most) at so_far in
-    let same : done.history ≡ s.history = sym (then_none) ∙ done.made in
-    (record { server = done.server; accepted = subst (IsAccepted Known u v) same done.accepted }, rw append-nil at done.entries)
+    let same : done.history ≡ s.history = sym (then_none) ∙ done.made in (
+      record { server = done.server; accepted = subst (IsAccepted Known u v) same done.accepted },
+      rw append-nil at
+          done.entries,
+    )
 
 -- ---- no sweep
 
-pub unswept_made : {W : Type 0} (a : Journal) {v : ServerValue} (es : List (ℕ × Peer W)) → HasSwept (Continues a a) (unswept v es) v v
+pub unswept_made : {W : Type 0} (a : Journal) {v : ServerValue} (es : List (ℕ × Peer W)) → HasSwept (Continues a a)
+    (unswept v es) v v
 unswept_made a {v = v} es = record { server = refl; accepted = accepted_none a v v refl }
 
 -- The sweep of this second was made.
-pub made_before : {W : Type 0} (a : Journal) (idle : Option ℕ) {last second : ℕ} {v : ServerValue} (es : List (ℕ × Peer W)) → second ≡ last → HasSwept (Continues a a) (due_sweep idle last second v es) v v
+pub made_before : {W : Type 0} (a : Journal) (idle : Option ℕ) {last second : ℕ} {v : ServerValue}
+    (es : List (ℕ × Peer W)) → second ≡ last → HasSwept (Continues a a) (due_sweep idle last second v es) v v
 made_before a None {v = v} es same = unswept_made a es
 made_before a (Some idle) {last = last} {second = second} {v = v} es same =
     let is : (second == last) ≡ true = grind (arith, nat_tests) in

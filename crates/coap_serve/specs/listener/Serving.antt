@@ -1,17 +1,80 @@
 -- Defined by this project: one turn of the event loop, its history, and how each connection is served in it.
-use Rattle.std.specs.Prelude.{ℕ, ◌≡◌, ◌⊎◌, ◌+◌, Bool, true, false, List, [], ◌∷◌, ◌++◌, map, take, drop, slice_get, Option, Some, None, is_none, is_some, nat_eq, if◌then◌else◌}
-use Rattle.coap_server_engine.specs.Prelude.{insert_entry, AcceptedCall, Opened, Wrote, Ended, Answering, Following, open_refusal}
+use Rattle.std.specs.Prelude.{
+  ℕ,
+  ◌≡◌,
+  ◌⊎◌,
+  ◌+◌,
+  Bool,
+  true,
+  false,
+  List,
+  [],
+  ◌∷◌,
+  ◌++◌,
+  map,
+  take,
+  drop,
+  slice_get,
+  Option,
+  Some,
+  None,
+  is_none,
+  is_some,
+  nat_eq,
+  if◌then◌else◌,
+}
+use Rattle.coap_server_engine.specs.Prelude.{
+  insert_entry,
+  AcceptedCall,
+  Opened,
+  Wrote,
+  Ended,
+  Answering,
+  Following,
+  open_refusal,
+}
 use Rattle.coap_io.specs.streams.DeviceTraces.{DoorCall, Asked}
 use Rattle.coap_io.specs.streams.Wires.{MatchesTrace, WireTrace, trace_by}
 use Rattle.coap_io.specs.declared.wire.Got.{Got}
 use Rattle.coap_io.specs.declared.wire.Wait.{Wait}
 use Rattle.coap_server_engine.specs.values.ApplicationCalls.{IsPartlyServed, IsServed as IsServedWith}
-use Rattle.coap_server_engine.specs.values.Servers.{ServerValue, server_opened, server_dropped, server_ended, server_written}
+use Rattle.coap_server_engine.specs.values.Servers.{
+  ServerValue,
+  server_opened,
+  server_dropped,
+  server_ended,
+  server_written,
+}
 use Rattle.coap_serve.specs.declared.door.peer.PeerOutcome.{PeerOutcome}
 use Rattle.coap_serve.specs.declared.door.peer.PeerOutcome.TheVariants.{Open, Over}
 use Rattle.coap_serve.specs.declared.door.peer.Peer.{Peer}
-use Rattle.coap_serve.specs.listener.Histories.{AreCallsBetween, AreSteps, HasAccepted, History, IsAccepted, history_then, no_history, one_call, one_drop}
-use Rattle.coap_serve.specs.listener.Turns.{CanGoOn, IsServedOnceBy, IsTakenWith, IsWaitAfter, PeerStatus, Readiness, Taking, VisitResult, VisitState, activity_after, have_moved, new_activity, peer_status, visit_state}
+use Rattle.coap_serve.specs.listener.Histories.{
+  AreCallsBetween,
+  AreSteps,
+  HasAccepted,
+  History,
+  IsAccepted,
+  history_then,
+  no_history,
+  one_call,
+  one_drop,
+}
+use Rattle.coap_serve.specs.listener.Turns.{
+  CanGoOn,
+  IsServedOnceBy,
+  IsTakenWith,
+  IsWaitAfter,
+  PeerStatus,
+  Readiness,
+  Taking,
+  VisitResult,
+  VisitState,
+  activity_after,
+  have_moved,
+  new_activity,
+  peer_status,
+  visit_state,
+}
 
 -- ---- steps
 
@@ -19,7 +82,8 @@ use Rattle.coap_serve.specs.listener.Turns.{CanGoOn, IsServedOnceBy, IsTakenWith
 pub record AreTakenWith (v after : ServerValue) (h : History) : Type 0 where
   pub id : ℕ
   pub bytes : List ℕ
-  pub how : ((count : ℕ) × IsServedWith v id bytes count after (λ all. h.events ≡ all) (λ all. h.exchanges ≡ all)) ⊎ IsPartlyServed v id bytes after (λ all. h.events ≡ all) (λ all. h.exchanges ≡ all)
+  pub how : ((count : ℕ) × IsServedWith v id bytes count after (λ all. h.events ≡ all) (λ all. h.exchanges ≡ all))
+      ⊎ IsPartlyServed v id bytes after (λ all. h.events ≡ all) (λ all. h.exchanges ≡ all)
 
 -- A step of serving connections: a call that passes bytes, an end of input, a write, or the end of a connection.
 pub data IsVisitStep (v : ServerValue) : ServerValue → History → Type 0 where
@@ -81,8 +145,13 @@ pub record Views (W : Type 0) : Type 0 where
   pub trace : W → WireTrace
 
 -- The same, by the ghost members of the type.
-abbrev pub views_of : {W : Type 0} (readable writable : W → Option Bool) (given written : W → Option (List ℕ)) (answers : W → Option (List Got)) (rooms : W → Option (List ℕ)) → Views W
-views_of readable writable given written answers rooms = record { readable = readable; writable = writable; trace = trace_by given written answers rooms }
+abbrev pub views_of : {W : Type 0} (readable writable : W → Option Bool) (given written : W → Option (List ℕ))
+    (answers : W → Option (List Got)) (rooms : W → Option (List ℕ)) → Views W
+views_of readable writable given written answers rooms = record {
+  readable = readable;
+  writable = writable;
+  trace = trace_by given written answers rooms;
+}
 
 -- The way in which connections are served: the effect of received bytes, the time of the turn, and the records of the
 -- wires.
@@ -122,14 +191,20 @@ pub record Visit (W : Type 0) : Type 0 where
   pub result : VisitResult
 
 abbrev pub visit : {W : Type 0} → ServerValue → Peer W → PeerOutcome → History → Visit W
-visit server peer outcome h = record { server = server; peer = peer; result = record { outcome = outcome; history = h } }
+visit server peer outcome h = record {
+  server = server;
+  peer = peer;
+  result = record { outcome = outcome; history = h };
+}
 
 abbrev pub state_at : {W : Type 0} (trace : W → WireTrace) → ServerValue → Peer W → VisitState
 state_at trace v p = visit_state v p.rest (trace p.wire)
 
 -- A connection was served once, by `takes`: a read if one is due, then processing, then a write if bytes are queued.
-abbrev pub IsServedBy : {W : Type 0} (takes : Taking) (trace : W → WireTrace) (ready : Readiness) → ServerValue → ℕ × Peer W → Visit W → Type 0
-IsServedBy takes trace ready v e x = IsServedOnceBy takes ready e.0 (state_at trace v e.1) (state_at trace x.server x.peer) x.result
+abbrev pub IsServedBy : {W : Type 0} (takes : Taking) (trace : W → WireTrace) (ready : Readiness) → ServerValue → ℕ
+    × Peer W → Visit W → Type 0
+IsServedBy takes trace ready v e x = IsServedOnceBy takes ready e.0 (state_at trace v e.1) (state_at trace x.server
+    x.peer) x.result
 
 -- The times of the connection follow from the calls of a visit.
 abbrev pub AreTimesAfter : {W : Type 0} (second : ℕ) → Peer W → Visit W → Type 0
@@ -147,7 +222,8 @@ pub record IsVisited {W : Type 0} (S : Way W) (v : ServerValue) (e : ℕ × Peer
 -- A connection was served in a turn, and was dropped if its outcome is `Over`. Its wire was read and written at no
 -- other time. The history is that of the visit, followed by that of the drop. If the connection was dropped, its wire
 -- is gone, and a fitting one exists.
-pub record IsServedInTurn {W : Type 0} (S : Way W) (v : ServerValue) (e : ℕ × Peer W) (after : LoopState W) (h : History) : Type 0 where
+pub record IsServedInTurn {W : Type 0} (S : Way W) (v : ServerValue) (e : ℕ × Peer W) (after : LoopState W)
+    (h : History) : Type 0 where
   pub its : Visit W
   pub part : IsVisited S v e its
   pub server : after.server ≡ server_left its.result.outcome its.server e.0
@@ -156,7 +232,8 @@ pub record IsServedInTurn {W : Type 0} (S : Way W) (v : ServerValue) (e : ℕ ×
 
 -- The connection at an index was served, because something could be done on it, and the turn continues at the index
 -- `at`. The connections before and after it are unchanged.
-pub record HasGoneOn {W : Type 0} (S : Way W) (s : LoopState W) (i : ℕ) (after : LoopState W) (at : ℕ) (h : History) : Type 0 where
+pub record HasGoneOn {W : Type 0} (S : Way W) (s : LoopState W) (i : ℕ) (after : LoopState W) (at : ℕ) (h : History) :
+    Type 0 where
   pub e : ℕ × Peer W
   pub its : List (ℕ × Peer W)
   pub there : slice_get s.entries i ≡ Some e
@@ -171,11 +248,15 @@ pub record HasGoneOn {W : Type 0} (S : Way W) (s : LoopState W) (i : ℕ) (after
 -- The history is that of the served connections, in order. A connection that is skipped has none.
 pub data AreServed {W : Type 0} (S : Way W) : LoopState W → LoopState W → History → Type 0 where
   NoMore : (v : ServerValue) → AreServed S (loop_state v []) (loop_state v []) no_history
-  Skipped : (v : ServerValue) (e : ℕ × Peer W) (es : List (ℕ × Peer W)) (after : LoopState W) (h : History) → CanGoOn (status_of_peer S v e) false
-      → AreServed S (loop_state v es) after h → AreServed S (loop_state v (e ∷ es)) (loop_state after.server (e ∷ after.entries)) h
-  Visited : (v : ServerValue) (e : ℕ × Peer W) (es : List (ℕ × Peer W)) (between : LoopState W) (own : History) (after : LoopState W) (h : History) → CanGoOn (status_of_peer S v e) true
+  Skipped : (v : ServerValue) (e : ℕ × Peer W) (es : List (ℕ × Peer W)) (after : LoopState W) (h : History)
+      → CanGoOn (status_of_peer S v e) false
+      → AreServed S (loop_state v es) after h → AreServed S (loop_state v (e ∷ es)) (loop_state after.server
+      (e ∷ after.entries)) h
+  Visited : (v : ServerValue) (e : ℕ × Peer W) (es : List (ℕ × Peer W)) (between : LoopState W) (own : History)
+      (after : LoopState W) (h : History) → CanGoOn (status_of_peer S v e) true
       → IsServedInTurn S v e between own → AreServed S (loop_state between.server es) after h
-      → AreServed S (loop_state v (e ∷ es)) (loop_state after.server (between.entries ++ after.entries)) (history_then own h)
+      → AreServed S (loop_state v (e ∷ es)) (loop_state after.server (between.entries ++ after.entries))
+      (history_then own h)
 
 -- ---- a turn
 
@@ -205,7 +286,8 @@ IsAskedOnce {W} door v = (handed : Option W) × door (asked_by v handed)
 
 -- The listener was asked, and a connection was opened for the wire that it returned, or none was. `door` states which
 -- calls the listener had.
-pub record IsOpening {W : Type 0} (second : ℕ) (door : List (DoorCall W) → Type 0) (s after : LoopState W) (opens : Bool) : Type 0 where
+pub record IsOpening {W : Type 0} (second : ℕ) (door : List (DoorCall W) → Type 0) (s after : LoopState W)
+    (opens : Bool) : Type 0 where
   pub handed : Option W
   pub asked : door (asked_by s.server handed)
   pub opened : AreOpened second handed s after

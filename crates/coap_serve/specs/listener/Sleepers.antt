@@ -29,17 +29,22 @@ pub record MaySleep (e : PeerStatus) : Type 0 where
   pub never : e.wants.due ≡ None
 
 -- Each connection that sleeps may do so, by its present interest.
-pub record AreAsleep {W : Type 0} (readable writable : W → Option Bool) (a : Awake) (v : ServerValue) (es : List (ℕ × Peer W)) : Type 0 where
-  pub each : (i : ℕ) (e : ℕ × Peer W) → slice_get es i ≡ Some e → IsOutside a.set.words i → MaySleep (peer_status readable writable v e)
+pub record AreAsleep {W : Type 0} (readable writable : W → Option Bool) (a : Awake) (v : ServerValue)
+    (es : List (ℕ × Peer W)) : Type 0 where
+  pub each : (i : ℕ) (e : ℕ × Peer W) → slice_get es i ≡ Some e → IsOutside a.set.words i
+      → MaySleep (peer_status readable writable v e)
 
 -- The connections beside the one with this number have the same work left, outside of a set with these words. No
 -- connection was added, removed or moved.
 pub record KeepsBeside (id : ℕ) (words : List ℕ) (v after : ServerValue) : Type 0 where
   pub keys : keys_of after.sessions ≡ keys_of v.sessions
-  pub work : (i other : ℕ) → LiesAt other i v.sessions → other ≢ id → IsOutside words i → outlook_of after other ≡ outlook_of v other
+  pub work : (i other : ℕ) → LiesAt other i v.sessions → other ≢ id → IsOutside words i → outlook_of after other ≡
+      outlook_of v other
 
--- The awake connections became those of `b` when the server became `after`. Each connection that sleeps now did so before,
+-- The awake connections became those of `b` when the server became `after`. Each connection that sleeps now did so
+-- before,
 -- and has the same work left. No connection was added, removed or moved.
 pub record SleepOn (a b : Awake) (v after : ServerValue) : Type 0 where
   pub keys : keys_of after.sessions ≡ keys_of v.sessions
-  pub each : (i id : ℕ) → LiesAt id i v.sessions → IsOutside b.set.words i → IsOutside a.set.words i × (outlook_of after id ≡ outlook_of v id)
+  pub each : (i id : ℕ) → LiesAt id i v.sessions → IsOutside b.set.words i → IsOutside a.set.words i
+      × (outlook_of after id ≡ outlook_of v id)

@@ -1,5 +1,17 @@
 use Rattle.std.proofs.Common.{sym, ap, subst, ◌∙◌, ◌||◌, nat_lt}
-use Rattle.coap_serve.specs.Prelude.{IsCourseFor, IsTakenWith, outlook_of, activity_after, course_of, has_written, is_over_in, readiness, state_at, trace_by, visit_state}
+use Rattle.coap_serve.specs.Prelude.{
+  IsCourseFor,
+  IsTakenWith,
+  outlook_of,
+  activity_after,
+  course_of,
+  has_written,
+  is_over_in,
+  readiness,
+  state_at,
+  trace_by,
+  visit_state,
+}
 use Rattle.coap_serve.proofs.listener.PeerLemmas.{failed_read_is_a_part, read_failed, steps_are_a_part, write_reason}
 use Rattle.coap_serve.proofs.listener.SleepLemmas.{beside_heard, beside_served}
 use Rattle.coap_serve.proofs.listener.ServingLemmas.{both_made, heard_served, wrote_served}
@@ -7,16 +19,20 @@ use Rattle.coap_server_engine.proofs.values.ServerLemmas.{lies_still}
 use Rattle.coap_serve.proofs.door.peer.serve_peer.Goals as goal
 
 pub returns-then-failed-clause-shows : goal.returns-then-failed-clause-shows
-returns-then-failed-clause-shows g c = heard_served c.args.index.id c.read_wire-heard.result c.read_wire-heard.ensures.server c.read_wire-heard.ensures.accepted
+returns-then-failed-clause-shows g c = heard_served c.args.index.id c.read_wire-heard.result
+    c.read_wire-heard.ensures.server c.read_wire-heard.ensures.accepted
 
 pub returns-in_err-taken-clause-shows : goal.returns-in_err-taken-clause-shows
 returns-in_err-taken-clause-shows g c =
-    both_made (heard_served c.args.index.id c.read_wire-heard.result c.read_wire-heard.ensures.server c.read_wire-heard.ensures.accepted) c.take_buffered.ensures.shows
+    both_made (heard_served c.args.index.id c.read_wire-heard.result c.read_wire-heard.ensures.server
+    c.read_wire-heard.ensures.accepted) c.take_buffered.ensures.shows
 
 pub returns-clause-shows : goal.returns-clause-shows
 returns-clause-shows g c =
-    both_made (heard_served c.args.index.id c.read_wire-heard.result c.read_wire-heard.ensures.server c.read_wire-heard.ensures.accepted)
-    (both_made c.take_buffered.ensures.shows (wrote_served c.args.index.id c.write_once-wrote.result c.write_once-wrote.ensures.server c.write_once-wrote.ensures.accepted))
+    both_made (heard_served c.args.index.id c.read_wire-heard.result c.read_wire-heard.ensures.server
+    c.read_wire-heard.ensures.accepted)
+    (both_made c.take_buffered.ensures.shows (wrote_served c.args.index.id c.write_once-wrote.result
+    c.write_once-wrote.ensures.server c.write_once-wrote.ensures.accepted))
 
 pub returns-clause-part : goal.returns-clause-part
 returns-clause-part g c =
@@ -24,39 +40,59 @@ returns-clause-part g c =
     let heard = c.read_wire-heard.ensures in
     let wrote = c.write_once-wrote.ensures in
     steps_are_a_part (IsTakenWith g.A.Application.follows) (readiness c.args.may_read c.args.may_write) c.args.index.id
-    (state_at trace c.args.server.now c.args.peer.now) (visit_state c.write_once-wrote.new.server c.take_buffered.new.rest (trace c.write_once-wrote.new.wire)) c.read_wire-heard.new.peer.rest (trace c.read_wire-heard.new.peer.wire) c.read_wire-heard.result c.write_once-wrote.result _
-    (g.A.Application.follows c.args.application.now) (g.A.Application.follows c.take_buffered.new.application) c.args.second c.in_ok-taken.taken.count c.args.peer.now.activity
+    (state_at trace c.args.server.now c.args.peer.now) (visit_state c.write_once-wrote.new.server
+    c.take_buffered.new.rest (trace c.write_once-wrote.new.wire)) c.read_wire-heard.new.peer.rest
+    (trace c.read_wire-heard.new.peer.wire) c.read_wire-heard.result c.write_once-wrote.result _
+    (g.A.Application.follows c.args.application.now) (g.A.Application.follows c.take_buffered.new.application)
+    c.args.second c.in_ok-taken.taken.count c.args.peer.now.activity
     heard.server heard.laid (sym c.failed.ensures ∙ c.if-failed.false) c.in_ok-taken.ensures.taken
     (record {
       idle = λ none. let same = wrote.idle none in (same.1, ap trace same.0);
-      busy = λ some. record { within = wrote.within; took = wrote.wrote some; gave = wrote.gave some; answered = wrote.answered some; no_read = wrote.no_read some };
+      busy = λ some. record {
+        within = wrote.within;
+        took = wrote.wrote some;
+        gave = wrote.gave some;
+        answered =
+            wrote.answered some;
+        no_read = wrote.no_read some;
+      };
     })
-    wrote.server (c.outcome.ensures ∙ ap (course_of c.write_once-wrote.result) (ap is_over_in (sym c.outlook_at-work.ensures)))
+    wrote.server (c.outcome.ensures ∙ ap (course_of c.write_once-wrote.result) (ap is_over_in
+    (sym c.outlook_at-work.ensures)))
     heard.accepted wrote.accepted
-    (c.after-activity.ensures ∙ ap (λ moved. activity_after c.args.second moved c.read_wire-heard.new.peer.activity) c.has_moved-moved.ensures
-    ∙ ap (λ a. activity_after c.args.second (nat_lt 0 c.in_ok-taken.taken.count || has_written c.write_once-wrote.result) a) heard.activity)
+    (c.after-activity.ensures ∙ ap (λ moved. activity_after c.args.second moved c.read_wire-heard.new.peer.activity)
+    c.has_moved-moved.ensures
+    ∙ ap (λ a. activity_after c.args.second (nat_lt 0 c.in_ok-taken.taken.count || has_written
+    c.write_once-wrote.result) a) heard.activity)
 
 pub returns-clause-kept : goal.returns-clause-kept
-returns-clause-kept g c = beside_served c.args.index.id c.read_wire-heard.ensures.kept c.in_ok-taken.ensures.kept c.write_once-wrote.ensures.kept
+returns-clause-kept g c = beside_served c.args.index.id c.read_wire-heard.ensures.kept c.in_ok-taken.ensures.kept
+    c.write_once-wrote.ensures.kept
 
 pub returns-then-failed-clause-kept : goal.returns-then-failed-clause-kept
 returns-then-failed-clause-kept g c = beside_heard c.args.index.id c.read_wire-heard.ensures.kept
 
 -- The connection stays at its index.
 pub outlook_at-requires : goal.outlook_at-requires
-outlook_at-requires g c = lies_still c.args.index.id c.args.index.at c.args.server.now.sessions c.read_wire-heard.new.server.sessions c.read_wire-heard.ensures.kept.keys c.requires.lies
+outlook_at-requires g c = lies_still c.args.index.id c.args.index.at c.args.server.now.sessions
+    c.read_wire-heard.new.server.sessions c.read_wire-heard.ensures.kept.keys c.requires.lies
 
 pub outlook_at-work-requires : goal.outlook_at-work-requires
 outlook_at-work-requires g c =
     lies_still c.args.index.id c.args.index.at c.args.server.now.sessions c.write_once-wrote.new.server.sessions
-    (c.write_once-wrote.ensures.kept.keys ∙ c.in_ok-taken.ensures.kept.keys ∙ c.read_wire-heard.ensures.kept.keys) c.requires.lies
+    (c.write_once-wrote.ensures.kept.keys ∙ c.in_ok-taken.ensures.kept.keys ∙ c.read_wire-heard.ensures.kept.keys)
+    c.requires.lies
 
 pub returns-then-failed-clause-part : goal.returns-then-failed-clause-part
 returns-then-failed-clause-part g c =
     let trace = trace_by g.W.Wire.given g.W.Wire.written g.W.Wire.answers g.W.Wire.rooms in
-    failed_read_is_a_part (IsTakenWith g.A.Application.follows) (readiness c.args.may_read c.args.may_write) c.args.index.id
-    (state_at trace c.args.server.now c.args.peer.now) (state_at trace c.read_wire-heard.new.server c.read_wire-heard.new.peer) c.read_wire-heard.new.peer.rest c.read_wire-heard.result (g.A.Application.follows c.args.application.now) c.args.second
-    c.read_wire-heard.ensures.server c.read_wire-heard.ensures.laid (sym c.failed.ensures ∙ c.if-failed.true) c.read_wire-heard.ensures.accepted c.read_wire-heard.ensures.activity
+    failed_read_is_a_part (IsTakenWith g.A.Application.follows) (readiness c.args.may_read c.args.may_write)
+    c.args.index.id
+    (state_at trace c.args.server.now c.args.peer.now) (state_at trace c.read_wire-heard.new.server
+    c.read_wire-heard.new.peer) c.read_wire-heard.new.peer.rest c.read_wire-heard.result (g.A.Application.follows
+    c.args.application.now) c.args.second
+    c.read_wire-heard.ensures.server c.read_wire-heard.ensures.laid (sym c.failed.ensures ∙ c.if-failed.true)
+    c.read_wire-heard.ensures.accepted c.read_wire-heard.ensures.activity
 
 -- The reason of a drop is right: a failed read was due, and a failed write leaves bytes queued.
 pub returns-then-failed-clause-reason : goal.returns-then-failed-clause-reason
@@ -70,5 +106,7 @@ pub returns-clause-reason : goal.returns-clause-reason
 returns-clause-reason g c =
     let wrote = c.write_once-wrote.ensures in
     rw c.outcome.ensures
-    (subst (λ over. IsCourseFor (course_of c.write_once-wrote.result over) (outlook_of c.write_once-wrote.new.server c.args.index.id)) (ap is_over_in c.outlook_at-work.ensures)
-    (write_reason c.args.may_write c.take_buffered.new.server c.args.index.id c.write_once-wrote.result wrote.server (λ none. (wrote.idle none).1)))
+    (subst (λ over. IsCourseFor (course_of c.write_once-wrote.result over) (outlook_of c.write_once-wrote.new.server
+    c.args.index.id)) (ap is_over_in c.outlook_at-work.ensures)
+    (write_reason c.args.may_write c.take_buffered.new.server c.args.index.id c.write_once-wrote.result wrote.server
+    (λ none. (wrote.idle none).1)))
