@@ -4,7 +4,7 @@ The file tests/mutants/last_runs has a line for each crate: `CRATE: COMMIT, DATE
 of all crates that it tried and of which no edit failed. It writes nothing if a file of crates or tests differed from the
 commit during the run. The file is committed with the next change. So all edits can be tried in one run, or in several.
 
-A crate differs from its run in each of these cases. Comments do not count.
+A crate differs from its run in each of these cases. Comments and white space do not count.
 
 - It has no line.
 - A file of its src, specs or proofs differs, or one of its edits.
@@ -14,6 +14,7 @@ A crate differs from its run in each of these cases. Comments do not count.
 
 import contextlib
 import datetime
+import functools
 import io
 import os
 import re
@@ -32,9 +33,9 @@ LINE = re.compile(r"(\w+): (\w+), \d{4}-\d\d-\d\d, .+")
 # Maximum number of commits after a run.
 MOST_COMMITS = 200
 
-# The files of crates, and a line of a comment in them.
-FILES = ["crates/*/src/*", "crates/*/specs/*", "crates/*/proofs/*"]
-COMMENT = "^ *(//|--)"
+# The folders of a crate whose files count, and a line of a comment in them.
+FOLDERS = ("src", "specs", "proofs")
+COMMENT = re.compile(r"^ *(//|--).*$", re.M)
 
 # The folder with the edits of each crate, in a file CRATE.edits, and the line before an edit.
 EDITS = "tests/mutants/edits"
@@ -93,31 +94,61 @@ def edits_now():
     return found
 
 
-def edits_at(commit):
-    """Returns the same for a commit. (Until 2026-11-30 there was a file EDITS/CRATE/NAME.edit for each edit.)"""
-    found, words = {}, ["git", "-C", ROOT, "archive", commit, EDITS]
+def files_at(commit, folder):
+    """Yields the paths below a folder at a commit, and their texts."""
+    words = ["git", "-C", ROOT, "archive", commit, folder]
     archive = subprocess.run(words, stdin=subprocess.DEVNULL, stdout=subprocess.PIPE, check=True).stdout
     with tarfile.open(fileobj=io.BytesIO(archive)) as files:
         for it in filter(tarfile.TarInfo.isfile, files):
-            text, file = files.extractfile(it).read().decode(), it.name.removeprefix(f"{EDITS}/")
-            crate, slash, name = file.removesuffix(".edit").rpartition("/")
-            if slash:
-                found[crate, name] = text.strip("\n")
-            else:
-                found |= {(file.removesuffix(".edits"), name): body for name, body in split_edits(text)}
+            yield it.name, files.extractfile(it).read().decode(errors="replace")
+
+
+def edits_at(commit):
+    """Returns the same for a commit. (Until 2026-11-30 there was a file EDITS/CRATE/NAME.edit for each edit.)"""
+    found = {}
+    for file, text in files_at(commit, EDITS):
+        crate, slash, name = file.removeprefix(f"{EDITS}/").removesuffix(".edit").rpartition("/")
+        if slash:
+            found[crate, name] = text.strip("\n")
+        else:
+            found |= {(name.removesuffix(".edits"), it): body for it, body in split_edits(text)}
     return found
+
+
+def differing_names(then, now):
+    """Returns the names whose texts differ between two tables."""
+    return {it for it in then.keys() | now.keys() if essence(then.get(it, "")) != essence(now.get(it, ""))}
+
+
+def essence(text):
+    """Returns a text without comments and white space."""
+    return "".join(COMMENT.sub("", text).split())
 
 
 def edits_since(commit):
     """Returns the crate and the name of each edit that differs from a commit."""
-    then, now = edits_at(commit), edits_now()
-    return {it for it in then.keys() | now.keys() if then.get(it) != now.get(it)}
+    return differing_names(edits_at(commit), edits_now())
 
 
+def is_counted(file):
+    """Returns true for a file of a crate's folders that count."""
+    parts = file.split("/")
+    return len(parts) > 3 and parts[2] in FOLDERS
+
+
+def files_now():
+    """Returns the files of crates that count, also those that git does not know yet, with their texts."""
+    found = {}
+    for file in filter(is_counted, git("ls-files", "--cached", "--others", "--exclude-standard", "crates")):
+        with contextlib.suppress(FileNotFoundError), open(f"{ROOT}/{file}", encoding="utf-8", errors="replace") as it:
+            found[file] = it.read()
+    return found
+
+
+@functools.cache
 def files_since(commit):
-    """Returns the files of crates that differ from a commit, also those that git does not know yet."""
-    lines = git("diff", "--numstat", "--no-renames", "-I", COMMENT, commit, "--", *FILES)
-    return {it.split("\t")[2] for it in lines} | set(git("ls-files", "--others", "--exclude-standard", "--", *FILES))
+    """Returns the files of crates that differ from a commit."""
+    return differing_names({file: it for file, it in files_at(commit, "crates") if is_counted(file)}, files_now())
 
 
 def changed_files(runs):
@@ -131,7 +162,7 @@ def changed_edits(runs):
 
 
 def crate_of(file):
-    """Returns the crate of a file of FILES."""
+    """Returns the crate of a file."""
     return file.split("/")[1]
 
 
