@@ -1,4 +1,5 @@
-"""Helpers of the tests over sockets: free ports, servers, and functions that read from and end connections."""
+"""Helpers of the tests over sockets: free ports, servers, runs of clients, and functions that read from and end
+connections."""
 
 import contextlib
 import errno
@@ -15,6 +16,11 @@ import time
 LIMIT = 30
 
 LOCAL = "127.0.0.1"
+
+# Sizes of the socket buffers of a peer that never reads, and of its packets, in bytes. With these, the system buffers
+# about 100,000 bytes of Pongs, and not some millions.
+ROOM = 4096
+PACKET = 1460
 
 
 def family_of(host):
@@ -90,6 +96,15 @@ def started(words, **how):
             yield process
         finally:
             process.kill()
+
+
+def client(program, words, stream=b"", seconds=LIMIT, **how):
+    """Runs a client, with `how` for Popen. Returns its status, its output and its error output."""
+    try:
+        done = subprocess.run([program, *words], input=stream, capture_output=True, timeout=seconds, **how)
+        return done.returncode, done.stdout, done.stderr
+    except subprocess.TimeoutExpired:
+        return "no end within %d s" % seconds
 
 
 class EndedByItself(Exception):

@@ -17,9 +17,9 @@ import time
 sys.path.insert(0, os.path.join(os.path.dirname(os.path.abspath(__file__)), "..", "harness"))
 import messages  # noqa: E402
 from checks import Checks  # noqa: E402
-from directory import CSM, DELETE, GET, LINK_FORMAT, NODE, POST, SENSORS, request  # noqa: E402
+from directory_peers import CSM, DELETE, GET, LINK_FORMAT, NODE, POST, SENSORS, request  # noqa: E402
 from peers import LIMIT, LOCAL, Server, free_port, line_of, read_to_end, started  # noqa: E402
-from record import Record, record_in, replay, said_by, until  # noqa: E402
+from records import Record, record_in, replay, said_by, until  # noqa: E402
 
 # Code of a Release (RFC 8323 section 5.5).
 RELEASE = 0xE4

@@ -21,8 +21,7 @@ sys.path.insert(0, os.path.join(os.path.dirname(os.path.abspath(__file__)), ".."
 import packages  # noqa: E402
 from checks import Checks  # noqa: E402
 from message_syntax import digits  # noqa: E402
-from peers import LIMIT, LOCAL, Server, free_port, line_of, started  # noqa: E402
-from sockets import client  # noqa: E402
+from peers import LIMIT, LOCAL, Server, client, free_port, line_of, started  # noqa: E402
 
 
 # Lines of the client of an actuator, and the line that the actuator prints for each.

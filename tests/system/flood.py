@@ -21,9 +21,8 @@ import time
 sys.path.insert(0, os.path.join(os.path.dirname(os.path.abspath(__file__)), "..", "harness"))
 import messages  # noqa: E402
 from checks import CSM, Checks  # noqa: E402
-from hostile import PACKET, ROOM  # noqa: E402
 from peers import LOCAL as HOST  # noqa: E402
-from peers import Server  # noqa: E402
+from peers import PACKET, ROOM, Server  # noqa: E402
 from message_syntax import encoded, uint  # noqa: E402
 
 # Seconds for each wait, and for a response to a client beside a slow peer.

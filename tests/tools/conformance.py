@@ -11,9 +11,10 @@ Each row of its tables has these parts, and several references in one cell have 
 - functions: `crate::module::function` or `crate::Type::function` (clause, clause), with public functions and their clauses;
 - tests: `kind/name.rows` below tests/vectors/rows, `tests/..py`, or `crate/proofs/..antt`, each with (`text`, `text`).
 
-A text of a test is any text of a file of rows. For a Python file or a file of proofs, it is a name that the file defines. The
-gate must run the Python files. A row with the status 'met' must name a function or a test. Outside of the tables the document has at most 800
-words. 'N passed' counts rows without an error.
+A text of a test is any text of a file of rows. For a file of proofs, it is a name that the file defines. For a Python
+file, the file or a module in the folder with its name defines it. The gate must run the Python files. A row with the
+status 'met' must name a function or a test. Outside of the tables the document has at most 800 words. 'N passed' counts
+rows without an error.
 """
 
 import collections
@@ -144,10 +145,20 @@ def test_file(name):
     return f"crates/{name}", r"(?m)^{0} :"
 
 
+def text_of_test(path):
+    """Returns the text of the file of a test, followed by those of the modules in the folder with its name. Returns None
+    if there is no such file."""
+    text, folder = read(path), path.removesuffix(".py")
+    if text is None or not path.endswith(".py") or not os.path.isdir(f"{ROOT}/{folder}"):
+        return text
+    modules = (it for it in sorted(os.listdir(f"{ROOT}/{folder}")) if it.endswith(".py"))
+    return "\n".join([text, *(read(f"{folder}/{it}") for it in modules)])
+
+
 def wrong_tests(cell, gate):
     """Yields the errors in references to tests."""
     for names, named in references(cell):
-        text = read(test_file(names[0])[0]) if len(names) == 1 else None
+        text = text_of_test(test_file(names[0])[0]) if len(names) == 1 else None
         if text is None:
             yield f"no test {names[0] if names else named}"
             continue

@@ -4,8 +4,8 @@
     tests/vectors/row_list.py
 
 A row of the list names a file and lines of it. In a file of rows, which tests/harness/rows.py plays, these are whole lines in this order below one
-opening. A line that ends in ` ..` is the beginning of a line. A stored run must be that of a program in crates.txt, and a Python test must be a step
-of the gate. With `refused` and `cut` in the last column, tests/harness/rows.py --refuse and tests/vectors/segmentation.py must play the file too.
+opening. A line that ends in ` ..` is the beginning of a line. A stored run must be that of a program in crates.txt. A Python test must be a step
+of the gate, or in the folder with the name of one. With `refused` and `cut` in the last column, tests/harness/rows.py --refuse and tests/vectors/segmentation.py must play the file too.
 The last line is 'N passed, M failed' for the places of the list, and the status is 0 if M is 0.
 """
 
@@ -103,7 +103,8 @@ def wrong_in_run(place, text, steps):
 
 def wrong_in_script(place, text, steps):
     """Returns the error of a place in a Python test, or an empty text."""
-    if not any(step[:2] == ["python3", place.file] for step in steps):
+    scripts = place.file, f"{os.path.dirname(place.file)}.py"
+    if not any(step[:2] == ["python3", it] for step in steps for it in scripts):
         return "not a step of the gate"
     left = iter(text.splitlines())
     is_there = all(any(line.removesuffix(" ..").removesuffix("..") in it for it in left) for line in place.lines)

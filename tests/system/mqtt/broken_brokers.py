@@ -4,17 +4,17 @@ import contextlib
 import tempfile
 import time
 
-import haproxy
 from false_brokers import FALSE_BROKERS, INJECTED, FalseBroker, Relay
 from gateway_checks import FakeSetting, write_file
 from gateways import CHANGED, CONTENT, CREATED, PREFIX, PUT, UNAVAILABLE, Gateway, Setting
+import proxies
 
 
 def check_false_brokers(checks, program):
     """Checks brokers that send garbage or nothing. The gateway must not listen, and keep trying."""
     with contextlib.ExitStack() as stack:
         running, authority = {}, stack.enter_context(tempfile.TemporaryDirectory(prefix="coap-mqtt-"))
-        haproxy.certify(authority)
+        proxies.certify(authority)
         for at, (name, (pieces, _)) in enumerate(FALSE_BROKERS.items()):
             folder = stack.enter_context(tempfile.TemporaryDirectory(prefix="coap-mqtt-"))
             write_file(f"{folder}/password", "x\n")

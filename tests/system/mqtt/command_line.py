@@ -4,7 +4,7 @@ import re
 import socket
 import tempfile
 
-import package
+from commands import completions
 from gateway_checks import run, write_file
 from peers import LOCAL
 from workspace import ROOT
@@ -70,12 +70,12 @@ def check_completion(checks, program):
         for name in ("one file", "one.txt", "two"):
             write_file(f"{folder}/{name}", "")
         wanted = sorted(it for short, long, _ in options for it in (short, long) if it)
-        checks.same("the options", (sorted(package.completions(script, ["coap-mqtt", "-"], folder)), len(wanted)),
+        checks.same("the options", (sorted(completions(script, ["coap-mqtt", "-"], folder)), len(wanted)),
                     (wanted, 29))
         for option, value in ((short or long, value) for short, long, value in options if value):
-            got = package.completions(script, ["coap-mqtt", option, ""], folder)
+            got = completions(script, ["coap-mqtt", option, ""], folder)
             checks.same(f"{option} has no options as its value, and files if it is one",
                         (set(got) & set(wanted), "two" in got), (set(), value == "FILE"))
         for words, found in COMPLETED:
-            checks.same(f"completed: {words}", sorted(package.completions(script, ["coap-mqtt", *words], folder)),
+            checks.same(f"completed: {words}", sorted(completions(script, ["coap-mqtt", *words], folder)),
                         sorted(found))

@@ -3,18 +3,18 @@
 import contextlib
 import tempfile
 
-import haproxy
 from gateway_checks import BYTES
 from gateways import (
     CHANGED, CONTENT, CREATED, ETAG, GET, OBSERVE, PREFIX, PUT, SOON, Broker, Gateway, Peer, format_of, option_of, soon,
 )
+import proxies
 
 
-class Front(haproxy.Front):
+class Front(proxies.Front):
     """HAProxy with TLS in front of two gateways."""
 
     def __init__(self, program, broker, folder):
-        super().__init__(program, folder, ("one", "two"), [], haproxy.QUICK_CHECKS)
+        super().__init__(program, folder, ("one", "two"), [], proxies.QUICK_CHECKS)
         self.broker, self.gateways = broker, {}
 
     def start(self, name):
@@ -26,7 +26,7 @@ class Front(haproxy.Front):
 
     def reach(self, source):
         """Returns a peer with this address, after its TLS handshake."""
-        return Peer(self.port, source, haproxy.context(self.folder, haproxy.Kind(source)))
+        return Peer(self.port, source, proxies.context(self.folder, proxies.Kind(source)))
 
     def gateway_of(self, source):
         """Returns the id of the gateway that serves a peer with this address: the first bytes of its ETags."""
@@ -54,7 +54,7 @@ def check_seen(checks, one, two, name, form, payload):
 def check_front(checks, program):
     """Checks two gateways after HAProxy with TLS, of which one is killed."""
     with tempfile.TemporaryDirectory(prefix="coap-mqtt-") as folder, Broker(folder) as broker:
-        haproxy.certify(folder)
+        proxies.certify(folder)
         broker.publish(f"{PREFIX}/probe", b"probe")
         with Front(program, broker, folder) as front:
             found = {}
@@ -90,7 +90,7 @@ def check_front(checks, program):
 def check_broker_tls(checks, program):
     """Checks the connection to the broker with TLS and certificates on both sides."""
     with tempfile.TemporaryDirectory(prefix="coap-mqtt-") as folder:
-        haproxy.certify(folder)
+        proxies.certify(folder)
         names = {"cafile": "authority.pem", "certfile": "signed.pem", "keyfile": "server.key"}
         lines = "".join(f"{word} {folder}/{name}\n" for word, name in names.items()) + "require_certificate true\n"
         own = ["--cafile", f"{folder}/authority.pem", "--cert", f"{folder}/signed.pem", "--key", f"{folder}/server.key"]

@@ -10,8 +10,8 @@ from gateways import (
     CHANGED, CONTENT, DELETE, ETAG, GET, IF_MATCH, IF_NONE_MATCH, LIMIT, NOT_ACCEPTABLE, NOT_ALLOWED, NOT_FOUND,
     OBSERVE, POST, PRECONDITION, PREFIX, PUT, UNAVAILABLE, Gateway, Peer, Setting, option_of, soon,
 )
-import haproxy
 from peers import LOCAL
+import proxies
 from signals import end_of
 
 URI_QUERY, ACCEPT = 15, 17
@@ -61,17 +61,17 @@ def check_health(checks, program):
             checks.same("another path", codes, [CONTENT, CONTENT, NOT_FOUND])
 
 
-class Front(haproxy.Front):
+class Front(proxies.Front):
     """HAProxy with the backends of gateways, each of which has its own way to the broker."""
 
     def __init__(self, program, broker, folder):
-        super().__init__(program, folder, ("one", "two"), [], haproxy.QUICK_CHECKS)
+        super().__init__(program, folder, ("one", "two"), [], proxies.QUICK_CHECKS)
         # The servers of coap-server are removed.
-        self.places = haproxy.places_for(folder, self.port, {}) + haproxy.certificate_in(folder) + haproxy.QUICK_CHECKS
+        self.places = proxies.places_for(folder, self.port, {}) + proxies.certificate_in(folder) + proxies.QUICK_CHECKS
         self.places += [("\nbackend coap\n", "\nbackend coap\n    disabled\n")]
         self.places += [(f"backend {it}\n    disabled\n", f"backend {it}\n") for it in ("gateways", "gateways_alive")]
         for name, port in self.ports.items():
-            old, new = (f" {name} {LOCAL}:{it} maxconn" for it in (haproxy.SERVERS[name], port))
+            old, new = (f" {name} {LOCAL}:{it} maxconn" for it in (proxies.SERVERS[name], port))
             self.places += [(f"{old} {count}", f"{new} {count}") for count in (190, 64)]
         self.broker, self.gateways, self.relays = broker, {}, {}
 
@@ -100,7 +100,7 @@ class Front(haproxy.Front):
 
     def reach(self, source):
         """Returns a peer with this address, after its TLS handshake."""
-        return Peer(self.port, source, haproxy.context(self.folder, haproxy.Kind(source)))
+        return Peer(self.port, source, proxies.context(self.folder, proxies.Kind(source)))
 
     def gateway_of(self, source):
         """Returns the id of the gateway that serves a peer with this address: the first bytes of its ETags."""
@@ -112,7 +112,7 @@ class Front(haproxy.Front):
 def check_front_health(checks, program):
     """Checks HAProxy and two gateways of which one, then both, lose their broker."""
     with Setting(program, 0) as setting, contextlib.ExitStack() as stack:
-        haproxy.certify(setting.folder)
+        proxies.certify(setting.folder)
         setting.broker.publish(f"{PREFIX}/probe", b"0")
         front, found = stack.enter_context(Front(program, setting.broker, setting.folder)), {}
         for source in ("127.0.0.%d" % at for at in range(10, 200)):

@@ -8,10 +8,11 @@ import signal
 import socket
 import time
 
+from checks import CSM
 from gateways import (
     CHANGED, CONTENT, CREATED, GET, LIMIT, OBSERVE, PREFIX, PUT, TIMEOUT, URI_PATH, Gateway, Setting, encode, soon,
 )
-import haproxy
+import messages
 from peers import LOCAL
 from signals import PING, PONG, RELEASE, SETTINGS, end_of, signals
 
@@ -74,7 +75,7 @@ def read_end(connection):
     found = b""
     while piece := connection.recv(65536):
         found += piece
-    return len(haproxy.messages.split(found)[0]), found[:8].hex() == haproxy.CSM
+    return len(messages.split(found)[0]), found[:8].hex() == CSM
 
 
 def is_open(connection):

@@ -9,10 +9,10 @@ import signal
 import subprocess
 import tempfile
 
-import haproxy
 from gateway_checks import accepts, run, write_file
 from gateways import CONFIGURATION, PREFIX, Peer, read_file, soon
 from peers import LOCAL, free_port
+import proxies
 from workspace import ROOT
 
 # Maximum exposure of the unit, of 10, as systemd-analyze reports it.
@@ -110,7 +110,7 @@ def installed(folder, program, ports):
     share, user = f"{folder}/usr/local/share/doc", "user root\n" if os.geteuid() == 0 else ""
     places = [("stats socket /run/haproxy/admin.sock", f"stats socket {folder}/admin"),
               ("bind :::5684 v4v6", f"bind {LOCAL}:{ports['haproxy']}")]
-    haproxy_text = haproxy.placed([*haproxy.ANY_USER, *places, *haproxy.QUICK_CHECKS])
+    haproxy_text = proxies.placed([*proxies.ANY_USER, *places, *proxies.QUICK_CHECKS])
     unit = f"{folder}/usr/local/lib/systemd/system/coap-mqtt@.service"
     for target, text in ((f"{share}/coap-mqtt/examples/mosquitto.conf", text_of(CONFIGURATION) + user),
                          (f"{share}/coap-server/examples/haproxy.cfg", haproxy_text), (unit, text_of(UNIT))):
@@ -140,7 +140,7 @@ def check_documented(checks, program):
     with tempfile.TemporaryDirectory(prefix="coap-mqtt-") as folder:
         ports = {name: free_port() for name in ("mosquitto", "one", "two", "haproxy")}
         replaced, text = installed(folder, program, ports), commands()
-        haproxy.certify(folder)
+        proxies.certify(folder)
         write_file(f"{folder}/coap.pem", text_of(f"{folder}/server.pem"))
         for old, new in replaced.items():
             text = text.replace(old, new)
@@ -156,7 +156,7 @@ def check_documented(checks, program):
             found = (done.returncode, done.stdout.splitlines()[-1:], said if done.returncode else "")
             checks.same("the commands", found, (0, [b"21.5"], ""))
             checks.same("HAProxy listens", soon(lambda: accepts(ports["haproxy"]), True), True)
-            with Peer(ports["haproxy"], LOCAL, haproxy.context(folder, haproxy.Kind())) as peer:
+            with Peer(ports["haproxy"], LOCAL, proxies.context(folder, proxies.Kind())) as peer:
                 checks.same("GET through HAProxy", soon(lambda: peer.get(f"{PREFIX}/room")[1], b"21.5"), b"21.5")
         finally:
             for process in read_file(f"{folder}/processes").split():

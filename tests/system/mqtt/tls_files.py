@@ -8,7 +8,7 @@ import tempfile
 from connections import StrictBroker
 from gateway_checks import run, write_file
 from gateways import CONTENT, CREATED, PREFIX, PUT, UNAVAILABLE, Broker, Gateway
-import haproxy
+import proxies
 
 
 def make_key(folder, name, *words):
@@ -29,7 +29,7 @@ BAD_CERTIFICATES = [("server.key", "no certificate in PEM")]
 def check_tls_files(checks, program):
     """Checks files of TLS that cannot be used. Each is named, and nothing is connected."""
     with tempfile.TemporaryDirectory(prefix="coap-mqtt-") as folder, StrictBroker() as broker:
-        haproxy.certify(folder)
+        proxies.certify(folder)
         make_key(folder, "encrypted.key", "-aes128", "-passout", "pass:secret")
         make_key(folder, "traditional.key", "-traditional", "-aes128", "-passout", "pass:secret")
         write_file(f"{folder}/empty", "")
@@ -60,7 +60,7 @@ os.execvp(sys.argv[1], sys.argv[1:])
 def check_key_replaced(checks, program):
     """Checks a key that is encrypted after the start: no password is asked for, and peers are served."""
     with tempfile.TemporaryDirectory(prefix="coap-mqtt-") as folder:
-        haproxy.certify(folder)
+        proxies.certify(folder)
         names = {"cafile": "authority.pem", "certfile": "signed.pem", "keyfile": "server.key"}
         lines = "".join(f"{word} {folder}/{name}\n" for word, name in names.items()) + "require_certificate true\n"
         shutil.copy(f"{folder}/server.key", f"{folder}/gateway.key")

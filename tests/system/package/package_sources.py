@@ -1,0 +1,156 @@
+"""Checks what the packages are made from: versions, completions, the copyright and the maintainer scripts."""
+
+import os
+import re
+import tempfile
+
+from commands import completions, read, run, write
+from package_files import LIBRARY, NAME, PROGRAMS, version
+from workspace import ROOT, crates, listed
+
+# The crates of each package.
+CRATES = {NAME: ["coap_server", "coap_client_main", "coap_explain", "coap_directory"], LIBRARY: ["coap_c"]}
+
+# Maintainer scripts with their arguments, and the calls that they make on a machine with systemd. None starts or restarts the server.
+SCRIPT_CALLS = [
+    ("postinst", ["configure", ""], [
+        "deb-systemd-helper debian-installed coap-server.service",
+        "deb-systemd-helper unmask coap-server.service",
+        "deb-systemd-helper --quiet was-enabled coap-server.service",
+        "deb-systemd-helper enable coap-server.service",
+        "deb-systemd-helper update-state coap-server.service",
+        "systemctl --system daemon-reload",
+    ]),
+    ("prerm", ["upgrade", "9"], []),
+    ("prerm", ["remove"], ["deb-systemd-invoke stop coap-server.service"]),
+    ("postrm", ["upgrade", "9"], []),
+    ("postrm", ["remove"], ["systemctl --system daemon-reload"]),
+    ("postrm", ["purge"], ["deb-systemd-helper purge coap-server.service"]),
+    ("dachreup-mqtt.postinst", ["configure", ""], ["systemctl --system daemon-reload"]),
+    ("dachreup-mqtt.postinst", ["configure", "9"], ["systemctl --system daemon-reload"]),
+    ("dachreup-mqtt.prerm", ["upgrade", "9"], []),
+    ("dachreup-mqtt.prerm", ["remove"], ["deb-systemd-invoke stop coap-mqtt@*.service"]),
+    ("dachreup-mqtt.postrm", ["upgrade", "9"], []),
+    ("dachreup-mqtt.postrm", ["remove"], ["systemctl --system daemon-reload"]),
+    ("dachreup-mqtt.postrm", ["purge"], ["systemctl --system daemon-reload"]),
+]
+
+# Words before a completed word, the beginning of that word, and the expected completions.
+COMPLETED = [
+    (["coap-server", "-A"], "", ["0.0.0.0", "127.0.0.1"]),
+    (["coap-server", "-p"], "", ["5683"]),
+    (["coap-server", "--script"], "on", ["one file", "one.txt"]),
+    (["coap-server", "--script", "="], "on", ["one file", "one.txt"]),
+    (["coap-server", "--script"], "=", ["one file", "one.txt", "two"]),
+    (["coap-server"], "--max", ["--max-message", "--max-sent"]),
+    (["coap-server", "--log"], "", ["0", "1", "2", "3"]),
+    (["coap-server", "--idle"], "", []),
+    (["coap-server", "--starts"], "", []),
+    (["coap-server", "--record"], "on", ["one file", "one.txt"]),
+    (["coap-server", "--record", "="], "t", ["two"]),
+    (["coap-server", "--record-limit"], "", []),
+    (["coap-server"], "--rec", ["--record", "--record-limit"]),
+    (["coap-client", "-m"], "p", ["put", "post"]),
+    (["coap-client", "--log"], "", ["0", "1", "2", "3"]),
+    (["coap-client", "--log", "="], "2", ["2"]),
+    (["coap-client", "-m", "get"], "", ["coap+tcp://"]),
+    (["coap-client", "-f"], "on", ["one file", "one.txt"]),
+    (["coap-client", "-o"], "t", ["two"]),
+    (["coap-client", "coap+tcp", ":"], "//", []),
+    (["coap-explain"], "on", ["one file", "one.txt"]),
+    (["coap-explain"], "--c", ["--connection"]),
+    (["coap-explain", "--connection"], "", []),
+    (["coap-explain", "--connection", "="], "", []),
+    (["coap-explain", "--connection", "1"], "t", ["two"]),
+    (["coap-directory"], "--reg", ["--registrations"]),
+    (["coap-directory", "--registrations", "="], "", []),
+    (["coap-directory", "--log"], "", ["0", "1", "2", "3"]),
+    (["coap-directory", "--idle"], "", []),
+    (["coap-directory", "--record"], "on", ["one file", "one.txt"]),
+    (["coap-directory", "--record-limit"], "", []),
+    (["coap-directory"], "--rec", ["--record", "--record-limit"]),
+]
+
+
+def check_versions(checks, programs):
+    """Checks that the programs, both changelogs, the comparison and the manual's record have the version of the file VERSION."""
+    for name, program in zip(PROGRAMS, programs):
+        checks.same("%s: version" % name, run([program, "--version"]), (0, "%s %s\n" % (name, version())))
+    checks.same("version in CHANGELOG.md", re.findall(r"report version (\S+)", read(ROOT, "CHANGELOG.md")), [version()])
+    checks.same("version in Debian's changelog", re.match(r"dachreup \((\S+)\) ", read(ROOT, "install/debian/changelog"))[1], version())
+    checks.same("version in docs/COMPARISON.md", re.findall(r"\| Dachreup (\S+) \|", read(ROOT, "docs/COMPARISON.md")), [version()])
+    checks.same("version in the record of the manual", re.findall(r"(?m)^# Record of coap\\-server (\S+),", read(ROOT, "man/coap-server.1")), [version()])
+
+
+def check_completion(checks, programs):
+    """Compares the completed words with `--help` and with the manual of the client."""
+    with tempfile.TemporaryDirectory() as folder:
+        for name in ("one file", "one.txt", "two"):
+            write("", os.path.join(folder, name))
+        for name, program in zip(PROGRAMS, programs):
+            script = os.path.join(ROOT, "install/completions", name)
+            helped = re.findall(r"(?m)^ +(?:(-\w)(?:, )?)?(--[\w-]+)?(?: <(\S+)>)?  ", run([program, "--help"])[1].partition("Options:\n")[2])
+            options = {option for short, long, _ in helped for option in (short, long) if option}
+            checks.same("%s: the options of --help are found" % name, len(options) > (4 if name in ("coap-explain", "coap-directory") else 10), True)
+            checks.same("%s: completed options" % name, sorted(completions(script, [name, "-"], folder)), sorted(options))
+            for option, value in ((short or long, value) for short, long, value in helped if value):
+                got = completions(script, [name, option, ""], folder)
+                checks.same("%s %s: completed options as its value" % (name, option), sorted(options & set(got)), [])
+                checks.same("%s %s: completed files as its value" % (name, option), "one.txt" in got, value == "FILE")
+            for before, word, wanted in COMPLETED:
+                if before[0] == name:
+                    checks.same("completed: %s" % " ".join([*before, word]), sorted(completions(script, [*before, word], folder)), sorted(wanted))
+    script = os.path.join(ROOT, "install/completions/coap-client")
+    methods = re.search(r"Method: ([\w, ]+?) \[", run([programs[1], "--help"])[1])[1]
+    checks.same("completed methods", completions(script, ["coap-client", "-m", ""], ROOT), re.split(", | or ", methods))
+    formats = re.findall(r"(?m)^\.Dq (\w+/\S+)\n\(\d+\)", read(ROOT, "man/coap-client.1"))
+    checks.same("the manual has content formats", len(formats) > 1, True)
+    for option in ("-t", "-A"):
+        checks.same("completed content formats, %s" % option, completions(script, ["coap-client", option, ""], ROOT), formats)
+
+
+def check_copyright(checks):
+    """Checks that the copyright file names each library of Rattle's kit that crates.txt lists for a package."""
+    text, below, uses = read(ROOT, "install/debian/copyright"), crates(), listed()
+    for name, built in CRATES.items():
+        used = {library for top in built for crate in [top, *below[top]] for library in uses[crate] if library not in uses}
+        missing = [library for library in sorted(used) if not re.search(r"(?m)^(?:Files:)? kit/rattle/%s/\*$" % library, text)]
+        checks.same("%s: libraries of the kit without copyright" % name, (len(used) > 1, missing), (True, []))
+    named = set(re.findall(r"(?m)^License: (.*)$", text))
+    names = {name for line in named for name in re.split(r" (?:and|or) ", line.replace("(", "").replace(")", ""))}
+    checks.same("licences without a text", [name for name in sorted(names) if not re.search(r"(?m)^License: %s\n " % re.escape(name), text)], [])
+
+
+def script_calls(script, words, folder):
+    """Runs a maintainer script as on a machine with systemd. Returns the status, and the calls of systemd's programs."""
+    stubs, log = os.path.join(folder, "stubs"), os.path.join(folder, "log")
+    os.makedirs(stubs, exist_ok=True)
+    for name in ("systemctl", "deb-systemd-helper", "deb-systemd-invoke"):
+        write('#!/bin/sh\necho "%s $*" >> %s\n' % (name, log), os.path.join(stubs, name))
+        os.chmod(os.path.join(stubs, name), 0o755)
+    write("", log)
+    text = read(ROOT, "install/debian", script)
+    assert text.count("/run/systemd/system") <= 1
+    environment = {"PATH": "%s:%s" % (stubs, os.environ["PATH"])}
+    status, said = run(["sh", "-c", text.replace("/run/systemd/system", folder), script, *words], env=environment)
+    return status, said, read(log).splitlines()
+
+
+def check_scripts(checks):
+    with tempfile.TemporaryDirectory() as folder:
+        for script, words, wanted in SCRIPT_CALLS:
+            checks.same(" ".join([script, *words]), script_calls(script, words, folder), (0, "", wanted))
+        check_links(checks, folder)
+
+
+def check_links(checks, root):
+    """Checks that a purge of the gateway's package removes the links of its unit below another root, and no others."""
+    wants = os.path.join(root, "etc/systemd/system/multi-user.target.wants")
+    os.makedirs(wants)
+    names = ["coap-mqtt@1.service", "coap-mqtt@65535.service", "coap-server.service"]
+    for name in names:
+        os.symlink("/gone", os.path.join(wants, name))
+    script = os.path.join(ROOT, "install/debian/dachreup-mqtt.postrm")
+    for words, left in (["remove"], names), (["purge"], names[2:]):
+        done = run(["sh", script, *words], env={"PATH": os.environ["PATH"], "DPKG_ROOT": root})
+        checks.same("links after %s" % words, (done, sorted(os.listdir(wants))), ((0, ""), left))

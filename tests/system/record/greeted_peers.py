@@ -1,0 +1,30 @@
+"""The requests of peers, and a peer that is greeted."""
+
+import socket
+
+from checks import CSM, GREETING
+from message_syntax import encoded
+from peers import read_to_end
+
+# Codes and options.
+GET, PUT, DELETE, PING = 0x01, 0x03, 0x04, 0xE2
+IF_MATCH, CUSTODY, IF_NONE_MATCH, OBSERVE, OSCORE, URI_PATH, CONTENT_FORMAT, URI_QUERY, ACCEPT = 1, 2, 5, 6, 9, 11, 12, 15, 17
+
+PEER_SETTINGS, GET_ROOT = bytes.fromhex("00e1"), bytes.fromhex("010101")
+
+# The bytes that a server with default options sends for these two.
+GREETED = bytes.fromhex(CSM + "a14501" + GREETING)
+
+
+def asked(code, token, path, options=(), payload=b""):
+    """Returns a request for a path."""
+    named = [(URI_PATH, it.encode()) for it in path.split("/") if it]
+    return encoded(code, token, sorted([*options, *named], key=lambda it: it[0]), payload)
+
+
+def ask(server):
+    """Opens a connection, requests the root and ends the connection. Returns true if the response is right."""
+    with server.connect() as peer:
+        peer.sendall(PEER_SETTINGS + GET_ROOT)
+        peer.shutdown(socket.SHUT_WR)
+        return read_to_end(peer) == (GREETED, "the end")
