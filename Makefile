@@ -9,8 +9,8 @@
 
 .PHONY: all lib gateway run check test mutants faults bench try install install-lib install-gateway uninstall deb clean
 
-# Prefix under which `make install` puts the programs, their manuals, the systemd unit and the configuration of HAProxy. DESTDIR
-# is put before the prefix, for packaging.
+# Prefix under which `make install` puts the programs, their manuals, the systemd unit and the configuration of HAProxy.
+# DESTDIR is put before the prefix, for packaging.
 PREFIX ?= /usr/local
 DESTDIR ?=
 
@@ -52,8 +52,8 @@ bin/coap-mqtt: $(wildcard gateway/mqtt/*.c gateway/mqtt/*.h) include/coap_proved
 	$(CC) $(GATEWAY_FLAGS) $(CPPFLAGS) $(CFLAGS) -DCOAP_MQTT_VERSION='"'$$(cat VERSION)'"' -Iinclude gateway/mqtt/*.c \
 	    bin/libcoap_proved.a -pie -Wl,-z,relro,-z,now,-z,noexecstack $(LDFLAGS) -lmosquitto -o $@
 
-# Runs the server on short recorded streams, and prints the meaning of each message. If the program is not built yet, the same
-# source runs unproved while the proofs begin. At the end, the program that they build runs.
+# Runs the server on short recorded streams, and prints the meaning of each message. If the program is not built yet,
+# the same source runs unproved while the proofs begin. At the end, the program that they build runs.
 run:
 	@$(MAKE) --silent --question bin/coap-server || { \
 	    python3 tests/vectors/demo.py --try & tried=$$!; \
@@ -61,13 +61,13 @@ run:
 	    wait $$tried && exit $$built; exit 1; }
 	@python3 tests/vectors/demo.py bin/coap-server
 
-# UNPROVED: builds all programs without proofs, in bin/unproved, and runs all rows and most tests on them, in minutes. Its
-# success shows less than that of the gate.
+# UNPROVED: builds all programs without proofs, in bin/unproved, and runs all rows and most tests on them, in minutes.
+# Its success shows less than that of the gate.
 check:
 	tests/check
 
-# Runs the gate: all proofs and programs from scratch, all rows and tests, and mutants of crates that differ from their last
-# run.
+# Runs the gate: all proofs and programs from scratch, all rows and tests, and mutants of crates that differ from their
+# last run.
 test:
 	tests/gate
 
@@ -75,18 +75,19 @@ test:
 mutants:
 	tests/mutants/mutants.py --all $(CRATES)
 
-# Tests that take too long for the gate: all 16,777,216 streams of three bytes, of which the gate plays a quarter, in some minutes
-# on all processors. Then 200,000 writes through two gateways to MQTT, in eight minutes.
+# Tests that take too long for the gate: all 16,777,216 streams of three bytes, of which the gate plays a quarter, in
+# some minutes on all processors. Then 200,000 writes through two gateways to MQTT, in eight minutes.
 faults: bin/coap-server bin/coap-mqtt
 	tests/vectors/bytes.py bin/coap-server --all
 	tests/system/mqtt_soak.py bin/coap-mqtt
 
-# Measures the server and libcoap's, then the server with a record, behind HAProxy, and with observers that do not read. Then counts instructions,
-# copies and memory, and the instructions of the resource directory. Measures changes through two gateways to MQTT, beside mosquitto. Draws the new figures in docs/pictures. Fails if a target is
-# missed.
+# Measures the server and libcoap's, then the server with a record, behind HAProxy, and with observers that do not read.
+# Then counts instructions, copies and memory, and the instructions of the resource directory. Measures changes through
+# two gateways to MQTT, beside mosquitto. Draws the new figures in docs/pictures. Fails if a target is missed.
 bench: bin/coap-server bin/coap-directory bin/libcoap_proved.a bin/coap-mqtt
 	tests/build coap_probe
-	bench/throughput; missed=$$?; bench/record || missed=1; bench/front || missed=1; bench/gateway || missed=1; tests/system/flood.py bin/coap-server observers || missed=1; \
+	bench/throughput; missed=$$?; bench/record || missed=1; bench/front || missed=1; bench/gateway || missed=1; \
+	tests/system/flood.py bin/coap-server observers || missed=1; \
 	bench/asymptotics || missed=1; bench/directory || missed=1; bench/instructions && exit $$missed
 
 # UNPROVED: runs the source on the recorded streams before any proof, in about a minute, for work in progress.
@@ -95,9 +96,11 @@ try:
 
 # Installs the output of `make all`. Builds nothing, so that another user can run it.
 install:
-	@test -x bin/coap-server -a -x bin/coap-client -a -x bin/coap-explain -a -x bin/coap-directory || { echo "Run 'make all' first: bin/ does not have all programs." >&2; exit 1; }
+	@test -x bin/coap-server -a -x bin/coap-client -a -x bin/coap-explain -a -x bin/coap-directory || \
+	    { echo "Run 'make all' first: bin/ does not have all programs." >&2; exit 1; }
 	install -D -m 0755 -t "$(DESTDIR)$(PREFIX)/bin" bin/coap-server bin/coap-client bin/coap-explain bin/coap-directory
-	install -D -m 0644 -t "$(DESTDIR)$(PREFIX)/share/man/man1" man/coap-server.1 man/coap-client.1 man/coap-explain.1 man/coap-directory.1
+	install -D -m 0644 -t "$(DESTDIR)$(PREFIX)/share/man/man1" \
+	    man/coap-server.1 man/coap-client.1 man/coap-explain.1 man/coap-directory.1
 	install -D -m 0644 -t "$(DESTDIR)$(PREFIX)/$(COMPLETIONS)" \
 	    $(addprefix install/completions/,coap-server coap-client coap-explain coap-directory)
 	install -D -m 0644 install/coap-server.service.in "$(DESTDIR)$(PREFIX)/lib/systemd/system/coap-server.service"
@@ -112,7 +115,8 @@ install-lib:
 	install -D -m 0644 -t "$(DESTDIR)$(PREFIX)/include" include/coap_proved.h
 	install -D -m 0644 -t "$(DESTDIR)$(PREFIX)/share/man/man3" man/coap_proved.3
 	install -D -m 0644 install/library/coap_proved.pc.in "$(DESTDIR)$(PREFIX)/lib/pkgconfig/coap_proved.pc"
-	sed -i -e 's|@PREFIX@|$(PREFIX)|g' -e 's|@LIBDIR@|lib|g' -e "s|@VERSION@|$$(cat VERSION)|g" "$(DESTDIR)$(PREFIX)/lib/pkgconfig/coap_proved.pc"
+	sed -i -e 's|@PREFIX@|$(PREFIX)|g' -e 's|@LIBDIR@|lib|g' -e "s|@VERSION@|$$(cat VERSION)|g" \
+	    "$(DESTDIR)$(PREFIX)/lib/pkgconfig/coap_proved.pc"
 
 # Installs the output of `make gateway`. `make install` does so too, if it exists.
 install-gateway:
@@ -125,7 +129,8 @@ install-gateway:
 
 # Removes the files that `make install` installed, and leaves the directories.
 uninstall:
-	rm -f "$(DESTDIR)$(PREFIX)/bin/coap-server" "$(DESTDIR)$(PREFIX)/bin/coap-client" "$(DESTDIR)$(PREFIX)/bin/coap-explain"
+	rm -f "$(DESTDIR)$(PREFIX)/bin/coap-server" "$(DESTDIR)$(PREFIX)/bin/coap-client"
+	rm -f "$(DESTDIR)$(PREFIX)/bin/coap-explain"
 	rm -f "$(DESTDIR)$(PREFIX)/share/man/man1/coap-server.1" "$(DESTDIR)$(PREFIX)/share/man/man1/coap-client.1"
 	rm -f "$(DESTDIR)$(PREFIX)/share/man/man1/coap-explain.1"
 	rm -f "$(DESTDIR)$(PREFIX)/bin/coap-directory" "$(DESTDIR)$(PREFIX)/share/man/man1/coap-directory.1"
@@ -137,12 +142,14 @@ uninstall:
 	rm -f "$(DESTDIR)$(PREFIX)/lib/libcoap_proved.a" "$(DESTDIR)$(PREFIX)/lib/pkgconfig/coap_proved.pc"
 	rm -f "$(DESTDIR)$(PREFIX)/include/coap_proved.h" "$(DESTDIR)$(PREFIX)/share/man/man3/coap_proved.3"
 	rm -f "$(DESTDIR)$(PREFIX)/bin/coap-mqtt" "$(DESTDIR)$(PREFIX)/share/man/man1/coap-mqtt.1"
-	rm -f "$(DESTDIR)$(PREFIX)/lib/systemd/system/coap-mqtt@.service" "$(DESTDIR)$(PREFIX)/share/doc/coap-mqtt/examples/mosquitto.conf"
+	rm -f "$(DESTDIR)$(PREFIX)/lib/systemd/system/coap-mqtt@.service"
+	rm -f "$(DESTDIR)$(PREFIX)/share/doc/coap-mqtt/examples/mosquitto.conf"
 
-# Builds the Debian packages of the output of `make all`, `make lib` and `make gateway`: bin/NAME_VERSION_ARCHITECTURE.deb for the names
-# dachreup, libdachreup-dev and dachreup-mqtt.
+# Builds the Debian packages of the output of `make all`, `make lib` and `make gateway`:
+# bin/NAME_VERSION_ARCHITECTURE.deb for the names dachreup, libdachreup-dev and dachreup-mqtt.
 deb: all lib gateway
-	install/debian/build bin/coap-server bin/coap-client bin/coap-explain bin/coap-directory bin/libcoap_proved.a bin/coap-mqtt bin
+	install/debian/build bin/coap-server bin/coap-client bin/coap-explain bin/coap-directory \
+	    bin/libcoap_proved.a bin/coap-mqtt bin
 
 clean:
 	rm -rf bin crates/*/out

@@ -4,8 +4,10 @@
  *     changes coap PORT OTHER COUNT WINDOW                 PUT at one gateway, notification at the other
  *     changes mqtt PORT USER PASSWORD COUNT WINDOW         publication by one client, message to another
  *
- * All addresses are 127.0.0.1. A change is over when it has come to the other end; then the next one of its resource begins.
- * Prints changes a second, and the latencies at 50 % and 99 % in microseconds. The status is 1 if a change does not come.
+ * All addresses are 127.0.0.1. A change is over when it has come to the other end; then the next one of its resource
+ * begins.
+ * Prints changes a second, and the latencies at 50 % and 99 % in microseconds. The status is 1 if a change does not
+ * come.
  */
 #define _GNU_SOURCE
 #include <arpa/inet.h>
@@ -89,7 +91,8 @@ static void put_all(const struct end *end, const void *bytes, size_t length) {
 }
 
 static void open_end(struct end *end, int port) {
-    struct sockaddr_in address = {.sin_family = AF_INET, .sin_port = htons((uint16_t)port), .sin_addr = {htonl(INADDR_LOOPBACK)}};
+    struct sockaddr_in address = {
+        .sin_family = AF_INET, .sin_port = htons((uint16_t)port), .sin_addr = {htonl(INADDR_LOOPBACK)}};
     int yes = 1;
     end->socket = socket(AF_INET, SOCK_STREAM, 0);
     setsockopt(end->socket, IPPROTO_TCP, TCP_NODELAY, &yes, sizeof yes);
@@ -198,7 +201,8 @@ static void on_connect(struct mosquitto *client, void *owner, int reason) {
         fail("refused");
     connected++;
     if (client == subscriber)
-        mosquitto_subscribe_v5(client, NULL, "shared/#", 1, MQTT_SUB_OPT_RETAIN_AS_PUBLISHED | MQTT_SUB_OPT_SEND_RETAIN_NEVER, NULL);
+        mosquitto_subscribe_v5(client, NULL, "shared/#", 1,
+                               MQTT_SUB_OPT_RETAIN_AS_PUBLISHED | MQTT_SUB_OPT_SEND_RETAIN_NEVER, NULL);
 }
 
 static void on_subscribe(struct mosquitto *client, void *owner, int message, int topics, const int *granted) {
@@ -232,7 +236,8 @@ static void step(void) {
     struct mosquitto *both[2] = {publisher, subscriber};
     struct pollfd ready[2];
     for (int at = 0; at < 2; at++)
-        ready[at] = (struct pollfd){mosquitto_socket(both[at]), (short)(POLLIN | (mosquitto_want_write(both[at]) ? POLLOUT : 0)), 0};
+        ready[at] = (struct pollfd){mosquitto_socket(both[at]),
+                                    (short)(POLLIN | (mosquitto_want_write(both[at]) ? POLLOUT : 0)), 0};
     if (poll(ready, 2, PATIENCE) <= 0)
         fail("a message did not come");
     for (int at = 0; at < 2; at++) {

@@ -1,5 +1,5 @@
-/* Preloaded library that counts the bytes that a program copies by memcpy and memmove. At the end of the program it writes the count to
-   descriptor 2. */
+/* Preloaded library that counts the bytes that a program copies by memcpy and memmove. At the end of the program it
+   writes the count to descriptor 2. */
 #include <stddef.h>
 #include <stdint.h>
 #include <stdio.h>

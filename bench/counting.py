@@ -5,7 +5,8 @@ import re
 import subprocess
 import tempfile
 
-# Ratio of a count to its target above which the target is missed. Counts vary a little with the number of requests in a read.
+# Ratio of a count to its target above which the target is missed. Counts vary a little with the number of requests in a
+# read.
 MISSED_BY = 1.03
 
 SHIM = f"{os.path.dirname(os.path.abspath(__file__))}/copies.c"
@@ -16,7 +17,8 @@ class Unmeasured(Exception):
 
 
 def callgrind(profile):
-    """Returns the words before the command of a program whose instructions are counted, with the profile in this file."""
+    """Returns the words before the command of a program whose instructions are counted, with the profile in this
+    file."""
     return ["valgrind", "--tool=callgrind", f"--callgrind-out-file={profile}"]
 
 

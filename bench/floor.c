@@ -2,9 +2,10 @@
 
        floor HOST PORT
 
-   This is not a CoAP server. It sends a CSM, splits its input into messages (RFC 8323 section 3.2), and answers each GET with the same 2.05 and the
-   token of the request, whatever its path. It parses no option, responds to no other message, and closes a connection whose message is longer than
-   65,536 bytes. The responses to one read are written by one write, which blocks until the peer accepts it. */
+   This is not a CoAP server. It sends a CSM, splits its input into messages (RFC 8323 section 3.2), and answers each
+   GET with the same 2.05 and the token of the request, whatever its path. It parses no option, responds to no other
+   message, and closes a connection whose message is longer than 65,536 bytes. The responses to one read are written by
+   one write, which blocks until the peer accepts it. */
 
 #define _GNU_SOURCE
 
@@ -30,7 +31,8 @@ static const unsigned char text[] = "\xFFJan 01 00:00:00"; /* payload marker and
 
 enum { TEXT = sizeof text - 1 };
 
-/* The responses to one read. A GET has at least two bytes, and its response three and the text, each with a token of the same length. */
+/* The responses to one read. A GET has at least two bytes, and its response three and the text, each with a token of
+   the same length. */
 static unsigned char out[ROOM / 2 * (3 + TEXT)];
 
 /* Ends the program if a call failed. */

@@ -1,4 +1,5 @@
-/* A server of the C library over standard input and output, as `coap-server --stdio`: library < INPUT. Run by bench/instructions. */
+/* A server of the C library over standard input and output, as `coap-server --stdio`: library < INPUT. Run by
+   bench/instructions. */
 #include <coap_proved.h>
 #include <string.h>
 #include <unistd.h>
@@ -50,7 +51,8 @@ int main(void) {
         return 1;
     while ((count = read(0, input, sizeof input)) > 0) {
         for (size_t at = 0; at < (size_t)count; at += took.bytes)
-            if (dachreup_server_take(&server, id, input + at, (size_t)count - at, &took) || took.bytes == 0 || flush(id))
+            if (dachreup_server_take(&server, id, input + at, (size_t)count - at, &took) || took.bytes == 0 ||
+                flush(id))
                 return 1;
         if (write_queued())
             return 1;

@@ -2,9 +2,10 @@
 
        load [--idle COUNT] HOST PORT CONNECTIONS OUTSTANDING REQUESTS [PATH]
 
-   The program first opens COUNT idle connections and then CONNECTIONS others, one after the other. On each it sends its Capabilities and Settings
-   Message (CSM) and reads that of the peer. Then it keeps OUTSTANDING GETs of PATH (default `time`) in flight on each connection that is not idle,
-   until REQUESTS in all are answered. PATH has its segments with slashes between them, without escapes.
+   The program first opens COUNT idle connections and then CONNECTIONS others, one after the other. On each it sends its
+   Capabilities and Settings Message (CSM) and reads that of the peer. Then it keeps OUTSTANDING GETs of PATH (default
+   `time`) in flight on each connection that is not idle, until REQUESTS in all are answered. PATH has its segments with
+   slashes between them, without escapes.
 
    The output is one line of numbers separated by blanks:
 
@@ -13,11 +14,11 @@
    - the requests per second,
    - the latencies in microseconds that 50 and 99 of 100 requests do not exceed.
 
-   The latency of a request is the time from before its write until all bytes of the read with its response are parsed. Latencies are counted in
-   steps of at most 1/256 of their value. The middle of a step is printed.
+   The latency of a request is the time from before its write until all bytes of the read with its response are parsed.
+   Latencies are counted in steps of at most 1/256 of their value. The middle of a step is printed.
 
-   The status is 1, with a line on standard error, if the peer sends an invalid message or closes a connection. The same holds if for 10 seconds no
-   connection is opened and no request is answered. */
+   The status is 1, with a line on standard error, if the peer sends an invalid message or closes a connection. The same
+   holds if for 10 seconds no connection is opened and no request is answered. */
 
 #define _GNU_SOURCE
 
@@ -53,7 +54,8 @@ enum {
 /* CSM with the Max-Message-Size GREATEST_MESSAGE. */
 static const unsigned char capabilities[] = {0x40, CAPABILITIES, 0x23, 0x10, 0x00, 0x00};
 
-/* A request with one of the tokens. A token has its index and the number of its uses, so that no two requests in flight have the same. */
+/* A request with one of the tokens. A token has its index and the number of its uses, so that no two requests in flight
+   have the same. */
 struct request {
     uint64_t sent; /* time before the write */
     uint16_t uses;
@@ -258,7 +260,8 @@ static void answered(struct connection *c, const struct message *m)
         fail("connection %zu: an answer with a token of %zu bytes, which no request has", c->number, m->token_length);
     size_t index = (size_t)m->token[0] << 8 | m->token[1];
     unsigned uses = (unsigned)m->token[2] << 8 | m->token[3];
-    if (c->requests == NULL || index >= run.outstanding || !c->requests[index].outstanding || c->requests[index].uses != uses)
+    if (c->requests == NULL || index >= run.outstanding || !c->requests[index].outstanding ||
+        c->requests[index].uses != uses)
         fail("connection %zu: an answer with a token that is not outstanding", c->number);
     c->requests[index].outstanding = false;
     c->unused[c->unused_count++] = (uint16_t)index;
@@ -418,8 +421,8 @@ static void run_all(void)
         for (int it = 0; it < count; it++)
             handle(&events[it]);
         if (moment() - run.progress > STALLED)
-            fail("no progress for 10 s: %zu of %zu connections open, %llu of %llu requests answered", run.greeted, run.count,
-                 (unsigned long long)run.answered, (unsigned long long)run.total);
+            fail("no progress for 10 s: %zu of %zu connections open, %llu of %llu requests answered", run.greeted,
+                 run.count, (unsigned long long)run.answered, (unsigned long long)run.total);
     }
 }
 
@@ -524,8 +527,9 @@ int main(int count, char **words)
         fail("epoll: %s", strerror(errno));
     run_all();
     double seconds = (double)(run.ended - run.began) / 1e9;
-    if (printf("%llu %.6f %.0f %.2f %.2f\n", (unsigned long long)run.answered, seconds, (double)run.answered / seconds, percentile(50),
-               percentile(99)) < 0 || fflush(stdout) != 0)
+    if (printf("%llu %.6f %.0f %.2f %.2f\n", (unsigned long long)run.answered, seconds, (double)run.answered / seconds,
+               percentile(50), percentile(99)) < 0 ||
+        fflush(stdout) != 0)
         fail("cannot print: %s", strerror(errno));
     release_all();
     if (close(run.epoll) != 0)

@@ -1,4 +1,5 @@
-"""Keeps the figures of the bench as data files in bench/out, and draws the pictures of docs/pictures from them with gnuplot."""
+"""Keeps the figures of the bench as data files in bench/out, and draws the pictures of docs/pictures from them with
+gnuplot."""
 
 import os
 import subprocess
@@ -12,7 +13,8 @@ PACKAGES = {"gnuplot": "gnuplot-nox"}
 
 
 def table(title, columns, rows):
-    """Returns a table of a data file: its title, the names of its columns, and its rows. A value that was not measured is `nan`."""
+    """Returns a table of a data file: its title, the names of its columns, and its rows. A value that was not measured
+    is `nan`."""
     words = [["nan" if it is None else str(it) for it in row] for row in rows]
     return "\n".join([f"# {title}", " ".join(f'"{it}"' for it in columns), *(" ".join(it) for it in words)])
 

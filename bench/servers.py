@@ -22,7 +22,8 @@ PACKAGES = {"cc": "gcc", "gencat": "libc6-dev"}
 # Seconds: until a server must accept, until it must have ended, and for one run of the load program.
 STARTS, ENDS, LIMIT = 30, 30, 60
 
-# Seconds of a measurement and its repetitions, the same for --quick, and the minimum seconds of a run that determines the number of requests.
+# Seconds of a measurement and its repetitions, the same for --quick, and the minimum seconds of a run that determines
+# the number of requests.
 USUAL, QUICK, SAMPLE = (1.5, 3), (0.3, 1), 0.05
 
 # Answered requests, seconds, requests per second, and two percentiles of the latency in microseconds.
@@ -35,7 +36,8 @@ def prepare(packages):
         return False
     os.makedirs(f"{ROOT}/bin", exist_ok=True)
     words = ["cc", "-std=c11", "-O2", "-Wall", "-Wextra", "-Werror"]
-    return all(subprocess.run([*words, "-o", f"{ROOT}/bin/{it}", f"{ROOT}/bench/{it}.c"]).returncode == 0 for it in ("load", "floor"))
+    return all(subprocess.run([*words, "-o", f"{ROOT}/bin/{it}", f"{ROOT}/bench/{it}.c"]).returncode == 0
+               for it in ("load", "floor"))
 
 
 def ours(port):
@@ -49,7 +51,8 @@ class Server:
     def __init__(self, name, command, patience=STARTS):
         self.name, self.port, self.output = name, free_port(), tempfile.TemporaryFile()
         try:
-            self.process = subprocess.Popen(command(self.port), stdin=subprocess.DEVNULL, stdout=self.output, stderr=self.output)
+            self.process = subprocess.Popen(command(self.port), stdin=subprocess.DEVNULL, stdout=self.output,
+                                            stderr=self.output)
         except OSError as trouble:
             self.process, self.trouble = None, str(trouble)
         else:
@@ -105,7 +108,8 @@ class Server:
         """Returns the figures of the load program, or None if a request was not answered; `trouble` then says why."""
         words = [f"{ROOT}/bin/load", "--idle", idle, HOST, self.port, connections, outstanding, requests]
         try:
-            ran = subprocess.run([str(it) for it in words], stdin=subprocess.DEVNULL, capture_output=True, text=True, timeout=LIMIT)
+            ran = subprocess.run([str(it) for it in words], stdin=subprocess.DEVNULL, capture_output=True, text=True,
+                                 timeout=LIMIT)
         except subprocess.TimeoutExpired:
             self.trouble = f"{requests:,} requests are not answered within {LIMIT} s"
             return None
@@ -119,7 +123,8 @@ class Server:
 
 
 def count_for(server, cell, seconds):
-    """Returns the number of requests that take about this time. The first runs grow until one is long enough to estimate it."""
+    """Returns the number of requests that take about this time. The first runs grow until one is long enough to
+    estimate it."""
     count = max(200, 4 * cell[0] * cell[1])
     while figures := server.load(*cell, count):
         if figures.seconds >= SAMPLE:

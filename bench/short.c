@@ -1,7 +1,8 @@
 /* Preloaded library that lets each send of a program accept at most 1,000 bytes.
 
-   A send that accepts fewer bytes than offered means that the socket has no space (epoll(7)). An edge-triggered program then waits for space. Therefore
-   this library registers the socket again after a send that it shortened, so that the next wait reports space if there is any. */
+   A send that accepts fewer bytes than offered means that the socket has no space (epoll(7)). An edge-triggered program
+   then waits for space. Therefore this library registers the socket again after a send that it shortened, so that the
+   next wait reports space if there is any. */
 
 #define _GNU_SOURCE
 

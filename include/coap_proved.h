@@ -143,8 +143,8 @@ enum {
     DACHREUP_ANNOUNCE_PEER_TOO_SMALL = 22
 };
 
-/* Bytes that the library lends until the next call on the same handle, if the call says nothing else. With count 0, `at`
-   is not null. */
+/* Bytes that the library lends until the next call on the same handle, if the call says nothing else. With count 0,
+   `at` is not null. */
 struct dachreup_span {
     const uint8_t *at;
     size_t count;
@@ -209,7 +209,8 @@ uint32_t dachreup_message_path(const uint8_t *frame, size_t length, uint8_t *pat
  * option, *value to its value, which lies in `options`, and moves *at to the next option.
  * Returns 16 (DACHREUP_NO_MORE) at the end or at a payload marker, and 17 (DACHREUP_MALFORMED).
  */
-uint32_t dachreup_option_next(const uint8_t *options, size_t length, size_t *at, uint32_t *number, struct dachreup_span *value);
+uint32_t dachreup_option_next(const uint8_t *options, size_t length, size_t *at, uint32_t *number,
+                              struct dachreup_span *value);
 
 /*
  * Appends one encoded option to the first *length bytes of `options`, which has `room` bytes. *length and *last are 0
@@ -220,12 +221,14 @@ uint32_t dachreup_option_write(uint8_t *options, size_t room, size_t *length, ui
                                const uint8_t *value, size_t value_length);
 
 /*
- * Writes the encoding of one message to the start of `buffer`, which has `room` bytes, and sets *length. The other bytes
- * of the buffer stay. `options` are those of dachreup_option_write or of a message that was read.
- * Returns 16 (DACHREUP_NO_ROOM) or 17 to 20 (DACHREUP_WRITE_..): the first in the order code, token, options, size, room.
+ * Writes the encoding of one message to the start of `buffer`, which has `room` bytes, and sets *length. The other
+ * bytes of the buffer stay. `options` are those of dachreup_option_write or of a message that was read.
+ * Returns 16 (DACHREUP_NO_ROOM) or 17 to 20 (DACHREUP_WRITE_..): the first in the order code, token, options, size,
+ * room.
  */
-uint32_t dachreup_message_write(uint32_t code, const uint8_t *token, size_t token_length, const uint8_t *options, size_t options_length,
-                                const uint8_t *payload, size_t payload_length, uint8_t *buffer, size_t room, size_t *length);
+uint32_t dachreup_message_write(uint32_t code, const uint8_t *token, size_t token_length, const uint8_t *options,
+                                size_t options_length, const uint8_t *payload, size_t payload_length, uint8_t *buffer,
+                                size_t room, size_t *length);
 
 /* ---- server ---- */
 
@@ -313,11 +316,11 @@ uint32_t dachreup_applications_new(struct dachreup_applications *applications, u
  * Returns 1, 2, 4 or 16 to 20 (DACHREUP_APPLICATION_..).
  *
  * The engine answers unrecognised critical options with 4.02. The application checks the other options: the whole path
- * and Uri-Query (4.04), If-Match and If-None-Match (4.12), Accept (4.06) and Content-Format (4.15). It responds with 4.02
- * to one of the critical options that it does not support (RFC 7252 sections 5.4.1 and 5.10).
+ * and Uri-Query (4.04), If-Match and If-None-Match (4.12), Accept (4.06) and Content-Format (4.15). It responds with
+ * 4.02 to one of the critical options that it does not support (RFC 7252 sections 5.4.1 and 5.10).
  */
-uint32_t dachreup_applications_add(struct dachreup_applications *applications, const uint8_t *path, size_t path_length, uint32_t methods,
-                                   const uint8_t *attributes, size_t attributes_length);
+uint32_t dachreup_applications_add(struct dachreup_applications *applications, const uint8_t *path, size_t path_length,
+                                   uint32_t methods, const uint8_t *attributes, size_t attributes_length);
 
 /* Frees the entries, if the handle has some. The handle is empty then, and can be used again. */
 void dachreup_applications_free(struct dachreup_applications *applications);
@@ -343,23 +346,26 @@ uint32_t dachreup_server_open(struct dachreup_server *server, uint64_t *id);
  * Returns 1, 16, or 2: the bytes before the last one of a message were accepted (took->bytes), and the message was not
  * processed. The program may offer its last byte again.
  */
-uint32_t dachreup_server_take(struct dachreup_server *server, uint64_t id, const uint8_t *piece, size_t length, struct dachreup_took *took);
+uint32_t dachreup_server_take(struct dachreup_server *server, uint64_t id, const uint8_t *piece, size_t length,
+                              struct dachreup_took *took);
 
 /* Lends the queued bytes of a connection, without a copy, until the next call on the handle. Returns 1 or 16. */
 uint32_t dachreup_server_parts(struct dachreup_server *server, uint64_t id, struct dachreup_parts *parts);
 
-/* Removes the first `count` bytes from the queue, after the program has written them. Returns 1, 16 or 17 (DACHREUP_TOO_MANY). */
+/* Removes the first `count` bytes from the queue, after the program has written them. Returns 1, 16 or 17
+   (DACHREUP_TOO_MANY). */
 uint32_t dachreup_server_written(struct dachreup_server *server, uint64_t id, size_t count);
 
 enum { DACHREUP_REPLY_WHOLE = 0, DACHREUP_REPLY_BARE = 1, DACHREUP_REPLY_STOPPED = 2 };
 
 /*
- * Queues the response to a request that the application answers, and sets *reply. `response` is one encoded message with
- * the token of the request. If it exceeds the size that the peer accepts, it is reduced to its code and token
+ * Queues the response to a request that the application answers, and sets *reply. `response` is one encoded message
+ * with the token of the request. If it exceeds the size that the peer accepts, it is reduced to its code and token
  * (DACHREUP_REPLY_BARE); if that exceeds it too, the connection stops (DACHREUP_REPLY_STOPPED).
  * Returns 1 or 16 to 19. After 19 (DACHREUP_RESPOND_NO_ROOM) the program may respond again once bytes were written.
  */
-uint32_t dachreup_server_respond(struct dachreup_server *server, uint64_t id, const uint8_t *response, size_t length, uint32_t *reply);
+uint32_t dachreup_server_respond(struct dachreup_server *server, uint64_t id, const uint8_t *response, size_t length,
+                                 uint32_t *reply);
 
 /* Sets the time in seconds: delayed responses and observers of /time. Returns 1 or 16 (DACHREUP_BACKWARDS). */
 uint32_t dachreup_server_tick(struct dachreup_server *server, uint64_t now);
@@ -381,20 +387,23 @@ struct dachreup_state {
 };
 
 /* Sets *state to the representation stored at a path. Returns 1, 4 or 16 (no such resource, or a built-in one). */
-uint32_t dachreup_server_state(struct dachreup_server *server, const uint8_t *path, size_t path_length, struct dachreup_state *state);
+uint32_t dachreup_server_state(struct dachreup_server *server, const uint8_t *path, size_t path_length,
+                               struct dachreup_state *state);
 
 /* Removes the resource at a path, and notifies its observers. Returns 1, 4 or 16. */
 uint32_t dachreup_server_remove(struct dachreup_server *server, const uint8_t *path, size_t path_length);
 
 /*
- * put, state and remove at a path that a list of segments names. Each segment is a byte with its length, followed by its
- * bytes: the six bytes "\1a\3b/c" are the segments "a" and "b/c". So these calls also reach the paths that no text names,
- * because a segment has a slash. The list of no bytes is the root, as the empty text is.
- * Each call returns the numbers of the call with a text. It returns 4 also if a segment has fewer bytes than its length.
+ * put, state and remove at a path that a list of segments names. Each segment is a byte with its length, followed by
+ * its bytes: the six bytes "\1a\3b/c" are the segments "a" and "b/c". So these calls also reach the paths that no text
+ * names, because a segment has a slash. The list of no bytes is the root, as the empty text is.
+ * Each call returns the numbers of the call with a text. It returns 4 also if a segment has fewer bytes than its
+ * length.
  */
-uint32_t dachreup_server_put_at(struct dachreup_server *server, const uint8_t *segments, size_t segments_length, uint32_t format,
-                                const uint8_t *bytes, size_t length, uint64_t *version);
-uint32_t dachreup_server_state_at(struct dachreup_server *server, const uint8_t *segments, size_t segments_length, struct dachreup_state *state);
+uint32_t dachreup_server_put_at(struct dachreup_server *server, const uint8_t *segments, size_t segments_length,
+                                uint32_t format, const uint8_t *bytes, size_t length, uint64_t *version);
+uint32_t dachreup_server_state_at(struct dachreup_server *server, const uint8_t *segments, size_t segments_length,
+                                  struct dachreup_state *state);
 uint32_t dachreup_server_remove_at(struct dachreup_server *server, const uint8_t *segments, size_t segments_length);
 
 /* Records the end of the input of a connection. Returns 1 or 16. */
@@ -477,15 +486,16 @@ struct dachreup_request {
  * (DACHREUP_REQUEST_NOT_OPEN). The request is outstanding until its last response.
  * Returns 1, 2, 5, 16 to 22 (DACHREUP_URI_..) or 32 to 36 (DACHREUP_REQUEST_..).
  */
-uint32_t dachreup_client_send(struct dachreup_client *client, const struct dachreup_request *request, const uint8_t *uri, size_t uri_length,
-                              const uint8_t *payload, size_t payload_length, uint64_t *token);
+uint32_t dachreup_client_send(struct dachreup_client *client, const struct dachreup_request *request,
+                              const uint8_t *uri, size_t uri_length, const uint8_t *payload, size_t payload_length,
+                              uint64_t *token);
 
 /*
  * Cancels the observation with this token: queues a GET with Observe 1. The URI and the request are those of the
  * observation. It stays outstanding until its last response. Returns 1, 2, 5, 16 to 22, 32, 34, 35 or 37.
  */
-uint32_t dachreup_client_cancel(struct dachreup_client *client, const struct dachreup_request *request, const uint8_t *uri, size_t uri_length,
-                                uint64_t token);
+uint32_t dachreup_client_cancel(struct dachreup_client *client, const struct dachreup_request *request,
+                                const uint8_t *uri, size_t uri_length, uint64_t token);
 
 /* Queues a Ping, with Custody if `custody` is 1, otherwise 0, and sets *token. Returns 1, 5 or 32 to 36. */
 uint32_t dachreup_client_ping(struct dachreup_client *client, uint32_t custody, uint64_t *token);
@@ -509,8 +519,8 @@ struct dachreup_event {
     uint32_t option;  /* REJECTED: the number of the option */
     uint32_t custody; /* PONG: 1 if it has Custody */
     uint64_t token;   /* RESPONSE, NOTIFICATION, REJECTED, PONG: the number of the token */
-    /* RESPONSE, NOTIFICATION: the message. The spans are lent until the next dachreup_client_take, _ended or _free on the
-       handle, and no longer than the input of the take. */
+    /* RESPONSE, NOTIFICATION: the message. The spans are lent until the next dachreup_client_take, _ended or _free on
+       the handle, and no longer than the input of the take. */
     struct dachreup_message message;
 };
 
@@ -519,12 +529,14 @@ struct dachreup_event {
  * offers the other bytes again. No byte is accepted if the queue has no room for a message of max_sent bytes, or after
  * DACHREUP_EVENT_STOPPED. Sets *event in every case. Returns 1.
  */
-uint32_t dachreup_client_take(struct dachreup_client *client, const uint8_t *piece, size_t length, struct dachreup_event *event);
+uint32_t dachreup_client_take(struct dachreup_client *client, const uint8_t *piece, size_t length,
+                              struct dachreup_event *event);
 
 /* Lends the queued bytes, without a copy, until the next call on the handle. Returns 1. */
 uint32_t dachreup_client_parts(struct dachreup_client *client, struct dachreup_parts *parts);
 
-/* Removes the first `count` bytes from the queue, after the program has written them. Returns 1 or 17 (DACHREUP_TOO_MANY). */
+/* Removes the first `count` bytes from the queue, after the program has written them. Returns 1 or 17
+   (DACHREUP_TOO_MANY). */
 uint32_t dachreup_client_written(struct dachreup_client *client, size_t count);
 
 /* Records the end of the input. Returns 1. */

@@ -60,8 +60,7 @@ static int flush(int to) {
     if (dachreup_client_parts(&client, &parts) || parts.first.count + parts.second.count == 0)
         return 0;
     struct iovec both[2] = {{(void *)parts.first.at, parts.first.count}, {(void *)parts.second.at, parts.second.count}};
-    struct msghdr message = {.msg_iov = both, .msg_iovlen = 2};
-    ssize_t count = sendmsg(to, &message, MSG_NOSIGNAL | MSG_DONTWAIT);
+    ssize_t count = sendmsg(to, &(struct msghdr){.msg_iov = both, .msg_iovlen = 2}, MSG_NOSIGNAL | MSG_DONTWAIT);
     return count < 0 || dachreup_client_written(&client, (size_t)count) ? -1 : 0;
 }
 
@@ -77,7 +76,8 @@ static int handle(const struct dachreup_event *event) {
     uint32_t number = 0;
     switch (event->kind) {
     case DACHREUP_EVENT_READY:
-        number = dachreup_client_send(&client, &observation, (const uint8_t *)uri, strlen(uri), (const uint8_t *)"", 0, &token);
+        number = dachreup_client_send(&client, &observation, (const uint8_t *)uri, strlen(uri), (const uint8_t *)"", 0,
+                                      &token);
         break;
     case DACHREUP_EVENT_NOTIFICATION:
         if (event->token != token || left == 0)

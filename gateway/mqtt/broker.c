@@ -234,7 +234,9 @@ struct step {
     bool is_after_others;
 };
 
-/* A deadline counts from the last step of the connection, or from the last message that may come before the next one. */
+/*
+ * A deadline counts from the last step of the connection, or from the last message that may come before the next one.
+ */
 static void note_step(struct broker *broker, const struct step *before, uint64_t now) {
     bool has_progress = broker->packets != before->packets;
     if (broker->state != before->state || (has_progress && before->is_after_others))

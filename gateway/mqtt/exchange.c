@@ -64,7 +64,9 @@ static uint32_t refusal_of(const struct gateway *gateway, const struct request *
     return is_delete || has_place(gateway, &request->path) ? 0 : CODE_NOT_ACCEPTABLE;
 }
 
-/* Publishes the change that a request asks for. Returns the code that refuses it, or 0: the response follows the echo. */
+/*
+ * Publishes the change that a request asks for. Returns the code that refuses it, or 0: the response follows the echo.
+ */
 static uint32_t publish(struct gateway *gateway, struct write *write, const struct request *request, bool is_stored) {
     char topic[TOPIC_ROOM];
     bool is_delete = request->message.code == METHOD_DELETE;
@@ -241,8 +243,8 @@ void exchange_message(void *owner, const struct broker_message *message) {
     note_creation(gateway, &path, change);
     if (log_is_on(LOG_MESSAGES)) {
         char printed[PRINTED_ROOM];
-        log_line(LOG_MESSAGES, "broker: %s: %zu bytes%s", printed_name(printed, message->topic, strlen(message->topic)), message->length,
-                 write ? ", of this gateway" : "");
+        log_line(LOG_MESSAGES, "broker: %s: %zu bytes%s", printed_name(printed, message->topic, strlen(message->topic)),
+                 message->length, write ? ", of this gateway" : "");
     }
     if (write)
         finish(gateway, write, code_after(write, change));

@@ -1,5 +1,6 @@
 /*
- * The way of a write: a request becomes a publication, the broker sends it back, and only then it is applied and answered.
+ * The way of a write: a request becomes a publication, the broker sends it back, and only then it is applied and
+ * answered.
  */
 #ifndef COAP_MQTT_EXCHANGE_H
 #define COAP_MQTT_EXCHANGE_H

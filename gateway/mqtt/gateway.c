@@ -78,8 +78,8 @@ static void on_complete(void *owner) {
 /* ---- the loop ---- */
 
 /*
- * Returns the time of the server in milliseconds. If the system's clock is set back, the time continues by the monotonic
- * clock, as in coap-server: otherwise requests would wait for their deadlines until the clock is there again.
+ * Returns the time of the server in milliseconds. If the system's clock is set back, the time continues by the
+ * monotonic clock, as in coap-server: otherwise requests would wait for their deadlines until the clock is there again.
  */
 static uint64_t server_time(struct gateway *gateway) {
     int64_t monotonic = (int64_t)milliseconds(), ahead = (int64_t)real_milliseconds() - monotonic;
@@ -152,8 +152,8 @@ static void check_second(struct gateway *gateway) {
 }
 
 /*
- * Listens from the first complete mirror on, in a later second than the first version: so a gateway that is restarted in
- * the second of its start has given no ETag.
+ * Listens from the first complete mirror on, in a later second than the first version: so a gateway that is restarted
+ * in the second of its start has given no ETag.
  */
 static bool check_listening(struct gateway *gateway) {
     if (gateway->peers.listens || !gateway->is_complete || gateway->second <= gateway->started)
@@ -271,7 +271,8 @@ static bool open_all(struct gateway *gateway) {
                                    .complete = on_complete, .refused = exchange_refused,
                                    .acknowledged = exchange_acknowledged};
     gateway->poll = epoll_create1(EPOLL_CLOEXEC);
-    if (gateway->poll < 0 || !open_server(gateway) || !peers_open(&gateway->peers, &gateway->server, options, gateway->poll))
+    if (gateway->poll < 0 || !open_server(gateway) ||
+        !peers_open(&gateway->peers, &gateway->server, options, gateway->poll))
         return false;
     gateway->peers.owner = gateway;
     gateway->peers.request = exchange_request;

@@ -18,8 +18,9 @@
 enum { GUARD_FAILED = -1000 };
 
 /*
- * These functions do the same as those of libmosquitto, with one filter of QoS 1 and with publications of QoS
- * 1. libmosquitto decides how many packets a call reads or writes. After GUARD_FAILED, only mosquitto_destroy may be called with the client.
+ * These functions do the same as those of libmosquitto, with one filter of QoS 1 and with publications of QoS 1.
+ * libmosquitto decides how many packets a call reads or writes. After GUARD_FAILED, only mosquitto_destroy may be
+ * called with the client.
  */
 int guarded_read(struct mosquitto *client);
 int guarded_write(struct mosquitto *client);

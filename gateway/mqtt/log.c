@@ -34,7 +34,8 @@ static int write_time(char *line, const struct timespec *now) {
     struct tm parts;
     gmtime_r(&now->tv_sec, &parts);
     int length = (int)strftime(line, LINE_ROOM, "%Y-%m-%dT%H:%M:%S", &parts);
-    return length + snprintf(line + length, (size_t)(LINE_ROOM - length), ".%03ldZ " PROGRAM ": ", now->tv_nsec / 1000000);
+    return length +
+           snprintf(line + length, (size_t)(LINE_ROOM - length), ".%03ldZ " PROGRAM ": ", now->tv_nsec / 1000000);
 }
 
 /* Begins a new second, and says how many lines the last ones left out. */

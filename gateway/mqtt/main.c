@@ -6,7 +6,9 @@
 #include "gateway.h"
 #include "log.h"
 
-/* Opens /dev/null for each standard stream that is closed. Otherwise a socket would have its number, and get the log. */
+/*
+ * Opens /dev/null for each standard stream that is closed. Otherwise a socket would have its number, and get the log.
+ */
 static bool open_standard_streams(void) {
     int opened;
     do

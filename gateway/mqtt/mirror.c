@@ -82,10 +82,12 @@ static bool is_equal(const struct dachreup_state *state, const struct broker_mes
 }
 
 /* A message that is not stored leaves no place to the state before it: a reader gets 4.04, not old bytes. */
-static enum mirror_change leave_out(struct mirror *mirror, const struct path *path, const struct broker_message *message, const char *reason) {
+static enum mirror_change leave_out(struct mirror *mirror, const struct path *path,
+                                    const struct broker_message *message, const char *reason) {
     char printed[PRINTED_ROOM];
     mirror->left_out++;
-    log_line(LOG_WARNINGS, "left out: %s: %s (%llu left out)", printed_name(printed, message->topic, strlen(message->topic)), reason,
+    log_line(LOG_WARNINGS, "left out: %s: %s (%llu left out)",
+             printed_name(printed, message->topic, strlen(message->topic)), reason,
              (unsigned long long)mirror->left_out);
     take_away(mirror, path);
     return MIRROR_LEFT_OUT;
@@ -100,10 +102,13 @@ static enum mirror_change store(struct mirror *mirror, const struct path *path, 
         note(mirror, path);
         return MIRROR_UNCHANGED;
     }
-    switch (dachreup_server_put_at(mirror->server, path->bytes, path->size, message->format, message->bytes, message->length, &version)) {
+    switch (dachreup_server_put_at(mirror->server, path->bytes, path->size, message->format, message->bytes,
+                                   message->length, &version)) {
     case DACHREUP_OK: note(mirror, path); return is_stored ? MIRROR_CHANGED : MIRROR_CREATED;
     case DACHREUP_TOO_LARGE: return leave_out(mirror, path, message, "payload above the size limit");
-    case DACHREUP_LIMIT: mirror->lacks_room = true; return leave_out(mirror, path, message, "no place for another resource");
+    case DACHREUP_LIMIT:
+        mirror->lacks_room = true;
+        return leave_out(mirror, path, message, "no place for another resource");
     case DACHREUP_MEMORY: mirror->is_out_of_memory = true; return leave_out(mirror, path, message, "no memory");
     case DACHREUP_VERSIONS_SPENT: return leave_out(mirror, path, message, "no version is left");
     default: return MIRROR_IGNORED;

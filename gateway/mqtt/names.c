@@ -79,7 +79,10 @@ static bool may_stay(uint32_t point) {
     return point <= 0x10FFFF && !is_surrogate && !is_noncharacter;
 }
 
-/* Returns the number of bytes at the start of a segment that stay as they are in the topic, or 0 if the first is escaped. */
+/*
+ * Returns the number of bytes at the start of a segment that stay as they are in the topic, or 0 if the first is
+ * escaped.
+ */
 static size_t stays(const uint8_t *bytes, size_t left) {
     size_t length = character_length(bytes[0]);
     return length && length <= left && may_stay(code_point(bytes, length)) ? length : 0;

@@ -13,7 +13,10 @@ enum {
     PRINTED_ROOM = 256  /* room for a name in a message */
 };
 
-/* A path: its segments in order, each after a byte with its length. The C library reads these bytes as a list of segments. */
+/*
+ * A path: its segments in order, each after a byte with its length. The C library reads these bytes as a list of
+ * segments.
+ */
 struct path {
     size_t count;
     size_t size;
@@ -41,8 +44,8 @@ bool path_read(struct path *path, const char *text);
 /*
  * Writes the topic of a path, and a zero byte, to `topic`, which has TOPIC_ROOM bytes. Returns its length.
  *
- * Segments are the levels of the topic. These bytes of a segment are written as a percent sign and two capital digits: `/`,
- * `+`, `#`, `%`, control characters, code points that MQTT forbids, and bytes that are no UTF-8. All others stay.
+ * Segments are the levels of the topic. These bytes of a segment are written as a percent sign and two capital digits:
+ * `/`, `+`, `#`, `%`, control characters, code points that MQTT forbids, and bytes that are no UTF-8. All others stay.
  */
 size_t topic_of_path(const struct path *path, char *topic);
 

@@ -292,7 +292,9 @@ static bool check(struct options *options) {
         return log_always("the paths of --health and --prefix overlap: %s and %s", options->health_text,
                           options->prefix_text), false;
     if (options->password_file && !read_password(options))
-        return log_always("cannot read a password of at most %d bytes from %s", PASSWORD_ROOM - 2, options->password_file), false;
+        return log_always("cannot read a password of at most %d bytes from %s", PASSWORD_ROOM - 2,
+                          options->password_file),
+               false;
     return tls_files_check(options);
 }
 

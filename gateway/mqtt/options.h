@@ -43,8 +43,8 @@ struct options {
 enum options_result { OPTIONS_RUN, OPTIONS_DONE, OPTIONS_BAD };
 
 /*
- * Reads the options and the password. After OPTIONS_DONE, the help or the version is on standard output. After OPTIONS_BAD,
- * the error is on standard error.
+ * Reads the options and the password. After OPTIONS_DONE, the help or the version is on standard output. After
+ * OPTIONS_BAD, the error is on standard error.
  */
 enum options_result options_read(struct options *options, int count, char **words);
 

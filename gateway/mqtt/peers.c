@@ -36,8 +36,10 @@ static void print_address(struct address *address) {
     const struct sockaddr_in *four = (const struct sockaddr_in *)&address->bytes;
     const struct sockaddr_in6 *six = (const struct sockaddr_in6 *)&address->bytes;
     bool is_six = address->bytes.ss_family == AF_INET6;
-    inet_ntop(address->bytes.ss_family, is_six ? (const void *)&six->sin6_addr : (const void *)&four->sin_addr, host, sizeof host);
-    snprintf(address->text, sizeof address->text, is_six ? "[%s]:%u" : "%s:%u", host, (unsigned)ntohs(is_six ? six->sin6_port : four->sin_port));
+    inet_ntop(address->bytes.ss_family, is_six ? (const void *)&six->sin6_addr : (const void *)&four->sin_addr, host,
+              sizeof host);
+    snprintf(address->text, sizeof address->text, is_six ? "[%s]:%u" : "%s:%u", host,
+             (unsigned)ntohs(is_six ? six->sin6_port : four->sin_port));
 }
 
 static struct address address_of(const struct options *options) {
@@ -179,7 +181,8 @@ static size_t offer(struct peers *peers, struct peer *peer, bool *failed) {
 static void watch(struct peers *peers, struct peer *peer) {
     struct dachreup_status status = {0};
     dachreup_server_status(peers->server, peer->id, &status);
-    uint32_t interest = (!peer->has_ended && peer->kept < peers->room ? (uint32_t)EPOLLIN : 0) | (status.waiting ? (uint32_t)EPOLLOUT : 0);
+    uint32_t interest = (!peer->has_ended && peer->kept < peers->room ? (uint32_t)EPOLLIN : 0) |
+                        (status.waiting ? (uint32_t)EPOLLOUT : 0);
     struct epoll_event event = {.events = interest, .data.u64 = (uint64_t)(peer - peers->all)};
     if (interest != peer->interest)
         epoll_ctl(peers->poll, EPOLL_CTL_MOD, peer->socket, &event);
@@ -389,7 +392,8 @@ static void note_accept(struct peers *peers, int error) {
 void peers_accept(struct peers *peers) {
     while (peers->open < peers->count) {
         struct address address = {.length = sizeof address.bytes};
-        int client = accept4(peers->listener, (struct sockaddr *)&address.bytes, &address.length, SOCK_NONBLOCK | SOCK_CLOEXEC);
+        int client =
+            accept4(peers->listener, (struct sockaddr *)&address.bytes, &address.length, SOCK_NONBLOCK | SOCK_CLOEXEC);
         if (client < 0) {
             note_accept(peers, errno);
             break;

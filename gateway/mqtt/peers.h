@@ -12,7 +12,10 @@
 /* Values of epoll_data.u64. Those below are the places of peers. */
 enum { EVENT_LISTENER = 1000, EVENT_BROKER = 1001 };
 
-/* A connection: its socket (-1: the place is free), its id in the server, and the bytes that the server has not accepted. */
+/*
+ * A connection: its socket (-1: the place is free), its id in the server, and the bytes that the server has not
+ * accepted.
+ */
 struct peer {
     int socket;
     uint64_t id;
@@ -31,7 +34,8 @@ struct peers {
     struct dachreup_server *server;
     const struct options *options;
     void *owner;
-    void (*request)(void *owner, uint64_t id, const struct dachreup_span *request); /* a request that the gateway answers */
+    /* A request that the gateway answers. */
+    void (*request)(void *owner, uint64_t id, const struct dachreup_span *request);
     struct peer *all;
     size_t count, open;
     size_t room;        /* bytes of a peer's buffer: more than the largest message */

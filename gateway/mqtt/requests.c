@@ -67,7 +67,8 @@ bool request_conditions_hold(const struct request *request, const struct dachreu
 /* Appends the segments of a path. */
 static void write_location(uint8_t *options, size_t *length, uint32_t *last, const struct path *path) {
     for (size_t at = 0; at < path->size; at += 1u + path->bytes[at])
-        dachreup_option_write(options, RESPONSE_ROOM, length, last, LOCATION_PATH, path->bytes + at + 1, path->bytes[at]);
+        dachreup_option_write(options, RESPONSE_ROOM, length, last, LOCATION_PATH, path->bytes + at + 1,
+                              path->bytes[at]);
 }
 
 static void write_limit(uint8_t *options, size_t *length, uint32_t *last, uint32_t limit) {
@@ -89,6 +90,7 @@ size_t response_write(uint8_t *response, uint32_t code, const uint8_t *token, si
     if (limit)
         write_limit(options, &options_length, &last, *limit);
     /* A path has at most 255 bytes, so the room is always enough. */
-    dachreup_message_write(code, token, token_length, options, options_length, (const uint8_t *)"", 0, response, RESPONSE_ROOM, &length);
+    dachreup_message_write(code, token, token_length, options, options_length, (const uint8_t *)"", 0, response,
+                           RESPONSE_ROOM, &length);
     return length;
 }

@@ -39,15 +39,17 @@ struct request {
 /* Reads a request. Returns false if the bytes are no message. */
 bool request_read(struct request *request, const struct dachreup_span *bytes);
 
-/* Returns true if If-Match and If-None-Match hold (RFC 7252 section 5.10.8). `state` is NULL if there is no resource. */
+/*
+ * Returns true if If-Match and If-None-Match hold (RFC 7252 section 5.10.8). `state` is NULL if there is no resource.
+ */
 bool request_conditions_hold(const struct request *request, const struct dachreup_state *state);
 
 /* Room for a response: its header, a token, and a Location-Path for each segment. */
 enum { RESPONSE_ROOM = 1024 };
 
 /*
- * Writes a response to `response`, which has RESPONSE_ROOM bytes, and returns its size. `location` is the path of a 2.01, or
- * NULL. `limit` is the Size1 of a 4.13, or NULL.
+ * Writes a response to `response`, which has RESPONSE_ROOM bytes, and returns its size. `location` is the path of a
+ * 2.01, or NULL. `limit` is the Size1 of a 4.13, or NULL.
  */
 size_t response_write(uint8_t *response, uint32_t code, const uint8_t *token, size_t token_length,
                       const struct path *location, const uint32_t *limit);

@@ -43,7 +43,8 @@ static bool is_below(const struct dachreup_message *message, const struct path *
     struct dachreup_span value = {0};
     size_t at = 0, matched = 0;
     uint32_t number = 0;
-    while (matched < prefix->size && !dachreup_option_next(message->options.at, message->options.count, &at, &number, &value)) {
+    while (matched < prefix->size &&
+           !dachreup_option_next(message->options.at, message->options.count, &at, &number, &value)) {
         if (number != URI_PATH)
             continue;
         size_t length = prefix->bytes[matched];

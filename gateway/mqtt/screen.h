@@ -20,7 +20,9 @@ enum { METHOD_GET = 1, METHOD_POST = 2, METHOD_PUT = 3, METHOD_DELETE = 4, METHO
 /* Returned by frame_size for bytes that begin no message. */
 #define FRAME_BAD SIZE_MAX
 
-/* Returns the size of the message that begins with these bytes (RFC 8323 section 3.2), or 0 if more bytes are needed. */
+/*
+ * Returns the size of the message that begins with these bytes (RFC 8323 section 3.2), or 0 if more bytes are needed.
+ */
 size_t frame_size(const uint8_t *bytes, size_t count);
 
 /* Changes the code of a whole message, if it must be refused. `refuses_reads`: below the prefix, GET too. */

@@ -1,10 +1,12 @@
-/* The client of the C library with its server in one program, its messages, and wrong uses of their calls. Run by tests/system/c_library.py.
+/* The client of the C library with its server in one program, its messages, and wrong uses of their calls. Run by
+   tests/system/c_library.py.
 
-       c_client pair            prints the events of requests, an observation and a Ping; a call that reports 2 is made once more
-       c_client messages        reads records of two bytes of length and a frame; prints the numbers of the errors, and each frame that is
-                                written otherwise than it was read
-       c_client wraps           sends PUTs of 3,000 bytes, and writes the bytes that the client queued
-       c_client wrong           prints each check that fails */
+       c_client pair        prints the events of requests, an observation and a Ping; a call that reports 2 is made
+                            once more
+       c_client messages    reads records of two bytes of length and a frame; prints the numbers of the errors, and
+                            each frame that is written otherwise than it was read
+       c_client wraps       sends PUTs of 3,000 bytes, and writes the bytes that the client queued
+       c_client wrong       prints each check that fails */
 #include "c_checks.h"
 #include <coap_proved.h>
 #include <stdio.h>
@@ -21,8 +23,8 @@ static uint64_t id;
 #define TEXT(text) (const uint8_t *)(text), sizeof(text) - 1
 
 static void print(const struct dachreup_event *event) {
-    printf("kind %u token %llu reason %u option %u custody %u", (unsigned)event->kind, (unsigned long long)event->token, (unsigned)event->reason,
-           (unsigned)event->option, (unsigned)event->custody);
+    printf("kind %u token %llu reason %u option %u custody %u", (unsigned)event->kind, (unsigned long long)event->token,
+           (unsigned)event->reason, (unsigned)event->option, (unsigned)event->custody);
     if (event->message.code) {
         struct dachreup_span value;
         size_t at = 0;
@@ -77,7 +79,8 @@ static int exchange(size_t size) {
 static int pair(size_t size) {
     struct dachreup_settings settings = DACHREUP_SETTINGS(4);
     struct dachreup_limits limits = DACHREUP_LIMITS;
-    struct dachreup_request get = DACHREUP_REQUEST_GET, observe = DACHREUP_REQUEST_OBSERVE, put = {DACHREUP_PUT, 0, 0, 40, DACHREUP_NO_FORMAT};
+    struct dachreup_request get = DACHREUP_REQUEST_GET, observe = DACHREUP_REQUEST_OBSERVE,
+                            put = {DACHREUP_PUT, 0, 0, 40, DACHREUP_NO_FORMAT};
     struct dachreup_place place = {0, 0, 0};
     uint64_t token = 0, version = 0;
     uint32_t number;
@@ -85,24 +88,30 @@ static int pair(size_t size) {
     if (AGAIN(dachreup_target(TEXT("coap+tcp://[::1]:70/a"), host, sizeof host, &place)))
         return 1;
     printf("%s %zu %u %u\n", (char *)host, place.host, (unsigned)place.is_address, (unsigned)place.port);
-    if (AGAIN(dachreup_server_new(&server, &settings)) || AGAIN(dachreup_server_open(&server, &id)) || AGAIN(dachreup_client_new(&client, &limits, 299)))
+    if (AGAIN(dachreup_server_new(&server, &settings)) || AGAIN(dachreup_server_open(&server, &id)) ||
+        AGAIN(dachreup_client_new(&client, &limits, 299)))
         return 2;
-    if (exchange(size) || AGAIN(dachreup_client_send(&client, &put, TEXT("coap+tcp://a/b/c?d"), TEXT("one"), &token)) || exchange(size))
+    if (exchange(size) || AGAIN(dachreup_client_send(&client, &put, TEXT("coap+tcp://a/b/c?d"), TEXT("one"), &token)) ||
+        exchange(size))
         return 3;
     if (AGAIN(dachreup_server_put(&server, TEXT("a"), 0, TEXT("first"), &version)))
         return 4;
     if (AGAIN(dachreup_client_send(&client, &observe, TEXT("coap+tcp://h/a"), TEXT(""), &token)) || exchange(size))
         return 5;
-    if (AGAIN(dachreup_server_put(&server, TEXT("a"), 0, TEXT("second"), &version)) || exchange(size) || dachreup_client_ping(&client, 1, &version))
+    if (AGAIN(dachreup_server_put(&server, TEXT("a"), 0, TEXT("second"), &version)) || exchange(size) ||
+        dachreup_client_ping(&client, 1, &version))
         return 6;
-    if (exchange(size) || AGAIN(dachreup_client_cancel(&client, &observe, TEXT("coap+tcp://h/a"), token)) || exchange(size))
+    if (exchange(size) || AGAIN(dachreup_client_cancel(&client, &observe, TEXT("coap+tcp://h/a"), token)) ||
+        exchange(size))
         return 7;
     if (AGAIN(dachreup_client_send(&client, &get, TEXT("coap+tcp://h/none"), TEXT(""), &token)) || exchange(size))
         return 8;
     struct dachreup_client_status status = {0};
-    if (dachreup_server_release(&server, id) || exchange(size) || dachreup_client_ended(&client) || dachreup_client_status(&client, &status))
+    if (dachreup_server_release(&server, id) || exchange(size) || dachreup_client_ended(&client) ||
+        dachreup_client_status(&client, &status))
         return 9;
-    printf("phase %u reason %u waiting %zu outstanding %zu\n", (unsigned)status.phase, (unsigned)status.reason, status.waiting, status.outstanding);
+    printf("phase %u reason %u waiting %zu outstanding %zu\n", (unsigned)status.phase, (unsigned)status.reason,
+           status.waiting, status.outstanding);
     dachreup_client_free(&client);
     dachreup_server_free(&server);
     return fflush(stdout) != 0;
@@ -119,11 +128,12 @@ static int differs(const uint8_t *frame, size_t length, const struct dachreup_me
             return 1;
     if (result != DACHREUP_NO_MORE || used != message->options.count)
         return 1;
-    if (dachreup_message_write(message->code, message->token.at, message->token.count, options, used, message->payload.at, message->payload.count, written,
-                               sizeof written, &count))
+    if (dachreup_message_write(message->code, message->token.at, message->token.count, options, used,
+                               message->payload.at, message->payload.count, written, sizeof written, &count))
         return 1;
-    if (count && dachreup_message_write(message->code, message->token.at, message->token.count, options, used, message->payload.at, message->payload.count,
-                                        written, count - 1, &count) != DACHREUP_NO_ROOM)
+    if (count && dachreup_message_write(message->code, message->token.at, message->token.count, options, used,
+                                        message->payload.at, message->payload.count, written, count - 1,
+                                        &count) != DACHREUP_NO_ROOM)
         return 1;
     return count != length || memcmp(frame, written, count);
 }
@@ -196,8 +206,12 @@ static void empty(void) {
     check("empty cancel", dachreup_client_cancel(&client, &get, TEXT("coap+tcp://a"), 1), DACHREUP_EMPTY);
     check("empty ping", dachreup_client_ping(&client, 0, &token), DACHREUP_EMPTY);
     check("empty take", dachreup_client_take(&client, TEXT("abc"), &event), DACHREUP_EMPTY);
-    check("event", (uint32_t)(event.bytes + event.kind + event.reason + event.option + event.custody + event.token) + event.message.code, 0);
-    check("spans", (uint32_t)(event.message.token.count + event.message.options.count + event.message.payload.count), 0);
+    check("event",
+          (uint32_t)(event.bytes + event.kind + event.reason + event.option + event.custody + event.token) +
+              event.message.code,
+          0);
+    check("spans", (uint32_t)(event.message.token.count + event.message.options.count + event.message.payload.count),
+          0);
     check("addresses", event.message.token.at && event.message.options.at && event.message.payload.at, 1);
     check("empty parts", dachreup_client_parts(&client, &parts), DACHREUP_EMPTY);
     check("empty written", dachreup_client_written(&client, 0), DACHREUP_EMPTY);
@@ -209,7 +223,8 @@ static void empty(void) {
 
 static void ranges(void) {
     struct dachreup_limits limits = DACHREUP_LIMITS;
-    size_t *values[6] = {&limits.max_message, &limits.max_sent, &limits.queue, &limits.pending, &limits.observers, &limits.outstanding};
+    size_t *values[6] = {&limits.max_message, &limits.max_sent,  &limits.queue,
+                         &limits.pending,     &limits.observers, &limits.outstanding};
     for (uint32_t at = 0; at < 6; at++) {
         size_t before = *values[at];
         *values[at] = (size_t)1 << 40;
@@ -224,12 +239,16 @@ static void targets(void) {
     static const struct {
         const char *uri;
         uint32_t wanted;
-    } uris[] = {{"x", DACHREUP_URI_URL},          {"\xff\xfe", DACHREUP_URI_URL},          {"coap://a", DACHREUP_URI_SCHEME},
-                {"coap+tcp:a", DACHREUP_URI_NO_HOST}, {"coap+tcp://u@a", DACHREUP_URI_USER_INFO}, {"coap+tcp://a#f", DACHREUP_URI_FRAGMENT},
-                {"coap+tcp://a/1/2/3/4/5/6/7/8/9/a/b/c/d/e/f/g/h", DACHREUP_URI_TOO_MANY_PARTS}, {"coap+tcp://12345678", DACHREUP_URI_NO_ROOM},
-                {"coap+tcp://1234567", 0}};
+    } uris[] = {
+        {"x", DACHREUP_URI_URL}, {"\xff\xfe", DACHREUP_URI_URL}, {"coap://a", DACHREUP_URI_SCHEME},
+        {"coap+tcp:a", DACHREUP_URI_NO_HOST}, {"coap+tcp://u@a", DACHREUP_URI_USER_INFO},
+        {"coap+tcp://a#f", DACHREUP_URI_FRAGMENT},
+        {"coap+tcp://a/1/2/3/4/5/6/7/8/9/a/b/c/d/e/f/g/h", DACHREUP_URI_TOO_MANY_PARTS},
+        {"coap+tcp://12345678", DACHREUP_URI_NO_ROOM}, {"coap+tcp://1234567", 0}};
     for (size_t at = 0; at < sizeof uris / sizeof *uris; at++)
-        check(uris[at].uri, dachreup_target((const uint8_t *)uris[at].uri, strlen(uris[at].uri), host, sizeof host, &place), uris[at].wanted);
+        check(uris[at].uri,
+              dachreup_target((const uint8_t *)uris[at].uri, strlen(uris[at].uri), host, sizeof host, &place),
+              uris[at].wanted);
     check("host", (uint32_t)memcmp(host, "1234567", 8) + (uint32_t)place.host * 10 + place.is_address, 70);
     check("port", place.port, 5683);
 }
@@ -243,28 +262,35 @@ static void requests(void) {
     limits.outstanding = 1;
     check("new", dachreup_client_new(&client, &limits, 0), 0);
     check("new again", dachreup_client_new(&client, &limits, 0), DACHREUP_OCCUPIED);
-    check("not open", dachreup_client_send(&client, &get, TEXT("coap+tcp://a"), TEXT(""), &token), DACHREUP_REQUEST_NOT_OPEN);
+    check("not open", dachreup_client_send(&client, &get, TEXT("coap+tcp://a"), TEXT(""), &token),
+          DACHREUP_REQUEST_NOT_OPEN);
     check("ping not open", dachreup_client_ping(&client, 0, &token), DACHREUP_REQUEST_NOT_OPEN);
     check("cancel not open", dachreup_client_cancel(&client, &get, TEXT("coap+tcp://a"), 1), DACHREUP_REQUEST_NOT_OPEN);
     check("take", dachreup_client_take(&client, TEXT("\x00\xe1"), &event), 0);
     check("ready", event.kind * 10 + (uint32_t)event.bytes, 12);
     other.method = 5;
-    check("method", dachreup_client_send(&client, &other, TEXT("coap+tcp://a"), TEXT(""), &token), DACHREUP_NOT_A_CHOICE);
+    check("method", dachreup_client_send(&client, &other, TEXT("coap+tcp://a"), TEXT(""), &token),
+          DACHREUP_NOT_A_CHOICE);
     other.method = 0;
     check("no method", dachreup_client_cancel(&client, &other, TEXT("coap+tcp://a"), 1), DACHREUP_NOT_A_CHOICE);
     other = get, other.observe = 2;
-    check("observe", dachreup_client_send(&client, &other, TEXT("coap+tcp://a"), TEXT(""), &token), DACHREUP_NOT_A_CHOICE);
+    check("observe", dachreup_client_send(&client, &other, TEXT("coap+tcp://a"), TEXT(""), &token),
+          DACHREUP_NOT_A_CHOICE);
     other = get, other.plain = 2;
-    check("plain", dachreup_client_send(&client, &other, TEXT("coap+tcp://a"), TEXT(""), &token), DACHREUP_NOT_A_CHOICE);
+    check("plain", dachreup_client_send(&client, &other, TEXT("coap+tcp://a"), TEXT(""), &token),
+          DACHREUP_NOT_A_CHOICE);
     check("custody", dachreup_client_ping(&client, 2, &token), DACHREUP_NOT_A_CHOICE);
     check("uri", dachreup_client_send(&client, &get, TEXT("coap://a"), TEXT(""), &token), DACHREUP_URI_SCHEME);
     check("token unchanged", (uint32_t)token, 7);
     check("send", dachreup_client_send(&client, &get, TEXT("coap+tcp://a"), TEXT(""), &token), 0);
     check("token", (uint32_t)token, 1);
-    check("too many", dachreup_client_send(&client, &get, TEXT("coap+tcp://a"), TEXT(""), &token), DACHREUP_REQUEST_TOO_MANY);
-    check("no such token", dachreup_client_cancel(&client, &get, TEXT("coap+tcp://a"), 1), DACHREUP_REQUEST_NO_SUCH_TOKEN);
+    check("too many", dachreup_client_send(&client, &get, TEXT("coap+tcp://a"), TEXT(""), &token),
+          DACHREUP_REQUEST_TOO_MANY);
+    check("no such token", dachreup_client_cancel(&client, &get, TEXT("coap+tcp://a"), 1),
+          DACHREUP_REQUEST_NO_SUCH_TOKEN);
     check("parts", dachreup_client_parts(&client, &parts), 0);
-    check("too many written", dachreup_client_written(&client, parts.first.count + parts.second.count + 1), DACHREUP_TOO_MANY);
+    check("too many written", dachreup_client_written(&client, parts.first.count + parts.second.count + 1),
+          DACHREUP_TOO_MANY);
     check("all written", dachreup_client_written(&client, parts.first.count + parts.second.count), 0);
     check("stranger", dachreup_client_take(&client, TEXT("\x01\x45\x09"), &event), 0);
     check("stranger event", event.kind, DACHREUP_EVENT_STRANGER);
@@ -335,11 +361,16 @@ static void writing(void) {
     used = 9;
     check("past the end", dachreup_option_write(bytes, 8, &used, &last, 12, TEXT("")), DACHREUP_NO_ROOM);
     check("code", dachreup_message_write(256, TEXT(""), TEXT(""), TEXT(""), bytes, 8, &used), DACHREUP_WRITE_CODE);
-    check("token length", dachreup_message_write(1, large, 65, TEXT(""), TEXT(""), bytes, 8, &used), DACHREUP_WRITE_TOKEN);
-    check("options", dachreup_message_write(1, TEXT(""), TEXT("\xb1"), TEXT(""), bytes, 8, &used), DACHREUP_WRITE_OPTIONS);
-    check("marker", dachreup_message_write(1, TEXT(""), TEXT("\xff\x01"), TEXT(""), bytes, 8, &used), DACHREUP_WRITE_OPTIONS);
-    check("size", dachreup_message_write(1, TEXT(""), TEXT(""), large, 1048576, large, sizeof large, &used), DACHREUP_WRITE_TOO_LARGE);
-    check("no room", dachreup_message_write(1, TEXT(""), TEXT("\xb2\x61\x62"), TEXT("x"), bytes, 6, &used), DACHREUP_NO_ROOM);
+    check("token length", dachreup_message_write(1, large, 65, TEXT(""), TEXT(""), bytes, 8, &used),
+          DACHREUP_WRITE_TOKEN);
+    check("options", dachreup_message_write(1, TEXT(""), TEXT("\xb1"), TEXT(""), bytes, 8, &used),
+          DACHREUP_WRITE_OPTIONS);
+    check("marker", dachreup_message_write(1, TEXT(""), TEXT("\xff\x01"), TEXT(""), bytes, 8, &used),
+          DACHREUP_WRITE_OPTIONS);
+    check("size", dachreup_message_write(1, TEXT(""), TEXT(""), large, 1048576, large, sizeof large, &used),
+          DACHREUP_WRITE_TOO_LARGE);
+    check("no room", dachreup_message_write(1, TEXT(""), TEXT("\xb2\x61\x62"), TEXT("x"), bytes, 6, &used),
+          DACHREUP_NO_ROOM);
     check("length unchanged", (uint32_t)used, 9);
     check("message", dachreup_message_write(1, TEXT("t"), TEXT("\xb1\x61"), TEXT("x"), bytes, 8, &used), 0);
     check("bytes", (uint32_t)memcmp(bytes, "\x41\x01t\xb1\x61\xffx\x00", 8) + (uint32_t)used, 7);

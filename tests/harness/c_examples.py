@@ -30,7 +30,8 @@ LIBCOAP = ["coap-client-notls", "-B", "9"]
 
 
 def use_example(words, client):
-    """Runs the server of examples/c in this way. Observes values, also by libcoap's client, and changes another one. Returns the checks."""
+    """Runs the server of examples/c in this way. Observes values, also by libcoap's client, and changes another one.
+    Returns the checks."""
     port = free_port("127.0.0.1")
     address = f"coap+tcp://127.0.0.1:{port}"
     with contextlib.ExitStack() as stack:

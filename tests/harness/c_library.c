@@ -1,10 +1,13 @@
-/* A server of the C library over standard input and output, and wrong uses of its calls. Run by tests/system/c_library.py.
+/* A server of the C library over standard input and output, and wrong uses of its calls. Run by
+   tests/system/c_library.py.
 
-       c_library stdio MAX_MESSAGE MAX_SENT QUEUE DYNAMIC PIECE     reads pieces of this size; a call that reports 2 is made once more
-       c_library application                                        entries, requests of the application and its responses; prints each check that fails
-       c_library changes                                            requests that change resources or do not, each split at each place, and how long they are lent; prints each check that fails
-       c_library lists                                              paths as lists of segments, beside texts; prints each check that fails
-       c_library wrong                                              prints each check that fails */
+       c_library stdio MAX_MESSAGE MAX_SENT QUEUE DYNAMIC PIECE
+                                reads pieces of this size; a call that reports 2 is made once more
+       c_library application    entries, requests of the application and its responses; prints each check that fails
+       c_library changes        requests that change resources or do not, each split at each place, and how long they
+                                are lent; prints each check that fails
+       c_library lists          paths as lists of segments, beside texts; prints each check that fails
+       c_library wrong          prints each check that fails */
 #include "c_checks.h"
 #include <coap_proved.h>
 #include <stdio.h>
@@ -95,8 +98,9 @@ static void empty(uint64_t id) {
 
 static void ranges(void) {
     struct dachreup_settings settings = DACHREUP_SETTINGS(1);
-    size_t *values[9] = {&settings.max_message, &settings.max_sent, &settings.queue, &settings.pending, &settings.observers,
-                         &settings.outstanding, &settings.connections, &settings.dynamic_max, &settings.rep_max};
+    size_t *values[9] = {&settings.max_message, &settings.max_sent,    &settings.queue,
+                         &settings.pending,     &settings.observers,   &settings.outstanding,
+                         &settings.connections, &settings.dynamic_max, &settings.rep_max};
     const uint32_t numbers[9] = {16, 17, 18, 19, 20, 21, 32, 33, 34};
     for (int at = 0; at < 9; at++) {
         size_t before = *values[at];
@@ -131,7 +135,8 @@ static void numbers(void) {
     check("no such announce", dachreup_server_announce(&server, 99, 65536), DACHREUP_NO_SUCH);
     check("no such status", dachreup_server_status(&server, 99, &status), DACHREUP_NO_SUCH);
     check("parts", dachreup_server_parts(&server, id, &parts), 0);
-    check("too many", dachreup_server_written(&server, id, parts.first.count + parts.second.count + 1), DACHREUP_TOO_MANY);
+    check("too many", dachreup_server_written(&server, id, parts.first.count + parts.second.count + 1),
+          DACHREUP_TOO_MANY);
     check("release before the CSM", dachreup_server_release(&server, id), DACHREUP_NOT_OPEN);
     check("take", dachreup_server_take(&server, id, csm, 2, &took), 0);
     check("took", (uint32_t)took.bytes * 100 + took.handled * 10 + took.reason, 210);
@@ -141,9 +146,11 @@ static void numbers(void) {
     check("too large", dachreup_server_announce(&server, id, UINT32_MAX), DACHREUP_ANNOUNCE_TOO_LARGE);
     check("tick", dachreup_server_tick(&server, 5), 0);
     check("backwards", dachreup_server_tick(&server, 4), DACHREUP_BACKWARDS);
-    check("no path", dachreup_server_put(&server, (const uint8_t *)"a/..", 4, 0, csm, 2, &version), DACHREUP_NOT_A_PATH);
+    check("no path", dachreup_server_put(&server, (const uint8_t *)"a/..", 4, 0, csm, 2, &version),
+          DACHREUP_NOT_A_PATH);
     check("bad path", dachreup_server_put(&server, (const uint8_t *)"time", 4, 0, csm, 2, &version), DACHREUP_BAD_PATH);
-    check("large", dachreup_server_put(&server, (const uint8_t *)"a", 1, 0, (const uint8_t *)"12345", 5, &version), DACHREUP_TOO_LARGE);
+    check("large", dachreup_server_put(&server, (const uint8_t *)"a", 1, 0, (const uint8_t *)"12345", 5, &version),
+          DACHREUP_TOO_LARGE);
     check("put", dachreup_server_put(&server, (const uint8_t *)"a", 1, DACHREUP_NO_FORMAT, csm, 2, &version), 0);
     check("version", (uint32_t)version, 1);
     check("limit", dachreup_server_put(&server, (const uint8_t *)"b", 1, 0, csm, 2, &version), DACHREUP_LIMIT);
@@ -152,7 +159,8 @@ static void numbers(void) {
     check("bytes of a", (uint32_t)memcmp(state.bytes.at, csm, 2), 0);
     const char *const built_in[4] = {"", "time", "async", ".well-known/core"};
     for (int at = 0; at < 4; at++)
-        check(built_in[at], dachreup_server_state(&server, (const uint8_t *)built_in[at], strlen(built_in[at]), &state), DACHREUP_NO_SUCH);
+        check(built_in[at], dachreup_server_state(&server, (const uint8_t *)built_in[at], strlen(built_in[at]), &state),
+              DACHREUP_NO_SUCH);
     check("absent state", dachreup_server_state(&server, (const uint8_t *)"b", 1, &state), DACHREUP_NO_SUCH);
     check("state of no path", dachreup_server_state(&server, (const uint8_t *)"a/..", 4, &state), DACHREUP_NOT_A_PATH);
     check("kept state", (uint32_t)(state.version * 10 + state.bytes.count), 12);
@@ -164,7 +172,8 @@ static void numbers(void) {
 }
 
 static uint32_t add(const char *path, uint32_t methods, const char *attributes) {
-    return dachreup_applications_add(&applications, (const uint8_t *)path, strlen(path), methods, (const uint8_t *)attributes, strlen(attributes));
+    return dachreup_applications_add(&applications, (const uint8_t *)path, strlen(path), methods,
+                                     (const uint8_t *)attributes, strlen(attributes));
 }
 
 /* Wrong uses of entries. */
@@ -235,7 +244,8 @@ static void queued(const char *what, uint64_t id, const char *bytes, size_t leng
 
 /* POST /a is answered by the application, GET /a by the engine. */
 static int application(void) {
-    static const uint8_t csm[2] = {0x00, 0xe1}, post[5] = {0x21, 0x02, 0x07, 0xb1, 'a'}, get[5] = {0x21, 0x01, 0x08, 0xb1, 'a'};
+    static const uint8_t csm[2] = {0x00, 0xe1}, post[5] = {0x21, 0x02, 0x07, 0xb1, 'a'},
+                         get[5] = {0x21, 0x01, 0x08, 0xb1, 'a'};
     static const uint8_t late[5] = {0x21, 0x02, 0x09, 0xb1, 'a'}, request[5] = {0x21, 0x02, 0x07, 0xb1, 'a'};
     static const uint8_t changed[3] = {0x01, 0x44, 0x07}, other[3] = {0x01, 0x44, 0x0b};
     struct dachreup_settings settings = DACHREUP_SETTINGS(1);
@@ -287,7 +297,8 @@ static const struct change steps[] = {
     {3, {"a", NULL}, "xyz", "a", 0, 1},      {3, {"a", NULL}, "xyz", "a", 0, 2},     {1, {"a", NULL}, "", NULL, 0, 2},
     {3, {"a", NULL}, "12345", NULL, 0, 2},   {3, {"b", "c"}, "x", "b/c", 0, 3},      {3, {"d", NULL}, "x", NULL, 0, 0},
     {2, {"b", "c"}, "y", "b/c", 0, 4},       {4, {"b", "c"}, "", "b/c", 0, 0},       {4, {"b", "c"}, "", NULL, 0, 0},
-    {3, {"time", NULL}, "x", NULL, 0, 0},    {4, {"time", NULL}, "", NULL, 0, 0},    {1, {"time", NULL}, "", NULL, 0, 0},
+    {3, {"time", NULL}, "x", NULL, 0, 0},    {4, {"time", NULL}, "", NULL, 0, 0},
+    {1, {"time", NULL}, "", NULL, 0, 0},
     {3, {"x/y", NULL}, "x", "", 4, 0},       {4, {"x/y", NULL}, "", "", 4, 0},       {3, {"", "e"}, "x", "/e", 0, 6},
     {4, {"", "e"}, "", "/e", 0, 0},          {4, {"a", NULL}, "", "a", 0, 0},
 };
@@ -326,7 +337,8 @@ static void report(const struct change *step, uint64_t id, const uint8_t *bytes,
     check(step->path ? "reported" : "not reported", (uint32_t)took.changed.count, step->path ? (uint32_t)length : 0);
     if (took.changed.count) {
         check("reported bytes", (uint32_t)memcmp(took.changed.at, bytes, length), 0);
-        check("named", dachreup_message_path(took.changed.at, took.changed.count, path, sizeof path, &count), step->named);
+        check("named", dachreup_message_path(took.changed.at, took.changed.count, path, sizeof path, &count),
+              step->named);
         if (step->named == 0) {
             check("path", count == strlen(step->path) && !memcmp(path, step->path, count), 1);
             check("state", dachreup_server_state(&server, path, count, &state), step->version ? 0 : DACHREUP_NO_SUCH);
@@ -337,7 +349,8 @@ static void report(const struct change *step, uint64_t id, const uint8_t *bytes,
 }
 
 static void named(void) {
-    static const uint8_t put[8] = {0x51, 0x03, 0x07, 0xb1, 'a', 0x02, 'b', 'c'}, root[3] = {0x01, 0x01, 0x07}, dots[6] = {0x31, 0x01, 0x07, 0xb2, '.', '.'};
+    static const uint8_t put[8] = {0x51, 0x03, 0x07, 0xb1, 'a', 0x02, 'b', 'c'}, root[3] = {0x01, 0x01, 0x07},
+                         dots[6] = {0x31, 0x01, 0x07, 0xb2, '.', '.'};
     uint8_t path[4] = "????";
     size_t count = 9;
     check("no message", dachreup_message_path(put, 7, path, sizeof path, &count), DACHREUP_FRAME_NOT_ONE);
@@ -374,7 +387,8 @@ static void other_calls(uint64_t id, uint64_t now) {
     check("status", dachreup_server_status(&server, id, &status), 0);
 }
 
-/* Takes one message in two pieces, and returns the request that is lent. Checks that it is the accepted bytes if it comes whole. */
+/* Takes one message in two pieces, and returns the request that is lent. Checks that it is the accepted bytes if it
+   comes whole. */
 static struct dachreup_span lent(uint64_t id, uint8_t *bytes, size_t length, size_t split) {
     struct dachreup_took took = {0};
     if (split < length)
@@ -388,9 +402,11 @@ static struct dachreup_span lent(uint64_t id, uint8_t *bytes, size_t length, siz
     return request;
 }
 
-/* The bytes of a request stay until the next take, announce, drop or free, whole or in two pieces. The last call before that stops the connection. */
+/* The bytes of a request stay until the next take, announce, drop or free, whole or in two pieces. The last call before
+   that stops the connection. */
 static void loans(size_t split) {
-    static uint8_t csm[2] = {0x00, 0xe1}, put[7] = {0x41, 0x03, 0x07, 0xb1, 'a', 0xff, 'x'}, post[5] = {0x21, 0x02, 0x09, 0xb1, 'b'};
+    static uint8_t csm[2] = {0x00, 0xe1}, put[7] = {0x41, 0x03, 0x07, 0xb1, 'a', 0xff, 'x'},
+                   post[5] = {0x21, 0x02, 0x09, 0xb1, 'b'};
     static const uint8_t created[3] = {0x01, 0x41, 0x09};
     struct dachreup_settings settings = DACHREUP_SETTINGS(3);
     struct dachreup_message asked;
@@ -451,8 +467,11 @@ static int changes(void) {
 /* ---- paths as lists of segments ---- */
 
 /* Texts, each of which is also written as a list. */
-static const char *const texts[] = {"", "a", "a/b", "/", "//", "a/", "/a", "a//b", ".", "..", "a/..", "...", "time", "async", "time/a", ".well-known/core",
-                                    "1/2/3/4/5/6/7/8/9/10/11/12/13/14/15/16", "1/2/3/4/5/6/7/8/9/10/11/12/13/14/15/16/17", "///////////////", "////////////////"};
+static const char *const texts[] = {
+    "", "a", "a/b", "/", "//", "a/", "/a", "a//b", ".", "..", "a/..", "...", "time", "async", "time/a",
+    ".well-known/core", "1/2/3/4/5/6/7/8/9/10/11/12/13/14/15/16", "1/2/3/4/5/6/7/8/9/10/11/12/13/14/15/16/17",
+    "///////////////",
+    "////////////////"};
 
 /* Writes the list of the segments of a text, and returns its length. */
 static size_t list_of(const char *text, uint8_t *to) {
@@ -478,12 +497,16 @@ static void compare(const char *text) {
     struct dachreup_state first = {{0}, 0, 0}, second = {{0}, 0, 0};
     uint64_t version = 0, after = 0;
     list = realloc(list, length ? length : 1);
-    check("state before", dachreup_server_state_at(&server, list, length, &first), dachreup_server_state(&server, bytes, count, &first));
+    check("state before", dachreup_server_state_at(&server, list, length, &first),
+          dachreup_server_state(&server, bytes, count, &first));
     uint32_t put = dachreup_server_put(&server, bytes, count, 40, one, 1, &version);
     check("put at", dachreup_server_put_at(&server, list, length, 50, one, 0, &after), put);
     check("one version more", (uint32_t)(after - version), put ? 0 : 1);
-    check("state at", dachreup_server_state_at(&server, list, length, &first), dachreup_server_state(&server, bytes, count, &second));
-    check("the same state", first.version == second.version && first.bytes.count == second.bytes.count && first.format == second.format, 1);
+    check("state at", dachreup_server_state_at(&server, list, length, &first),
+          dachreup_server_state(&server, bytes, count, &second));
+    check("the same state",
+          first.version == second.version && first.bytes.count == second.bytes.count && first.format == second.format,
+          1);
     check("that of the second put", put || (first.version == after && first.bytes.count == 0 && first.format == 50), 1);
     uint32_t removed = dachreup_server_remove_at(&server, list, length);
     check("remove at", removed == 0, put == 0);
@@ -543,7 +566,8 @@ static void longest_lists(void) {
 
 /* The path whose only segment is "a/b" is not the path of the text "a/b". */
 static void slashes(uint64_t id) {
-    static const uint8_t list[4] = {3, 'a', '/', 'b'}, two[4] = {1, 'a', 1, 'b'}, get[7] = {0x41, 0x01, 0x07, 0xb3, 'a', '/', 'b'};
+    static const uint8_t list[4] = {3, 'a', '/', 'b'}, two[4] = {1, 'a', 1, 'b'},
+                         get[7] = {0x41, 0x01, 0x07, 0xb3, 'a', '/', 'b'};
     const uint8_t *text = list + 1;
     struct dachreup_state state = {{0}, 0, 0};
     struct dachreup_parts parts = {{0}, {0}};
@@ -559,7 +583,8 @@ static void slashes(uint64_t id) {
     check("GET", dachreup_server_take(&server, id, get, sizeof get, &took), 0);
     check("parts", dachreup_server_parts(&server, id, &parts), 0);
     check("2.05", parts.first.count > 2 && parts.first.at[1] == 0x45, 1);
-    check("its payload", parts.first.at[parts.first.count - 1] == 'a' && parts.first.at[parts.first.count - 2] == 0xff, 1);
+    check("its payload", parts.first.at[parts.first.count - 1] == 'a' && parts.first.at[parts.first.count - 2] == 0xff,
+          1);
     check("remove at a/b", dachreup_server_remove_at(&server, list, 4), 0);
     check("no more a/b", dachreup_server_state_at(&server, list, 4, &state), DACHREUP_NO_SUCH);
     check("a, b stays", dachreup_server_remove(&server, text, 3), 0);

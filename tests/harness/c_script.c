@@ -1,6 +1,7 @@
-/* Runs a script of a server on the C library, and writes the lines of `coap-server --script`. Run by tests/system/c_library.py.
+/* Runs a script of a server on the C library, and writes the lines of `coap-server --script`. Run by
+   tests/system/c_library.py.
 
-       c_script MAX_MESSAGE MAX_SENT QUEUE PENDING OBSERVERS CONNECTIONS DYNAMIC     reads the script from standard input
+       c_script MAX_MESSAGE MAX_SENT QUEUE PENDING OBSERVERS CONNECTIONS DYNAMIC    reads the script from standard input
 
    It also follows the resources: only the resource at the path that a take reports may differ from before the take. */
 #include "c_checks.h"
@@ -65,7 +66,8 @@ static size_t hex(const char *text, size_t length) {
     return length / 2;
 }
 
-/* Writes the segments of a path without escapes, and returns the number of bytes. No text of the library has an escaped slash. */
+/* Writes the segments of a path without escapes, and returns the number of bytes. No text of the library has an escaped
+   slash. */
 static size_t plain_path(const char *text, uint8_t *to) {
     size_t count = 0;
     for (text++; *text; count++) {
@@ -138,7 +140,8 @@ static uint32_t store(char **words, int count, uint64_t *version) {
     size_t length = plain_path(words[1], path);
     uint32_t format = count == 4 && strcmp(words[2], "-") ? (uint32_t)atol(words[2]) : DACHREUP_NO_FORMAT;
     size_t size = count == 4 ? hex(words[3], strlen(words[3])) : 0;
-    uint32_t number = count == 4 ? dachreup_server_put(&server, path, length, format, bytes, size, version) : dachreup_server_remove(&server, path, length);
+    uint32_t number = count == 4 ? dachreup_server_put(&server, path, length, format, bytes, size, version)
+                                 : dachreup_server_remove(&server, path, length);
     if (number == 0)
         follow(path, length, 1);
     return number;
@@ -170,8 +173,11 @@ static void event(char **words, int count) {
         if (!fails(word, 0, dachreup_server_tick(&server, id)))
             printf("tick %" PRIu64 "\n", id);
     } else {
-        uint32_t failure = is(word, "end") ? dachreup_server_ended(&server, id) : is(word, "drop") ? dachreup_server_drop(&server, id) :
-            is(word, "release") ? dachreup_server_release(&server, id) : dachreup_server_respond(&server, id, bytes, hex(words[2], strlen(words[2])), &reply);
+        uint32_t failure = is(word, "end")    ? dachreup_server_ended(&server, id)
+                           : is(word, "drop") ? dachreup_server_drop(&server, id)
+                           : is(word, "release")
+                               ? dachreup_server_release(&server, id)
+                               : dachreup_server_respond(&server, id, bytes, hex(words[2], strlen(words[2])), &reply);
         if (!fails(word, id, failure))
             printf("%s %" PRIu64 "\n", word, id);
     }
@@ -179,7 +185,8 @@ static void event(char **words, int count) {
 
 int main(int count, char **words) {
     struct dachreup_settings settings = DACHREUP_SETTINGS(0);
-    size_t *values[7] = {&settings.max_message, &settings.max_sent, &settings.queue, &settings.pending, &settings.observers, &settings.connections, &settings.dynamic_max};
+    size_t *values[7] = {&settings.max_message, &settings.max_sent,    &settings.queue,      &settings.pending,
+                         &settings.observers,   &settings.connections, &settings.dynamic_max};
     static char line[2 * LINE];
     for (int at = 1; at < count && at < 8; at++)
         *values[at - 1] = strtoull(words[at], NULL, 10);

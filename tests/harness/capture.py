@@ -11,9 +11,9 @@ import messages
 from peers import LIMIT
 from checks import CSM
 
-# tshark 4.0 interprets the options of a CSM as those of a request. There, number 2 (here Max-Message-Size) is undefined,
-# and number 4 (here Block-Wise-Transfer, which libcoap 4.3 sends too) is never empty. Any other remark of tshark is a
-# failure.
+# tshark 4.0 interprets the options of a CSM as those of a request. There, number 2 (here Max-Message-Size) is
+# undefined, and number 4 (here Block-Wise-Transfer, which libcoap 4.3 sends too) is never empty. Any other remark of
+# tshark is a failure.
 KNOWN_REMARKS = {
     CSM: "Invalid Option Number 2",
     "50e12380010020": "Invalid Option Number 2,Invalid Option Range: 0 (1 < x < 8)",
@@ -21,11 +21,13 @@ KNOWN_REMARKS = {
 
 SERVER_PORT = 5683
 FIRST_CLIENT_PORT = 40000
-FIELDS = ["tcp.srcport", "tcp.dstport", "tcp.payload", "coap.length", "coap.code", "_ws.expert.message", "_ws.malformed"]
+FIELDS = ["tcp.srcport", "tcp.dstport", "tcp.payload", "coap.length", "coap.code", "_ws.expert.message",
+          "_ws.malformed"]
 
 
 class Conversation:
-    """Bytes that both ends of a connection have sent so far: for each chunk, whether the server sent it, and its bytes."""
+    """Bytes that both ends of a connection have sent so far: for each chunk, whether the server sent it, and its
+    bytes."""
 
     def __init__(self):
         self.pieces = []
@@ -96,7 +98,8 @@ def packet(source, target, sequence, acknowledged, payload):
 
 
 def packets_of(client_port, sent):
-    """Returns the packets of one connection, one for each message, because tshark 4.0 reads only the first in a packet."""
+    """Returns the packets of one connection, one for each message, because tshark 4.0 reads only the first in a
+    packet."""
     packets, following = [], {False: 1, True: 1}
     for from_server, message in sent:
         ports = (SERVER_PORT, client_port) if from_server else (client_port, SERVER_PORT)

@@ -46,7 +46,8 @@ class Checks:
 
 
 def side_by_side(runs, count):
-    """Makes runs, `count` at a time, and returns their checks together. A run is a function of checks with its arguments."""
+    """Makes runs, `count` at a time, and returns their checks together. A run is a function of checks with its
+    arguments."""
     def made(run):
         checks = Checks()
         run[0](checks, *run[1:])

@@ -1,5 +1,5 @@
-/* A system clock that is set while the program runs. CLOCK_STEP is a descriptor of a file with one number of 8 bytes, in
-   the order of the machine: the seconds by which CLOCK_REALTIME is ahead. If the number is the smallest one,
+/* A system clock that is set while the program runs. CLOCK_STEP is a descriptor of a file with one number of 8 bytes,
+   in the order of the machine: the seconds by which CLOCK_REALTIME is ahead. If the number is the smallest one,
    CLOCK_REALTIME cannot be read. MONOTONIC_STEP is the same for CLOCK_MONOTONIC. Other clocks are as ever. */
 #define _GNU_SOURCE
 #include <errno.h>

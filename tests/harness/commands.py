@@ -18,7 +18,8 @@ LIMIT = 300
 
 def run(words, **how):
     """Runs a command. Returns its status, and its output with its errors."""
-    done = subprocess.run(words, stdin=subprocess.DEVNULL, stdout=subprocess.PIPE, stderr=subprocess.STDOUT, timeout=LIMIT, **how)
+    done = subprocess.run(words, stdin=subprocess.DEVNULL, stdout=subprocess.PIPE, stderr=subprocess.STDOUT,
+                          timeout=LIMIT, **how)
     return done.returncode, done.stdout.decode(errors="replace")
 
 

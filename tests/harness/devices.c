@@ -7,10 +7,10 @@
    WRITE_ROOM   maximum number of bytes that all writes together accept
    WRITE_FAILS  number of writes before the one that fails
 
-   Without a setting, a read returns all bytes and a write accepts all. For sockets, RECV_FAILS and SEND_FAILS are the numbers of calls
-   before the one that fails, and RECV_ENDS is the number of calls before the one that returns the end of input.
-   Each call on standard input and output is recorded on the descriptor DEVICES_TOLD, in one line: `read ROOM GIVEN` and `write BYTES TAKEN`,
-   with `failed` in place of the count if the call fails. */
+   Without a setting, a read returns all bytes and a write accepts all. For sockets, RECV_FAILS and SEND_FAILS are the
+   numbers of calls before the one that fails, and RECV_ENDS is the number of calls before the one that returns the end
+   of input. Each call on standard input and output is recorded on the descriptor DEVICES_TOLD, in one line:
+   `read ROOM GIVEN` and `write BYTES TAKEN`, with `failed` in place of the count if the call fails. */
 #include <errno.h>
 #include <stdio.h>
 #include <stdlib.h>

@@ -8,7 +8,8 @@ from peers import LIMIT
 # Codes and options of CoAP that the peers use.
 GET, POST, PUT, DELETE = 1, 2, 3, 4
 CREATED, DELETED, CHANGED, CONTENT = 0x41, 0x42, 0x44, 0x45
-BAD_REQUEST, BAD_OPTION, NOT_FOUND, NOT_ALLOWED, NOT_ACCEPTABLE, FAILED, UNSUPPORTED, UNAVAILABLE = 0x80, 0x82, 0x84, 0x85, 0x86, 0x8C, 0x8F, 0xA3
+BAD_REQUEST, BAD_OPTION, NOT_FOUND, NOT_ALLOWED = 0x80, 0x82, 0x84, 0x85
+NOT_ACCEPTABLE, FAILED, UNSUPPORTED, UNAVAILABLE = 0x86, 0x8C, 0x8F, 0xA3
 IF_MATCH, LOCATION_PATH, URI_PATH, CONTENT_FORMAT, URI_QUERY, ACCEPT = 1, 8, 11, 12, 15, 17
 
 LINK_FORMAT = 40
@@ -18,7 +19,8 @@ CSM, MAX_MESSAGE_SIZE = 0xE1, 2
 
 # Registrations of RFC 9176 section 5 and of its figures: the parameters and the links.
 NODE = ["ep=node1", "base=coap://local-proxy-old.example.com"]
-SENSORS = b'</sensors/temp>;rt=temperature-c;if=sensor,<http://www.example.com/sensors/temp>;anchor="/sensors/temp";rel=describedby'
+SENSORS = (b'</sensors/temp>;rt=temperature-c;if=sensor,'
+           b'<http://www.example.com/sensors/temp>;anchor="/sensors/temp";rel=describedby')
 
 
 def option(delta, value):
@@ -109,7 +111,8 @@ class Peer:
 
 def links_of(text):
     """Returns the links of a text without commas and semicolons in quotes or targets: target, and set of attributes."""
-    return sorted((re.match(r"<([^>]*)>", it)[1], frozenset(part.replace('"', "") for part in it.split(";")[1:])) for it in text.split(",") if it)
+    return sorted((re.match(r"<([^>]*)>", it)[1], frozenset(part.replace('"', "") for part in it.split(";")[1:]))
+                  for it in text.split(",") if it)
 
 
 def targets_of(text):

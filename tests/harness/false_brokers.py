@@ -43,10 +43,12 @@ FALSE_BROKERS = {
     "garbage after SUBACK": ([CONNACK, SUBACK, NOISE.randbytes(5000)], "broker: "),
     "a topic that is no UTF-8": ([CONNACK, SUBACK, publication(b"shared/\xff", b"x")], "broker: "),
     "an empty topic": ([CONNACK, SUBACK, publication(b"", b"x")], "broker: "),
-    "messages of others": ([CONNACK, SUBACK, b"".join(publication(b"other/%d" % at, b"x") for at in range(300))], "ignored: "),
+    "messages of others": ([CONNACK, SUBACK, b"".join(publication(b"other/%d" % at, b"x") for at in range(300))],
+                           "ignored: "),
     "a DISCONNECT": ([CONNACK, SUBACK, bytes.fromhex("e0018b")], "ended the connection: "),
     "CONNACK again": ([CONNACK, SUBACK + 100 * CONNACK], "sent a second CONNACK"),
-    "messages before SUBACK": ([CONNACK, publication(b"shared/a", b"x")], "no answer to the subscription within 10 seconds"),
+    "messages before SUBACK": ([CONNACK, publication(b"shared/a", b"x")],
+                               "no answer to the subscription within 10 seconds"),
 }
 
 
@@ -87,7 +89,8 @@ class Relay:
     While `open` is not set, it relays no new connection."""
 
     def __init__(self, port, rate=None):
-        self.listener, self.to, self.gateways, self.ends, self.rate = socket.create_server((LOCAL, 0)), port, [], False, rate
+        self.listener, self.to, self.rate = socket.create_server((LOCAL, 0)), port, rate
+        self.gateways, self.ends = [], False
         self.port, self.open = self.listener.getsockname()[1], threading.Event()
         self.open.set()
 

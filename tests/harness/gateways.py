@@ -88,7 +88,8 @@ class Peer:
         return token
 
     def read(self, seconds):
-        """Reads the bytes that arrive within this time. Returns false at a timeout, and raises at the end of the connection."""
+        """Reads the bytes that arrive within this time. Returns false at a timeout, and raises at the end of the
+        connection."""
         is_ready = hasattr(self.socket, "pending") and self.socket.pending()
         if not is_ready and not select.select([self.socket], [], [], max(seconds, 0))[0]:
             return False
@@ -132,8 +133,8 @@ def format_of(response):
 
 
 class Faults(threading.local):
-    """Gateways and brokers of this thread that ended by themselves, and gateways that did not end with status 0. Each has
-    the end of its log."""
+    """Gateways and brokers of this thread that ended by themselves, and gateways that did not end with status 0. Each
+    has the end of its log."""
 
     def __init__(self):
         self.found = []
@@ -175,7 +176,8 @@ class Broker(Watched):
     def __init__(self, folder, changes=()):
         self.folder, self.port, self.changes = folder, free_port(), list(changes)
         os.makedirs(f"{folder}/kept", exist_ok=True)
-        subprocess.run(["mosquitto_passwd", "-b", "-c", f"{folder}/passwd", USER, PASSWORD], check=True, capture_output=True, timeout=LIMIT)
+        subprocess.run(["mosquitto_passwd", "-b", "-c", f"{folder}/passwd", USER, PASSWORD], check=True,
+                       capture_output=True, timeout=LIMIT)
         with open(f"{folder}/acl", "w", encoding="ascii") as file:
             file.write(f"user {USER}\ntopic deny {DENIED}\ntopic readwrite {PREFIX}/#\ntopic readwrite {END}\n")
         with open(f"{folder}/password", "w", encoding="ascii") as file:
@@ -191,8 +193,10 @@ class Broker(Watched):
     def configure(self):
         with open(CONFIGURATION, encoding="utf-8") as file:
             text = file.read()
-        replaced = [("listener 1883 127.0.0.1", f"listener {self.port} {LOCAL}"), ("/var/lib/mosquitto/", f"{self.folder}/kept/"),
-                    ("/etc/mosquitto/gateways.passwd", f"{self.folder}/passwd"), ("/etc/mosquitto/gateways.acl", f"{self.folder}/acl"), *self.changes]
+        replaced = [("listener 1883 127.0.0.1", f"listener {self.port} {LOCAL}"),
+                    ("/var/lib/mosquitto/", f"{self.folder}/kept/"),
+                    ("/etc/mosquitto/gateways.passwd", f"{self.folder}/passwd"),
+                    ("/etc/mosquitto/gateways.acl", f"{self.folder}/acl"), *self.changes]
         for old, new in replaced:
             if text.count(old) != 1:
                 raise LookupError(f"{old!r} occurs {text.count(old)} times in the configuration")
@@ -242,13 +246,15 @@ class Broker(Watched):
         """Returns the payload of each retained message of a resource, by topic."""
         # The broker sends the retained messages of the second topic after those of the first one.
         self.publish(END, b"end")
-        line = ["mosquitto_sub", *self.words(), "-q", "1", "-t", f"{PREFIX}/#", "-t", END, "-F", "%t %x", "-W", str(LIMIT)]
+        line = ["mosquitto_sub", *self.words(), "-q", "1", "-t", f"{PREFIX}/#", "-t", END, "-F", "%t %x", "-W",
+                str(LIMIT)]
         found = {}
         with started(line, stdin=subprocess.DEVNULL, stdout=subprocess.PIPE, stderr=subprocess.DEVNULL) as reader:
             for topic, _, payload in (it.rstrip(b"\n").rpartition(b" ") for it in reader.stdout):
                 if topic == END.encode():
                     reader.kill()
-                    return {topic: bytes.fromhex(payload) for topic, payload in found.items() if payload and "/%gateway-" not in topic}
+                    return {topic: bytes.fromhex(payload) for topic, payload in found.items()
+                            if payload and "/%gateway-" not in topic}
                 found[topic.decode()] = payload.decode()
         raise OSError("the broker does not send its retained messages")
 
@@ -265,7 +271,8 @@ class Gateway(Watched):
 
     def __init__(self, program, broker, folder, gateway=0, words=(), before=()):
         self.broker = broker
-        self.line = [*before, program, "-A", LOCAL, "--broker-port", str(broker.port), "--username", USER, "--password-file", f"{broker.folder}/password"]
+        self.line = [*before, program, "-A", LOCAL, "--broker-port", str(broker.port), "--username", USER,
+                     "--password-file", f"{broker.folder}/password"]
         self.gateway, self.words, self.folder, self.port = gateway, list(words), folder, free_port()
         self.name = f"{folder}/gateway-{gateway}.log"
 
@@ -327,7 +334,8 @@ class Setting:
             self.folder = stack.enter_context(tempfile.TemporaryDirectory(prefix="coap-mqtt-"))
             self.broker = stack.enter_context(Broker(self.folder, self.changes))
             for at in range(self.count):
-                self.gateways.append(stack.enter_context(Gateway(self.program, self.broker, self.folder, at + 1, self.words, self.before)))
+                made = Gateway(self.program, self.broker, self.folder, at + 1, self.words, self.before)
+                self.gateways.append(stack.enter_context(made))
             self.stack = stack.pop_all()
         return self
 

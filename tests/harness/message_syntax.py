@@ -7,10 +7,10 @@ Bytes in a row are hex digits. In the same word, these forms can be used too:
     'coap+tcp'                the bytes of a text
     (GET /time observe 0)     a message in words, encoded as in RFC 8323 section 3.2 and RFC 8974 section 2.1
 
-A message in words is its code (`GET`, `CSM`, `2.05`), `token HEX`, its options, and its payload after ` | `. A path `/a/b` is two options
-Uri-Path, and `/` is none. An option is a name, followed by its value unless the option is always empty. A value is a number, a text between
-two `'`, hex digits, or `-` for an empty value. `option 9 ff` is an option with any number. The options are encoded in the order of their
-numbers.
+A message in words is its code (`GET`, `CSM`, `2.05`), `token HEX`, its options, and its payload after ` | `. A path
+`/a/b` is two options Uri-Path, and `/` is none. An option is a name, followed by its value unless the option is always
+empty. A value is a number, a text between two `'`, hex digits, or `-` for an empty value. `option 9 ff` is an option
+with any number. The options are encoded in the order of their numbers.
 """
 
 import re
@@ -22,13 +22,14 @@ CODES = {
 
 # Number of each option of requests and responses, and whether its value is a number; None if it is always empty.
 OPTIONS = {
-    "if-match": (1, False), "uri-host": (3, False), "etag": (4, False), "if-none-match": (5, None), "observe": (6, True),
-    "uri-port": (7, True), "location-path": (8, False), "uri-path": (11, False), "content-format": (12, True), "max-age": (14, True),
-    "uri-query": (15, False), "accept": (17, True), "location-query": (20, False), "proxy-uri": (35, False),
-    "proxy-scheme": (39, False), "size1": (60, True),
+    "if-match": (1, False), "uri-host": (3, False), "etag": (4, False), "if-none-match": (5, None),
+    "observe": (6, True), "uri-port": (7, True), "location-path": (8, False), "uri-path": (11, False),
+    "content-format": (12, True), "max-age": (14, True), "uri-query": (15, False), "accept": (17, True),
+    "location-query": (20, False), "proxy-uri": (35, False), "proxy-scheme": (39, False), "size1": (60, True),
     # The options of signalling messages.
-    "max-message-size": (2, True), "custody": (2, None), "block-wise-transfer": (4, None), "alternative-address": (2, False),
-    "hold-off": (4, True), "bad-csm-option": (2, True), "extended-token-length": (6, True),
+    "max-message-size": (2, True), "custody": (2, None), "block-wise-transfer": (4, None),
+    "alternative-address": (2, False), "hold-off": (4, True), "bad-csm-option": (2, True),
+    "extended-token-length": (6, True),
 }
 
 

@@ -2,7 +2,8 @@
  * Tests the paths and topics of gateway/mqtt/names.c.
  *
  *     mqtt_names all        all topics of at most three bytes, and all paths of two short segments
- *     mqtt_names topics     reads paths as lines of hexadecimal digits, each segment after its length; prints their topics
+ *     mqtt_names topics     reads paths as lines of hexadecimal digits, each segment after its length; prints their
+ *                           topics
  *     mqtt_names paths      reads topics as lines of hexadecimal digits; prints their paths, or a hyphen
  */
 #include <mosquitto.h>
@@ -29,8 +30,8 @@ static void check_path(const struct path *path) {
     expect(length == strlen(topic) && length < TOPIC_ROOM, "length", path->bytes, path->size);
     expect(mosquitto_pub_topic_check2(topic, length) == MOSQ_ERR_SUCCESS, "not a topic", path->bytes, path->size);
     expect(mosquitto_validate_utf8(topic, (int)length) == MOSQ_ERR_SUCCESS, "not UTF-8", path->bytes, path->size);
-    expect(path_of_topic(&again, topic) && again.size == path->size && !memcmp(again.bytes, path->bytes, path->size), "another path", path->bytes,
-           path->size);
+    expect(path_of_topic(&again, topic) && again.size == path->size && !memcmp(again.bytes, path->bytes, path->size),
+           "another path", path->bytes, path->size);
 }
 
 /* A topic has no path, or that path has this topic. */
@@ -38,7 +39,8 @@ static void check_topic(const char *topic, size_t length) {
     char again[TOPIC_ROOM];
     struct path path;
     if (path_of_topic(&path, topic))
-        expect(path_is_resource(&path) && topic_of_path(&path, again) == length && !memcmp(again, topic, length), "another topic", topic, length);
+        expect(path_is_resource(&path) && topic_of_path(&path, again) == length && !memcmp(again, topic, length),
+               "another topic", topic, length);
 }
 
 static void check_segments(const uint8_t *one, size_t first, const uint8_t *two, size_t second) {

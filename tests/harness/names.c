@@ -1,5 +1,5 @@
-/* Host names and addresses that follow the settings of a run. NAMES has the IPv4 addresses of every name, separated by spaces. If it is not
-   set, no name is known. UNREACHABLE is an IPv4 address without a route. */
+/* Host names and addresses that follow the settings of a run. NAMES has the IPv4 addresses of every name, separated by
+   spaces. If it is not set, no name is known. UNREACHABLE is an IPv4 address without a route. */
 #include <arpa/inet.h>
 #include <errno.h>
 #include <netdb.h>

@@ -68,7 +68,8 @@ def free_port(host=LOCAL, others=()):
 
 
 def line_of(stream):
-    """Returns the next line that a program writes. At a timeout or at the end, returns the bytes so far with a remark."""
+    """Returns the next line that a program writes. At a timeout or at the end, returns the bytes so far with a
+    remark."""
     text = b""
     while not text.endswith(b"\n"):
         if not select.select([stream], [], [], LIMIT)[0]:
@@ -89,8 +90,8 @@ def processor_time(process):
 
 @contextlib.contextmanager
 def started(words, **how):
-    """Runs a program, with `how` for Popen, and yields its process. If the program has not ended when the block ends, it is
-    killed."""
+    """Runs a program, with `how` for Popen, and yields its process. If the program has not ended when the block ends,
+    it is killed."""
     with subprocess.Popen(words, **how) as process:
         try:
             yield process
@@ -112,7 +113,8 @@ class EndedByItself(Exception):
 
 
 class Server:
-    """A server that listens at an address of this machine until its block ends. It must take its address from -A and -p.
+    """A server that listens at an address of this machine until its block ends. It must take its address from -A and
+    -p.
 
     A test that ends the server itself calls `end`. If the server ends in another way, the block ends with an exception.
     """
@@ -125,7 +127,8 @@ class Server:
         self.host, self.port = host, port or free_port(host)
         limit = (lambda: resource.setrlimit(resource.RLIMIT_NOFILE, (files, files))) if files else None
         self.process = subprocess.Popen([program, "-A", host, "-p", str(self.port), *words], stdin=subprocess.DEVNULL,
-                                        stdout=subprocess.DEVNULL, stderr=subprocess.PIPE, **{"preexec_fn": limit, **how})
+                                        stdout=subprocess.DEVNULL, stderr=subprocess.PIPE,
+                                        **{"preexec_fn": limit, **how})
         self.said, self.was_ended = line_of(self.process.stderr).decode() if says else "", False
 
     def end(self, number=signal.SIGKILL):

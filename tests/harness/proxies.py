@@ -48,7 +48,8 @@ PEER_SETTINGS = bytes.fromhex("00e1")
 
 BODY = random.Random(5684).randbytes(60_000)
 
-# A peer: its address, the protocols that it offers, and optionally its TLS version, its only cipher and its certificate.
+# A peer: its address, the protocols that it offers, and optionally its TLS version, its only cipher and its
+# certificate.
 FIELDS = ["source", "protocols", "tls", "cipher", "certificate"]
 Kind = collections.namedtuple("Kind", FIELDS, defaults=[HOST, ("coap",), None, "DEFAULT", None])
 
@@ -97,7 +98,8 @@ class Stream:
         self.connection.close()
 
     def next(self):
-        """Returns the code, token and payload of the next message, or None at a timeout or at the end of the connection."""
+        """Returns the code, token and payload of the next message, or None at a timeout or at the end of the
+        connection."""
         with contextlib.suppress(OSError):
             while not self.frames and (piece := self.connection.recv(65536)):
                 self.frames, self.left = messages.split(self.left + piece)
@@ -119,7 +121,8 @@ class Stream:
         return self.next()
 
     def end(self, patience=LIMIT):
-        """Returns the bytes received before the connection ends, and the seconds until then, or None if it does not end."""
+        """Returns the bytes received before the connection ends, and the seconds until then, or None if it does not
+        end."""
         began, told = time.monotonic(), self.left
         self.connection.settimeout(patience)
         try:
@@ -179,7 +182,8 @@ class Front:
         with open(name, "w", encoding="utf-8") as file:
             file.write(placed(self.places))
         said = self.stack.enter_context(tempfile.TemporaryFile())
-        process = subprocess.Popen(["haproxy", "-db", "-dW", "-f", name], stdin=subprocess.DEVNULL, stdout=said, stderr=said)
+        process = subprocess.Popen(["haproxy", "-db", "-dW", "-f", name], stdin=subprocess.DEVNULL, stdout=said,
+                                   stderr=said)
         self.stack.callback(process.wait)
         self.stack.callback(process.kill)
         self.wait(lambda: process.poll() is not None or self.are_up())
@@ -240,7 +244,8 @@ class Front:
         return peer
 
     def who(self, source=HOST):
-        """Returns the name of the server that responds to a peer of this address, or an error; and the seconds that it took."""
+        """Returns the name of the server that responds to a peer of this address, or an error; and the seconds that it
+        took."""
         began = time.monotonic()
         try:
             with self.peer(Kind(source)) as peer:
@@ -280,7 +285,8 @@ def placed(places):
 
 
 class Setting:
-    """Common input of all checks: the program, a folder with certificates, and the replacements that break the configuration."""
+    """Common input of all checks: the program, a folder with certificates, and the replacements that break the
+    configuration."""
 
     def __init__(self, server, folder, broken=()):
         self.server, self.folder, self.broken = server, folder, list(broken)

@@ -1,4 +1,4 @@
-"""Records of servers, their replays, and what a server with a record writes and uses."""
+"""Records of servers, their replays, and the error output and the memory of a server with a record."""
 
 import contextlib
 import os
@@ -58,7 +58,8 @@ def frames_in(stream):
 
 
 def replay(server, words, text=b""):
-    """Runs a server with these words and this input. Returns its status, the output of each connection by its number, and its error output."""
+    """Runs a server with these words and this input. Returns its status, the output of each connection by its number,
+    and its error output."""
     done = subprocess.run([server, *words], input=text, capture_output=True, timeout=8 * LIMIT)
     return done.returncode, joined(done.stdout.split(b"\n"), b"out "), done.stderr
 

@@ -3,20 +3,23 @@
 
     tests/harness/rows.py [--by-rattle | --unproved=FOLDER] [--refuse] [FILE..]
 
-A file is tests/vectors/rows/LAYER/NAME.rows. Its lines are rows `EVENT => WANTED`. A line `= OPENING` creates the value that the rows after it
-use. A line `#` is a comment. The module tests/harness/layers/LAYER.py describes the words of the rows of a layer, and converts them for the
-probe. Bytes may be written as text and as messages in words (tests/harness/message_syntax.py).
+A file is tests/vectors/rows/LAYER/NAME.rows. Its lines are rows `EVENT => WANTED`. A line `= OPENING` creates the value
+that the rows after it use. A line `#` is a comment. The module tests/harness/layers/LAYER.py describes the words of the
+rows of a layer, and converts them for the probe. Bytes may be written as text and as messages in words
+(tests/harness/message_syntax.py).
 
---by-rattle plays the rows on the programs as Rattle's own compiler made them, and --unproved on those that tests/harness/unproved.py built in a folder.
+--by-rattle plays the rows on the programs as Rattle's own compiler made them, and --unproved on those that
+tests/harness/unproved.py built in a folder.
 
---refuse makes each allocation of each file fail in turn. The row in which the allocation fails must report `memory`. All queries (`LOOKS` of
-the layer) must return the same results as before. The row is then repeated, and from there on all results must be as in the file. A failure
-that no row reports must change nothing. A line `allocations: N` in the file is the number of allocations. If N is not a number, it is the
-reason why the allocations are not made to fail. Over all files, the failures of each call are counted, and the table in docs/TESTING.md must
-have these counts. (A line `cuts:` is the reason why tests/vectors/segmentation.py does not split the input of a file of servers.)
+--refuse makes each allocation of each file fail in turn. The row in which the allocation fails must report `memory`.
+All queries (`LOOKS` of the layer) must return the same results as before. The row is then repeated, and from there on
+all results must be as in the file. A failure that no row reports must change nothing. A line `allocations: N` in the
+file is the number of allocations. If N is not a number, it is the reason why the allocations are not made to fail. Over
+all files, the failures of each call are counted, and the table in docs/TESTING.md must have these counts. (A line
+`cuts:` is the reason why tests/vectors/segmentation.py does not split the input of a file of servers.)
 
-A contract cannot forbid that a call reports an allocation failure without cause. Therefore these files run each call that can
-report one, at each of its limits and with enough memory:
+A contract cannot forbid that a call reports an allocation failure without cause. Therefore these files run each call
+that can report one, at each of its limits and with enough memory:
 
     takes_the_greatest.rows of frame, queue, link, store, serve, door and run
     serve/stores_the_greatest.rows, serve/maximum_limits.rows, stdio/serves_the_greatest.rows
@@ -93,7 +96,8 @@ def folder_of(flags):
 
 
 def probe_of(file, ending="", folder=""):
-    """Returns the path of the probe that plays the rows of a file: as proved, for one compiler, or as built unproved in a folder."""
+    """Returns the path of the probe that plays the rows of a file: as proved, for one compiler, or as built unproved in
+    a folder."""
     crate = file.layer().PROBE
     return f"{folder}/{program_name(crate)}" if folder else f"{ROOT}/crates/{crate}/out/{crate}{ending}"
 
@@ -140,7 +144,8 @@ def looks_of(file):
 
 
 def again_of(file):
-    """Returns the function of a layer that gives the event to repeat after a failure. By default that is the whole event."""
+    """Returns the function of a layer that gives the event to repeat after a failure. By default that is the whole
+    event."""
     return getattr(file.layer(), "again", lambda probe, events, index, found: events[index])
 
 
@@ -169,7 +174,8 @@ def struck_again(file, probe, steps, found, index, shim, number):
 
 
 def refuse_each(file, probe, shim):
-    """Makes each allocation of the rows of a file fail in turn. Returns their number, the differences, and the count for each call."""
+    """Makes each allocation of the rows of a file fail in turn. Returns their number, the differences, and the count
+    for each call."""
     steps, wrong, count, calls = file.steps(), [], 0, Counter()
     events = [step.event for step in steps]
     usual = run(probe, events).lines
@@ -185,7 +191,8 @@ def refuse_each(file, probe, shim):
         else:
             again, found = struck_again(file, probe, steps, ran.lines, index, shim, first + count)
             calls[file.layer().refused(events[index], ran.lines[index], again)] += 1
-            told = [] if MEMORY.search(ran.lines[index]) else [f"{events[index][:120]}: the failure is not reported: {ran.lines[index][:120]}"]
+            told = [] if MEMORY.search(ran.lines[index]) else [f"{events[index][:120]}: the failure is not reported: "
+                                                               f"{ran.lines[index][:120]}"]
             wrong += [f"allocation {count + 1}: {text}" for text in told + found]
         count += 1
 
@@ -201,11 +208,13 @@ def refuse(file, probe, shim):
 
 
 def untold(calls, is_program=False):
-    """Returns the differences between the counts and the table: for calls in the programs if `is_program`, otherwise for all others."""
+    """Returns the differences between the counts and the table: for calls in the programs if `is_program`, otherwise
+    for all others."""
     _, _, behind = TABLE.read_text(encoding="utf-8").partition(BEGINS + "\n")
     told = [it for it in behind.split("\n\n")[0].splitlines()[1:] if (", in `coap-" in it) == is_program]
     wanted = [f"| {call} | {count} | {left} |" for (call, left), count in sorted(calls.items())]
-    lines = [f"missing line {it}" for it in wanted if it not in told] + [f"unexpected line {it}" for it in told if it not in wanted]
+    lines = ([f"missing line {it}" for it in wanted if it not in told]
+             + [f"unexpected line {it}" for it in told if it not in wanted])
     return [f"{TABLE.name}: {it}" for it in lines]
 
 

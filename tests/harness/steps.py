@@ -43,8 +43,8 @@ LAST = 40
 # Seconds in which a step that is ended may clean up.
 PATIENCE = 20
 
-# Seconds after which a running step is ended, and has failed: that many times its estimate, and at least the other limit.
-# A machine may be slower, and other steps run beside.
+# Seconds after which a running step is ended, and has failed: that many times its estimate, and at least the other
+# limit. A machine may be slower, and other steps run beside.
 MOST_TIMES, LEAST_LIMIT = 20, 900
 
 # Seconds between two looks at these limits.
@@ -142,8 +142,8 @@ def cost(elapsed, used):
 
 
 class Result:
-    """Result of a step: its counts and its last lines. One that prints no counts counts as one check, by its status. One
-    that made no check has failed."""
+    """Result of a step: its counts and its last lines. One that prints no counts counts as one check, by its status.
+    One that made no check has failed."""
 
     def __init__(self, words, status, output):
         counts, self.last, self.skipped = None, collections.deque(maxlen=LAST), []

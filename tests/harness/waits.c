@@ -1,16 +1,17 @@
 /* Waits that follow the settings of a run:
 
-   WAIT_AT_MOST       maximum duration of a wait for events, in milliseconds. If the program asked for a longer wait and no event came, the
-                      clocks of the program are advanced by the rest. A wait of hours then ends at once, and the program finds that hours have
-                      passed.
+   WAIT_AT_MOST       maximum duration of a wait for events, in milliseconds. If the program asked for a longer wait and
+                      no event came, the clocks of the program are advanced by the rest. A wait of hours then ends at
+                      once, and the program finds that hours have passed.
    SENDS_WITHOUT_ROOM number of calls of send, from the first, that fail with EAGAIN
    WAITS_FAILING      number of waits for events, from the first, that fail with EINVAL
    ACCEPTS_ABORTED    number of calls of accept, from the first, that fail with ECONNABORTED
    WAITS_TOLD         descriptor to which each call is written as a line, `MILLISECONDS CALL RESULT`
 
-   The milliseconds are the time since the program began, by its own clock. The calls are `wait`, `send`, `accept`, `nodelay`, `keepalive`,
-   `keepidle`, `keepintvl` and `keepcnt`. If a call fails, the result is the negative error number. The result of the last five is the value to which
-   the program set TCP_NODELAY, SO_KEEPALIVE, TCP_KEEPIDLE, TCP_KEEPINTVL or TCP_KEEPCNT. */
+   The milliseconds are the time since the program began, by its own clock. The calls are `wait`, `send`, `accept`,
+   `nodelay`, `keepalive`, `keepidle`, `keepintvl` and `keepcnt`. If a call fails, the result is the negative error
+   number. The result of the last five is the value to which the program set TCP_NODELAY, SO_KEEPALIVE, TCP_KEEPIDLE,
+   TCP_KEEPINTVL or TCP_KEEPCNT. */
 #define _GNU_SOURCE
 #include <errno.h>
 #include <netinet/in.h>
@@ -57,7 +58,8 @@ static long tell(const char *call, long result) {
     long file = set("WAITS_TOLD"), number = errno;
     if (file >= 0) {
         long told = result < 0 ? -number : result;
-        syscall(SYS_write, (int)file, text, snprintf(text, sizeof text, "%ld %s %ld\n", (now() - begun) / MILLION, call, told));
+        syscall(SYS_write, (int)file, text,
+                snprintf(text, sizeof text, "%ld %s %ld\n", (now() - begun) / MILLION, call, told));
     }
     errno = number;
     return result;
@@ -86,7 +88,8 @@ ssize_t send(int socket, const void *bytes, size_t size, int flags) {
 
 int accept4(int socket, struct sockaddr *address, socklen_t *size, int flags) {
     errno = ECONNABORTED;
-    return tell("accept", acceptances++ < set("ACCEPTS_ABORTED") ? -1 : syscall(SYS_accept4, socket, address, size, flags));
+    return tell("accept",
+                acceptances++ < set("ACCEPTS_ABORTED") ? -1 : syscall(SYS_accept4, socket, address, size, flags));
 }
 
 int setsockopt(int socket, int level, int name, const void *value, socklen_t size) {

@@ -11,7 +11,8 @@ from rows import HARNESS
 class Waits:
     """Programs whose calls are recorded by preloaded libraries: waits.c, and further ones of tests/harness.
 
-    If `at_most` is set, a wait takes at most this number of milliseconds. The clocks of the program advance as if it had taken all its time.
+    If `at_most` is set, a wait takes at most this number of milliseconds. The clocks of the program advance as if it
+    had taken all its time.
     """
 
     def __init__(self, *libraries, at_most=None, **settings):
@@ -34,7 +35,8 @@ class Waits:
         return {"env": {**self.settings, **settings}, "pass_fds": [self.told.fileno()]}
 
     def calls(self, kind):
-        """Returns the calls of a kind (wait, send, accept, nodelay): the seconds since the program began, by its own clock, and the result."""
+        """Returns the calls of a kind (wait, send, accept, nodelay): the seconds since the program began, by its own
+        clock, and the result."""
         lines = os.pread(self.told.fileno(), 1 << 24, 0).decode().splitlines()
         return [(int(at) / 1000, int(result)) for at, call, result in map(str.split, lines) if call == kind]
 

@@ -1,8 +1,9 @@
 """Finds the crates that differ from the last commit for which `make mutants` tried all their edits.
 
-The file tests/mutants/last_runs has a line for each crate: `CRATE: COMMIT, DATE, RESULT`. `make mutants` writes the lines
-of all crates that it tried and of which no edit failed. It writes nothing if a file of crates or tests differed from the
-commit during the run. The file is committed with the next change. So all edits can be tried in one run, or in several.
+The file tests/mutants/last_runs has a line for each crate: `CRATE: COMMIT, DATE, RESULT`. `make mutants` writes the
+lines of all crates that it tried and of which no edit failed. It writes nothing if a file of crates or tests differed
+from the commit during the run. The file is committed with the next change. So all edits can be tried in one run, or in
+several.
 
 A crate differs from its run in each of these cases. Comments and white space do not count.
 
@@ -202,8 +203,8 @@ def unchanged_head():
 
 
 def record(commit, results):
-    """Writes the lines of a run that began at a commit. `results` has the number of its edits that passed, for each crate
-    of which none failed. Writes nothing if a file has changed since the run began."""
+    """Writes the lines of a run that began at a commit. `results` has the number of its edits that passed, for each
+    crate of which none failed. Writes nothing if a file has changed since the run began."""
     why = "files differed from HEAD when the run began" if not commit else ""
     if not why and commit != unchanged_head():
         why = "files have changed since the run began"

@@ -12,7 +12,8 @@ from workspace import ROOT
 
 
 def is_detected(edit):
-    """Returns true if the rows that an edit names detect it: a probe built unproved with the edit gives other results."""
+    """Returns true if the rows that an edit names detect it: a probe built unproved with the edit gives other
+    results."""
     file = rows.read(pathlib.Path(ROOT, edit.detected_by))
     steps = file.steps()
     with tempfile.TemporaryDirectory(prefix="edits-", ignore_cleanup_errors=True) as room:
@@ -33,7 +34,8 @@ def judge_by_tests(edits):
     """Tries the edits that tests of the programs detect, and returns for each whether they did."""
     if not edits:
         return {}
-    with tempfile.TemporaryDirectory(prefix="edits-", ignore_cleanup_errors=True) as room, ThreadPoolExecutor(PROCESSORS) as pool:
+    with (tempfile.TemporaryDirectory(prefix="edits-", ignore_cleanup_errors=True) as room,
+          ThreadPoolExecutor(PROCESSORS) as pool):
         tests = ProgramTests(room, list(dict.fromkeys((it.layer, it.detected_by) for it in edits)), pool)
         whys = zip(edits, pool.map(tests.missed, edits))
         return {it: tell(it, not why, why or "by a test") for it, why in whys}

@@ -37,7 +37,8 @@ def tell_wrong_quotes(edits):
 
 
 def tell_not_applied(edits):
-    """Prints each edit whose old text is not once in its function, and returns their number. (The check of types finds these too.)"""
+    """Prints each edit whose old text is not once in its function, and returns their number. (The check of types finds
+    these too.)"""
     count = 0
     for edit in edits:
         try:
@@ -49,8 +50,8 @@ def tell_not_applied(edits):
 
 
 def tell_wrong_counts(edits):
-    """Prints each layer whose number of edits is not in the table of docs/TESTING.md, and returns the number of these. A
-    row may have several layers, with the number of edits of all."""
+    """Prints each layer whose number of edits is not in the table of docs/TESTING.md, and returns the number of these.
+    A row may have several layers, with the number of edits of all."""
     with open(f"{ROOT}/docs/TESTING.md", encoding="utf-8") as file:
         table = re.findall(r"^\| (`.*`) \| (\d+) \| .* \| `make mutants`", file.read(), re.M)
     numbers = collections.Counter(it.layer for it in edits)

@@ -15,7 +15,8 @@ from workspace import ROOT
 PROGRAMS = tuple(CRATES)
 
 FIRST_LINE = re.compile(
-    rf"(?:clause|open|control): \S.*|rows: tests/vectors/rows/\S+\.rows|(?:{'|'.join(PROGRAMS)}): tests/system/\w+\.py(?: \w+)+"
+    rf"(?:clause|open|control): \S.*|rows: tests/vectors/rows/\S+\.rows|(?:{'|'.join(PROGRAMS)}): "
+    r"tests/system/\w+\.py(?: \w+)+"
 )
 
 
@@ -53,7 +54,8 @@ class Edit:
     parts: list = field(default_factory=list)
 
     def row(self):
-        """Returns the function whose clause rejects the edit, that clause, and the edit. Without one such function, the first one edited."""
+        """Returns the function whose clause rejects the edit, that clause, and the edit. Without one such function, the
+        first one edited."""
         clause, _, function = self.detected_by.rpartition(" of ")
         if not clause or " " in function:
             clause, function = self.detected_by, self.parts[0].function

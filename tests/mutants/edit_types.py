@@ -20,8 +20,8 @@ def only_in_place(edit):
 
 
 def typed_rounds(edits):
-    """Groups the edits of one crate, so that one copy of the crate can have all edits of a group. Only edits of a constant or of a trait's function
-    exclude one another."""
+    """Groups the edits of one crate, so that one copy of the crate can have all edits of a group. Only edits of a
+    constant or of a trait's function exclude one another."""
     rounds = []
     for edit in edits:
         fixed = only_in_place(edit)
@@ -34,7 +34,8 @@ def typed_rounds(edits):
 
 
 def with_copy(text, original, function, parts, suffix):
-    """Returns the text with an edited copy of a function of the original text after that function. The suffix is added to its name."""
+    """Returns the text with an edited copy of a function of the original text after that function. The suffix is added
+    to its name."""
     place, now = place_of(original, function), place_of(text, function)
     head, _, rest = original[place.head : original.index("\n", place.end) + 1].partition("\n")
     head = re.sub(r"\bfn (\w+)", rf"fn \1{suffix}", head, count=1)
@@ -46,8 +47,8 @@ def with_copy(text, original, function, parts, suffix):
 
 
 def typed_texts(edits):
-    """Returns the texts of the files of a crate with all these edits. A function that several edits change has an edited copy for each after the
-    first one."""
+    """Returns the texts of the files of a crate with all these edits. A function that several edits change has an
+    edited copy for each after the first one."""
     texts, changed = {}, set()
     for number, edit in enumerate(edits):
         for file, function in dict.fromkeys((it.file, it.function) for it in edit.parts):
@@ -64,7 +65,8 @@ def typed_texts(edits):
 
 
 def type_errors(name, edits):
-    """Returns the compiler's errors in a crate with these edits, without the one that is added so that nothing is proved."""
+    """Returns the compiler's errors in a crate with these edits, without the one that is added so that nothing is
+    proved."""
     texts = typed_texts(edits)
     root = "src/main.rt" if is_program(name) else "src/lib.rt"
     texts.setdefault(root, source(name, root))
@@ -94,7 +96,8 @@ def tell_wrong_types(edits):
     """Prints each edit that is not well typed, and returns their number."""
     names = dict.fromkeys(it.crate for it in edits)
     with ThreadPoolExecutor(PROCESSORS) as pool:
-        found = [pool.submit(wrong_types, name, one) for name in names for one in typed_rounds([it for it in edits if it.crate == name])]
+        found = [pool.submit(wrong_types, name, one) for name in names
+                 for one in typed_rounds([it for it in edits if it.crate == name])]
         wrong = [it for one in found for it in one.result()]
     for edit, why in wrong:
         print(f"edit {edit.crate}/{edit.name}: not well typed: {why}", flush=True)

@@ -11,8 +11,8 @@ def files_of(crate):
 
 
 def is_made(library, below):
-    """Returns true if the library exists as `rt ci` leaves it, without a stamp for `rt`. It must be at least as new as its files and those
-    of the libraries below it."""
+    """Returns true if the library exists as `rt ci` leaves it, without a stamp for `rt`. It must be at least as new as
+    its files and those of the libraries below it."""
     made = rlib(library)
     if not os.path.isdir(made) or os.path.exists(f"{os.path.dirname(made)}/stamp"):
         return False
@@ -21,14 +21,15 @@ def is_made(library, below):
 
 
 def make_libraries(names, below):
-    """Proves the libraries below these crates if they are missing, lowest first. A proof that ended for lack of memory is started
-    again."""
+    """Proves the libraries below these crates if they are missing, lowest first. A proof that ended for lack of memory
+    is started again."""
     for library in dict.fromkeys(it for name in names for it in below[name]):
         if is_made(library, below[library]):
             continue
         make = ["rt", "lib"]
         for _ in range(2):
-            ran = subprocess.run(make, cwd=f"{ROOT}/crates/{library}", stdin=subprocess.DEVNULL, capture_output=True, text=True, errors="replace")
+            ran = subprocess.run(make, cwd=f"{ROOT}/crates/{library}", stdin=subprocess.DEVNULL, capture_output=True,
+                                 text=True, errors="replace")
             if not ran.returncode:
                 break
         else:

@@ -1,33 +1,40 @@
 #!/usr/bin/env python3
 """Tries mutants of the code, several in one check: the prover must reject each.
 
-    tests/mutants/mutants.py               the edits of the gate, and the control, which has harmless edits too
-    tests/mutants/mutants.py --all [CRATE ..]  all edits, and the control; or all edits of these crates
-    tests/mutants/mutants.py CRATE ..      those of these crates that the prover must reject
-    tests/mutants/mutants.py --control     the control alone
-    tests/mutants/mutants.py --rows [CRATE ..]  those alone that rows detect
+    tests/mutants/mutants.py                     the edits of the gate, and the control, which has harmless edits too
+    tests/mutants/mutants.py --all [CRATE ..]    all edits, and the control; or all edits of these crates
+    tests/mutants/mutants.py CRATE ..            those of these crates that the prover must reject
+    tests/mutants/mutants.py --control           the control alone
+    tests/mutants/mutants.py --rows [CRATE ..]   those alone that rows detect
     tests/mutants/mutants.py --tests [CRATE ..]  those alone that tests of the programs detect
-    tests/mutants/mutants.py --types [CRATE ..]  tries no edit; checks that all edits are well typed
-    tests/mutants/mutants.py --quotes [CRATE ..]  tries no edit; checks that each quotes a clause and applies, in a second
-    tests/mutants/mutants.py --list [CRATE ..]  tries no edit; prints for each its function, the clause that rejects it, and its name
 
-The edits of a crate are in the file tests/mutants/edits/CRATE.edits, one after another. A line `= NAME` begins an edit. The next line has what detects
-it. Then each of its parts has four lines:
+These try no edit:
+
+    tests/mutants/mutants.py --types [CRATE ..]   checks that all edits are well typed
+    tests/mutants/mutants.py --quotes [CRATE ..]  checks that each quotes a clause and applies, in a second
+    tests/mutants/mutants.py --list [CRATE ..]    prints for each its function, the clause that rejects it, and its name
+
+The edits of a crate are in the file tests/mutants/edits/CRATE.edits, one after another. A line `= NAME` begins an edit.
+The next line has what detects it. Then each of its parts has four lines:
 
     clause: 'after' of Link::on  the clause that rejects it; or, if no clause can reject it,
-    rows: tests/vectors/rows/script/a_mebibyte.rows    the rows that detect it, because it only reports allocation failures; or
-    server: tests/system/sockets.py files      or `client: ..`, `directory: ..`: the program that has it, and the test that then fails; or
-    open: Server::status states nothing of it  no clause is known to reject it, and the reason
+    rows: tests/vectors/rows/script/a_mebibyte.rows
+                                 the rows that detect it, because it only reports allocation failures; or
+    server: tests/system/sockets.py files
+                                 or `client: ..`, `directory: ..`: the program that has it, and the test that then
+                                 fails; or
+    open: Server::status states nothing of it
+                                 no clause is known to reject it, and the reason
     file: src/limits.rt          a file of the crate
-    in: Limits::queue            a function of that file, as a check names it without crate and module (the impl of a trait
-                                 for a type is both names in one, as SliceSinkSink::push), or `const NAME`
+    in: Limits::queue            a function of that file, as a check names it without crate and module (the impl of a
+                                 trait for a type is both names in one, as SliceSinkSink::push), or `const NAME`
     old: self.queue              a text that is exactly once in the function's body, or in the constant
     new: self.max_sent           the text in its place
 
 The gate tries the control, and edits of crates that differ from their last run, `make mutants` without an error
-(changes.py). It takes the MOST_CRATES of these that were changed last, and MOST_IN_GATE edits, one of each crate in turn.
-Edits of files that differ come first. The other crates are printed: a run of these is due. The gate fails if a last run
-is more than 200 commits back. A crate without one counts as different.
+(changes.py). It takes the MOST_CRATES of these that were changed last, and MOST_IN_GATE edits, one of each crate in
+turn. Edits of files that differ come first. The other crates are printed: a run of these is due. The gate fails if a
+last run is more than 200 commits back. A crate without one counts as different.
 
 In every mode, checks are made of all edits. First, the first line must quote a clause of the function that it names
 (tests/mutants/quotes.py has the forms). That function must be one that the edit changes, or one that names a constant
@@ -36,40 +43,48 @@ well typed. For this check, all edits of a crate are put into one copy of the cr
 edits change has an edited copy for each. The copy of the crate also gets one type error, so that the compiler reports
 all type errors and proves nothing.
 
-An edit of the layer `rows` is detected if a row of the file that it names has another result. The probe is built unproved with the edit
-(tests/harness/unproved.py). --all tries these too, each in its own build; --rows tries them alone.
+An edit of the layer `rows` is detected if a row of the file that it names has another result. The probe is built
+unproved with the edit (tests/harness/unproved.py). --all tries these too, each in its own build; --rows tries them
+alone.
 
-An edit of the layer `server`, `client` or `directory` is detected if its test fails with that program built unproved with the edit. The test must pass with the
-program built in the same way without the edit (tests/mutants/program_tests.py). --all tries these too, each in one to three minutes, side by
-side; --tests tries them alone.
+An edit of the layer `server`, `client` or `directory` is detected if its test fails with that program built unproved
+with the edit. The test must pass with the program built in the same way without the edit
+(tests/mutants/program_tests.py). --all tries these too, each in one to three minutes, side by side; --tests tries them
+alone.
 
-An edit of the layer `open` is a known gap. Either the contract is too weak, or the edit takes away a name that the proof cites. --all tries it with
-those of `clause`. It must not be rejected. The open edits are listed at the end, and do not count as passed. If a clause rejects one, the run fails
-until its first line quotes that clause.
+An edit of the layer `open` is a known gap. Either the contract is too weak, or the edit takes away a name that the
+proof cites. --all tries it with those of `clause`. It must not be rejected. The open edits are listed at the end, and
+do not count as passed. If a clause rejects one, the run fails until its first line quotes that clause.
 
-Edits of different functions go into one copy of the crate, called a round. A round is checked once, on top of the incremental data of earlier
-checks. These are the data of the crate's own check in out/incremental. If there are none, --all proves the crate first, and keeps the data there.
-Otherwise a folder of this run is used. The first round of the crate fills it from scratch, and the second one completes it.
+Edits of different functions go into one copy of the crate, called a round. A round is checked once, on top of the
+incremental data of earlier checks. These are the data of the crate's own check in out/incremental. If there are none,
+--all proves the crate first, and keeps the data there. Otherwise a folder of this run is used. The first round of the
+crate fills it from scratch, and the second one completes it.
 
-An edit is rejected if a goal of a function that it changes is not proved; this goal is printed. Two kinds of errors do not count:
+An edit is rejected if a goal of a function that it changes is not proved; this goal is printed. Two kinds of errors do
+not count:
 
 - The function calls another one that is not proved.
-- An error in a proof file is outside of the answers to goals, or only reports that a name is missing (verdicts.py). Such an error says
-  nothing about the contract, so the edit is reported as NOT REFUSED.
+- An error in a proof file is outside of the answers to goals, or only reports that a name is missing (verdicts.py).
+  Such an error says nothing about the contract, so the edit is reported as NOT REFUSED.
 
-If a function that no edit of a round changes has an unproved goal of its own, the round is split in two. An edit that no round rejected is tried
-alone. So is an edit of a constant, for which a goal of any function counts, and any lemma. Rounds run in parallel, one for each processor, those
-of the largest crates first. The libraries below a crate are taken from out/rlib, and proved if they are missing or older than their files.
-The last line is 'N passed, M failed', and the status is 0 if M is 0.
+If a function that no edit of a round changes has an unproved goal of its own, the round is split in two. An edit that
+no round rejected is tried alone. So is an edit of a constant, for which a goal of any function counts, and any lemma.
+Rounds run in parallel, one for each processor, those of the largest crates first. The libraries below a crate are taken
+from out/rlib, and proved if they are missing or older than their files. The last line is 'N passed, M failed', and the
+status is 0 if M is 0.
 
-A whole run of 1,265 edits took 13,564 s of processor time, and 85 minutes on four processors, beside other work. Other costs, in processor
-time: a round takes about 15 s before its first edit. Each edit adds 3 to 4 s, and up to 15 s in coap_serve. The control
-takes 140 s. The check of all quotes takes 2 s, and that of the types 4 to 8 s for each of 40 copies of crates. A build for an edit of another layer
-takes about two minutes. In a clone without incremental data, the first round of a crate also proves the functions that it changes, and those that they
-call. There 343 edits of 17 crates took 2,500 to 2,950 s, with the control and the types: 7 s an edit. By that figure, MOST_IN_GATE edits of a few crates
-take 350 s. One or two edits of each crate would take about 900 s, because each crate needs a round. The proof of coap_wire takes 160 s on that machine.
+A whole run of 1,265 edits took 13,564 s of processor time, and 85 minutes on four processors, beside other work. Other
+costs, in processor time: a round takes about 15 s before its first edit. Each edit adds 3 to 4 s, and up to 15 s in
+coap_serve. The control takes 140 s. The check of all quotes takes 2 s, and that of the types 4 to 8 s for each of 40
+copies of crates. A build for an edit of another layer takes about two minutes. In a clone without incremental data, the
+first round of a crate also proves the functions that it changes, and those that they call. There 343 edits of 17 crates
+took 2,500 to 2,950 s, with the control and the types: 7 s an edit. By that figure, MOST_IN_GATE edits of a few crates
+take 350 s. One or two edits of each crate would take about 900 s, because each crate needs a round. The proof of
+coap_wire takes 160 s on that machine.
 
-A test that measures processor time may fail with an unproved program without any edit, and then says nothing about the edit.
+A test that measures processor time may fail with an unproved program without any edit, and then says nothing about the
+edit.
 """
 
 import collections
@@ -96,8 +111,8 @@ MOST_CRATES = 8
 
 
 def is_wrong(edit, refused):
-    """Returns true if this verdict on an edit is wrong. Those of the control named harmless_, and those that are open, must not be rejected, and
-    all others must. An open edit must also be one that could be tried."""
+    """Returns true if this verdict on an edit is wrong. Those of the control named harmless_, and those that are open,
+    must not be rejected, and all others must. An open edit must also be one that could be tried."""
     if edit.layer == "open":
         return refused is not False
     return bool(refused) == (edit.layer == "control" and edit.name.startswith("harmless_"))
@@ -120,8 +135,8 @@ class Plan:
 
 
 def in_turn_from_each(edits, changed, files):
-    """Returns the edits, one of each crate in turn. In a crate, edits of different functions come first; among them those that are `changed`,
-    by crate and name, and then those of these files."""
+    """Returns the edits, one of each crate in turn. In a crate, edits of different functions come first; among them
+    those that are `changed`, by crate and name, and then those of these files."""
     order, names = {}, dict.fromkeys(it.crate for it in edits)
     for name in names:
         own = [it for it in edits if it.crate == name]
@@ -131,12 +146,13 @@ def in_turn_from_each(edits, changed, files):
 
 
 def gate_edits(edits):
-    """Returns the edits that the gate tries: of the MOST_CRATES crates that differ from their last runs and were changed
-    last, up to MOST_IN_GATE edits."""
+    """Returns the edits that the gate tries: of the MOST_CRATES crates that differ from their last runs and were
+    changed last, up to MOST_IN_GATE edits."""
     try:
         runs = changes.last_runs()
     except changes.BadRun as why:
-        raise SystemExit(f"{changes.LAST_RUNS} {why}: run `make mutants`, and commit that file\n0 passed, 1 failed") from None
+        raise SystemExit(f"{changes.LAST_RUNS} {why}: run `make mutants`, and commit that file\n"
+                         "0 passed, 1 failed") from None
     every = {it.crate for it in edits}
     names = [it for it in changes.differing(runs) if it in every]
     tried = names[:MOST_CRATES]
@@ -144,7 +160,8 @@ def gate_edits(edits):
     chosen = in_turn_from_each(order, changes.changed_edits(runs), changes.changed_files(runs))[:MOST_IN_GATE]
     print(f"{len(chosen)} edits are tried, of {', '.join(tried) or 'no crate'}", flush=True)
     if rest := names[MOST_CRATES:]:
-        print(f"Not tried, but different from their last runs: {', '.join(rest)}; `make mutants` tries these", flush=True)
+        print(f"Not tried, but different from their last runs: {', '.join(rest)}; `make mutants` tries these",
+              flush=True)
     return chosen
 
 
@@ -170,12 +187,13 @@ def planned(modes, names, whole):
 def cost():
     """Returns a text with the cost of the processes that have ended."""
     used = resource.getrusage(resource.RUSAGE_CHILDREN)
-    return f"{used.ru_utime + used.ru_stime:.0f} s of processor time, and at most {used.ru_maxrss // 1000} MB in a process"
+    return (f"{used.ru_utime + used.ru_stime:.0f} s of processor time, and at most {used.ru_maxrss // 1000} MB in a "
+            "process")
 
 
 def conclude(plan, verdicts, wrong):
-    """Prints wrong verdicts, the edits that are open, and the cost. `wrong` is the number of errors in quotes, counts and types. Returns the number of all
-    errors, and the last line of the run."""
+    """Prints wrong verdicts, the edits that are open, and the cost. `wrong` is the number of errors in quotes, counts
+    and types. Returns the number of all errors, and the last line of the run."""
     failed = [it for it, refused in verdicts.items() if is_wrong(it, refused)]
     for it in failed:
         print(f"wrong verdict on {it.crate}/{it.name} ({it.layer}: {it.detected_by})")
@@ -189,8 +207,8 @@ def conclude(plan, verdicts, wrong):
 
 
 def passed_crates(verdicts):
-    """Returns the number of edits of each crate of which no edit has a wrong verdict. If the control has one, there is no
-    such crate."""
+    """Returns the number of edits of each crate of which no edit has a wrong verdict. If the control has one, there is
+    no such crate."""
     wrong = {it for it, refused in verdicts.items() if is_wrong(it, refused)}
     if any(it.layer == "control" for it in wrong):
         return {}

@@ -50,12 +50,14 @@ def block_name(line):
 
 @dataclass
 class Place:
-    """Offsets of a function or a constant in a text: of its first line, and of the beginning and the end of its body."""
+    """Offsets of a function or a constant in a text: of its first line, and of the beginning and the end of its
+    body."""
 
     head: int
     begin: int
     end: int
-    # Whether a function beside it in the same block, with another name, is well formed: not in a trait or in an impl of one.
+    # Whether a function beside it in the same block, with another name, is well formed: not in a trait or in an impl of
+    # one.
     may_have_copy: bool
 
 

@@ -1,12 +1,16 @@
-"""Reads the contracts of functions from the sources, and checks that a function has the clause that an edit of tests/mutants/edits quotes.
+"""Reads the contracts of functions from the sources, and checks that a function has the clause that an edit of
+tests/mutants/edits quotes.
 
 The first line of an edit quotes in one of these forms. `..` in a quoted text matches any words:
 
-    'after' of Link::on              a clause by its name: of the function, of the trait's method that it implements, or of the impl
-    'a', 'b' and 'c' of Server::take several of these
-    "result ≡ free_in self.now" of Link::free   words of a clause
-    the invariant of T in F          T has an invariant, which the function F must keep
-    the condition of G in F          G has a `requires`, and the function F calls it
+    'after' of Link::on        a clause by its name: of the function, of the trait's method that it implements, or of
+                               the impl
+    'a', 'b' and 'c' of Server::take
+                               several of these
+    "result ≡ free_in self.now" of Link::free
+                               words of a clause
+    the invariant of T in F    T has an invariant, which the function F must keep
+    the condition of G in F    G has a `requires`, and the function F calls it
 """
 
 import functools
@@ -42,7 +46,8 @@ def joined(text):
 
 
 def head_of(lines):
-    """Returns the number of lines of the head of a function. The head ends with the line that opens the body, or with the function."""
+    """Returns the number of lines of the head of a function. The head ends with the line that opens the body, or with
+    the function."""
     depth, has_clause = 0, False
     for number, line in enumerate(lines):
         text = line.strip()
@@ -123,8 +128,8 @@ class Quotes:
         self.crate, self.name_of_block = crate, name_of_block
 
     def contracts(self, name, files=()):
-        """Returns the contracts of a function with this name in these files of the crate. If there are none, returns those of the crate,
-        and otherwise those of the crates below it."""
+        """Returns the contracts of a function with this name in these files of the crate. If there are none, returns
+        those of the crate, and otherwise those of the crates below it."""
         for crate in [self.crate, *reversed(crates()[self.crate])]:
             found = contracts_of(crate, self.name_of_block).get(name, [])
             if found:
@@ -133,7 +138,8 @@ class Quotes:
         return []
 
     def clauses(self, name, files=()):
-        """Yields the texts with the clauses of a function: its own head, that of its trait, and the ghost items of its impl."""
+        """Yields the texts with the clauses of a function: its own head, that of its trait, and the ghost items of its
+        impl."""
         for contract in self.contracts(name, files):
             yield contract.head[contract.head.index("fn ") :]
             yield contract.block
@@ -160,7 +166,8 @@ class Quotes:
             if not any(re.search(r"\brequires\b", it) for it in self.clauses(said[1])):
                 return f"{said[1]} has no condition"
             calls = re.compile(rf"\b{said[1].rpartition(':')[2]}\(")
-            return "" if any(calls.search(it.body) for it in self.contracts(said[2], files)) else f"{said[2]} does not call {said[1]}"
+            return ("" if any(calls.search(it.body) for it in self.contracts(said[2], files))
+                    else f"{said[2]} does not call {said[1]}")
         said = re.fullmatch(r"((?:'\w+'(?:, | and )?)+|\"[^\"]+\") of ([\w:]+)", refusal)
         if not said:
             return f"not understood: {refusal}"

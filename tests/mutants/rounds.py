@@ -14,7 +14,8 @@ from workspace import PARTS, ROOT, is_static, rattle_words
 
 PROCESSORS = len(os.sched_getaffinity(0))
 
-# Number of rounds of a crate without incremental data that run in turn on its folder. After two, nearly every function was proved once.
+# Number of rounds of a crate without incremental data that run in turn on its folder. After two, nearly every function
+# was proved once.
 IN_TURN = 2
 
 
@@ -32,8 +33,9 @@ def rounds_of(edits):
 
 
 def check(name, kept, edits):
-    """Returns the lines of a check of the crate with these edits, on top of the incremental data in that folder. Only the functions that the
-    edits change are checked, and those that they call. An edit of a constant may concern any function, so then all are checked."""
+    """Returns the lines of a check of the crate with these edits, on top of the incremental data in that folder. Only
+    the functions that the edits change are checked, and those that they call. An edit of a constant may concern any
+    function, so then all are checked."""
     texts, only = {}, []
     for edit in edits:
         texts = edit.applied(texts)
@@ -61,8 +63,9 @@ def check_texts(name, texts, more):
 
 @dataclass
 class Outcome:
-    """Result of a round: the edits that it rejected, those still to be tried, and the reason why an edit cannot be tried. `cited` has the
-    edits for which only a name of a proof is missing, and `goals` the unproved goals of each function."""
+    """Result of a round: the edits that it rejected, those still to be tried, and the reason why an edit cannot be
+    tried. `cited` has the edits for which only a name of a proof is missing, and `goals` the unproved goals of each
+    function."""
 
     refused: list
     left: list
@@ -77,7 +80,8 @@ class Outcome:
 
 
 def try_round(name, kept, is_own, edits):
-    """Checks a round on top of a folder of incremental data. If the folder is not the round's own, a copy of it is used."""
+    """Checks a round on top of a folder of incremental data. If the folder is not the round's own, a copy of it is
+    used."""
     try:
         if is_own:
             lines = check(name, kept, edits)
@@ -88,23 +92,27 @@ def try_round(name, kept, is_own, edits):
         # A smaller round may need fewer resources.
         return Outcome([], edits, str(why) or repr(why))
     if not edits:
-        return Outcome([], [], "" if any(it.startswith("logic=proved") for it in lines) else f"{name} is not proved: {lines[-1:]}")
+        is_proved = any(it.startswith("logic=proved") for it in lines)
+        return Outcome([], [], "" if is_proved else f"{name} is not proved: {lines[-1:]}")
     judged = any(it.startswith(("logic=not-proved", "logic=proved", "only=")) for it in lines)
     if not judged:
-        return Outcome([], edits, next((it for it in lines if "error" in it), f"the check gave no verdict: {lines[-1:]}"))
+        return Outcome([], edits,
+                       next((it for it in lines if "error" in it), f"the check gave no verdict: {lines[-1:]}"))
     (goals, cites), known = open_functions(name, lines), all_functions(lines)
     strange = [it for edit in edits for it in edit.functions() - known if not edit.is_constant()]
     if strange:
         return Outcome([], edits, f"the check names no function {strange[0]}")
     if edits[0].is_constant():
         # The value of a constant may be stated by a lemma of its own.
-        named = [goal for it in goals.values() for goal in it] or [goal for it in filter(is_real, lines) if (goal := goal_at(name, it))]
+        named = ([goal for it in goals.values() for goal in it]
+                 or [goal for it in filter(is_real, lines) if (goal := goal_at(name, it))])
         return Outcome(edits, [], goals={it: named for it in edits[0].functions()}) if named else Outcome([], edits)
     if (goals.keys() | cites) - {it for edit in edits for it in edit.functions()}:
         return Outcome([], edits)
     refused = [it for it in edits if it.functions() & goals.keys()]
     cited = [it for it in edits if it not in refused and it.functions() & cites]
-    return Outcome(refused, [it for it in edits if it not in refused and it not in cited], cited=tuple(cited), goals=goals)
+    return Outcome(refused, [it for it in edits if it not in refused and it not in cited], cited=tuple(cited),
+                   goals=goals)
 
 
 def tell(edit, refused, how):
@@ -172,7 +180,8 @@ def verdicts_of(one, outcome):
 def judge(edits, is_proved_first):
     """Tries all edits, with rounds in parallel, and returns for each whether it was rejected."""
     verdicts, running = {}, {}
-    with tempfile.TemporaryDirectory(prefix="edits-", ignore_cleanup_errors=True) as room, ThreadPoolExecutor(PROCESSORS) as pool:
+    with (tempfile.TemporaryDirectory(prefix="edits-", ignore_cleanup_errors=True) as room,
+          ThreadPoolExecutor(PROCESSORS) as pool):
         # A static library comes last, because a build of its archive may run beside and keep what it proves.
         names = sorted(dict.fromkeys(it.crate for it in edits), key=lambda it: (is_static(it), -size_of(it)))
         works = [Work(it, rounds_of([edit for edit in edits if edit.crate == it]), is_proved_first) for it in names]

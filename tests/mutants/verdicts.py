@@ -17,8 +17,9 @@ sys.path.insert(0, os.path.join(os.path.dirname(os.path.abspath(__file__)), ".."
 from workspace import ROOT  # noqa: E402
 
 VERDICT = re.compile(r"fn (\w+)::(.*?): (no proof|not proved)(.*)")
-# Matches an error in a proof file that says nothing about the contract. The proof names a field, a goal or an import that the edited code does not
-# have. Or it has no case for a new way through the code. Or it cites a statement that has an error of its own.
+# Matches an error in a proof file that says nothing about the contract. The proof names a field, a goal or an import
+# that the edited code does not have. Or it has no case for a new way through the code. Or it cites a statement that has
+# an error of its own.
 GONE = re.compile(
     r": error: (?:`[^`]*`: )*(?:"
     r"(?:record|module) `[^`]*`(?: \(nearest: [^)]*\))? has no "

@@ -3,14 +3,15 @@
 
     tests/system/alloc_failures.py bin/coap-server bin/coap-client [NAME..]
 
-tests/harness/fail_malloc.c is preloaded into a program and makes one allocation fail: the first, then the second, until a run makes fewer. Such a run
-ends with status 3 and `no memory`. Its output, on standard output and over its connection, is a prefix of the output without a failure. If the
-program handles the failure in another way, the run is as without one. The number of failures that end a program must be in the table of
-docs/TESTING.md.
+tests/harness/fail_malloc.c is preloaded into a program and makes one allocation fail: the first, then the second, until
+a run makes fewer. Such a run ends with status 3 and `no memory`. Its output, on standard output and over its
+connection, is a prefix of the output without a failure. If the program handles the failure in another way, the run is
+as without one. The number of failures that end a program must be in the table of docs/TESTING.md.
 
-The script also makes every allocation of the server fail after its connections are open. The server must respond as before, over standard streams
-on one connection and over sockets on two. Finally, the programs run with their largest inputs and without a failure, and must report none.
-The last line is 'N passed, M failed' for the runs, and the status is 0 if M is 0.
+The script also makes every allocation of the server fail after its connections are open. The server must respond as
+before, over standard streams on one connection and over sockets on two. Finally, the programs run with their largest
+inputs and without a failure, and must report none. The last line is 'N passed, M failed' for the runs, and the status
+is 0 if M is 0.
 """
 
 import contextlib
@@ -29,7 +30,8 @@ from checks import CSM, GREETING  # noqa: E402
 from peers import free_port, line_of, started  # noqa: E402
 from message_syntax import encoded  # noqa: E402
 
-# Addresses of the clients' peers and of the servers. They differ, so that no peer takes a port that was found free for a server.
+# Addresses of the clients' peers and of the servers. They differ, so that no peer takes a port that was found free for
+# a server.
 HOST, SERVER_HOST = "127.0.0.1", "127.0.0.2"
 
 # Timeout of each wait, in seconds.
@@ -47,8 +49,10 @@ LEFT = "a front of what it writes with memory"
 SENT = bytes.fromhex("00e1" "010101" "410302b161ff78")
 ANSWERED = bytes.fromhex(CSM + "a14501" + GREETING + "014102")
 
-SCRIPT = b"open\ndrain 1\nin 1 00e1010101410302b161ff78\ndrain 1\nput /b 0 787878\nput /b 0 79\nstatus 1\nremove /b\nopen\ndrop 2\nend 1\n"
-LINES = (f"open 1\nout 1 {CSM}\nin 1 12\nout 1 a14501{GREETING}014102\nput 2\nput 3\nstatus 1 open kept 0 waiting 0 pending 0 observers 0\n"
+SCRIPT = (b"open\ndrain 1\nin 1 00e1010101410302b161ff78\ndrain 1\nput /b 0 787878\nput /b 0 79\nstatus 1\nremove /b\n"
+          b"open\ndrop 2\nend 1\n")
+LINES = (f"open 1\nout 1 {CSM}\nin 1 12\nout 1 a14501{GREETING}014102\nput 2\nput 3\n"
+         "status 1 open kept 0 waiting 0 pending 0 observers 0\n"
          "remove /b\nopen 2\ndrop 2\nend 1\n").encode()
 
 # The client's arguments, the bytes that it sends for them, and the response of the peer.
@@ -70,7 +74,8 @@ class Ran:
         return b"refused\n" in self.said
 
     def fault(self):
-        """Returns the lines of its error output, without the startup line of a server and the lines of fail_malloc.c."""
+        """Returns the lines of its error output, without the startup line of a server and the lines of
+        fail_malloc.c."""
         lines = self.said.decode().splitlines()
         return [it for it in lines if it != "refused" and " listening on " not in it]
 
@@ -89,7 +94,8 @@ def over_streams(*command, stream):
 
 
 def received(peer, ends, least=0):
-    """Returns the bytes received from a peer, up to this ending after at least `least` bytes, or up to the end of the connection."""
+    """Returns the bytes received from a peer, up to this ending after at least `least` bytes, or up to the end of the
+    connection."""
     told = b""
     peer.settimeout(LIMIT)
     with contextlib.suppress(ConnectionError):
@@ -99,7 +105,8 @@ def received(peer, ends, least=0):
 
 
 def asked_once(port, process):
-    """Returns the bytes that a server sends to one peer. If these are not all, or the connection fails, the server must end by itself."""
+    """Returns the bytes that a server sends to one peer. If these are not all, or the connection fails, the server must
+    end by itself."""
     sent = b""
     with contextlib.suppress(ConnectionError), socket.create_connection((SERVER_HOST, port), LIMIT) as peer:
         peer.sendall(SENT)
@@ -110,7 +117,8 @@ def asked_once(port, process):
 
 
 def asked_two(port, sent, answered):
-    """Returns the bytes that a server sends to two peers, which send their requests after both CSMs. The server ends if an allocation fails."""
+    """Returns the bytes that a server sends to two peers, which send their requests after both CSMs. The server ends if
+    an allocation fails."""
     told, greeting = [], bytes.fromhex(CSM)
     with contextlib.suppress(ConnectionError), contextlib.ExitStack() as stack:
         peers = [stack.enter_context(socket.create_connection((SERVER_HOST, port), LIMIT)) for _ in range(2)]
@@ -124,7 +132,8 @@ def asked_two(port, sent, answered):
 def listened(server, port, environment, ask):
     """Runs a server that listens at a port, until its peers have their responses."""
     command = [server, "-A", SERVER_HOST, "-p", str(port), "-d", "1"]
-    with started(command, stdin=subprocess.DEVNULL, stdout=subprocess.PIPE, stderr=subprocess.PIPE, env=environment) as process:
+    with started(command, stdin=subprocess.DEVNULL, stdout=subprocess.PIPE, stderr=subprocess.PIPE,
+                 env=environment) as process:
         said = line_of(process.stderr)
         while said.endswith(b"refused\n"):
             said += line_of(process.stderr)
@@ -136,7 +145,8 @@ def listened(server, port, environment, ask):
 
 
 def listening(server, ask=asked_once):
-    """Returns a function that runs a listening server with these peers. If another program has its port by then, the server runs again."""
+    """Returns a function that runs a listening server with these peers. If another program has its port by then, the
+    server runs again."""
 
     def run(environment):
         for _ in range(3):
@@ -188,17 +198,20 @@ def wrong_at_the_greatest_script(server):
     status = b"status 1 waiting kept 0 waiting 8 pending 0 observers 0\n"
     ran = over_streams(server, "--script", "-", "-d", "1", stream=script)(dict(os.environ))
     wanted = b"open 1\nput 1\n" + status * script.count(b"status")
-    return "" if (len(script), ran.status, ran.written) == (MEBIBYTE, 0, wanted) else f"status {ran.status}: {ran.said[-200:]}"
+    return ("" if (len(script), ran.status, ran.written) == (MEBIBYTE, 0, wanted)
+            else f"status {ran.status}: {ran.said[-200:]}")
 
 
 def wrong_at_the_greatest_door(server):
     """Returns the error of a server with the largest limits over sockets, or an empty text."""
     port = free_port(SERVER_HOST)
-    limits = ["--max-message", "1048576", "--max-sent", "65536", "--queue", "4194304", "--pending", "256", "--observers", "256"]
+    limits = ["--max-message", "1048576", "--max-sent", "65536", "--queue", "4194304", "--pending", "256",
+              "--observers", "256"]
     command = [server, "-A", SERVER_HOST, "-p", str(port), "-d", "1000", "--connections", "256", *limits]
     greatest = encoded(3, b"\1", [(11, b"a")], b"x" * 1_048_566)
     puts = [encoded(3, bytes([2 + number]), [(11, b"a")], b"x" * 65_000) for number in range(12)]
-    wanted = bytes.fromhex("60e1231000004140" "418d01d22ffde8" "014102") + b"".join(bytes([1, 0x44, 3 + number]) for number in range(11))
+    wanted = (bytes.fromhex("60e1231000004140" "418d01d22ffde8" "014102")
+              + b"".join(bytes([1, 0x44, 3 + number]) for number in range(11)))
     with started(command, stdin=subprocess.DEVNULL, stderr=subprocess.PIPE) as process:
         line_of(process.stderr)
         with contextlib.ExitStack() as stack:
@@ -218,28 +231,36 @@ def wrong_at_the_greatest_words(client):
     paths, queries = [(11, b"p" * 255)] * 16, [(15, b"q" * 255)] * 16
     options = [*paths, (12, b"\xff\xff"), *queries, (17, b"\xff\xff"), (65_535, b"J" * 1_034)]
     sent = encoded(3, b"\1", options, b"x" * 56_000)
-    words = ["-m", "put", "-e", "x" * 56_000, "-t", "65535", "-A", "65535", "-O", "65535,0x" + "4a" * 1_034, "-B", "4294967295"]
+    words = ["-m", "put", "-e", "x" * 56_000, "-t", "65535", "-A", "65535", "-O", "65535,0x" + "4a" * 1_034, "-B",
+             "4294967295"]
     with socket.create_server((HOST, 0)) as listener:
         response = encoded(0x44, b"\1", [], payload)
-        peer = threading.Thread(target=answer, args=(listener, got, bytes.fromhex("30e122ffff"), bytes.fromhex(CSM) + sent, response))
+        peer = threading.Thread(target=answer,
+                                args=(listener, got, bytes.fromhex("30e122ffff"), bytes.fromhex(CSM) + sent, response))
         peer.start()
-        ran = subprocess.run([client, *words, target % listener.getsockname()], stdin=subprocess.DEVNULL, capture_output=True, timeout=LIMIT)
+        ran = subprocess.run([client, *words, target % listener.getsockname()], stdin=subprocess.DEVNULL,
+                             capture_output=True, timeout=LIMIT)
         listener.shutdown(socket.SHUT_RDWR)
         peer.join()
-    is_right = (ran.returncode, ran.stdout, ran.stderr) == (0, payload, b"") and b"".join(got) == bytes.fromhex(CSM) + sent
-    return "" if is_right else f"status {ran.returncode}, {len(b''.join(got))} bytes sent, {len(ran.stdout)} written: {ran.stderr[-200:]}"
+    is_right = ((ran.returncode, ran.stdout, ran.stderr) == (0, payload, b"")
+                and b"".join(got) == bytes.fromhex(CSM) + sent)
+    return ("" if is_right
+            else f"status {ran.returncode}, {len(b''.join(got))} bytes sent, {len(ran.stdout)} written: "
+                 f"{ran.stderr[-200:]}")
 
 
 def wrong_of(ran, usual):
     """Returns the error of a run with a failed allocation, or an empty text."""
-    is_usual = (ran.status, ran.written, ran.sent, ran.fault()) == (usual.status, usual.written, usual.sent, usual.fault())
+    is_usual = ((ran.status, ran.written, ran.sent, ran.fault())
+                == (usual.status, usual.written, usual.sent, usual.fault()))
     is_front = usual.written.startswith(ran.written) and usual.sent.startswith(ran.sent)
     is_told = ran.status == 3 and [it.partition(": ")[2] for it in ran.fault()] == ["no memory"]
     return "" if is_usual or (is_told and is_front) else f"{ran}, not {usual}"
 
 
 def refuse_each(name, run, wanted, shim):
-    """Makes each allocation of a run fail in turn. Returns the number of failures, the number of those that end the program, and the errors."""
+    """Makes each allocation of a run fail in turn. Returns the number of failures, the number of those that end the
+    program, and the errors."""
     usual, wrong, count, told = run(dict(os.environ)), [], 0, 0
     if (usual.status, usual.written, usual.sent) != (0, *wanted):
         return 0, 0, [f"{name}: {usual}"]
@@ -267,7 +288,8 @@ def refusing_behind(count, shim):
 
 
 def wrong_without_growth(opens, run, wanted, shim):
-    """Returns the error of a run in which every allocation fails that `opens`, a run that only opens the connections, does not make."""
+    """Returns the error of a run in which every allocation fails that `opens`, a run that only opens the connections,
+    does not make."""
     ran = run(refusing_behind(made(opens, shim), shim))
     return "" if (ran.status, ran.written, ran.sent) == (0, *wanted) else f"{ran}"
 

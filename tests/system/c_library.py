@@ -4,16 +4,20 @@
     tests/system/c_library.py bin/coap-server bin/coap-client [bin/libcoap_proved.a]
     tests/system/c_library.py --archive     only builds the archive
 
-Without an archive, bin/libcoap_proved.a is built from crates/coap_c over the libraries that the proofs left in out/rlib. The data of this proof of
-coap_c go to out/incremental, if that is missing, so that its mutants need not prove it again. The programs are compiled as strict C11 without
-warnings, and run with AddressSanitizer and UndefinedBehaviorSanitizer, and under valgrind. The sanitizers see each allocation and each leak of the
-library, but not its own loads and stores; valgrind sees those too. The constants of the header are those of the specs. Recorded streams through the
-library give the bytes of `coap-server --stdio`, and scripts with several connections the lines of `coap-server --script`. A client and a server of the
-library exchange messages. Frames are written as they were read. Each allocation fails in turn, and nothing is lost then. Wrong uses are reported by
-their numbers. Lists of segments name the paths of texts, and others. The examples have less than 150 lines, and talk to each other, to the programs
-and to libcoap's. A program with libcoap's library too gets the same bytes. The last line is 'N passed, M failed', and the status is 0 if M is 0.
+Without an archive, bin/libcoap_proved.a is built from crates/coap_c over the libraries that the proofs left in
+out/rlib. The data of this proof of coap_c go to out/incremental, if that is missing, so that its mutants need not prove
+it again. The programs are compiled as strict C11 without warnings, and run with AddressSanitizer and
+UndefinedBehaviorSanitizer, and under valgrind. The sanitizers see each allocation and each leak of the library, but not
+its own loads and stores; valgrind sees those too. The constants of the header are those of the specs. Recorded streams
+through the library give the bytes of `coap-server --stdio`, and scripts with several connections the lines of
+`coap-server --script`. A client and a server of the library exchange messages. Frames are written as they were read.
+Each allocation fails in turn, and nothing is lost then. Wrong uses are reported by their numbers. Lists of segments
+name the paths of texts, and others. The examples have less than 150 lines, and talk to each other, to the programs and
+to libcoap's. A program with libcoap's library too gets the same bytes. The last line is 'N passed, M failed', and the
+status is 0 if M is 0.
 
-The script needs Debian's packages g++, gcc, libcoap3-bin, libcoap3-dev, pkg-config and valgrind, and installs the missing ones.
+The script needs Debian's packages g++, gcc, libcoap3-bin, libcoap3-dev, pkg-config and valgrind, and installs the
+missing ones.
 """
 
 import os
@@ -32,7 +36,8 @@ from c_programs import PROCESSORS, build, check_ended  # noqa: E402
 from c_streams import CHANGES, check_allocations, check_changes, check_scripts, check_streams  # noqa: E402
 from checks import Checks, side_by_side  # noqa: E402
 
-PACKAGES = {"coap-client-notls": "libcoap3-bin", "coap-server-notls": "libcoap3-bin", "g++": "g++", "gcc": "gcc", "/usr/include/coap3/coap.h": "libcoap3-dev", "pkg-config": "pkg-config", "valgrind": "valgrind"}
+PACKAGES = {"coap-client-notls": "libcoap3-bin", "coap-server-notls": "libcoap3-bin", "g++": "g++", "gcc": "gcc",
+            "/usr/include/coap3/coap.h": "libcoap3-dev", "pkg-config": "pkg-config", "valgrind": "valgrind"}
 
 
 def runs(made, server, client, archive, room):

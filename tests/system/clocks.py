@@ -1,10 +1,11 @@
 #!/usr/bin/env python3
-"""Runs the server with a system clock that is set forward and back, by the preloaded library tests/harness/clock_step.c.
+"""Runs the server with a system clock that is set forward and back, by the preloaded library
+tests/harness/clock_step.c.
 
     tests/system/clocks.py bin/coap-server bin/coap-client [NAME ..]
 
-A NAME selects a check, such as `back` for check_back; without a NAME all checks run, side by side. The client has only a monotonic clock, and only
-serves to show that its timeout does not depend on the system clock.
+A NAME selects a check, such as `back` for check_back; without a NAME all checks run, side by side. The client has only
+a monotonic clock, and only serves to show that its timeout does not depend on the system clock.
 """
 
 import contextlib
@@ -50,7 +51,8 @@ class SystemClock:
 
     def how(self):
         """Returns the arguments of Popen for a program with this clock."""
-        return {"env": {**os.environ, "LD_PRELOAD": self.library, "CLOCK_STEP": str(self.step.fileno())}, "pass_fds": [self.step.fileno()]}
+        return {"env": {**os.environ, "LD_PRELOAD": self.library, "CLOCK_STEP": str(self.step.fileno())},
+                "pass_fds": [self.step.fileno()]}
 
     def __enter__(self):
         return self
@@ -74,7 +76,8 @@ class Peer:
         self.socket.sendall(bytes([len(options) << 4 | 1, 1, token]) + options)
 
     def next(self):
-        """Returns token and payload of the next response, and the time at which it arrived. At the end of the connection the token is None."""
+        """Returns token and payload of the next response, and the time at which it arrived. At the end of the
+        connection the token is None."""
         while messages.length_of(self.stream) is None or len(self.stream) < messages.length_of(self.stream):
             piece = self.socket.recv(65536)
             if not piece:
@@ -106,7 +109,8 @@ def delay(seconds):
 
 @contextlib.contextmanager
 def observed(programs):
-    """Yields the clock of a server, and a peer that observes /time and has received the first representation: the true time."""
+    """Yields the clock of a server, and a peer that observes /time and has received the first representation: the true
+    time."""
     with SystemClock() as clock, Server(programs.server, **clock.how()) as server, Peer(server) as peer:
         peer.ask(1, OBSERVE)
         yield clock, peer, int(peer.next()[1])
@@ -129,14 +133,16 @@ def steps(times):
 
 
 def check_back(checks, programs):
-    """Checks that the time of a server whose clock is set back continues, second by second, and follows the clock again once it is ahead."""
+    """Checks that the time of a server whose clock is set back continues, second by second, and follows the clock again
+    once it is ahead."""
     with observed(programs) as (clock, peer, first):
         before = next_times(peer, 2)
         clock.ahead(-HOUR)
         after = next_times(peer, 5)
         times = [first, *before, *after]
         # A wait may end shortly before or after the beginning of a second, so one second may be left out.
-        checks.same("no time is repeated, and at most one is left out: %r" % times, (min(steps(times)) >= 1, sum(steps(times)) - len(steps(times)) <= 1), (True, True))
+        checks.same("no time is repeated, and at most one is left out: %r" % times,
+                    (min(steps(times)) >= 1, sum(steps(times)) - len(steps(times)) <= 1), (True, True))
         checks.same("notifications in 5 seconds: %d" % len(after), 4 <= len(after) <= 6, True)
         checks.same("the time is the true one", abs(times[-1] - time.time()) < 2, True)
         clock.ahead(HOUR)
@@ -144,7 +150,8 @@ def check_back(checks, programs):
         checks.same("the time follows the clock when it is ahead", abs(later[-1] - HOUR - time.time()) < 2, True)
         clock.ahead(0)
         last = next_times(peer, 2)
-        checks.same("the time does not go back: %r" % [*later, *last], (min(steps([*later, *last])) >= 1, len(last) >= 2), (True, True))
+        checks.same("the time does not go back: %r" % [*later, *last],
+                    (min(steps([*later, *last])) >= 1, len(last) >= 2), (True, True))
 
 
 def check_unreadable(checks, programs):
@@ -155,7 +162,8 @@ def check_unreadable(checks, programs):
         checks.same("the time continues: %r" % times, (len(times) >= 4, min(steps(times)) >= 1), (True, True))
         clock.ahead(0)
         times += next_times(peer, 2)
-        checks.same("the clock is read again: %r" % times, (min(steps(times)) >= 1, abs(times[-1] - time.time()) < 2), (True, True))
+        checks.same("the clock is read again: %r" % times, (min(steps(times)) >= 1, abs(times[-1] - time.time()) < 2),
+                    (True, True))
 
 
 def check_forward(checks, programs):
@@ -169,7 +177,8 @@ def check_forward(checks, programs):
         set_at = time.monotonic()
         clock.ahead(2 * HOUR)
         token, payload, at = peer.next()
-        checks.same("the delayed response, after %.2f s" % (at - set_at), (token, payload, at - set_at < SOON), (1, b"done", True))
+        checks.same("the delayed response, after %.2f s" % (at - set_at), (token, payload, at - set_at < SOON),
+                    (1, b"done", True))
 
 
 def check_delayed(checks, programs):
@@ -179,7 +188,8 @@ def check_delayed(checks, programs):
         peer.ask(1, delay(3))
         clock.ahead(-HOUR)
         token, payload, at = peer.next()
-        checks.same("the delayed response, after %.2f s" % (at - asked_at), (token, payload, 1.9 < at - asked_at < 3 + SOON), (1, b"done", True))
+        checks.same("the delayed response, after %.2f s" % (at - asked_at),
+                    (token, payload, 1.9 < at - asked_at < 3 + SOON), (1, b"done", True))
 
 
 def check_client(checks, programs):
@@ -193,7 +203,9 @@ def check_client(checks, programs):
                     clock.ahead(seconds)
                     said, status = process.stderr.read(), process.wait(LIMIT)
             passed = time.monotonic() - began
-            checks.same("a client whose clock is set by %d s, after %.2f s" % (seconds, passed), (status, said, 2 <= passed < 3), (4, b"coap-client: the server sent no CSM within 2 seconds\n", True))
+            checks.same("a client whose clock is set by %d s, after %.2f s" % (seconds, passed),
+                        (status, said, 2 <= passed < 3),
+                        (4, b"coap-client: the server sent no CSM within 2 seconds\n", True))
 
 
 def check_idle(checks, programs):

@@ -3,9 +3,10 @@
 
     tests/system/devices.py bin/coap-server bin/coap-client
 
-A preloaded library (tests/harness/devices.c) sets up the devices. These are standard input and output of `--script` and of the client, and the
-sockets of both programs, whose calls fail and end. (tests/vectors/stdio.py does this for `--stdio`. A socket that transfers one byte at a time is tested with
-slow peers in tests/system/sockets.py.) The output until the failure must be a prefix of the output without a failure.
+A preloaded library (tests/harness/devices.c) sets up the devices. These are standard input and output of `--script` and
+of the client, and the sockets of both programs, whose calls fail and end. (tests/vectors/stdio.py does this for
+`--stdio`. A socket that transfers one byte at a time is tested with slow peers in tests/system/sockets.py.) The output
+until the failure must be a prefix of the output without a failure.
 """
 
 import os
@@ -30,7 +31,8 @@ CALLS = 9
 
 def setting(shim, **set_):
     """Returns the environment of a program over devices with these settings. The calls are not recorded."""
-    return {**os.environ, "LD_PRELOAD": shim, "DEVICES_TOLD": "-1", **{name: str(value) for name, value in set_.items()}}
+    return {**os.environ, "LD_PRELOAD": shim, "DEVICES_TOLD": "-1",
+            **{name: str(value) for name, value in set_.items()}}
 
 
 def ran(command, stream, environment):
@@ -49,21 +51,25 @@ def check_script(checks, server, shim):
         return ran([server, "--script", "-", "-d", "2"], SCRIPT, setting(shim, **set_))
 
     whole, events = (0, LINES, b""), LINES.count(b"\n")
-    for set_ in ({}, {"READ_BY": 1}, {"READ_BY": 7}, {"WRITE_TAKING": 1}, {"WRITE_TAKING": 5}, {"READ_BY": 1, "WRITE_TAKING": 1}):
+    for set_ in ({}, {"READ_BY": 1}, {"READ_BY": 7}, {"WRITE_TAKING": 1}, {"WRITE_TAKING": 5},
+                 {"READ_BY": 1, "WRITE_TAKING": 1}):
         checks.same(f"a script, {set_}", play(**set_), whole)
     unread = (3, b"", b"coap-server: cannot read\n")
     for count in range(len(SCRIPT) // 10 + 2):
         checks.same(f"a script, read {count} fails", play(READ_BY=10, READ_FAILS=count), unread)
     for room in range(len(LINES)):
-        checks.same(f"a script, room for {room} bytes", play(WRITE_ROOM=room), (3, LINES[:room], b"coap-server: cannot write\n"))
+        checks.same(f"a script, room for {room} bytes", play(WRITE_ROOM=room),
+                    (3, LINES[:room], b"coap-server: cannot write\n"))
     checks.same("a script, room for all", play(WRITE_ROOM=len(LINES)), whole)
     ends = [sum(map(len, LINES.splitlines(keepends=True)[:count])) for count in range(events + 1)]
     for count in range(events):
-        checks.same(f"a script, write {count} fails", play(WRITE_FAILS=count), (3, LINES[: ends[count]], b"coap-server: cannot write\n"))
+        checks.same(f"a script, write {count} fails", play(WRITE_FAILS=count),
+                    (3, LINES[: ends[count]], b"coap-server: cannot write\n"))
 
 
 def asked(client, words, stream, environment):
-    """Runs a client with a peer that responds as a server does. Returns the result of the run, and the bytes that the peer received."""
+    """Runs a client with a peer that responds as a server does. Returns the result of the run, and the bytes that the
+    peer received."""
     got = []
     with socket.create_server((HOST, 0)) as listener:
         peer = threading.Thread(target=answer, args=(listener, got))
@@ -85,9 +91,11 @@ def check_client_streams(checks, client, shim):
     for set_ in ({}, {"READ_BY": 1}, {"WRITE_TAKING": 1}):
         checks.same(f"a client, {set_}", play(**set_), (0, b"hi\n", b""))
     for count in range(4):
-        checks.same(f"a client, read {count} fails", play(READ_BY=1, READ_FAILS=count), (3, b"", b"coap-client: cannot read\n"))
+        checks.same(f"a client, read {count} fails", play(READ_BY=1, READ_FAILS=count),
+                    (3, b"", b"coap-client: cannot read\n"))
     for room in range(3):
-        checks.same(f"a client, room for {room} bytes", play(WRITE_ROOM=room), (3, b"hi\n"[:room], b"coap-client: cannot write\n"))
+        checks.same(f"a client, room for {room} bytes", play(WRITE_ROOM=room),
+                    (3, b"hi\n"[:room], b"coap-client: cannot write\n"))
     checks.same("a client, the first write fails", play(WRITE_FAILS=0), (3, b"", b"coap-client: cannot write\n"))
 
 
@@ -102,7 +110,8 @@ def check_client_socket(checks, client, shim):
         count = 0
         while (found := asked(client, ASKING, b"", setting(shim, **{name: count}))) != whole:
             (status, written, said), got = found
-            checks.same(f"a client, {name} {count}", (status, written, said, ASKED.startswith(got)), (3, b"", fault, True))
+            checks.same(f"a client, {name} {count}", (status, written, said, ASKED.startswith(got)),
+                        (3, b"", fault, True))
             count += 1
             if count > 20:
                 break
@@ -121,20 +130,23 @@ def conversation(address):
 
 
 def check_server_socket(checks, server, shim):
-    """Checks a server with a connection that fails or ends, at each call in turn. All other connections must be served."""
+    """Checks a server with a connection that fails or ends, at each call in turn. All other connections must be
+    served."""
     for name in ("RECV_FAILS", "RECV_ENDS", "SEND_FAILS"):
         cut = 0
         for count in range(CALLS):
             port = free_port(SERVER_HOST)
             command = [server, "-A", SERVER_HOST, "-p", str(port)]
-            with started(command, stdin=subprocess.DEVNULL, stderr=subprocess.PIPE, env=setting(shim, **{name: count})) as process:
+            with started(command, stdin=subprocess.DEVNULL, stderr=subprocess.PIPE,
+                         env=setting(shim, **{name: count})) as process:
                 checks.same("it listens", b"listening" in line_of(process.stderr), True)
                 told = [conversation((SERVER_HOST, port)) for _ in range(3)]
                 checks.same(f"a server still runs, {name} {count}", process.poll(), None)
                 process.kill()
             fronts = [it for it in told if it != ANSWERED]
             checks.same(f"a server, {name} {count}: at most one is truncated", len(fronts) <= 1, True)
-            checks.same(f"a server, {name} {count}: its output is a prefix", [it for it in fronts if not ANSWERED.startswith(it)], [])
+            checks.same(f"a server, {name} {count}: its output is a prefix",
+                        [it for it in fronts if not ANSWERED.startswith(it)], [])
             cut += len(fronts)
         checks.same(f"a server, {name}: each of three connections is truncated at least once", cut >= 3, True)
 

@@ -3,8 +3,9 @@
 
     tests/system/explain.py bin/coap-server bin/coap-explain [--megabytes N] [--messages N] [--scripts N]
 
-The messages of N random scripts (60 by default) are compared with those that the server sends for the same scripts. A record of N megabytes
-(50) is explained in constant memory. N random messages (100,000) have escapes, zero bytes and invalid UTF-8 in every option and in their payloads.
+The messages of N random scripts (60 by default) are compared with those that the server sends for the same scripts. A
+record of N megabytes (50) is explained in constant memory. N random messages (100,000) have escapes, zero bytes and
+invalid UTF-8 in every option and in their payloads.
 """
 
 import os

@@ -3,11 +3,12 @@
 
     tests/system/flood.py bin/coap-server [observers|puts|slow ..]
 
-observers: a peer registers the maximum number of observers on all paths and never reads, while another one makes 10,000 PUTs. Each PUT must be
-    answered, and the resident memory must stay the same. (`make bench` reports the PUTs per second.)
-puts: many peers PUT representations of the maximum size, and of one byte more, at more paths than the server allows.
-slow: a peer observes /time and requests 60,000 bytes repeatedly until the server accepts no more. Then it reads 100 bytes at a time, while another
-    peer is served. All its bytes must arrive, in order.
+- observers: a peer registers the maximum number of observers on all paths and never reads, while another one makes
+  10,000 PUTs. Each PUT must be answered, and the resident memory must stay the same. (`make bench` reports the PUTs per
+  second.)
+- puts: many peers PUT representations of the maximum size, and of one byte more, at more paths than the server allows.
+- slow: a peer observes /time and requests 60,000 bytes repeatedly until the server accepts no more. Then it reads 100
+  bytes at a time, while another peer is served. All its bytes must arrive, in order.
 """
 
 import contextlib
@@ -122,7 +123,8 @@ def observe_all(peer, paths, count):
 
 
 def put_often(peer, paths, first, last):
-    """Makes PUTs with the numbers of a range, on one path after the other, each after the response to the one before. Returns the codes."""
+    """Makes PUTs with the numbers of a range, on one path after the other, each after the response to the one before.
+    Returns the codes."""
     codes = set()
     for number in range(first, last):
         token = uint(number) or b"\0"
@@ -159,13 +161,15 @@ def greatest_puts(peer, number):
 
 def check_puts(checks, server):
     """Checks PUTs of the maximum size from 64 peers, with a limit of 16 resources."""
-    with serving(checks, server, ["-d", "16", "--connections", "64"]) as (process, address), contextlib.ExitStack() as stack:
+    with (serving(checks, server, ["-d", "16", "--connections", "64"]) as (process, address),
+          contextlib.ExitStack() as stack):
         peers = [stack.enter_context(Peer(address)) for _ in range(64)]
         # All first PUTs are sent before any response is read.
         for number, peer in enumerate(peers):
             peer.connection.sendall(request(PUT, b"\0", f"/{number}", payload=b"%d" % number))
         first = [peer.answer(b"\0")[0] for peer in peers]
-        checks.same("resources created up to the limit", [first.count(it) for it in (CREATED, NOT_ACCEPTABLE)], [16, 48])
+        checks.same("resources created up to the limit", [first.count(it) for it in (CREATED, NOT_ACCEPTABLE)],
+                    [16, 48])
         large = (TOO_LARGE, uint(MOST))
         for number, (peer, made) in enumerate(zip(peers, first)):
             stored = (CHANGED if made == CREATED else NOT_ACCEPTABLE, None)
@@ -176,14 +180,15 @@ def check_puts(checks, server):
         print(f"64 peers, 16 resources of {MOST:,} bytes: {resident(process) // 1024:,} kB resident")
 
 
-# The requested bytes, in which each position is identifiable. Each request has an unknown elective option of 4,000 bytes, so that a few requests
-# fill the socket buffers of the server.
+# The requested bytes, in which each position is identifiable. Each request has an unknown elective option of 4,000
+# bytes, so that a few requests fill the socket buffers of the server.
 BODY = b"".join(b"%06d" % number for number in range(10_000))
 PADDING = (65_000, b"p" * 4_000)
 
 
 def ask_until_full(peer):
-    """Requests the resource until the server accepts no more. Returns the number of requests, and the unsent rest of the last one."""
+    """Requests the resource until the server accepts no more. Returns the number of requests, and the unsent rest of
+    the last one."""
     count, rest = 0, b""
     peer.connection.setblocking(False)
     while select.select([], [peer.connection], [], 1)[1]:
@@ -196,7 +201,8 @@ def ask_until_full(peer):
 
 
 def read_slowly(slow, count, rest, beside):
-    """Reads all responses 100 bytes at a time, and sends the rest of the last request. Returns the responses, and the times received."""
+    """Reads all responses 100 bytes at a time, and sends the rest of the last request. Returns the responses, and the
+    times received."""
     answers, moments = [], []
     while len(answers) < count:
         code, token, options, payload = slow.next(100)
@@ -236,13 +242,16 @@ def check_slow(checks, server):
             after = resident(process)
             answers, moments = read_slowly(slow, count, rest, beside)
         checks.same("the responses exceed the queue", count * len(BODY) > 131_072, True)
-        checks.same("resident memory is bounded", after - before if after - before > 131_072 + 65_536 + GROWTH else 0, 0)
+        checks.same("resident memory is bounded", after - before if after - before > 131_072 + 65_536 + GROWTH else 0,
+                    0)
         checks.same("all responses arrive in order", [number for number, _ in answers], list(range(count)))
         checks.same("each response is complete", [payload == BODY for _, payload in answers], [True] * count)
-        checks.same("times arrive in order", (moments == sorted(moments), {is_told for _, is_told in moments}), (True, {True}))
+        checks.same("times arrive in order", (moments == sorted(moments), {is_told for _, is_told in moments}),
+                    (True, {True}))
         checks.same("the client beside it", beside.answers, {(CONTENT, b"coap+tcp")})
         checks.same("the client is answered in time", beside.slowest if beside.slowest > ANSWERED_IN else 0, 0)
-    print(f"{count} requests of {len(BODY):,} bytes unread; {len(moments)} times; the client beside it waited {beside.slowest:.3f} s at most")
+    print(f"{count} requests of {len(BODY):,} bytes unread; {len(moments)} times; the client beside it waited "
+          f"{beside.slowest:.3f} s at most")
 
 
 CHECKS = {"observers": check_observers, "puts": check_puts, "slow": check_slow}

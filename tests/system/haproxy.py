@@ -5,11 +5,12 @@
 
 The script needs Debian's packages haproxy, openssl and libcoap3-bin, and installs the missing ones.
 
-The configuration is the file itself with replacements: pairs of texts, of which the first must be in the file exactly once. The replacements adapt
-the parts that require root, the ports and the certificate. Each check also replaces the numbers that it names, with shorter times or smaller
-counts. The rest is as installed.
+The configuration is the file itself with replacements: pairs of texts, of which the first must be in the file exactly
+once. The replacements adapt the parts that require root, the ports and the certificate. Each check also replaces the
+numbers that it names, with shorter times or smaller counts. The rest is as installed.
 
-With --broken, each entry of BROKEN adds one replacement to the configuration of its check. The entry passes if that check fails.
+With --broken, each entry of BROKEN adds one replacement to the configuration of its check. The entry passes if that
+check fails.
 """
 
 import os

@@ -1,4 +1,5 @@
-"""Runs 200 hostile peers against the server at once, beside one well-behaved client, and then checks the state of the server.
+"""Runs 200 hostile peers against the server at once, beside one well-behaved client, and then checks the state of the
+server.
 
     tests/system/hostile.py bin/coap-server
 
@@ -115,7 +116,8 @@ def check_again(checks, program, port):
         checks.same("the server listens again", server.said, LISTENS % (LOCAL, port))
         with server.connect() as connection:
             connection.sendall(PEER_SETTINGS + GET_ROOT)
-            checks.same("the server serves again", read_bytes(connection, len(OWN_SETTINGS + ROOT)), OWN_SETTINGS + ROOT)
+            checks.same("the server serves again", read_bytes(connection, len(OWN_SETTINGS + ROOT)),
+                        OWN_SETTINGS + ROOT)
         check_idle(checks, server, (LOCAL, port))
 
 

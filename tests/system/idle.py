@@ -5,10 +5,11 @@
 
 Five servers run side by side for 16 seconds:
 
-- `--idle 5`: 256 silent peers, of which every second one sends a CSM, beside a peer that makes a request every second. All silent peers must be
-    gone, and those that sent a CSM must have a Release. The server has room for 256 connections, so the last silent peer waits for a place.
-- `--idle 5`: an observer, a peer that waits for a delayed response, and a peer that sends a Ping every 3 seconds must stay. A peer that requests
-    much and never reads must be gone.
+- `--idle 5`: 256 silent peers, of which every second one sends a CSM, beside a peer that makes a request every second.
+  All silent peers must be gone, and those that sent a CSM must have a Release. The server has room for 256 connections,
+  so the last silent peer waits for a place.
+- `--idle 5`: an observer, a peer that waits for a delayed response, and a peer that sends a Ping every 3 seconds must
+  stay. A peer that requests much and never reads must be gone.
 - `--idle 5`: peers that have just received a delayed response must stay. The server has no other peers.
 - `--idle 60`: a peer that sends no CSM must be gone after 10 to 14 seconds, and a silent peer with a CSM must stay.
 - No `--idle`: silent peers must stay.
@@ -35,8 +36,8 @@ SOON = 2
 # Seconds until the last silent peer but one must have its place. They are fewer than 5, so that no other peer is gone.
 ROOM = 4
 
-# Seconds until the delayed responses: one that is more than the whole run, and others. After these, a peer is silent for at most 3 seconds, and for
-# less than 5 on a busy machine.
+# Seconds until the delayed responses: one that is more than the whole run, and others. After these, a peer is silent
+# for at most 3 seconds, and for less than 5 on a busy machine.
 DELAY, DELAYS = 30, (13, 14)
 
 SETTINGS, RELEASE, PING, PONG = (bytes.fromhex(it) for it in ("00e1", "00e4", "00e2", "00e3"))
@@ -133,8 +134,9 @@ def serve(checks, peer):
 
 def check(checks, program):
     many = ["--idle", "5", "--connections", "256"]
-    with Server(program, many) as crowded, Server(program, ["--idle", "5", "-d", "4"]) as mixed, Server(program, ["--idle", "60"]) as patient, \
-            Server(program) as plain, Server(program, ["--idle", "5"]) as quiet:
+    with (Server(program, many) as crowded, Server(program, ["--idle", "5", "-d", "4"]) as mixed,
+          Server(program, ["--idle", "60"]) as patient, Server(program) as plain,
+          Server(program, ["--idle", "5"]) as quiet):
         good = Peer(crowded)
         silent = [Peer(crowded, SETTINGS if at % 2 else b"") for at in range(256)]
         serve(checks, good)
@@ -184,7 +186,8 @@ def check(checks, program):
         again.ask(PUT, 4, "/x", payload=b"2")
         checks.same("the representation is changed", again.next()[1], 0x44)
         checks.same("the observer is notified", observer.next()[-2:], b"\xff2")
-        checks.same("a peer without a CSM is gone after 10 seconds", mute.ended is not None and 10 <= mute.ended - opened <= 14, True)
+        checks.same("a peer without a CSM is gone after 10 seconds",
+                    mute.ended is not None and 10 <= mute.ended - opened <= 14, True)
         checks.same("a silent peer stays for the whole time of --idle", mild.look().ended, None)
         checks.same("without --idle all peers stay", [peer.look().ended for peer in stays], [None, None])
 

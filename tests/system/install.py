@@ -1,10 +1,11 @@
-"""Installs the programs, their manuals, the systemd unit, the configuration of HAProxy and the C library into temporary folders, and uninstalls them.
+"""Installs the programs, their manuals, the systemd unit, the configuration of HAProxy and the C library into temporary
+folders, and uninstalls them.
 
     tests/system/install.py bin/coap-server bin/coap-client bin/coap-explain bin/coap-directory [bin/libcoap_proved.a]
 
-`make` runs on a copy of the installed files, with sources that are newer than the programs and a build script that fails. A build would therefore
-be noticed. Without the archive of the C library, only the programs are installed. The script installs Debian's packages pkg-config and systemd if
-they are missing.
+`make` runs on a copy of the installed files, with sources that are newer than the programs and a build script that
+fails. A build would therefore be noticed. Without the archive of the C library, only the programs are installed. The
+script installs Debian's packages pkg-config and systemd if they are missing.
 """
 
 import os
@@ -59,7 +60,8 @@ def run(words, folder, **how):
 
 def make(folder, target, prefix, destination):
     """Runs a target of the Makefile. Without a prefix, the default of the Makefile is used."""
-    words = ["make", target] + (["PREFIX=" + prefix] if prefix else []) + (["DESTDIR=" + destination] if destination else [])
+    words = (["make", target] + (["PREFIX=" + prefix] if prefix else [])
+             + (["DESTDIR=" + destination] if destination else []))
     return run(words, folder)
 
 
@@ -94,7 +96,8 @@ def files_below(folder):
 
 def folder_modes(folder):
     """Returns the modes of the folders below a folder."""
-    return {stat.S_IMODE(os.lstat(os.path.join(place, name)).st_mode) for place, names, _ in os.walk(folder) for name in names}
+    return {stat.S_IMODE(os.lstat(os.path.join(place, name)).st_mode) for place, names, _ in os.walk(folder)
+            for name in names}
 
 
 def read(*parts):
@@ -130,8 +133,10 @@ def check_prefix(checks, tree, prefix, has_library):
         place = destination + told
         for name in PROGRAMS:
             checks.same("%s: %s" % (told, name), read(place, "bin", name) == read(tree, "bin", name), True)
-            checks.same("%s: %s.1" % (told, name), read(place, "share/man/man1", name + ".1") == read(tree, "man", name + ".1"), True)
-        checks.same("%s: HAProxy's configuration" % told, read(place, FRONT) == read(tree, "install", "haproxy.cfg"), True)
+            checks.same("%s: %s.1" % (told, name),
+                        read(place, "share/man/man1", name + ".1") == read(tree, "man", name + ".1"), True)
+        checks.same("%s: HAProxy's configuration" % told, read(place, FRONT) == read(tree, "install", "haproxy.cfg"),
+                    True)
         if has_library:
             check_library(checks, tree, told, place)
         unit = read(place, UNIT).decode()
@@ -157,17 +162,20 @@ def check_unbuilt(checks, tree):
             os.rename(missing, missing + ".away")
             status, said = make(tree, "install", "", destination)
             os.rename(missing + ".away", missing)
-            checks.same("%s is missing" % name, (status != 0, "make all" in said, files_below(destination)), (True, True, {}))
+            checks.same("%s is missing" % name, (status != 0, "make all" in said, files_below(destination)),
+                        (True, True, {}))
 
 
 def check_analyzed(checks, name, unit):
     """Checks a unit with systemd-analyze: its remarks and the exposure."""
     folder = os.path.dirname(unit)
     status, said = run(["systemd-analyze", "verify", "--man=no", unit], folder)
-    checks.same("remarks of systemd-analyze on %s" % name, (status, [line for line in said.splitlines() if "coap-server" in line]), (0, []))
+    checks.same("remarks of systemd-analyze on %s" % name,
+                (status, [line for line in said.splitlines() if "coap-server" in line]), (0, []))
     status, said = run(["systemd-analyze", "security", "--offline=true", "--no-pager", unit], folder)
     exposure = re.search(r"Overall exposure level for coap-server\.service: ([\d.]+)", said)
-    checks.same("exposure of %s of at most %s" % (name, EXPOSURE), (status, bool(exposure) and float(exposure[1]) <= EXPOSURE), (0, True))
+    checks.same("exposure of %s of at most %s" % (name, EXPOSURE),
+                (status, bool(exposure) and float(exposure[1]) <= EXPOSURE), (0, True))
 
 
 def check_unit(checks, tree):
@@ -178,7 +186,8 @@ def check_unit(checks, tree):
 
 
 def check_recording_unit(checks, tree):
-    """Checks the unit with its example of a record, whose lines are comments. The shell replaces variables in its command as systemd does."""
+    """Checks the unit with its example of a record, whose lines are comments. The shell replaces variables in its
+    command as systemd does."""
     with tempfile.TemporaryDirectory() as prefix:
         make(tree, "install", prefix, "")
         unit, logs = os.path.join(prefix, UNIT), os.path.join(prefix, "logs")
@@ -186,19 +195,23 @@ def check_recording_unit(checks, tree):
         said = [it.split("=", 1) for it in text.splitlines() if re.match("LogsDirectory|ExecStart=", it)]
         plain = "%s/bin/coap-server $COAP_SERVER_OPTIONS" % prefix
         records = "%s/bin/coap-server --record ${LOGS_DIRECTORY}/${INVOCATION_ID}.record $COAP_SERVER_OPTIONS" % prefix
-        wanted = [["ExecStart", plain], ["LogsDirectory", "coap-server"], ["LogsDirectoryMode", "0700"], ["ExecStart", ""], ["ExecStart", records]]
+        wanted = [["ExecStart", plain], ["LogsDirectory", "coap-server"], ["LogsDirectoryMode", "0700"],
+                  ["ExecStart", ""], ["ExecStart", records]]
         checks.same("the unit with a record", said, wanted)
         os.mkdir(logs)
-        how = dict(os.environ, LOGS_DIRECTORY=logs, INVOCATION_ID="0123456789abcdef", COAP_SERVER_OPTIONS="--stdio -d 1")
+        how = dict(os.environ, LOGS_DIRECTORY=logs, INVOCATION_ID="0123456789abcdef",
+                   COAP_SERVER_OPTIONS="--stdio -d 1")
         checks.same("the command of the unit with a record", run(["sh", "-c", said[-1][1]], prefix, env=how)[0], 0)
-        checks.same("its record", (files_below(logs), read(logs, "0123456789abcdef.record")[:24]), ({"0123456789abcdef.record": 0o600}, b"# Record of coap-server "))
+        checks.same("its record", (files_below(logs), read(logs, "0123456789abcdef.record")[:24]),
+                    ({"0123456789abcdef.record": 0o600}, b"# Record of coap-server "))
         with open(unit, "w", encoding="utf-8") as file:
             file.write(text)
         check_analyzed(checks, "the unit with a record", unit)
 
 
 def check_numbered_unit(checks, tree):
-    """Checks the unit for several servers, which docs/DEPLOYING.md derives from the installed one, with systemd-analyze."""
+    """Checks the unit for several servers, which docs/DEPLOYING.md derives from the installed one, with
+    systemd-analyze."""
     changes = re.findall(r"-e ('[^']*')", read(ROOT, "docs", "DEPLOYING.md").decode())
     with tempfile.TemporaryDirectory() as prefix:
         make(tree, "install", prefix, "")
@@ -208,7 +221,8 @@ def check_numbered_unit(checks, tree):
         for line in ("EnvironmentFile=-/etc/default/coap-server-%i", "ExecStartPre=/bin/sleep %i"):
             checks.same("%s in the numbered unit" % line, said.count(line), 1)
         status, said = run(["systemd-analyze", "verify", "--man=no", unit.replace("@", "@1")], prefix)
-        checks.same("remarks of systemd-analyze on the numbered unit", (status, [line for line in said.splitlines() if "coap-server" in line]), (0, []))
+        checks.same("remarks of systemd-analyze on the numbered unit",
+                    (status, [line for line in said.splitlines() if "coap-server" in line]), (0, []))
 
 
 def check_without_library(checks, tree):
@@ -238,7 +252,9 @@ def check(programs, archive):
 
 def main(words):
     try:
-        *programs, archive = map(os.path.abspath, words if len(words) > len(PROGRAMS) else [*words, os.path.join(ROOT, "bin/libcoap_proved.a")])
+        *programs, archive = map(os.path.abspath,
+                                 words if len(words) > len(PROGRAMS)
+                                 else [*words, os.path.join(ROOT, "bin/libcoap_proved.a")])
         return check(programs, archive)
     except (OSError, subprocess.SubprocessError) as trouble:
         print("FAILED install: %s" % trouble)

@@ -1,9 +1,10 @@
-"""Tests libcoap's client with the server, and the client with libcoap's server, over sockets, and decodes the bytes of both sides with tshark.
+"""Tests libcoap's client with the server, and the client with libcoap's server, over sockets, and decodes the bytes of
+both sides with tshark.
 
     tests/system/interop.py bin/coap-server bin/coap-client
 
-The script needs Debian's packages libcoap3-bin and tshark, and installs the missing ones. Each run of a client uses its own relay to the server,
-which records every byte of both directions.
+The script needs Debian's packages libcoap3-bin and tshark, and installs the missing ones. Each run of a client uses its
+own relay to the server, which records every byte of both directions.
 """
 
 import collections
@@ -117,8 +118,8 @@ def code_text(code):
 class Ends:
     """A client and a server, with all conversations between them."""
 
-    # For coap-client: the bytes that it prints after the content, and its status for a response other than 2.xx. Last, whether it waits for the
-    # last response of an observation.
+    # For coap-client: the bytes that it prints after the content, and its status for a response other than 2.xx. Last,
+    # whether it waits for the last response of an observation.
     ending = b""
     declined = 2
     waits_for_the_end = True
@@ -151,7 +152,8 @@ class Ends:
         wanted = (self.declined if is_error else 0, pattern, code_text(code) if is_error else "")
         got = (told.status, like(pattern, told.output), first_word(told.error))
         self.checks.same(name + ": the client's status, output and error", got, wanted)
-        self.checks.same(name + ": the server's codes", [it[0] for it in parsed_of(conversation, True)], [SETTINGS, code])
+        self.checks.same(name + ": the server's codes", [it[0] for it in parsed_of(conversation, True)],
+                         [SETTINGS, code])
         return conversation
 
     def put(self, path, text, code):
@@ -195,14 +197,15 @@ def check_body(ends):
             file.write(BODY)
         sent = ends.expect(["-m", "put", "-t", "42", "-f", there], "/body", CREATED, b"")
         payloads = [it[3] for it in parsed_of(sent, False)]
-        ends.checks.same(ends.name + ": the body is sent in one message", [len(it) for it in payloads if it == BODY], [len(BODY)])
+        ends.checks.same(ends.name + ": the body is sent in one message", [len(it) for it in payloads if it == BODY],
+                         [len(BODY)])
         ends.expect(["-o", back], "/body", CONTENT, b"")
         ends.checks.same(ends.name + ": the body comes back", content_of(back) == BODY, True)
 
 
 def watch(ends, path, seconds, states):
-    """Observes a resource while another client stores these states, each after the notification of the one before. Returns a name, the result of
-    the observer, and its conversation."""
+    """Observes a resource while another client stores these states, each after the notification of the one before.
+    Returns a name, the result of the observer, and its conversation."""
     name = "%s: -s %d %s" % (ends.name, seconds, path)
     with ends.relay(name) as relay, start(ends.client, WAITS + ["-s", str(seconds)], relay.origin + path) as process:
         for state in states[:1]:
@@ -219,8 +222,10 @@ def check_end(ends, name, conversation):
     asked = [it for it in parsed_of(conversation, False) if it[0] != SETTINGS]
     answered = [it for it in parsed_of(conversation, True) if it[0] != SETTINGS]
     first = asked[0][1] if asked else None
-    asks = [(code, token == first, [value for number, value in options if number == OBSERVE]) for code, token, options, _ in asked]
-    ends.checks.same(name + ": GETs with Observe 0 and 1, with one token", asks, [(1, True, [b""]), (1, True, [b"\x01"])])
+    asks = [(code, token == first, [value for number, value in options if number == OBSERVE])
+            for code, token, options, _ in asked]
+    ends.checks.same(name + ": GETs with Observe 0 and 1, with one token", asks,
+                     [(1, True, [b""]), (1, True, [b"\x01"])])
     tells = [[number for number, _ in options if number == OBSERVE] for _, _, options, _ in answered]
     ends.checks.same(name + ": Observe in all responses but the last", tells, [[OBSERVE]] * (len(answered) - 1) + [[]])
     kinds = {(code, token == first) for code, token, _, _ in answered}
@@ -249,7 +254,8 @@ def check_time(ends, seconds):
     name, told, conversation = watch(ends, "/time", seconds, [])
     contents = check_end(ends, name, conversation)
     moments = contents[:-1]
-    ends.checks.same(name + ": enough times, each sent once", len(set(moments)) == len(moments) >= seconds or moments, True)
+    ends.checks.same(name + ": enough times, each sent once", len(set(moments)) == len(moments) >= seconds or moments,
+                     True)
     check_watched(ends, name, told, contents)
     return name, moments
 

@@ -1,7 +1,9 @@
-"""Tests libcoap's client with the server over standard input and output, and decodes the bytes of both sides with tshark.
+"""Tests libcoap's client with the server over standard input and output, and decodes the bytes of both sides with
+tshark.
 
-The script needs Debian's packages libcoap3-bin (its client without TLS is `coap-client-notls`) and tshark, and installs the missing ones. Each case
-uses its own connection. The script accepts it, starts the program for it, and forwards and records the bytes of both directions.
+The script needs Debian's packages libcoap3-bin (its client without TLS is `coap-client-notls`) and tshark, and installs
+the missing ones. Each case uses its own connection. The script accepts it, starts the program for it, and forwards and
+records the bytes of both directions.
 """
 
 import concurrent.futures

@@ -1,4 +1,5 @@
-"""Compares the manuals with the programs and their sources: form, options, ranges, defaults, statuses, lines and examples.
+"""Compares the manuals with the programs and their sources: form, options, ranges, defaults, statuses, lines and
+examples.
 
     tests/system/manuals.py bin/coap-server bin/coap-client bin/coap-explain bin/coap-directory
 
@@ -52,7 +53,8 @@ def closed_port():
 
 def check(server, client, explain, directory):
     checks = Checks()
-    with closed_port() as port, named_programs(server=server, client=client, explain=explain, directory=directory) as programs:
+    with closed_port() as port, named_programs(server=server, client=client, explain=explain,
+                                               directory=directory) as programs:
         for name, program, faults, more in (
             ("coap-server", server, server_faults(port), ["--stdio"]),
             ("coap-client", client, client_faults(port), [URI % port]),
@@ -65,7 +67,8 @@ def check(server, client, explain, directory):
             check_options(checks, manual, program)
             check_order(checks, manual, program, more)
             checks.same("%s: ranges are found" % name, check_ranges(checks, manual, program, more) > 0, True)
-            check_defaults(checks, manual, source_of(["coap_command_line/src/arguments/%s.rt" % name.removeprefix("coap-")]))
+            check_defaults(checks, manual,
+                           source_of(["coap_command_line/src/arguments/%s.rt" % name.removeprefix("coap-")]))
             check_statuses(checks, manual, source)
             check_lines(checks, manual, source)
             check_printed(checks, manual)

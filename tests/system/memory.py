@@ -9,8 +9,9 @@ The checks are:
 - A queue requests as many bytes as it can hold.
 - No memory is lost.
 
-A script also allocates its events and the lines that need memory. Therefore two scripts are compared that have events of the same form and write
-the same number of lines of each kind. In one of them, the events are for a connection that does not exist.
+A script also allocates its events and the lines that need memory. Therefore two scripts are compared that have events
+of the same form and write the same number of lines of each kind. In one of them, the events are for a connection that
+does not exist.
 """
 
 import os
@@ -52,7 +53,8 @@ STORED = ("410301b161ff78", "014101")
 # The same with an existing resource, for requests that store nothing.
 STORED_KINDS = [
     ("GET of a stored resource", "210101b161", "4145014101ff78"),
-    ("GET of a longer listing", "d1040101bb2e77656c6c2d6b6e6f776e04636f7265", "d1264501c128ff" + LISTING + b",</a>;obs".hex()),
+    ("GET of a longer listing", "d1040101bb2e77656c6c2d6b6e6f776e04636f7265",
+     "d1264501c128ff" + LISTING + b",</a>;obs".hex()),
     ("GET with the resource's ETag", "41010141017161", "2143014101"),
     ("PUT whose precondition fails", "510306506161ff79", "018c06"),
     ("DELETE of another path", "210401b178", "014201"),
@@ -69,7 +71,8 @@ def watched(checks, name, command, stream, written):
         ran = subprocess.run(line, input=stream, stdout=subprocess.PIPE, timeout=300)
         said = log.read()
     checks.same("output of %s" % name, (ran.returncode, ran.stdout == written), (0, True))
-    checks.same("no memory lost by %s" % name, [it in said for it in ("no leaks are possible", "ERROR SUMMARY: 0 errors")], [True] * 2)
+    checks.same("no memory lost by %s" % name,
+                [it in said for it in ("no leaks are possible", "ERROR SUMMARY: 0 errors")], [True] * 2)
     usage = re.search(r"total heap usage: ([\d,]+) allocs, ([\d,]+) frees", said)
     allocated, freed = (int(it.replace(",", "")) for it in usage.groups())
     checks.same("frees of %s" % name, freed, allocated)
@@ -85,7 +88,8 @@ def flat(checks, command, before, kind):
     """Checks that 3,000 messages of a kind make as many allocations as 1,000."""
     name, sent, answered = kind
     few, many = (
-        counted(checks, "%s, %d times" % (name, times), command, "00e1" + before[0] + sent * times, before[1] + answered * times)
+        counted(checks, "%s, %d times" % (name, times), command, "00e1" + before[0] + sent * times,
+                before[1] + answered * times)
         for times in (1000, 3000)
     )
     checks.same("allocations of %s, 3,000 times and 1,000" % name, many, few)
@@ -94,7 +98,8 @@ def flat(checks, command, before, kind):
 def replacing(checks, storing):
     """Checks that each replacing PUT allocates once."""
     counts = [
-        counted(checks, "%d PUTs" % (2 * pairs), storing + ["--stdio"], "00e1" + STORED[0] + REPLACING[0] * pairs, STORED[1] + REPLACING[1] * pairs)
+        counted(checks, "%d PUTs" % (2 * pairs), storing + ["--stdio"], "00e1" + STORED[0] + REPLACING[0] * pairs,
+                STORED[1] + REPLACING[1] * pairs)
         for pairs in (0, 500, 1000, 1500)
     ]
     first, second, third = (after - before for before, after in zip(counts, counts[1:]))
@@ -106,13 +111,14 @@ def replacing(checks, storing):
 OPENED = ("open\ndrain 1\nin 1 00e1\n", "open 1\nout 1 %s\nin 1 2\n" % CSM)
 STORED_BEFORE = ("put /a - 78\n", "put 1\n")
 
-# Maximum number of bytes of all responses to a script, which must fit into the queue. The queue has 131,072 bytes, and messages are processed while
-# 65,536 of these are free.
+# Maximum number of bytes of all responses to a script, which must fit into the queue. The queue has 131,072 bytes, and
+# messages are processed while 65,536 of these are free.
 WAITING = 65_536
 
 
 def replayed(checks, name, command, *parts):
-    """Returns the number of allocations of the program for a script, whose parts are texts with the lines that they write."""
+    """Returns the number of allocations of the program for a script, whose parts are texts with the lines that they
+    write."""
     script, lines = ("".join(texts) for texts in zip(*parts))
     return watched(checks, name, command, script.encode(), lines.encode())
 
@@ -124,25 +130,28 @@ def arriving(connection, sent, times):
 
 
 def scripted(checks, command, before, kind):
-    """Checks that a script of 1,000 messages of a kind allocates as much as one whose messages are for a connection that does not exist. Checks
-    3,000 messages too, if all responses fit into the queue."""
+    """Checks that a script of 1,000 messages of a kind allocates as much as one whose messages are for a connection
+    that does not exist. Checks 3,000 messages too, if all responses fit into the queue."""
     name, sent, answered = kind
     for times in (1000, 3000):
         if times * len(answered) // 2 <= WAITING:
             handled, refused = (
-                replayed(checks, "a script of %s on %d, %d times" % (name, on, times), command, before, OPENED, arriving(on, sent, times)) for on in (1, 7)
+                replayed(checks, "a script of %s on %d, %d times" % (name, on, times), command, before, OPENED,
+                         arriving(on, sent, times)) for on in (1, 7)
             )
             checks.same("allocations of a script of %s, %d times" % (name, times), handled, refused)
 
 
 def drained(checks, command):
-    """Checks that the allocations for a line with bytes are the same for each such line, whatever was drained before."""
+    """Checks that the allocations for a line with bytes are the same for each such line, whatever was drained
+    before."""
     sent, line = "01e201", "out 1 01e301\n"
 
     def more(times):
         told = ("in 1 %s\ndrain 1\n" % sent * times, ("in 1 3\n" + line) * times)
         untold = ("in 1 %s\ndrain 7\n" % sent * times, "in 1 3\ndrain 7 fault 1\n" * times)
-        return [replayed(checks, "a script with %d %s" % (times, name), command, OPENED, part) for name, part in (("lines of bytes", told), ("rejected drains", untold))]
+        return [replayed(checks, "a script with %d %s" % (times, name), command, OPENED, part)
+                for name, part in (("lines of bytes", told), ("rejected drains", untold))]
 
     (first, without), (second, without_second) = more(1000), more(3000)
     checks.same("allocations of 3,000 lines of bytes and of 1,000", second - without_second, 3 * (first - without))
@@ -164,19 +173,22 @@ def telling(checks, storing, word, request):
     """Checks that the notification of an observer makes no allocation."""
     for times in (1000, 3000):
         told, untold = (
-            replayed(checks, "%d times %s, observed on %d" % (times, word, on), storing + ["--script", "-"], STORED_BEFORE, OPENED, arriving(on, request, 1), changes(word, times))
+            replayed(checks, "%d times %s, observed on %d" % (times, word, on), storing + ["--script", "-"],
+                     STORED_BEFORE, OPENED, arriving(on, request, 1), changes(word, times))
             for on in (1, 7)
         )
         checks.same("allocations of notifications of %d times %s" % (times, word), told, untold)
 
 
 def putting(checks, server, storing):
-    """Checks that a put of the program itself allocates once, for its bytes. In the script for comparison, the server rejects all puts."""
+    """Checks that a put of the program itself allocates once, for its bytes. In the script for comparison, the server
+    rejects all puts."""
 
     def more(times):
         text, lines = changes("put", times)
         put = replayed(checks, "%d puts" % times, storing + ["--script", "-"], STORED_BEFORE, (text, lines))
-        refused = replayed(checks, "%d rejected puts" % times, [server, "--script", "-"], ("put /a - 78\n", "put fault 3\n"), (text, "put fault 3\n" * times))
+        refused = replayed(checks, "%d rejected puts" % times, [server, "--script", "-"],
+                           ("put /a - 78\n", "put fault 3\n"), (text, "put fault 3\n" * times))
         return put - refused
 
     checks.same("allocations of 2,000 more puts", more(3000) - more(1000), 2000)

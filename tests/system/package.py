@@ -2,12 +2,12 @@
 
     tests/system/package.py bin/coap-server bin/coap-client bin/coap-explain bin/coap-directory [bin/libcoap_proved.a]
 
-The script needs Debian's packages dpkg-dev, gcc, libc6-dev, libcoap3-bin, libmosquitto-dev, lintian and pkg-config, and installs the missing ones.
-`make deb` runs on a copy of its inputs, and builds the gateway to MQTT there.
+The script needs Debian's packages dpkg-dev, gcc, libc6-dev, libcoap3-bin, libmosquitto-dev, lintian and pkg-config, and
+installs the missing ones. `make deb` runs on a copy of its inputs, and builds the gateway to MQTT there.
 
-The installation needs root. The script installs no package if any of their files already exists: it then fails, and names the first of these. It starts
-the server by the command of the installed unit, because systemd may not run. It compiles the installed example of the C library, and runs it. In the
-end it purges the packages, also after a failure.
+The installation needs root. The script installs no package if any of their files already exists: it then fails, and
+names the first of these. It starts the server by the command of the installed unit, because systemd may not run. It
+compiles the installed example of the C library, and runs it. In the end it purges the packages, also after a failure.
 """
 
 import os
@@ -61,7 +61,9 @@ def main(words):
         if not install(PACKAGES):
             print("FAILED package: the packages %s cannot be installed" % ", ".join(PACKAGES.values()))
             return 1
-        *programs, archive = map(os.path.abspath, words if len(words) > len(PROGRAMS) else [*words, os.path.join(ROOT, "bin/libcoap_proved.a")])
+        *programs, archive = map(os.path.abspath,
+                                 words if len(words) > len(PROGRAMS)
+                                 else [*words, os.path.join(ROOT, "bin/libcoap_proved.a")])
         return check(programs, archive)
     except (OSError, subprocess.SubprocessError) as trouble:
         print("FAILED package: %s" % trouble)

@@ -23,7 +23,8 @@ def main(words):
         checks.same("bytes for %r" % sent, done.stdout.hex(), CSM + answered)
         checks.same("status for %r" % sent, (done.returncode, done.stderr), (0, b""))
     check_scripts(program, checks)
-    check_words(program, "coap-server", SERVER_WORDS + refused_words("coap-server", SERVER_VALUES, SERVER_CLASHES), checks)
+    check_words(program, "coap-server", SERVER_WORDS + refused_words("coap-server", SERVER_VALUES, SERVER_CLASHES),
+                checks)
     client_words = CLIENT_WORDS + refused_words("coap-client", CLIENT_VALUES, CLIENT_CLASHES, TARGETS)
     check_words(os.path.abspath(words[1]), "coap-client", client_words, checks)
     check_help(program, "coap-server", SERVER_HELP, checks)
@@ -39,7 +40,8 @@ def main(words):
     folder = os.open("/", os.O_RDONLY)
     done = run(program, ["--stdio"], stdin=folder)
     os.close(folder)
-    checks.same("reading fails", (done.returncode, done.stdout.hex(), done.stderr), (3, CSM, b"coap-server: cannot read\n"))
+    checks.same("reading fails", (done.returncode, done.stdout.hex(), done.stderr),
+                (3, CSM, b"coap-server: cannot read\n"))
     print("programs from outside: %d passed, %d failed" % (checks.passed, checks.failed))
     return 1 if checks.failed else 0
 

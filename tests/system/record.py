@@ -3,8 +3,9 @@
 
     tests/system/record.py bin/coap-server bin/coap-client [NAME ..] [--messages N]
 
-A NAME selects a check, such as `limit` for check_limit; without a NAME all checks run. The largest check has 64 peers at one server at the same time:
-well-behaved ones, observers, slow readers, hostile ones, and some that break off. The server accepts at least N messages (100,000 by default).
+A NAME selects a check, such as `limit` for check_limit; without a NAME all checks run. The largest check has 64 peers
+at one server at the same time: well-behaved ones, observers, slow readers, hostile ones, and some that break off. The
+server accepts at least N messages (100,000 by default).
 """
 
 import os
@@ -21,7 +22,8 @@ from record_files import check_file, check_header, check_output  # noqa: E402
 from record_modes import check_memory, check_modes, check_streams, check_waiting  # noqa: E402
 
 CHECKS = [
-    check_header, check_peers, check_killed, check_file, check_output, check_limit, check_full, check_blocked, check_streams, check_waiting, check_modes, check_memory,
+    check_header, check_peers, check_killed, check_file, check_output, check_limit, check_full, check_blocked,
+    check_streams, check_waiting, check_modes, check_memory,
 ]
 
 

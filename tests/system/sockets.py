@@ -3,8 +3,9 @@
 
     tests/system/sockets.py bin/coap-server bin/coap-client [NAME ..]
 
-A NAME selects a check, such as `files` for check_files; without a NAME all checks run. The script does not sleep if it can wait for a line or a
-connection. tests/system/interop.py uses libcoap's programs, and tests/system/hostile.py has hostile peers.
+A NAME selects a check, such as `files` for check_files; without a NAME all checks run. The script does not sleep if it
+can wait for a line or a connection. tests/system/interop.py uses libcoap's programs, and tests/system/hostile.py has
+hostile peers.
 """
 
 import os
@@ -32,8 +33,10 @@ class Programs:
 
 
 CHECKS = [
-    check_requests, check_tokens, check_observers, check_bodies, check_connecting, check_ended, check_causes, check_silent, check_address, check_reserved,
-    check_files, check_close, check_flooded_client, check_addresses, check_closed, check_urgent, check_timeouts, check_connections, check_versions, check_room,
+    check_requests, check_tokens, check_observers, check_bodies, check_connecting, check_ended, check_causes,
+    check_silent, check_address, check_reserved,
+    check_files, check_close, check_flooded_client, check_addresses, check_closed, check_urgent, check_timeouts,
+    check_connections, check_versions, check_room,
     check_alive, check_sleepers, check_recorded,
 ]
 

@@ -1,20 +1,21 @@
 #!/usr/bin/env python3
 """Checks that docs/CONFORMANCE.md names definitions, contracts and tests that exist:
 
-    tests/tools/conformance.py          a line for each reference that does not exist; the last line is 'N passed, M failed'
+    tests/tools/conformance.py          a line for each reference that does not exist
     tests/tools/conformance.py --all    and the number of rows of each RFC by status
 
 Each row of its tables has these parts, and several references in one cell have '; ' between them:
 
 - a section, a requirement, and a status: 'met', 'not applicable: REASON' or 'deliberately different: REASON';
 - definitions: `name`, `name` (FILE), where FILE is below crates/ and defines each name;
-- functions: `crate::module::function` or `crate::Type::function` (clause, clause), with public functions and their clauses;
+- functions: `crate::module::function` or `crate::Type::function` (clause, clause), with public functions and their
+  clauses;
 - tests: `kind/name.rows` below tests/vectors/rows, `tests/..py`, or `crate/proofs/..antt`, each with (`text`, `text`).
 
 A text of a test is any text of a file of rows. For a file of proofs, it is a name that the file defines. For a Python
 file, the file or a module in the folder with its name defines it. The gate must run the Python files. A row with the
-status 'met' must name a function or a test. Outside of the tables the document has at most 800 words. 'N passed' counts
-rows without an error.
+status 'met' must name a function or a test. Outside of the tables the document has at most 800 words. The last line is
+'N passed, M failed', where N counts rows without an error.
 """
 
 import collections
@@ -146,8 +147,8 @@ def test_file(name):
 
 
 def text_of_test(path):
-    """Returns the text of the file of a test, followed by those of the modules in the folder with its name. Returns None
-    if there is no such file."""
+    """Returns the text of the file of a test, followed by those of the modules in the folder with its name. Returns
+    None if there is no such file."""
     text, folder = read(path), path.removesuffix(".py")
     if text is None or not path.endswith(".py") or not os.path.isdir(f"{ROOT}/{folder}"):
         return text
@@ -165,7 +166,8 @@ def wrong_tests(cell, gate):
         if names[0].endswith(".py") and names[0] not in gate:
             yield f"the gate does not run {names[0]}"
         form = test_file(names[0])[1]
-        yield from (f"{names[0]} does not have {it}" for it in re.findall(r"`([^`]+)`", named) if not re.search(form.format(re.escape(it)), text))
+        yield from (f"{names[0]} does not have {it}" for it in re.findall(r"`([^`]+)`", named)
+                    if not re.search(form.format(re.escape(it)), text))
 
 
 def wrong_row(row, functions, gate):

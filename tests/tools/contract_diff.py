@@ -4,8 +4,8 @@
     tests/tools/contract_diff.py REV         for every library, the removed functions and the removed or added clauses
     tests/tools/contract_diff.py REV CRATE ..  for these crates
 
-A clause is a `requires` or an `ensures` with its name and text, with white space normalized. A function is identified by
-its crate, type and name. If it no longer exists, it is matched with a new function, in this order:
+A clause is a `requires` or an `ensures` with its name and text, with white space normalized. A function is identified
+by its crate, type and name. If it no longer exists, it is matched with a new function, in this order:
 
 - one of another crate with the same type and name,
 - one of the same crate with the same name,
@@ -31,8 +31,8 @@ CLAUSE = re.compile(r"(?:ensures|requires)\b")
 
 
 def files_at(revision, crate):
-    """Yields the source texts of a crate in the working directory, or at a commit. The directory is read without git, so that a
-    copy of the repository without its history works too."""
+    """Yields the source texts of a crate in the working directory, or at a commit. The directory is read without git,
+    so that a copy of the repository without its history works too."""
     folder = f"crates/{crate}/src"
     if revision is None:
         for name in sorted(glob.glob(f"{ROOT}/{folder}/**/*.rt", recursive=True)):
@@ -41,7 +41,8 @@ def files_at(revision, crate):
         return
     listing = ["git", "-C", ROOT, "ls-tree", "-r", "--name-only", revision, folder]
     for name in subprocess.run(listing, capture_output=True, text=True, check=True).stdout.split():
-        yield subprocess.run(["git", "-C", ROOT, "show", f"{revision}:{name}"], capture_output=True, text=True, check=True).stdout
+        yield subprocess.run(["git", "-C", ROOT, "show", f"{revision}:{name}"], capture_output=True, text=True,
+                             check=True).stdout
 
 
 def type_of(head):
@@ -69,14 +70,15 @@ def clauses_of(lines):
 
 def signature_of(lines):
     """Returns the head of a function without its clauses and its body, with white space normalized."""
-    end = next(number for number, line in enumerate(lines) if CLAUSE.match(line.strip()) or line.strip().endswith(("{", "}", ";")))
+    end = next(number for number, line in enumerate(lines)
+               if CLAUSE.match(line.strip()) or line.strip().endswith(("{", "}", ";")))
     own = lines[: end + (not CLAUSE.match(lines[end].strip()))]
     return " ".join(" ".join(own).rstrip(" {}").split())
 
 
 def functions(revision, crate):
-    """Yields the functions of a crate that are public or of a trait, and those of an impl of a trait. For each, yields its type and name,
-    whether it is of an impl of a trait, and the lines that begin with its head."""
+    """Yields the functions of a crate that are public or of a trait, and those of an impl of a trait. For each, yields
+    its type and name, whether it is of an impl of a trait, and the lines that begin with its head."""
     for text in files_at(revision, crate):
         block, is_trait, is_of_trait, lines = "", False, False, re.sub(r"^\s*//.*\n", "", text, flags=re.M).splitlines()
         for number, line in enumerate(lines):
@@ -99,21 +101,24 @@ def promises(revision, crate):
 
 
 def contracts(revision, crate):
-    """Returns the functions that other crates can call, with their signatures and clauses, to compare those of two revisions."""
-    return {(name, signature_of(lines), frozenset(clauses_after(lines))) for name, _, lines in functions(revision, crate)}
+    """Returns the functions that other crates can call, with their signatures and clauses, to compare those of two
+    revisions."""
+    return {(name, signature_of(lines), frozenset(clauses_after(lines)))
+            for name, _, lines in functions(revision, crate)}
 
 
 def libraries(revision):
     """Returns the libraries that crates.txt lists now, and those that it listed at a commit."""
     now = [it for it in listed() if not is_program(it)]
-    lines = subprocess.run(["git", "-C", ROOT, "show", f"{revision}:crates.txt"], capture_output=True, text=True, check=True).stdout.splitlines()
+    lines = subprocess.run(["git", "-C", ROOT, "show", f"{revision}:crates.txt"], capture_output=True, text=True,
+                           check=True).stdout.splitlines()
     earlier = [it.partition(":")[0].split()[0] for it in lines if it.strip() and not it.startswith("#")]
     return now + [it for it in earlier if it not in listed()]
 
 
 def moved(crate, name, before, now):
-    """Returns the new crate and name of a function that was moved or renamed, if exactly one new function matches. If several
-    do, the one with the same clauses counts."""
+    """Returns the new crate and name of a function that was moved or renamed, if exactly one new function matches. If
+    several do, the one with the same clauses counts."""
     new = [(other, it) for other in now for it in now[other] if it not in before[other]]
     for is_it in (
         lambda other, it: other != crate and it == name,
@@ -131,7 +136,8 @@ def moved(crate, name, before, now):
 def compare(crate, before, now, seen, counts):
     """Prints the changes of the functions of a crate, and counts them."""
     for name, clauses in sorted(before[crate].items()):
-        place, title = (crate, name) if name in now[crate] else moved(crate, name, before, now), f"{crate} {'::'.join(filter(None, name))}"
+        place, title = ((crate, name) if name in now[crate] else moved(crate, name, before, now),
+                        f"{crate} {'::'.join(filter(None, name))}")
         if place is None:
             counts["went"] += 1
             print(f"{title}: went")

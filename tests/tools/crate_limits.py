@@ -1,16 +1,17 @@
 #!/usr/bin/env python3
-"""Checks that source files stay small, and that modules do not import each other in a circle:
+"""Checks that source files stay small, that lines stay short, and that modules do not import each other in a circle:
 
     tests/tools/crate_limits.py          a line for each limit that is exceeded; the last line is 'N passed, M failed'
     tests/tools/crate_limits.py --all    and a table of all crates
     tests/tools/crate_limits.py --split  first splits each ghost import that is too long into several of the same module
 
-A source file may have 450 lines, and a line of a ghost import 120 columns. Modules of a crate that import each other,
-directly or through others, form a circle. The size of a crate is limited by the time of its proof after an edit
-(bench/edits).
+A source file may have 450 lines, and a line of a ghost import or of a file of NARROW 120 columns. Modules of a crate
+that import each other, directly or through others, form a circle. The size of a crate is limited by the time of its
+proof after an edit (bench/edits).
 """
 
 import os
+import pathlib
 import re
 import sys
 
@@ -18,6 +19,17 @@ sys.path.insert(0, os.path.join(os.path.dirname(os.path.abspath(__file__)), ".."
 from workspace import ROOT, listed  # noqa: E402
 
 FILE_LINES, COLUMNS = 450, 120
+
+# Patterns of files without a line of more than COLUMNS columns. Each must fit a file.
+NARROW = [
+    "Makefile", "bench/*", "docs/pictures/*.dot", "docs/pictures/draw", "examples/**/*", "gateway/**/*", "include/*",
+    "install/**/*", "man/*", "tests/*", "tests/harness/**/*", "tests/mutants/*.py", "tests/system/**/*",
+    "tests/tools/*", "tests/vectors/*.py",
+    # "crates/*/src/**/*.rt", "crates/*/specs/**/*.antt", "crates/*/proofs/**/*.antt",
+]
+
+# Endings of files that are left out of these, and folders without sources.
+LEFT_OUT, MADE = {".md", ".svg"}, {"__pycache__", "out"}
 
 FUNCTION = re.compile(r"^ *(?:pub(?:\([a-z ]+\))? )?(?:const )?(?:extern \S+ )?fn \w+", re.M)
 GHOST = re.compile(r"^( *)(ghost use [\w.]+)\.\{(.*)\};$")
@@ -65,9 +77,24 @@ def exceeded(crate, modules):
             yield f"{name or 'the root'}: {text.count(chr(10))} lines, at most {FILE_LINES}"
         long = [len(it) for it in text.splitlines() if "ghost use" in it and len(it) > COLUMNS]
         if long:
-            yield f"{name or 'the root'}: {len(long)} ghost imports of more than {COLUMNS} columns, the longest {max(long):,}"
+            yield (f"{name or 'the root'}: {len(long)} ghost imports of more than {COLUMNS} columns, the longest "
+                   f"{max(long):,}")
     for group in sorted(circles(imports(modules))):
         yield f"modules that import each other: {', '.join(group)}"
+
+
+def wide(pattern):
+    """Yields a line for each file of a pattern that has lines of more than COLUMNS columns."""
+    paths = [it.relative_to(ROOT) for it in sorted(pathlib.Path(ROOT).glob(pattern)) if it.is_file()]
+    paths = [it for it in paths if not MADE.intersection(it.parts) and it.suffix not in LEFT_OUT]
+    if not paths:
+        yield f"{pattern}: no such file"
+    for path in paths:
+        lines = pathlib.Path(ROOT, path).read_text(encoding="utf-8").split("\n")
+        numbers = [str(number) for number, line in enumerate(lines, 1) if len(line) > COLUMNS]
+        if numbers:
+            more = " .." * (len(numbers) > 10)
+            yield f"{path}: lines of more than {COLUMNS} columns: {', '.join(numbers[:10])}{more}"
 
 
 def split(indent, module, names):
@@ -117,11 +144,17 @@ def main(words):
         modules = sources(crate)
         if "--all" in words:
             print(f"{crate:<20} {sum(len(FUNCTION.findall(it)) for it in modules.values()):>9} "
-                  f"{sum(it.count(chr(10)) for it in modules.values()):>6,} {max(it.count(chr(10)) for it in modules.values()):>13}")
+                  f"{sum(it.count(chr(10)) for it in modules.values()):>6,} "
+                  f"{max(it.count(chr(10)) for it in modules.values()):>13}")
         found = list(exceeded(crate, modules))
         passed, failed = passed + (not found), failed + len(found)
         for line in found:
             print(f"{crate}: {line}")
+    for pattern in NARROW:
+        found = list(wide(pattern))
+        passed, failed = passed + (not found), failed + len(found)
+        for line in found:
+            print(line)
     print(f"{passed} passed, {failed} failed")
     return min(failed, 1)
 

@@ -89,7 +89,8 @@ def read(path):
 
 
 def continued(path):
-    """Returns the text of a source. The last line of a function that continues in another one is the body of that one."""
+    """Returns the text of a source. The last line of a function that continues in another one is the body of that
+    one."""
     text, named, passed = read(path), r"(?:^|,)\s*(\w+):", r"(?:^|,)\s*(?:&(?:mut )?)?(\w+)"
     bodies = {(name, *re.findall(named, parameters)): body for name, parameters, body in FUNCTION.findall(text)}
     return CALL.sub(lambda it: bodies.get((it[1], *re.findall(passed, it[2])), it[0]), text)

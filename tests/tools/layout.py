@@ -20,7 +20,8 @@ from workspace import PARTS, ROOT, listed  # noqa: E402
 def files_of(folder):
     """Returns the paths of the sources of a crate in this folder, relative to it."""
     parts = [part for part in (*PARTS, "tests") if os.path.isdir(f"{folder}/{part}")]
-    return [os.path.relpath(f"{at}/{name}", folder) for part in parts for at, _, names in os.walk(f"{folder}/{part}") for name in names]
+    return [os.path.relpath(f"{at}/{name}", folder) for part in parts for at, _, names in os.walk(f"{folder}/{part}")
+            for name in names]
 
 
 def out_of_layout(crate):
@@ -32,7 +33,8 @@ def out_of_layout(crate):
         ran = subprocess.run(["rt", "fmt"], cwd=copy, stdin=subprocess.DEVNULL, capture_output=True, text=True)
         if ran.returncode:
             return [f"crates/{crate}: {ran.stdout}{ran.stderr}".rstrip()]
-        changed = [path for path in files_of(folder) if not filecmp.cmp(f"{folder}/{path}", f"{copy}/{path}", shallow=False)]
+        changed = [path for path in files_of(folder)
+                   if not filecmp.cmp(f"{folder}/{path}", f"{copy}/{path}", shallow=False)]
     return [f"crates/{crate}/{path}: not in the layout of rt fmt" for path in sorted(changed)]
 
 

@@ -7,8 +7,8 @@
     tests/tools/prose.py --list FILE ..  each finding in these files, with its line, and no check
 
 Prose is the text of README.md, the other documents and the manuals. So are the comments in `.rt` and `.antt` files, the
-comments and docstrings of Python and shell scripts, and the texts of `#[error("..")]`. Blocks of code are left out. A code
-span or a name counts as one word; a name has `_`, `::`, a dot, a slash or a capital inside. The kinds:
+comments and docstrings of Python and shell scripts, and the texts of `#[error("..")]`. Blocks of code are left out. A
+code span or a name counts as one word; a name has `_`, `::`, a dot, a slash or a capital inside. The kinds:
 
     behind    `behind` that no proxy follows; write `after`
     told      `told` and `tells`; write `reports`, `returns` or `notified`
@@ -19,8 +19,8 @@ span or a name counts as one word; a name has `_`, `::`, a dot, a slash or a cap
     verb      the comment of a function that does not begin with a verb in the third person, such as `Returns`
     long      a sentence of more than 25 words
 
-A limit may only fall: lower it after the prose of its group has improved. The script also checks itself on SAMPLES. The last
-line is 'N passed, M failed'; each group of files and each sample counts once.
+A limit may only fall: lower it after the prose of its group has improved. The script also checks itself on SAMPLES. The
+last line is 'N passed, M failed'; each group of files and each sample counts once.
 """
 
 import ast
@@ -217,7 +217,8 @@ def is_function(lines, at):
 
 
 def runs(found):
-    """Joins comments on successive lines with one indent and one marker, and yields the marker and the numbered texts."""
+    """Joins comments on successive lines with one indent and one marker, and yields the marker and the numbered
+    texts."""
     run, before = [], None
     for number, comment in found:
         if run and (comment[0] is None or comment[:2] != before or number != run[-1][0] + 1):
@@ -325,7 +326,8 @@ def groups():
     yield "manuals", files("man/*.1")
     yield "scripts", [it for it in files("tests/**/*", "bench/**/*") if is_script(it)]
     for crate in listed():
-        yield crate, files(f"crates/{crate}/src/**/*.rt", *(f"crates/{crate}/{it}/**/*.antt" for it in ("specs", "proofs")))
+        yield crate, files(f"crates/{crate}/src/**/*.rt",
+                           *(f"crates/{crate}/{it}/**/*.antt" for it in ("specs", "proofs")))
 
 
 def list_all(paths):
@@ -354,7 +356,8 @@ def main(words):
     passed = len(SAMPLES) - failed
     counts = {group: Counter(it.kind for path in files for it in check(path)) for group, files in groups()}
     if "--limits" in words:
-        print("LIMITS = {", *(f'    "{group}": {found.total()},' for group, found in counts.items() if found.total()), "}", sep="\n")
+        print("LIMITS = {", *(f'    "{group}": {found.total()},' for group, found in counts.items() if found.total()),
+              "}", sep="\n")
         return 0
     if "--all" in words:
         print(f"{'':<21}", *(f"{kind:>8}" for kind in [*KINDS, "all"]))

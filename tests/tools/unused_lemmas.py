@@ -128,7 +128,8 @@ def constructors(words):
 
 
 def begin_or_go_on(found, new, text):
-    """Begins a definition at a line at the margin, unless the line continues the one before: a clause, or what it unfolds."""
+    """Begins a definition at a line at the margin, unless the line continues the one before: a clause, or what it
+    unfolds."""
     head = HEAD.match(text)
     if head and not text.startswith("unfolding ") and not (found and found[-1].name == head[2] and not head[1]):
         new.name, new.words_before = head[2], head[1].split()

@@ -1,17 +1,20 @@
 #!/usr/bin/env python3
-"""Plays short streams on `coap-server --script -`, each after an empty CSM on its own connection, and compares the results with a small model.
+"""Plays short streams on `coap-server --script -`, each after an empty CSM on its own connection, and compares the
+results with a small model.
 
-    tests/vectors/bytes.py bin/coap-server            all 256 streams of one byte, all 65,536 of two, and 4,194,304 of the 16,777,216 of three
-    tests/vectors/bytes.py bin/coap-server --all      all of these
+    tests/vectors/bytes.py bin/coap-server          all 256 streams of one byte, all 65,536 of two, and 4,194,304 of
+                                                    the 16,777,216 of three
+    tests/vectors/bytes.py bin/coap-server --all    all of these
 
-The sample of three bytes has the first multiples of a step, modulo 2^24. The step is odd, so that no stream occurs twice. The step is 2^24
-divided by the golden ratio, so that the streams are evenly distributed.
+The sample of three bytes has the first multiples of a step, modulo 2^24. The step is odd, so that no stream occurs
+twice. The step is 2^24 divided by the golden ratio, so that the streams are evenly distributed.
 
-The model is written from RFC 8323 (sections 3.2, 3.3, 3.4, 5) and RFC 7252 (sections 3.1, 5.4, 5.8, 5.10, 12). It shares no code with the
-server, nor with the other parsers of these tests. The root is its only resource, because three bytes can name no other existing one. No response
-exceeds the peer's limit, because no request can follow a Max-Message-Size in three bytes. The RFCs leave some choices to the server: the texts
-of Aborts, the numbers of the reasons, and the methods of the root. There the model follows the manual.
-The last line is 'N passed, M failed' for the streams, and the status is 0 if M is 0.
+The model is written from RFC 8323 (sections 3.2, 3.3, 3.4, 5) and RFC 7252 (sections 3.1, 5.4, 5.8, 5.10, 12). It
+shares no code with the server, nor with the other parsers of these tests. The root is its only resource, because three
+bytes can name no other existing one. No response exceeds the peer's limit, because no request can follow a
+Max-Message-Size in three bytes. The RFCs leave some choices to the server: the texts of Aborts, the numbers of the
+reasons, and the methods of the root. There the model follows the manual. The last line is 'N passed, M failed' for the
+streams, and the status is 0 if M is 0.
 """
 
 import os
@@ -35,26 +38,28 @@ BATCH = 1 << 15
 
 GREETING = b"coap+tcp"
 
-# The reasons of a stop, with the texts of their Aborts. No Abort is sent after an Abort of the peer (RFC 8323 section 5.6).
+# The reasons of a stop, with the texts of their Aborts. No Abort is sent after an Abort of the peer (RFC 8323 section
+# 5.6).
 FORMAT, TOO_LARGE, TOKEN_LENGTH, RESERVED, BAD_CSM, BAD_SIGNAL, ABORTED, RELEASED = 1, 2, 3, 4, 6, 7, 8, 9
-TEXTS = {FORMAT: b"bad message", TOO_LARGE: b"message too large", TOKEN_LENGTH: b"bad token length", RESERVED: b"reserved code",
-         BAD_CSM: b"bad CSM option", BAD_SIGNAL: b"bad signal option"}
+TEXTS = {FORMAT: b"bad message", TOO_LARGE: b"message too large", TOKEN_LENGTH: b"bad token length",
+         RESERVED: b"reserved code", BAD_CSM: b"bad CSM option", BAD_SIGNAL: b"bad signal option"}
 
 # Signalling messages (RFC 8323 section 5), and codes of RFC 7252 section 12.1.
 CSM, PING, PONG, RELEASE, ABORT = 0xE1, 0xE2, 0xE3, 0xE4, 0xE5
 GET, DELETE = 1, 4
 DELETED, CONTENT, BAD_OPTION, NOT_FOUND, NOT_ALLOWED, FAILED = 0x42, 0x45, 0x82, 0x84, 0x85, 0x8C
 
-# Options of requests (RFC 7252 section 5.10, RFC 7641, but not RFC 7959): minimum and maximum length of a value, and whether it may repeat.
+# Options of requests (RFC 7252 section 5.10, RFC 7641, but not RFC 7959): minimum and maximum length of a value, and
+# whether it may repeat.
 IF_MATCH, IF_NONE_MATCH, URI_PATH, CUSTODY = 1, 5, 11, 2
-OPTIONS = {1: (0, 8, True), 3: (1, 255, False), 4: (1, 8, True), 5: (0, 0, False), 6: (0, 3, False), 7: (0, 2, False), 8: (0, 255, True),
-           11: (0, 255, True), 12: (0, 2, False), 14: (0, 4, False), 15: (0, 255, True), 17: (0, 2, False), 20: (0, 255, True),
-           35: (1, 1034, False), 39: (1, 255, False), 60: (0, 4, False)}
+OPTIONS = {1: (0, 8, True), 3: (1, 255, False), 4: (1, 8, True), 5: (0, 0, False), 6: (0, 3, False), 7: (0, 2, False),
+           8: (0, 255, True), 11: (0, 255, True), 12: (0, 2, False), 14: (0, 4, False), 15: (0, 255, True),
+           17: (0, 2, False), 20: (0, 255, True), 35: (1, 1034, False), 39: (1, 255, False), 60: (0, 4, False)}
 
 
 class Stop(Exception):
-    """The connection stops for a reason. The Abort may name an option in Bad-CSM-Option. `taken` is the number of bytes taken of a message
-    that is rejected by its first bytes."""
+    """The connection stops for a reason. The Abort may name an option in Bad-CSM-Option. `taken` is the number of bytes
+    taken of a message that is rejected by its first bytes."""
 
     def __init__(self, reason, option=None, taken=0):
         super().__init__(reason)
@@ -62,7 +67,8 @@ class Stop(Exception):
 
 
 def spelled(code, token=b"", options=b"", payload=b""):
-    """Returns the encoding of a message with fewer than 269 bytes of options and payload (RFC 8323 section 3.2, RFC 8974 section 2.1)."""
+    """Returns the encoding of a message with fewer than 269 bytes of options and payload (RFC 8323 section 3.2, RFC
+    8974 section 2.1)."""
     body = options + (b"\xff" + payload if payload else b"")
     nibble, behind = (len(token), b"") if len(token) < 13 else (13, bytes([len(token) - 13]))
     if len(body) < 13:
@@ -71,7 +77,8 @@ def spelled(code, token=b"", options=b"", payload=b""):
 
 
 def front_size(stream):
-    """Returns the size of the first message of a stream, or None if more bytes are needed (RFC 8323 section 3.2, RFC 8974 section 2.1)."""
+    """Returns the size of the first message of a stream, or None if more bytes are needed (RFC 8323 section 3.2, RFC
+    8974 section 2.1)."""
     if stream[0] & 15 == 15:
         raise Stop(TOKEN_LENGTH, taken=1)
     count, base = {13: (1, 13), 14: (2, 269), 15: (4, 65_805)}.get(stream[0] >> 4, (0, stream[0] >> 4))
@@ -99,7 +106,8 @@ def extended(nibble, rest):
 
 
 def parts_of(frame):
-    """Returns the code, the token and the options of a message. The payload is not read (RFC 8323 section 3.2, RFC 7252 section 3.1)."""
+    """Returns the code, the token and the options of a message. The payload is not read (RFC 8323 section 3.2, RFC 7252
+    section 3.1)."""
     begin = 1 + {13: 1, 14: 2, 15: 4}.get(frame[0] >> 4, 0)
     length, behind = extended(frame[0] & 15, frame[begin + 1 :])
     code, token, rest = frame[begin], behind[:length], behind[length:]
@@ -119,7 +127,8 @@ def parts_of(frame):
 
 
 def recognised(options):
-    """Returns the recognized options, and whether a critical one is not recognized (RFC 7252 sections 5.4.1 to 5.4.5)."""
+    """Returns the recognized options, and whether a critical one is not recognized (RFC 7252 sections 5.4.1 to
+    5.4.5)."""
     found, is_strange = [], False
     for place, (number, value) in enumerate(options):
         least, most, repeats = OPTIONS.get(number, (1, 0, False))
@@ -169,7 +178,8 @@ def signalled(code, token, options):
 
 
 def handled(frame):
-    """Returns the response to a message on an open connection, or raises the stop that it causes (RFC 8323 sections 3.3, 3.4 and 5)."""
+    """Returns the response to a message on an open connection, or raises the stop that it causes (RFC 8323 sections
+    3.3, 3.4 and 5)."""
     code, token, options = parts_of(frame)
     if code >> 5 in (1, 6):
         raise Stop(RESERVED)
@@ -187,7 +197,8 @@ def abort(stop):
 
 
 def outcome(stream):
-    """Returns the result of a stream after a CSM: the bytes taken, the output, the reason of the stop, and the bytes kept."""
+    """Returns the result of a stream after a CSM: the bytes taken, the output, the reason of the stop, and the bytes
+    kept."""
     at, written = 0, b""
     while at < len(stream):
         try:
@@ -205,9 +216,11 @@ def lines_of(number, stream):
     """Returns the events of a connection with this number, and the lines that they write."""
     taken, written, reason, kept = outcome(stream)
     phase = "open" if not reason else f"releasing {reason}" if reason == RELEASED else f"stopped {reason}"
-    events = f"open\ndrain {number}\nin {number} {(SETTINGS + stream).hex()}\ndrain {number}\nstatus {number}\ndrop {number}\n"
+    events = (f"open\ndrain {number}\nin {number} {(SETTINGS + stream).hex()}\ndrain {number}\nstatus {number}\n"
+              f"drop {number}\n")
     stop = f" stop {reason}" if reason else ""
-    lines = (f"open {number}\nout {number} {OWN}\nin {number} {taken + len(SETTINGS)}{stop}\nout {number} {written.hex() or '-'}\n"
+    lines = (f"open {number}\nout {number} {OWN}\nin {number} {taken + len(SETTINGS)}{stop}\n"
+             f"out {number} {written.hex() or '-'}\n"
              f"status {number} {phase} kept {kept} waiting 0 pending 0 observers 0\ndrop {number}\n")
     return events, lines
 

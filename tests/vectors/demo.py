@@ -1,5 +1,5 @@
-"""Demonstrates the server: recorded streams through `coap-server --stdio`, with the meaning of each message. Then follows a script on one server
-through `coap-server --script -`, with the meaning of each line.
+"""Demonstrates the server: recorded streams through `coap-server --stdio`, with the meaning of each message. Then
+follows a script on one server through `coap-server --script -`, with the meaning of each line.
 
     tests/vectors/demo.py bin/coap-server
     tests/vectors/demo.py --try                 the first stream alone, on the same source, built without proofs
@@ -14,7 +14,8 @@ sys.path.insert(0, os.path.join(os.path.dirname(os.path.abspath(__file__)), ".."
 import messages  # noqa: E402
 from unproved import build  # noqa: E402
 
-# An empty CSM, Empty, a Ping with the token 07 and Custody. Then GETs of the root, of /time, of the listing and of an absent path.
+# An empty CSM, Empty, a Ping with the token 07 and Custody. Then GETs of the root, of /time, of the listing and of an
+# absent path.
 RECORDED = bytes.fromhex(
     "00e1" "0000" "11e20720" "010109" "51010ab474696d65"
     "d104010bbb2e77656c6c2d6b6e6f776e04636f7265" "21010cb178"
@@ -28,7 +29,8 @@ STREAMS = [
     ("A hostile peer: a message size of 4,295,033,106 bytes, followed by a Ping.", HOSTILE),
 ]
 
-SCRIPT_TITLE = "A script on one server: two connections observe /time, and the second one is not drained. Each event, its line, and the meaning."
+SCRIPT_TITLE = ("A script on one server: two connections observe /time, and the second one is not drained. Each event, "
+                "its line, and the meaning.")
 
 # More Pings than the queue has space for Pongs.
 PINGS = 22_000
@@ -37,7 +39,8 @@ PINGS = 22_000
 SCRIPT = [
     ("open", "opens a connection, which gets the number 1"),
     ("drain 1", ""),
-    ("in 1 00e1" "6101076054" "74696d65", "its Capabilities and Settings Message, and a GET of /time with Observe: all 11 bytes are taken"),
+    ("in 1 00e1" "6101076054" "74696d65",
+     "its Capabilities and Settings Message, and a GET of /time with Observe: all 11 bytes are taken"),
     ("drain 1", ""),
     ("open", "opens a second connection"),
     ("in 2 00e1" "6101086054" "74696d65", "this connection observes /time too"),
@@ -46,7 +49,8 @@ SCRIPT = [
     ("tick 5", "the time is 5 now, and each observer is notified"),
     ("drain 1", ""),
     ("drain 2", ""),
-    ("in 2 " + "01e201" * PINGS, f"of {PINGS:,} Pings, those are taken whose Pongs fit into the queue of connection 2, which is not drained"),
+    ("in 2 " + "01e201" * PINGS,
+     f"of {PINGS:,} Pings, those are taken whose Pongs fit into the queue of connection 2, which is not drained"),
     ("status 2", "these bytes of Pongs are queued, and the queue has no space for another message of maximum size"),
     ("tick 6", "the observer on connection 1 is notified; the one on connection 2 must wait"),
     ("drain 1", ""),

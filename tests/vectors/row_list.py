@@ -1,12 +1,14 @@
 #!/usr/bin/env python3
-"""Checks the list of worked rows, tests/vectors/rows/README.md: each row is at the listed place, and a step of the gate plays it.
+"""Checks the list of worked rows, tests/vectors/rows/README.md: each row is at the listed place, and a step of the gate
+plays it.
 
     tests/vectors/row_list.py
 
-A row of the list names a file and lines of it. In a file of rows, which tests/harness/rows.py plays, these are whole lines in this order below one
-opening. A line that ends in ` ..` is the beginning of a line. A stored run must be that of a program in crates.txt. A Python test must be a step
-of the gate, or in the folder with the name of one. With `refused` and `cut` in the last column, tests/harness/rows.py --refuse and tests/vectors/segmentation.py must play the file too.
-The last line is 'N passed, M failed' for the places of the list, and the status is 0 if M is 0.
+A row of the list names a file and lines of it. In a file of rows, which tests/harness/rows.py plays, these are whole
+lines in this order below one opening. A line that ends in ` ..` is the beginning of a line. A stored run must be that
+of a program in crates.txt. A Python test must be a step of the gate, or in the folder with the name of one. With
+`refused` and `cut` in the last column, tests/harness/rows.py --refuse and tests/vectors/segmentation.py must play the
+file too. The last line is 'N passed, M failed' for the places of the list, and the status is 0 if M is 0.
 """
 
 import os
@@ -87,7 +89,8 @@ def wrong_besides(place, file, steps):
         if word == "refused":
             is_played = ["python3", "tests/harness/rows.py", "--refuse"] in steps and file.allocations.isdigit()
         else:
-            is_played = word == "cut" and ["python3", "tests/vectors/segmentation.py"] in steps and file.path.parent.name in ("serve", "calls") and not file.cuts
+            is_played = (word == "cut" and ["python3", "tests/vectors/segmentation.py"] in steps
+                         and file.path.parent.name in ("serve", "calls") and not file.cuts)
         if not is_played:
             return f"the file is not played as '{word}'"
     return ""
@@ -124,7 +127,8 @@ def wrong_of(place, steps):
         return "not a file of rows"
     if re.fullmatch(r"crates/\w+/(args|stdin|stdout|status)", place.file):
         return wrong_in_run(place, text, steps)
-    return wrong_in_script(place, text, steps) if place.file.endswith(".py") else "no step of the gate plays files of this kind"
+    return (wrong_in_script(place, text, steps) if place.file.endswith(".py")
+            else "no step of the gate plays files of this kind")
 
 
 def main():

@@ -3,8 +3,9 @@
 
     tests/vectors/scripts.py PROGRAM [FILE..]
 
-A file is tests/vectors/rows/serve/NAME.rows. Each section is a script for `PROGRAM --script -`, with the options for its settings. A section with a
-setting for which the program has no option is left out. So is an application with another deadline than 60 seconds. The last line is 'N passed, M failed' for the lines, and the status is 0 if M is 0.
+A file is tests/vectors/rows/serve/NAME.rows. Each section is a script for `PROGRAM --script -`, with the options for
+its settings. A section with a setting for which the program has no option is left out. So is an application with
+another deadline than 60 seconds. The last line is 'N passed, M failed' for the lines, and the status is 0 if M is 0.
 """
 
 import os
@@ -16,15 +17,16 @@ sys.path.insert(0, os.path.join(os.path.dirname(os.path.abspath(__file__)), ".."
 import rows  # noqa: E402
 from layers import Step, serve  # noqa: E402
 
-OPTIONS = {"max": "--max-message", "sent": "--max-sent", "queue": "--queue", "pending": "--pending", "observers": "--observers",
-           "connections": "--connections", "dynamic": "-d"}
+OPTIONS = {"max": "--max-message", "sent": "--max-sent", "queue": "--queue", "pending": "--pending",
+           "observers": "--observers", "connections": "--connections", "dynamic": "-d"}
 
 # Seconds that an application of a script has for a response.
 DEADLINE = "60"
 
 
 def lines_of(section):
-    """Yields each event of a section with the line that it writes. The line of a request follows that of its `in`, and belongs to no event."""
+    """Yields each event of a section with the line that it writes. The line of a request follows that of its `in`, and
+    belongs to no event."""
     for event, line in serve.lines_of(section):
         events, lines = event.split("|"), line.split("|")
         for line in lines:
@@ -61,7 +63,8 @@ def play(program, options, section):
 
 
 def main(program, *named):
-    files = [rows.read(pathlib.Path(it).resolve()) for it in named] or [rows.read(it) for it in sorted(rows.ROWS.glob("serve/*.rows"))]
+    files = ([rows.read(pathlib.Path(it).resolve()) for it in named]
+             or [rows.read(it) for it in sorted(rows.ROWS.glob("serve/*.rows"))])
     count = failed = left = 0
     for file in files:
         for opening, section in file.values:

@@ -3,11 +3,12 @@
 
     tests/vectors/segmentation.py [--unproved=FOLDER] [FILE..]
 
-A file is tests/vectors/rows/serve/NAME.rows or tests/vectors/rows/calls/NAME.rows. Every line must be as in the file, except those of the two
-parts. For these, the sum of their counts, the stop of the last one and the lines of requests must be as in the file. All splits of an `in` are made
-in one run of the probe; with --unproved, of the one that tests/harness/unproved.py built in a folder. A file with a line `cuts:` is left out for the
-reason in that line. Events that share a row with others are left out too. The last line is 'N passed, M failed' for the replays, and the status is 0
-if M is 0.
+A file is tests/vectors/rows/serve/NAME.rows or tests/vectors/rows/calls/NAME.rows. Every line must be as in the file,
+except those of the two parts. For these, the sum of their counts, the stop of the last one and the lines of requests
+must be as in the file. All splits of an `in` are made in one run of the probe; with --unproved, of the one that
+tests/harness/unproved.py built in a folder. A file with a line `cuts:` is left out for the reason in that line. Events
+that share a row with others are left out too. The last line is 'N passed, M failed' for the replays, and the status is
+0 if M is 0.
 """
 
 import os
@@ -34,7 +35,8 @@ def wrong_of(steps, at, found):
     first, second = found[at : at + 2]
     wrong = rows.differences(found[:at] + found[at + 2 :], steps[:at] + steps[at + 1 :])
     # Each line of an `in` may be followed by those of requests for the application.
-    (first_in, *requests), (second_in, *others), (wanted, *all_of_them) = (it.split("|") for it in (first, second, steps[at].wanted))
+    (first_in, *requests), (second_in, *others) = first.split("|"), second.split("|")
+    wanted, *all_of_them = steps[at].wanted.split("|")
     (count, _), (more, stop) = serve.count_of(first_in), serve.count_of(second_in)
     if (count + more, stop) != serve.count_of(wanted) or requests + others != all_of_them:
         wrong.append(f"{steps[at].event}\n    wanted {steps[at].wanted}\n    found  {first}, {second}")
@@ -42,7 +44,8 @@ def wrong_of(steps, at, found):
 
 
 def replay(probe, steps, at):
-    """Replays a section on a probe, with the event at this index split at every place. Returns the number of replays and the differences."""
+    """Replays a section on a probe, with the event at this index split at every place. Returns the number of replays
+    and the differences."""
     events = [step.event for step in steps]
     cuts = list(cuts_of(events[at]))
     sent = [event for cut in cuts for event in events[:at] + cut + events[at + 1 :]]
@@ -59,11 +62,13 @@ def main(words):
     files = [rows.read(pathlib.Path(it).resolve()) for it in named] or [
         rows.read(it) for layer in ("serve", "calls") for it in sorted(rows.ROWS.glob(f"{layer}/*.rows"))
     ]
-    sections = [(file, list(serve.steps(opening, lines))) for file in files if not file.cuts for opening, lines in file.values]
+    sections = [(file, list(serve.steps(opening, lines))) for file in files if not file.cuts
+                for opening, lines in file.values]
     places = [(file, steps, at) for file, steps in sections for at in range(len(steps))]
     count = failed = 0
     with ThreadPoolExecutor(len(os.sched_getaffinity(0))) as pool:
-        for (file, _, _), (replays, wrong) in zip(places, pool.map(lambda place: replay(rows.probe_of(place[0], folder=folder), *place[1:]), places)):
+        replayed = pool.map(lambda place: replay(rows.probe_of(place[0], folder=folder), *place[1:]), places)
+        for (file, _, _), (replays, wrong) in zip(places, replayed):
             count, failed = count + replays, failed + len(wrong)
             for text in wrong[:3]:
                 print(f"{file.name()}: {text}")

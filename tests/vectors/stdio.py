@@ -3,10 +3,11 @@
 
     tests/vectors/stdio.py PROGRAM [FILE..]
 
-A file is tests/vectors/rows/stdio/NAME.rows. Each run is `PROGRAM --stdio` with the options for its settings. A preloaded library
-(tests/harness/devices.c) sets up the devices and records their calls. A run with a setting for which the program has no option is left out. The
-program does not report the reason for the end of a connection, nor its numbers of bytes and messages. These are checked with the probe
-(tests/harness/rows.py). The last line is 'N passed, M failed' for the runs, and the status is 0 if M is 0.
+A file is tests/vectors/rows/stdio/NAME.rows. Each run is `PROGRAM --stdio` with the options for its settings. A
+preloaded library (tests/harness/devices.c) sets up the devices and records their calls. A run with a setting for which
+the program has no option is left out. The program does not report the reason for the end of a connection, nor its
+numbers of bytes and messages. These are checked with the probe (tests/harness/rows.py). The last line is 'N passed, M
+failed' for the runs, and the status is 0 if M is 0.
 """
 
 import os
@@ -20,9 +21,11 @@ sys.path.insert(0, os.path.join(os.path.dirname(os.path.abspath(__file__)), ".."
 import rows  # noqa: E402
 from layers import stdio  # noqa: E402
 
-OPTIONS = {"max": "--max-message", "sent": "--max-sent", "queue": "--queue", "connections": "--connections", "dynamic": "-d", "turns": "--turns"}
+OPTIONS = {"max": "--max-message", "sent": "--max-sent", "queue": "--queue", "connections": "--connections",
+           "dynamic": "-d", "turns": "--turns"}
 
-DEVICES = {"by": "READ_BY", "read-fails": "READ_FAILS", "taking": "WRITE_TAKING", "room": "WRITE_ROOM", "write-fails": "WRITE_FAILS"}
+DEVICES = {"by": "READ_BY", "read-fails": "READ_FAILS", "taking": "WRITE_TAKING", "room": "WRITE_ROOM",
+           "write-fails": "WRITE_FAILS"}
 
 FAULTS = {"Err(Read)": "cannot read", "Err(Write)": "cannot write", "Err(Turns)": "too many turns"}
 
@@ -46,7 +49,8 @@ def played(program, shim, run):
         sent.write(run.sent)
         sent.seek(0)
         set_ = {**environment_of(run.said, shim), "DEVICES_TOLD": str(told.fileno())}
-        ran = subprocess.run([program, "--stdio", *words], stdin=sent, env=set_, capture_output=True, pass_fds=[told.fileno()], timeout=60)
+        ran = subprocess.run([program, "--stdio", *words], stdin=sent, env=set_, capture_output=True,
+                             pass_fds=[told.fileno()], timeout=60)
         told.seek(0)
         return told.read().decode(), ran.returncode, ran.stdout, ran.stderr.decode()
 
@@ -72,10 +76,12 @@ def wrong_of(program, shim, run):
 
 def main(program, *named):
     program = str(pathlib.Path(program).resolve())
-    files = [rows.read(pathlib.Path(it).resolve()) for it in named] or [rows.read(it) for it in sorted(rows.ROWS.glob("stdio/*.rows"))]
+    files = ([rows.read(pathlib.Path(it).resolve()) for it in named]
+             or [rows.read(it) for it in sorted(rows.ROWS.glob("stdio/*.rows"))])
     values = [(file, opening, lines) for file in files for opening, lines in file.values if opening != "faults"]
     runs = [(file, run) for file, opening, lines in values for run in stdio.runs(opening, lines)]
-    able = [(file, run) for file, run in runs if not run.said.keys() - OPTIONS.keys() - DEVICES.keys() - {"cut", "cut-again"}]
+    able = [(file, run) for file, run in runs
+            if not run.said.keys() - OPTIONS.keys() - DEVICES.keys() - {"cut", "cut-again"}]
     failed = 0
     with tempfile.TemporaryDirectory(prefix="stdio-") as room, ThreadPoolExecutor(len(os.sched_getaffinity(0))) as pool:
         shim = f"{room}/devices.so"

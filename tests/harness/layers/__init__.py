@@ -1,7 +1,7 @@
 """Converts the rows of each layer for the probe that plays them, with a module for each folder of tests/vectors/rows.
 
-A module has `PROBE`, the crate of the program that plays the rows. Its function `steps(opening, rows)` returns a `Step` for each line that
-the probe reads.
+A module has `PROBE`, the crate of the program that plays the rows. Its function `steps(opening, rows)` returns a `Step`
+for each line that the probe reads.
 """
 
 import re
@@ -11,7 +11,8 @@ from typing import Callable
 
 @dataclass
 class Step:
-    """A line for the probe, the expected result, and a function that converts the line of the probe to the form of that result.
+    """A line for the probe, the expected result, and a function that converts the line of the probe to the form of that
+    result.
 
     `meanwhile` has further steps, for the time between a failed allocation in this step and its repetition.
     """

@@ -1,7 +1,7 @@
 """Rows for servers as in `serve`, with single calls beside the lines of a script:
 
-- `take CONNECTION BYTES` has the result `COUNT nothing`, `COUNT message` or `COUNT stopped`, with the number of bytes taken, or `nosuch`. If
-  allocation fails, the result is `memory` and the number of bytes taken before.
+- `take CONNECTION BYTES` has the result `COUNT nothing`, `COUNT message` or `COUNT stopped`, with the number of bytes
+  taken, or `nosuch`. If allocation fails, the result is `memory` and the number of bytes taken before.
 - `written CONNECTION COUNT` removes written bytes from the queue, with the result `ok`, `toomany` or `nosuch`.
 - `part CONNECTION` has a prefix of the queued bytes as its result, or `nosuch`.
 - `announce CONNECTION SIZE` announces a larger Max-Message-Size, with the result `ok` or one word for the error.
@@ -25,7 +25,8 @@ def again(play, events, index, found):
 
 
 def struck(step, line, again, line_again):
-    """Returns the differences after an allocation failure: both calls of a `take` must together take the bytes of the whole event."""
+    """Returns the differences after an allocation failure: both calls of a `take` must together take the bytes of the
+    whole event."""
     if not step.event.startswith("take "):
         return serve.struck(step, line, again, line_again)
     (_, before), (count, handled) = serve.answer_of(line).split(), serve.answer_of(line_again).split()

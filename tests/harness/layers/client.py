@@ -1,19 +1,20 @@
-"""Rows for clients. `= OUTSTANDING TOKENS`, or all six limits and the tokens, creates a client. The first row checks and removes its CSM.
+"""Rows for clients. `= OUTSTANDING TOKENS`, or all six limits and the tokens, creates a client. The first row checks
+and removes its CSM.
 
 The events are:
 
 - `take BYTES`,
-- `send METHOD TARGET` and `cancel TOKEN TARGET`, followed by fields of the request: `observe`, `plain`, `format:N`, `accept:N`,
-  `option:N:BYTES`, `payload:BYTES`,
+- `send METHOD TARGET` and `cancel TOKEN TARGET`, followed by fields of the request: `observe`, `plain`, `format:N`,
+  `accept:N`, `option:N:BYTES`, `payload:BYTES`,
 - `ping custody` and `ping plain`,
 - `written COUNT` and `end`,
 - `part`, whose result is a prefix of the queued bytes,
 - `look`, which does nothing,
 - `times N EVENT`, which repeats an event N times; each must return a token.
 
-`{9*a}` in a target is 9 times `a`. The line of an event has its result or `-`, the phase, the number of outstanding requests, and the queued
-bytes. These bytes are then removed, as written, unless `keep` is before the event. Numbers and texts of errors are compared if the row has
-them.
+`{9*a}` in a target is 9 times `a`. The line of an event has its result or `-`, the phase, the number of outstanding
+requests, and the queued bytes. These bytes are then removed, as written, unless `keep` is before the event. Numbers and
+texts of errors are compared if the row has them.
 """
 
 import re
@@ -120,4 +121,5 @@ def steps(opening, rows):
 
 def refused(event, line, again):
     """Returns the call whose allocation failed, and the state that is left."""
-    return ("`Client::open`", "nothing") if event.startswith("= ") else ("`Target::read`", "nothing, and the client as before")
+    return (("`Client::open`", "nothing") if event.startswith("= ")
+            else ("`Target::read`", "nothing, and the client as before"))

@@ -1,9 +1,11 @@
-"""Rows for configurations. `= SETTINGS` has the settings of all rows after it, and a row has further settings, each a name and a number.
+"""Rows for configurations. `= SETTINGS` has the settings of all rows after it, and a row has further settings, each a
+name and a number.
 
-The expected result has all values as the accessors return them. First come the six limits of a connection. The limits on connections, created
-resources, bytes of a representation and turns follow, and then the initial time, version and connection number. If the configuration is invalid,
-the result is the name, the number and the text of the error. The result of `starts` has the default initial values. `faults io` has the
-errors of a run, and `faults application` those of the entries of an application.
+The expected result has all values as the accessors return them. First come the six limits of a connection. The limits
+on connections, created resources, bytes of a representation and turns follow, and then the initial time, version and
+connection number. If the configuration is invalid, the result is the name, the number and the text of the error. The
+result of `starts` has the default initial values. `faults io` has the errors of a run, and `faults application` those
+of the entries of an application.
 """
 
 import re
@@ -13,8 +15,8 @@ from layers import Step, quoted
 PROBE = "coap_probe"
 
 USUAL = {
-    "max": 65_536, "sent": 65_536, "queue": 131_072, "pending": 16, "observers": 16, "outstanding": 16, "connections": 16, "dynamic": 0,
-    "rep": 65_000, "turns": 1_000_000_000_000, "moment": 0, "versions": 0, "ids": 0,
+    "max": 65_536, "sent": 65_536, "queue": 131_072, "pending": 16, "observers": 16, "outstanding": 16,
+    "connections": 16, "dynamic": 0, "rep": 65_000, "turns": 1_000_000_000_000, "moment": 0, "versions": 0, "ids": 0,
 }
 
 

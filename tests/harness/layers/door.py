@@ -49,7 +49,8 @@ READS = ("later", "end", "failed", "zeros")
 
 def expanded(text):
     """Returns a text with its parts in braces repeated."""
-    numbered = re.sub(r"\{(\d+)\.\.(\d+) ([^{}]*)\}", lambda it: "".join(it[3].replace("#", str(at)) for at in range(int(it[1]), int(it[2]) + 1)), text)
+    numbered = re.sub(r"\{(\d+)\.\.(\d+) ([^{}]*)\}",
+                      lambda it: "".join(it[3].replace("#", str(at)) for at in range(int(it[1]), int(it[2]) + 1)), text)
     return repeated(numbered)
 
 
@@ -89,11 +90,13 @@ def call_of(words):
         return ("~" if place == "1" else "|") + came
     if word == "read":
         return f"{place}<{came}"
-    return f"{place}>{len(handed)}:{came}" if came.isdigit() and int(came) != len(handed) else f"{place}>{len(handed) if came.isdigit() else came}"
+    return (f"{place}>{len(handed)}:{came}" if came.isdigit() and int(came) != len(handed)
+            else f"{place}>{len(handed) if came.isdigit() else came}")
 
 
 def told(line):
-    """Returns the line of the probe in the form of the row: calls, the bytes that connections accepted, and the result unless it is `Turns`."""
+    """Returns the line of the probe in the form of the row: calls, the bytes that connections accepted, and the result
+    unless it is `Turns`."""
     words, calls, written = line.split(), [], {}
     while words and words[0] in ("open", "read", "write", "wait"):
         if words[0] == "write" and words[3].startswith("Bytes("):
@@ -121,7 +124,8 @@ def steps(opening, rows):
 
 
 def struck(step, line, again, line_again):
-    """Returns the differences after an allocation failure: the calls before it must be the first ones of a run without a failure."""
+    """Returns the differences after an allocation failure: the calls before it must be the first ones of a run without
+    a failure."""
     before = re.sub(r"(?:\(\d+, \d+, \d+\) )?Err\(Memory\).*", "", line).strip()
     return [] if line_again.startswith(before) else [f"{again}: {line}"]
 

@@ -1,11 +1,13 @@
-"""Rows for framers: `= MAX`. The events are `next BYTES`, `each BYTES` (byte by byte), `hold BYTES`, `unread BYTES`, `clear`, `raise MAX`,
-`look` and `copied`.
+"""Rows for framers: `= MAX`. The events are `next BYTES`, `each BYTES` (byte by byte), `hold BYTES`, `unread BYTES`,
+`clear`, `raise MAX`, `look` and `copied`.
 
-The result has the outcome of `Framer::next` and the number of bytes taken, or the maximum frame size, or the number of bytes copied. Then
-follow the numbers of bytes kept and spent. A frame that is whole in its input slice is `Whole`, and one from the buffer of the framer is
-`Frame`. The event `hold` passes the bytes after a whole frame while that frame is borrowed, and has the frame after them in its result.
+The result has the outcome of `Framer::next` and the number of bytes taken, or the maximum frame size, or the number of
+bytes copied. Then follow the numbers of bytes kept and spent. A frame that is whole in its input slice is `Whole`, and
+one from the buffer of the framer is `Frame`. The event `hold` passes the bytes after a whole frame while that frame is
+borrowed, and has the frame after them in its result.
 
-`cuts STREAM => FRAME..` splits a stream at each pair of offsets. The frames must be the same, and whole if they are not split.
+`cuts STREAM => FRAME..` splits a stream at each pair of offsets. The frames must be the same, and whole if they are not
+split.
 """
 
 import re
@@ -40,7 +42,8 @@ def found_in(line):
 
 
 def piece(stream, ends, first, second):
-    """Returns a step that passes a part of a stream of frames. Each frame must be found in the part that has its last byte."""
+    """Returns a step that passes a part of a stream of frames. Each frame must be found in the part that has its last
+    byte."""
     given = [(begin, end) for begin, end in zip([0, *ends], ends) if first < end <= second]
     frames = [f"{'Whole' if first <= begin else 'Frame'} {stream[begin * 2 : end * 2]}" for begin, end in given]
     begun = max(end for end in (0, *ends) if end <= second)

@@ -1,9 +1,10 @@
-"""Rows for a client and a server that are connected in memory. `= pieces FROM TO` plays the rows once for each maximum size of a slice in this
-range. `= cuts FROM TO` plays the rows once for each offset in this range, at which both streams are split.
+"""Rows for a client and a server that are connected in memory. `= pieces FROM TO` plays the rows once for each maximum
+size of a slice in this range. `= cuts FROM TO` plays the rows once for each offset in this range, at which both streams
+are split.
 
-The events are `send`, `cancel` and `ping` of the client (layers/client.py), `put BYTES` at the path `a` and `tick TIME` of the server, and
-`look`. After each event, bytes are passed in both directions until none is left. The result has the result of the event or `-`, the events of
-the client in order, and the number of outstanding requests.
+The events are `send`, `cancel` and `ping` of the client (layers/client.py), `put BYTES` at the path `a` and `tick TIME`
+of the server, and `look`. After each event, bytes are passed in both directions until none is left. The result has the
+result of the event or `-`, the events of the client in order, and the number of outstanding requests.
 """
 
 import re

@@ -1,23 +1,26 @@
-"""Rows for links. `= ROLE` with the six limits creates a link. With a name in place of these, the CSM of the link is checked and removed too.
+"""Rows for links. `= ROLE` with the six limits creates a link. With a name in place of these, the CSM of the link is
+checked and removed too.
 
-The name `small` is a link of a server with the smallest limits. The names `usual` and `usual-client` have the default limits. After a name, a
-number (at most 255) makes the peer announce that Max-Message-Size, and `open` makes it send a CSM without options. The first row can follow at
-once, after ` | `.
+The name `small` is a link of a server with the smallest limits. The names `usual` and `usual-client` have the default
+limits. After a name, a number (at most 255) makes the peer announce that Max-Message-Size, and `open` makes it send a
+CSM without options. The first row can follow at once, after ` | `.
 
 The events are:
 
 - `hear` with a message from the peer, and `reply` with a response,
 - `hold` with a token and the time of the delayed response, `due` with a time,
-- `await` with the token of a request for the application and its deadline, `respond` with the application's response, as a message or as other
-  bytes,
+- `await` with the token of a request for the application and its deadline, `respond` with the application's response,
+  as a message or as other bytes,
 - `request` with `plain` or `observe` and a message, `cancel` with a message that has the token,
 - `ping` (`plain`, `custody`), `release`, `announce` with a Max-Message-Size,
 - `reject` (`format`, `large`, `token`), `end` (`cut`, `whole`),
 - `write` with a number of bytes, `part`, whose result is a prefix of the queued bytes,
-- `count` of pending and outstanding entries, `token`, whose result is the maximum token length of the peer, `look`, which does nothing.
+- `count` of pending and outstanding entries, `token`, whose result is the maximum token length of the peer, `look`,
+  which does nothing.
 
-The line has the result of the event (for `announce`, the current size), or `-`. Then follow the phase, the Max-Message-Size of the peer, the free
-queue space, whether the link is ready and whether finished, and the queued bytes.
+The line has the result of the event (for `announce`, the current size), or `-`. Then follow the phase, the
+Max-Message-Size of the peer, the free queue space, whether the link is ready and whether finished, and the queued
+bytes.
 """
 
 import re
@@ -38,8 +41,10 @@ LIMITS = {
 
 # Rows that check the first queued bytes of a link, and remove them.
 FIRST = {
-    "small": ("look => - Waiting 1152 1145 unready unfinished 50e12204804140", "write 7 => - Waiting 1152 1152 ready unfinished -"),
-    "usual": ("look => - Waiting 1152 131064 ready unfinished 60e1230100004140", "write 8 => - Waiting 1152 131072 ready unfinished -"),
+    "small": ("look => - Waiting 1152 1145 unready unfinished 50e12204804140",
+              "write 7 => - Waiting 1152 1152 ready unfinished -"),
+    "usual": ("look => - Waiting 1152 131064 ready unfinished 60e1230100004140",
+              "write 8 => - Waiting 1152 131072 ready unfinished -"),
 }
 
 FREE = {"small": 1_152, "usual": 131_072}

@@ -1,7 +1,7 @@
 """Rows for output queues: `= COUNT`. The events are `append BYTES`, `push BYTE`, `write COUNT`, `part` and `look`.
 
-The line of a `part` begins with a prefix of the queued bytes. Then follow, for all events, the free space, the room, the number of queued
-bytes, and these bytes.
+The line of a `part` begins with a prefix of the queued bytes. Then follow, for all events, the free space, the room,
+the number of queued bytes, and these bytes.
 """
 
 from layers import Step

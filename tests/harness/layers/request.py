@@ -1,4 +1,5 @@
-"""Rows for the messages of requests. Each row, `METHOD TARGET` and fields of the request, is sent by a new client, whose first token is 01.
+"""Rows for the messages of requests. Each row, `METHOD TARGET` and fields of the request, is sent by a new client,
+whose first token is 01.
 
 The result is the message. The fields are those of the layer `client`.
 """

@@ -1,7 +1,8 @@
 """Rows for runs of a client over a connection in memory: `ARGUMENTS | TIMES | READS => STATUS; OUT; ERR; WRITTEN`.
 
-The arguments are those of the command line. The clock returns the times in order, and then the last one again. A read returns bytes, or
-`later`, `end` or `failed`. Reads after the last one return `later`. One of these words can be before the arguments:
+The arguments are those of the command line. The clock returns the times in order, and then the last one again. A read
+returns bytes, or `later`, `end` or `failed`. Reads after the last one return `later`. One of these words can be before
+the arguments:
 
 - `deaf`: the connection accepts no bytes,
 - `slow`: the connection accepts one byte a write,
@@ -10,8 +11,8 @@ The arguments are those of the command line. The clock returns the times in orde
 - `full`: the output accepts no bytes,
 - `mute`: the error output accepts no bytes.
 
-`{9*a}` in the arguments is 9 times `a`. OUT and ERR, the bytes written to both outputs, are text, with `\\n` for a newline. Numbers and texts of
-errors are compared if the row has them.
+`{9*a}` in the arguments is 9 times `a`. OUT and ERR, the bytes written to both outputs, are text, with `\\n` for a
+newline. Numbers and texts of errors are compared if the row has them.
 """
 
 import re

@@ -1,7 +1,8 @@
 """Rows for texts of scripts. The events are `read TEXT`, in which `|` is a newline, `bytes BYTES`, and `faults`.
 
-The expected result has each event of the script before a semicolon, or `nothing` if there is none. If the script is invalid, the result is the
-number and the text of the error. Text between two `'` is converted to hex digits. `{9*a}` is 9 times `a`.
+The expected result has each event of the script before a semicolon, or `nothing` if there is none. If the script is
+invalid, the result is the number and the text of the error. Text between two `'` is converted to hex digits. `{9*a}` is
+9 times `a`.
 """
 
 import re

@@ -1,11 +1,13 @@
-"""Rows for servers. `= TITLE NAME=VALUE ..` creates one. A row has a line of a script, and the line that the server writes for it.
+"""Rows for servers. `= TITLE NAME=VALUE ..` creates one. A row has a line of a script, and the line that the server
+writes for it.
 
-`deadline=10 answers=/rd:POST+DELETE,/lamp:PUT` creates one with an application, which answers these methods at the paths that begin so, within 10
-seconds.
+`deadline=10 answers=/rd:POST+DELETE,/lamp:PUT` creates one with an application, which answers these methods at the
+paths that begin so, within 10 seconds.
 
-Several events can be in one row with `|` between them, and are then replayed in one call. A line `request ..` follows that of its `in` after `|`. `each 1..256 ROW` is a row for each of these numbers,
-with `{n}` for the number, and `{token}` for the number as a token of two bytes. `meanwhile ROW` is played only if an allocation failed in the
-row before it, before that row is repeated.
+Several events can be in one row with `|` between them, and are then replayed in one call. A line `request ..` follows
+that of its `in` after `|`. `each 1..256 ROW` is a row for each of these numbers, with `{n}` for the number, and
+`{token}` for the number as a token of two bytes. `meanwhile ROW` is played only if an allocation failed in the row
+before it, before that row is repeated.
 """
 
 import itertools
@@ -21,8 +23,8 @@ LOOKS = ("status",)
 MEANWHILE = "meanwhile "
 
 # Settings in the order of the probe, with their defaults.
-SETTINGS = {"max": 65536, "sent": 65536, "queue": 131072, "pending": 16, "observers": 16, "outstanding": 16, "connections": 16, "dynamic": 0,
-            "rep": 65000, "turns": 1, "moment": 0, "versions": 0, "ids": 0}
+SETTINGS = {"max": 65536, "sent": 65536, "queue": 131072, "pending": 16, "observers": 16, "outstanding": 16,
+            "connections": 16, "dynamic": 0, "rep": 65000, "turns": 1, "moment": 0, "versions": 0, "ids": 0}
 
 # Beginnings of events that are single calls.
 CALLS = ("take ", "written ", "announce ", "part ")
@@ -41,7 +43,8 @@ def said_of(opening):
 
 
 def parts_of(text):
-    """Returns the path, the methods and the attributes of an entry of an application. A count and `*` before a character repeat it."""
+    """Returns the path, the methods and the attributes of an entry of an application. A count and `*` before a
+    character repeat it."""
     text = re.sub(r"(\d+)\*(.)", lambda it: int(it[1]) * it[2], text)
     path, _, text = text.partition(":")
     methods, _, attributes = text.partition(";")
@@ -49,7 +52,8 @@ def parts_of(text):
 
 
 def entry_of(text):
-    """Returns an entry of an application with the codes of its methods, and the attributes of its link, in hex digits."""
+    """Returns an entry of an application with the codes of its methods, and the attributes of its link, in hex
+    digits."""
     path, methods, attributes = parts_of(text)
     return f"{path}:{''.join(f'{CODES[method]:02x}' for method in methods)}:{attributes.encode().hex()}"
 
@@ -63,7 +67,8 @@ def opened(said):
 
 
 def spelled_lines(text):
-    """Returns lines with `|` between them, converted to hex digits. The ` | ` within a message in words does not separate lines."""
+    """Returns lines with `|` between them, converted to hex digits. The ` | ` within a message in words does not
+    separate lines."""
     return "|".join(spelled(line) for line in re.split(r"(?<! )\|(?! )", text))
 
 
@@ -73,7 +78,8 @@ def each_of(row):
         return [row]
     _, ends, row = row.split(" ", 2)
     first, last = map(int, ends.split(".."))
-    return [row.replace("{n}", str(number)).replace("{token}", f"{number & 65535:04x}") for number in range(first, last + 1)]
+    return [row.replace("{n}", str(number)).replace("{token}", f"{number & 65535:04x}")
+            for number in range(first, last + 1)]
 
 
 def lines_of(rows):
@@ -118,7 +124,8 @@ def ends_of(data):
     while at < len(data):
         form, token = data[at] >> 4, data[at] & 15
         more = max(0, form - 12) if form < 15 else 4
-        length = form if form < 13 else int.from_bytes(data[at + 1 : at + 1 + more], "big") + (13, 269, 65_805)[form - 13]
+        length = (form if form < 13
+                  else int.from_bytes(data[at + 1 : at + 1 + more], "big") + (13, 269, 65_805)[form - 13])
         size = 2 + more + token + length
         at += size
         if at <= len(data):
@@ -132,7 +139,8 @@ def pending_in(line):
 
 
 def handed_end(data, handed):
-    """Returns the end of the request with which this number of entries is pending: requests of the application, and Pings with Custody."""
+    """Returns the end of the request with which this number of entries is pending: requests of the application, and
+    Pings with Custody."""
     start = 0
     for end, _ in ends_of(data):
         frame, start = data[start:end], end
@@ -147,9 +155,9 @@ def handed_end(data, handed):
 def again(play, events, index, found):
     """Returns the event to repeat after an allocation failure.
 
-    If the row has several events, these are the failed one and those after it. Of an `in`, the bytes that were not taken are repeated. All
-    bytes of the failed message but its last one are kept, and `status` reports their number. If the line of a request failed, all bytes up to
-    the end of the request were taken, and one entry more is pending.
+    If the row has several events, these are the failed one and those after it. Of an `in`, the bytes that were not
+    taken are repeated. All bytes of the failed message but its last one are kept, and `status` reports their number. If
+    the line of a request failed, all bytes up to the end of the request were taken, and one entry more is pending.
     """
     before = found[index].rpartition(" memory ")[2].strip()
     parts = events[index].split("|")
@@ -185,7 +193,8 @@ def count_of(line):
 def struck(step, line, again, line_again):
     """Returns the differences after an allocation failure.
 
-    The lines must be those before the failure and those of the repeated events, and the bytes of an `in` must be counted once.
+    The lines must be those before the failure and those of the repeated events, and the bytes of an `in` must be
+    counted once.
     """
     if "|" in step.event:
         told = line.rpartition(" memory ")[0] + line_again if "memory" != line.strip() else line_again
@@ -215,7 +224,8 @@ def refused(event, line, again):
     if "|" in event:
         return "`Server::replay` of several events", "what the events before it did, and their lines"
     if word == "in" and (again.startswith("status ") or is_after_message(event, again)):
-        return "`Server::replay` of an `in`, for the line of a request", "the bytes up to the end of the request, which is pending"
+        return ("`Server::replay` of an `in`, for the line of a request",
+                "the bytes up to the end of the request, which is pending")
     if word == "in" and again != event:
         return "`Server::replay` of an `in` that stores", BUT_THE_LAST
     return f"`Server::replay` of {f'`{word}`' if word in ('open', 'put') else 'another event, for its line'}", AS_BEFORE

@@ -1,21 +1,23 @@
-"""Rows for runs over one input and one output, in several forms. Settings are words, each followed by its value: `by`, `cut`, `cut-again`,
-`read-fails`, `taking`, `room` and `write-fails` of the devices, and the limits of the configuration.
+"""Rows for runs over one input and one output, in several forms. Settings are words, each followed by its value: `by`,
+`cut`, `cut-again`, `read-fails`, `taking`, `room` and `write-fails` of the devices, and the limits of the
+configuration.
 
     = BYTES SETTINGS      the input, and the settings of all rows after it
     SETTINGS => WRITTEN RESULT [reads N] [writes N]
-                          further settings or `as-it-is`; the bytes written; the reason for the end of the run, or `Err(Fault)`; the
-                          numbers of reads, and of writes that accepted bytes. With `each-write`, writes accept one byte, and each of
-                          them fails in turn, or accepts none
-    = messages            BYTES => WRITTEN RESULT: the input, and the output after the CSM, with reads and writes of one byte, of two
-                          and of all, and with every split and pair of splits. `read` is the number of bytes up to the stop or the end
-    = talk SETTINGS       BYTES => BYTES: messages that arrive one after another in one run, and the output for each, with reads and
-                          writes of one byte, of three and of all
+                          further settings or `as-it-is`; the bytes written; the reason for the end of the run, or
+                          `Err(Fault)`; the numbers of reads, and of writes that accepted bytes. With `each-write`,
+                          writes accept one byte, and each of them fails in turn, or accepts none
+    = messages            BYTES => WRITTEN RESULT: the input, and the output after the CSM, with reads and writes of
+                          one byte, of two and of all, and with every split and pair of splits. `read` is the number of
+                          bytes up to the stop or the end
+    = talk SETTINGS       BYTES => BYTES: messages that arrive one after another in one run, and the output for each,
+                          with reads and writes of one byte, of three and of all
     = calls BYTES SETTINGS
-                          the calls of the devices as lines, and then the result: `read ROOM gave COUNT` or `read ROOM failed`, and
-                          `write BYTES`, followed by `took COUNT` if that is not all, or by `failed`. At `refused?` an allocation may
-                          fail: the run then ends with the calls before it
-    = many COUNT SETTINGS  SETTINGS => RESULT: COUNT Pings and GETs of the root in turn, with tokens of one byte, after a CSM. Each is
-                          answered
+                          the calls of the devices as lines, and then the result: `read ROOM gave COUNT` or
+                          `read ROOM failed`, and `write BYTES`, followed by `took COUNT` if that is not all, or by
+                          `failed`. At `refused?` an allocation may fail: the run then ends with the calls before it
+    = many COUNT SETTINGS SETTINGS => RESULT: COUNT Pings and GETs of the root in turn, with tokens of one byte, after
+                          a CSM. Each is answered
     = faults              the number and the text of each error
 """
 
@@ -31,8 +33,8 @@ ALL = 2**64 - 1
 
 # Settings of the devices and of the configuration, in the order of the probe, with their defaults.
 DEVICES = {"by": ALL, "cut": 0, "cut-again": 0, "read-fails": ALL, "taking": ALL, "room": ALL, "write-fails": ALL}
-LIMITS = {"max": 65536, "sent": 65536, "queue": 131072, "pending": 16, "observers": 16, "outstanding": 16, "connections": 16, "dynamic": 0,
-          "rep": 65000, "turns": 10**12, "moment": 0, "versions": 0, "ids": 0}
+LIMITS = {"max": 65536, "sent": 65536, "queue": 131072, "pending": 16, "observers": 16, "outstanding": 16,
+          "connections": 16, "dynamic": 0, "rep": 65000, "turns": 10**12, "moment": 0, "versions": 0, "ids": 0}
 
 OWN = bytes.fromhex("60e1230100004140")
 
@@ -48,8 +50,9 @@ class RunStep(Step):
 class Run:
     """A run: its settings, its input, and the expected result.
 
-    `calls` has the expected calls of the devices, if the row has them; otherwise `written` has the expected output. `refusals` has the
-    numbers of calls after which an allocation may fail. `counts` has the expected numbers of reads and writes, if they are checked.
+    `calls` has the expected calls of the devices, if the row has them; otherwise `written` has the expected output.
+    `refusals` has the numbers of calls after which an allocation may fail. `counts` has the expected numbers of reads
+    and writes, if they are checked.
     """
 
     said: dict
@@ -85,7 +88,8 @@ class Run:
 
 
 def calls_of(line):
-    """Returns the calls of a line and the result. A call is a word, the bytes or the size of the buffer, and the outcome."""
+    """Returns the calls of a line and the result. A call is a word, the bytes or the size of the buffer, and the
+    outcome."""
     words, calls = line.split(), []
     while words and words[0] in ("read", "write"):
         word, room, handed, came = words[:4]
@@ -255,7 +259,8 @@ def steps(opening, rows):
 def struck(step, line, again, line_again):
     """Returns the differences after an allocation failure.
 
-    The calls before the failure must be the first calls of the run without a failure. The failure must be at a place that the row allows.
+    The calls before the failure must be the first calls of the run without a failure. The failure must be at a place
+    that the row allows.
     """
     begun, run = line.rpartition("Err(Memory)")[0], getattr(step, "run", None)
     if not line_again.startswith(begun):

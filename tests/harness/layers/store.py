@@ -1,20 +1,22 @@
-"""Rows for stores. `= RESOURCES BYTES VERSION` creates one for this number of resources of this number of bytes, after a version.
+"""Rows for stores. `= RESOURCES BYTES VERSION` creates one for this number of resources of this number of bytes, after
+a version.
 
-- `GET /a => 2.05 etag=01 | 'x'` is a request without a token: a method, options and, after ` | `, its payload. An option is `/a` for a segment
-  of the path, or `accept=32` for another option. `16#/a` is 16 of the same. The result has the code of the response, and `Put` or `Delete` if
-  the request is a change. Then follow `Add` or `Drop` if it affects the observer, each option, and the payload. With `do` before the request,
-  the change is applied.
-- `ask MESSAGE => MESSAGE`, `make MESSAGE => MESSAGE` and `at TIME MESSAGE => MESSAGE` have whole messages. `make` applies the change.
+- `GET /a => 2.05 etag=01 | 'x'` is a request without a token: a method, options and, after ` | `, its payload. An
+  option is `/a` for a segment of the path, or `accept=32` for another option. `16#/a` is 16 of the same. The result has
+  the code of the response, and `Put` or `Delete` if the request is a change. Then follow `Add` or `Drop` if it affects
+  the observer, each option, and the payload. With `do` before the request, the change is applied.
+- `ask MESSAGE => MESSAGE`, `make MESSAGE => MESSAGE` and `at TIME MESSAGE => MESSAGE` have whole messages. `make`
+  applies the change.
 - `put /a format=0 | 'x' => 1` is `Store::put` at a path, with a format or none. The result is the version or the error.
 - `remove /a => Ok(())` is `Store::remove`.
 - `state 10 /a => version=1 format=0 | 'x'` is the state at time 10, or `absent`.
 - `notify 10 /a format=0 => ..` is the notification at time 10 to an observer with this format.
-- `path /a / => key 61 - same asked` is the `PathKey` of the segments, or `none`. The result has the segments and whether the copy of the key
-  is equal. Last comes whether the key is the path of a request with these options.
-- `listed => ..` has the part of the listing after the built-in resources. `0..500` are the resources `0` to `499`, `bytes` is `x` followed by
-  each byte, and other words are parts of the listing themselves.
-- `each 1000 ..` before a row plays it for each number below 1,000. `{n}` is the number, `{hex}` its byte, and `{etag}` the ETag of the next
-  version.
+- `path /a / => key 61 - same asked` is the `PathKey` of the segments, or `none`. The result has the segments and
+  whether the copy of the key is equal. Last comes whether the key is the path of a request with these options.
+- `listed => ..` has the part of the listing after the built-in resources. `0..500` are the resources `0` to `499`,
+  `bytes` is `x` followed by each byte, and other words are parts of the listing themselves.
+- `each 1000 ..` before a row plays it for each number below 1,000. `{n}` is the number, `{hex}` its byte, and `{etag}`
+  the ETag of the next version.
 """
 
 import re
@@ -102,7 +104,8 @@ def told_plan(line):
     text = f"{plan['code'] >> 5}.{plan['code'] & 31:02}"
     text += "".join(f" {plan[name]}" for name in ("change", "watch") if plan[name] != "-")
     text += "".join(f" {name}={plan[name]}" for name in ("held", "etag", "format", "max-age") if name in plan)
-    text += " location=" + "".join(f"/{segment.hex() or '-'}" for segment in plan["location"]) if plan["location"] else ""
+    text += (" location=" + "".join(f"/{segment.hex() or '-'}" for segment in plan["location"]) if plan["location"]
+             else "")
     text += f" size1={plan['size1']}" if "size1" in plan else ""
     return text + (f" | {plan['payload'].hex()}" if plan["payload"] else "")
 
@@ -211,7 +214,8 @@ def step_of(row):
 def each(count, row):
     """Yields the row for each number below a count."""
     for number in range(count):
-        yield row.replace("{n}", str(number)).replace("{hex}", f"{number:02x}").replace("{etag}", uint(number + 1).hex())
+        plain = row.replace("{n}", str(number)).replace("{hex}", f"{number:02x}")
+        yield plain.replace("{etag}", uint(number + 1).hex())
 
 
 def steps(opening, rows):

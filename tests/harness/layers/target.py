@@ -1,6 +1,6 @@
-"""Rows for targets. Each row is a URI and its expected parts: `address` or `name`, the host, the port, the segments, and the arguments. Segments
-and arguments are in brackets. If the URI is invalid, the result is the error, with its number and text if the row has them. `{255*h}` is 255 times
-`h`.
+"""Rows for targets. Each row is a URI and its expected parts: `address` or `name`, the host, the port, the segments,
+and the arguments. Segments and arguments are in brackets. If the URI is invalid, the result is the error, with its
+number and text if the row has them. `{255*h}` is 255 times `h`.
 """
 
 import re

@@ -1,13 +1,17 @@
 """Rows for messages as bytes and in numbers, which need no value: `= messages`.
 
-A message in numbers is its code, its token, its options and its payload, with hex digits for bytes. An option is a number, `=` and a value.
-`01 07 11=74696d65 -` is a GET of `time` with the token 07 and no payload. The rows are:
+A message in numbers is its code, its token, its options and its payload, with hex digits for bytes. An option is a
+number, `=` and a value. `01 07 11=74696d65 -` is a GET of `time` with the token 07 and no payload. The rows are:
 
-    write MESSAGE [but PARTS] => SIZE BYTES, FAULT..   builds the message and parses it; each of PARTS is then rejected and changes nothing
-    token=TOKEN MESSAGE => CODE TOKEN SIZE BYTES of CODE TOKEN SIZE BYTES   the message with another token, and then unchanged
+    write MESSAGE [but PARTS] => SIZE BYTES, FAULT..
+                         builds the message and parses it; each of PARTS is then rejected and changes nothing
+    token=TOKEN MESSAGE => CODE TOKEN SIZE BYTES of CODE TOKEN SIZE BYTES
+                         the message with another token, and then unchanged
     read BYTES => MESSAGE, or the error
-    get OPTIONS, frame BYTES => known OPTIONS [critical NUMBER]   recognized options of a GET, or of any message
-    declared BYTES, code BYTE, codes, kind NUMBER, uint NUMBER, value BYTES   the result of these functions
+    get OPTIONS, frame BYTES => known OPTIONS [critical NUMBER]
+                         recognized options of a GET, or of any message
+    declared BYTES, code BYTE, codes, kind NUMBER, uint NUMBER, value BYTES
+                         the result of these functions
 """
 
 from layers import Step, quoted

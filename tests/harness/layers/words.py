@@ -1,14 +1,15 @@
 """Rows for command lines. Each row is `server` or `client` and the arguments of the program, and the plan or the error.
 
-If `clap` rejects the arguments, the error is `usage` and the kind of `clap`, or `asks` and the kind for help and version. Any other error is the
-line for the user. Numbers of errors are compared if a row has them. The result of `server-text` and `client-text` is the text of the error, with
-`\\n` for a newline. `{9*a}` is 9 times `a`.
+If `clap` rejects the arguments, the error is `usage` and the kind of `clap`, or `asks` and the kind for help and
+version. Any other error is the line for the user. Numbers of errors are compared if a row has them. The result of
+`server-text` and `client-text` is the text of the error, with `\\n` for a newline. `{9*a}` is 9 times `a`.
 
-The plan of a server has its mode, its six limits, and the limits on connections, resources and turns. The plan of a client has its method, its
-target (layers/target.py), and then the other fields, each after its name. The level of a log follows as `log LEVEL` and the time after which
-silent connections are closed as `idle SECONDS`, unless they are Nothing and 0. Start values follow as `starts MOMENT VERSIONS IDS`, unless all are 0,
-and a record as `record NAME LIMIT`, if there is one. An application is `application DEADLINE`, followed by its entries. An entry has each
-segment of its path after the word `segment`, the numbers of its methods after `methods`, and its attributes. Segments and attributes are in
+The plan of a server has its mode, its six limits, and the limits on connections, resources and turns. The plan of a
+client has its method, its target (layers/target.py), and then the other fields, each after its name. The level of a log
+follows as `log LEVEL` and the time after which silent connections are closed as `idle SECONDS`, unless they are Nothing
+and 0. Start values follow as `starts MOMENT VERSIONS IDS`, unless all are 0, and a record as `record NAME LIMIT`, if
+there is one. An application is `application DEADLINE`, followed by its entries. An entry has each segment of its path
+after the word `segment`, the numbers of its methods after `methods`, and its attributes. Segments and attributes are in
 hexadecimal digits.
 """
 

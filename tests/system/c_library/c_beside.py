@@ -15,7 +15,8 @@ def check_client(checks, clients, server, example):
         for client in clients:
             ran = run([*client, f"coap+tcp://127.0.0.1:{port}/{path}", "2"])
             lines = ran.stdout.decode().splitlines()
-            checks.same(f"{client[0]} observes {name}: {ran.stderr!r}", (ran.returncode, [it[:5] for it in lines], len(set(lines))), (0, ["2.05 "] * 2, 2))
+            checks.same(f"{client[0]} observes {name}: {ran.stderr!r}",
+                        (ran.returncode, [it[:5] for it in lines], len(set(lines))), (0, ["2.05 "] * 2, 2))
     port = free_port("127.0.0.1")
     with started([example, str(port), str(LIMIT)], stdout=subprocess.DEVNULL, stderr=subprocess.DEVNULL):
         wait_for(port)
@@ -31,11 +32,13 @@ def check_client(checks, clients, server, example):
 
 
 def check_libcoap(checks, archive, driver, room):
-    """Links libcoap's library too, first shared, then static with every object of both archives. Compares the bytes with those of the library alone."""
+    """Links libcoap's library too, first shared, then static with every object of both archives. Compares the bytes
+    with those of the library alone."""
     asked = run(["pkg-config", "--cflags", "--libs", "libcoap-3-notls"])
     checks.same("pkg-config of libcoap", (asked.returncode, asked.stderr), (0, b""))
     shared = [archive, *asked.stdout.decode().split()]
-    both = [word for name in (archive, "-l:libcoap-3-notls.a") for word in ("-Wl,--whole-archive", name, "-Wl,--no-whole-archive")]
+    both = [word for name in (archive, "-l:libcoap-3-notls.a")
+            for word in ("-Wl,--whole-archive", name, "-Wl,--no-whole-archive")]
     sent = bytes.fromhex("00e1" "010101")
     alone = run([driver, "stdio", "65536", "65536", "131072", "0", "65536"], sent)
     checks.same("alone", (alone.returncode, alone.stdout.hex()), (0, f"{CSM}a14501{GREETING}"))

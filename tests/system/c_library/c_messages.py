@@ -24,14 +24,16 @@ RANDOM_FRAMES = 3000
 
 
 def frames():
-    """Returns frames of recorded streams, each also with a changed, a missing and an additional byte, and random bytes."""
+    """Returns frames of recorded streams, each also with a changed, a missing and an additional byte, and random
+    bytes."""
     chance, found = random.Random(1), {b"", b"\x00\x45", b"\x0d\x45\x00" + bytes(13), b"\x0e\x45\x00\x00"}
     for sent, _ in streams():
         with contextlib.suppress(messages.Malformed):
             for frame in messages.split(sent)[0]:
                 if frame:
                     at = chance.randrange(len(frame))
-                    found |= {frame, frame[:at] + bytes([chance.randrange(256)]) + frame[at + 1:], frame[:-1], frame + b"\0"}
+                    found |= {frame, frame[:at] + bytes([chance.randrange(256)]) + frame[at + 1:], frame[:-1],
+                              frame + b"\0"}
     return [*sorted(found), *(chance.randbytes(chance.randrange(12)) for _ in range(RANDOM_FRAMES))]
 
 

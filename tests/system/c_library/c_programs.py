@@ -16,8 +16,8 @@ WARNINGS = ["-std=c11", "-D_POSIX_C_SOURCE=200809L", *STRICT, "-g", f"-I{ROOT}/i
 SANITIZED = ["-fsanitize=address,undefined", "-fno-sanitize-recover=all"]
 
 # The program and the library call malloc and realloc of fail_malloc.c, and these the allocator of AddressSanitizer.
-FAILING = [*(f"-D{name}={'__wrap_' + name}" for name in ("malloc", "realloc")), *(f"-D__libc_{name}=__real_{name}" for name in ("malloc", "realloc")),
-           "-Wl,--wrap=malloc,--wrap=realloc"]
+FAILING = [*(f"-D{name}={'__wrap_' + name}" for name in ("malloc", "realloc")),
+           *(f"-D__libc_{name}=__real_{name}" for name in ("malloc", "realloc")), "-Wl,--wrap=malloc,--wrap=realloc"]
 
 VALGRIND = ["valgrind", "--quiet", "--leak-check=full", "--show-leak-kinds=all", "--error-exitcode=9"]
 

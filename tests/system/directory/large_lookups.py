@@ -13,7 +13,8 @@ def check_large(checks, server):
     peer = Peer(server)
     links = b",".join(b"</resources/number/%04d>;rt=something" % number for number in range(200))
     for number in range(20):
-        checks.same(f"registration {number}", peer.register([f"ep=large{number}", "base=coap://a-long-host.example.com"], links)[0], CREATED)
+        checks.same(f"registration {number}",
+                    peer.register([f"ep=large{number}", "base=coap://a-long-host.example.com"], links)[0], CREATED)
     code, _, payload = peer.ask(GET, ["rd-lookup", "res"])
     checks.same("large lookup", (code, b"page" in payload and b"count" in payload), (BAD_REQUEST, True))
     code, text = peer.look("res", "page=3", "count=10")

@@ -89,7 +89,8 @@ def check_limit(checks, program):
             checks.same(f"registration of {name}", peer.register([f"ep={name}", "base=coap://h"], b"")[0], CREATED)
         checks.same("one more", peer.register(["ep=c", "base=coap://h"], b"")[0], UNAVAILABLE)
         checks.same("malformed links", peer.register(["ep=a", "base=coap://h"], b"<" + 1000 * b"a")[0], BAD_REQUEST)
-        checks.same("both are kept", [len(links_of(peer.look("ep", f"ep={name}")[1])) for name in ("a", "b", "c")], [1, 1, 0])
+        checks.same("both are kept", [len(links_of(peer.look("ep", f"ep={name}")[1])) for name in ("a", "b", "c")],
+                    [1, 1, 0])
         code, location = peer.register(["ep=a", "base=coap://h"], b"</x>")
         checks.same("one again", code, CREATED)
         checks.same("a removal", peer.ask(DELETE, location)[0], DELETED)

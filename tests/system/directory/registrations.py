@@ -14,7 +14,8 @@ def check_discovery(checks, peer):
     code, options, payload = peer.ask(GET, [".well-known", "core"])
     checks.same("discovery", (code, (CONTENT_FORMAT, uint(LINK_FORMAT)) in options), (CONTENT, True))
     listed = dict(links_of(payload.decode()))
-    for path, kind in (("/rd", "core.rd"), ("/rd-lookup/ep", "core.rd-lookup-ep"), ("/rd-lookup/res", "core.rd-lookup-res")):
+    for path, kind in (("/rd", "core.rd"), ("/rd-lookup/ep", "core.rd-lookup-ep"),
+                       ("/rd-lookup/res", "core.rd-lookup-res")):
         checks.same(f"discovery of {path}", "rt=" + kind in listed.get(path, ()), True)
 
 
@@ -23,18 +24,22 @@ def check_registration(checks, peer):
     code, location = peer.register(NODE, SENSORS)
     checks.same("registration", (code, location[:1], len(location)), (CREATED, ["rd"], 2))
     checks.same("the same endpoint again", peer.register(NODE, SENSORS), (CREATED, location))
-    code, other = peer.register(["ep=node2", "d=floor", "base=coap+tcp://h:1", "lt=600", "et=thing"], b'</light>;rt=light;if=actuator')
+    code, other = peer.register(["ep=node2", "d=floor", "base=coap+tcp://h:1", "lt=600", "et=thing"],
+                                b'</light>;rt=light;if=actuator')
     checks.same("another endpoint", (code, other != location), (CREATED, True))
     code, text = peer.look("ep", "ep=node1")
     checks.same("endpoint", (code, targets_of(text)), (CONTENT, ["/" + "/".join(location)]))
-    checks.same("its name and base", {"ep=node1", "base=coap://local-proxy-old.example.com"} <= links_of(text)[0][1], True)
+    checks.same("its name and base", {"ep=node1", "base=coap://local-proxy-old.example.com"} <= links_of(text)[0][1],
+                True)
     checks.same("endpoints", targets_of(peer.look("ep")[1]), sorted("/" + "/".join(it) for it in (location, other)))
     checks.same("endpoints of a sector", targets_of(peer.look("ep", "d=floor")[1]), ["/" + "/".join(other)])
     checks.same("endpoints by their type", targets_of(peer.look("ep", "et=thing")[1]), ["/" + "/".join(other)])
     checks.same("no such endpoint", peer.look("ep", "ep=none"), (CONTENT, ""))
     checks.same("resources by type", targets_of(peer.look("res", "rt=light")[1]), ["coap+tcp://h:1/light"])
-    checks.same("resources by a prefix", targets_of(peer.look("res", "rt=temp*")[1]), ["coap://local-proxy-old.example.com/sensors/temp"])
-    checks.same("resources by interface", targets_of(peer.look("res", "if=sensor")[1]), ["coap://local-proxy-old.example.com/sensors/temp"])
+    checks.same("resources by a prefix", targets_of(peer.look("res", "rt=temp*")[1]),
+                ["coap://local-proxy-old.example.com/sensors/temp"])
+    checks.same("resources by interface", targets_of(peer.look("res", "if=sensor")[1]),
+                ["coap://local-proxy-old.example.com/sensors/temp"])
     checks.same("resources of an endpoint", len(links_of(peer.look("res", "ep=node1")[1])), 2)
     checks.same("two filters", peer.look("res", "ep=node1", "rt=light"), (CONTENT, ""))
     pages = [peer.look("ep", f"page={page}", "count=1")[1] for page in (0, 1, 2)]
@@ -51,7 +56,8 @@ def check_registration(checks, peer):
 
 
 def check_names(checks, peer):
-    """Lookups by the name of an endpoint: the same name in several sectors, and links with an attribute `ep`, in the order of the registrations."""
+    """Lookups by the name of an endpoint: the same name in several sectors, and links with an attribute `ep`, in the
+    order of the registrations."""
     places = {}
     for name, queries, links in (
         ("first", ["ep=lamp", "d=one"], b"</on>;rt=light"),
@@ -75,8 +81,10 @@ def check_names(checks, peer):
     checks.same("endpoints by a prefix", found("ep=lamp*"), endpoints("first", "odd", "second", "prefix", "plain"))
     checks.same("endpoints of two names", found("ep=lamp", "ep=odd"), endpoints("odd"))
     checks.same("resources by name", peer.look("res", "ep=lamp", "rt=light")[1].count("<"), 3)
-    checks.same("resources with the attribute", targets_of(peer.look("res", "ep=lamp", "ep=odd")[1]), ["coap://odd/a", "coap://odd/b"])
-    checks.same("pages of them", [found("ep=lamp", f"page={page}", "count=3") for page in (0, 1)], [endpoints("first", "odd", "second"), endpoints("plain")])
+    checks.same("resources with the attribute", targets_of(peer.look("res", "ep=lamp", "ep=odd")[1]),
+                ["coap://odd/a", "coap://odd/b"])
+    checks.same("pages of them", [found("ep=lamp", f"page={page}", "count=3") for page in (0, 1)],
+                [endpoints("first", "odd", "second"), endpoints("plain")])
     checks.same("the same again", peer.register(["ep=lamp", "d=one", "base=coap://first"], b"</off>")[0], CREATED)
     checks.same("links without the attribute", peer.register(["ep=odd", "base=coap://odd"], b"</a>")[0], CREATED)
     checks.same("endpoints after both", found("ep=lamp"), endpoints("first", "second", "plain"))
@@ -129,7 +137,8 @@ def check_names_of_parameters(checks, peer):
     code, location = peer.register(["ep=victim", "base=coap://victim"], b"</a>")
     checks.same("registration of the victim", code, CREATED)
     for query in ("x;ep=victim", "EP=victim", "rt=core.rd-ep", "title*=x"):
-        checks.same(f"registration with {query}", peer.register(["ep=attacker", query, "base=coap://attacker"], b"</a>"), (BAD_REQUEST, []))
+        checks.same(f"registration with {query}",
+                    peer.register(["ep=attacker", query, "base=coap://attacker"], b"</a>"), (BAD_REQUEST, []))
         checks.same(f"update with {query}", peer.ask(POST, location, [query])[0], BAD_REQUEST)
     checks.same("the victim's name", targets_of(peer.look("ep", "ep=victim")[1]), ["/" + "/".join(location)])
     checks.same("removal of the victim", peer.ask(DELETE, location)[0], DELETED)

@@ -72,12 +72,15 @@ def check_record(checks):
 
 
 def check_scripts(checks):
-    """The events of a script that no recorder writes: those that fail, and those of a program that embeds the server."""
+    """The events of a script that no recorder writes: those that fail, and those of a program that embeds the
+    server."""
     status, said, error = explain([
         "# options: -d 1 --connections 1",
         "put /a/b%20c 0 32312e35", "put /a/b%20c - 00ff", "put /d - -", "put /time - -", "remove /a/b%20c", "remove /a",
-        "open", "open", "drain 1 100", "drain 1", "status 1", "in 1 00e1", "respond 1 01412a", "respond 1 0141", "release 1", "in 1 0001", "status 1",
-        "in 123456 00", "drain 1234567 5", "end 2", "release 2", "respond 2 01412a", "drop 2", "status 2", "tick 9", "tick 8",
+        "open", "open", "drain 1 100", "drain 1", "status 1", "in 1 00e1", "respond 1 01412a", "respond 1 0141",
+        "release 1", "in 1 0001", "status 1",
+        "in 123456 00", "drain 1234567 5", "end 2", "release 2", "respond 2 01412a", "drop 2", "status 2", "tick 9",
+        "tick 8",
         "# options: --nothing", "", "#\xff",
     ])
     checks.same("status of a script", (status, error), (0, ""))
@@ -127,24 +130,29 @@ def check_times(checks):
 
 def check_start(checks):
     """A server that starts at second 1 has a first line, and one that starts at second 0 has none."""
-    for options, wanted in (("# options: --starts 1,0,0", ["        time 1 (1970-01-01T00:00:01Z)"]), ("# options: --starts 0,0,0", [])):
+    for options, wanted in (("# options: --starts 1,0,0", ["        time 1 (1970-01-01T00:00:01Z)"]),
+                            ("# options: --starts 0,0,0", [])):
         status, said, error = explain([options, "open"])
-        checks.same("lines of %r" % options, (status, said.splitlines(), error), (0, [options, *wanted, "     1  opened"], ""))
+        checks.same("lines of %r" % options, (status, said.splitlines(), error),
+                    (0, [options, *wanted, "     1  opened"], ""))
 
 
 def check_status(checks):
     """The line of a status has each number in its place: kept bytes, queued bytes, pending requests, observers."""
     delayed = [message(1, bytes([it]), [(11, b"async"), (15, b"9")]).hex() for it in range(3)]
     observe, ping, unfinished = message(1, b"\x09", [(6, b""), (11, b"time")]).hex(), message(0xE2).hex(), "40014161"
-    record = ["open", *["in 1 " + it for it in (SETTINGS.hex(), *delayed, observe)], "drain 1", "in 1 " + ping, "in 1 " + unfinished, "status 1"]
+    record = ["open", *["in 1 " + it for it in (SETTINGS.hex(), *delayed, observe)], "drain 1", "in 1 " + ping,
+              "in 1 " + unfinished, "status 1"]
     status, said, error = explain(record)
     checks.same("status of a script with a status", (status, error), (0, ""))
-    checks.same("line of a status", said.splitlines()[-1:], ["     1  status 1 open kept 4 waiting 2 pending 3 observers 1"])
+    checks.same("line of a status", said.splitlines()[-1:],
+                ["     1  status 1 open kept 4 waiting 2 pending 3 observers 1"])
 
 
 def check_connection(checks):
     """With `--connection`, only the lines of this connection are printed, and the time if it has changed."""
-    record = ["# options: --starts 59,0,0", "# a comment", "open", "open", "tick 60", "in 1 00e1", "in 2 00e1", "tick 61", "tick 62",
+    record = ["# options: --starts 59,0,0", "# a comment", "open", "open", "tick 60", "in 1 00e1", "in 2 00e1",
+              "tick 61", "tick 62",
               "drain 1", "put /a - -", "in 2 0001", "drain 2", "drop 1", "drop 2", "tick 63", "in 7 00"]
     wanted = [
         "        time 59 (1970-01-01T00:00:59Z)",

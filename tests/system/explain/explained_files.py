@@ -24,8 +24,10 @@ def check_bad_lines(checks):
         ("an unknown option", b"#\n# options: --nothing \x1b\nopen\n", "#\n", faults("bad options in line 2")),
         ("two spaces in the options", b"# options: -d 0  -p 5683\n", "", faults("bad options in line 1")),
         ("options that are not UTF-8", b"# options: -d \xff\n", "", faults("bad options in line 1")),
-        ("a bad value", b"# options: -d 1001\n", "", faults("bad options in line 1", "-d takes 0 to 1000 resources, not 1001")),
-        ("a mode", b"# options: --stdio\n", "", faults("bad options in line 1", "--stdio and --script cannot be used together")),
+        ("a bad value", b"# options: -d 1001\n", "",
+         faults("bad options in line 1", "-d takes 0 to 1000 resources, not 1001")),
+        ("a mode", b"# options: --stdio\n", "",
+         faults("bad options in line 1", "--stdio and --script cannot be used together")),
         ("help in the options", b"# options: --help\n", "", faults("bad options in line 1")),
     ):
         checks.same(name, explain(record), (1, said, error))

@@ -66,12 +66,13 @@ def explaining():
 
 def check_failed_allocations(checks):
     """If an allocation fails, the status is 3, and the output has the lines of the events before it."""
-    lines = ["# options: -d 2", "open", "in 1 00e1", "in 1 " + message(3, b"", [(11, b"a")], b"x").hex(), "drain 1", "put /b - 00", "remove /b",
-             "status 1", "in 7 00", "open", "drop 2"]
+    lines = ["# options: -d 2", "open", "in 1 00e1", "in 1 " + message(3, b"", [(11, b"a")], b"x").hex(), "drain 1",
+             "put /b - 00", "remove /b", "status 1", "in 7 00", "open", "drop 2"]
     wanted, given = explain(lines), "".join(line + "\n" for line in lines).encode()
     with tempfile.TemporaryDirectory() as folder:
         shim = os.path.join(folder, "fail_malloc.so")
-        subprocess.run(["gcc", "-O2", "-shared", "-fPIC", "-o", shim, os.path.join(ROOT, "tests", "harness", "fail_malloc.c")], check=True)
+        subprocess.run(["gcc", "-O2", "-shared", "-fPIC", "-o", shim,
+                        os.path.join(ROOT, "tests", "harness", "fail_malloc.c")], check=True)
         failed = 0
         for number in range(1, 1_000):
             environment = {**os.environ, "LD_PRELOAD": shim, "REFUSE_ALLOCATION": str(number)}
@@ -81,7 +82,8 @@ def check_failed_allocations(checks):
             ran = done.returncode, done.stdout.decode(), done.stderr.decode().replace("refused\n", "")
             # The memory of a list that cannot grow in place may be found elsewhere.
             if ran != wanted:
-                checks.same("allocation %d fails" % number, (ran[0], wanted[1].startswith(ran[1]), ran[1] == "" or ran[1].endswith("\n"), ran[2]),
+                checks.same("allocation %d fails" % number,
+                            (ran[0], wanted[1].startswith(ran[1]), ran[1] == "" or ran[1].endswith("\n"), ran[2]),
                             (3, True, True, faults("no memory")))
                 failed += 1
         checks.same("allocations of a record that end the program", (failed > 20, number < 999), (True, True))
@@ -93,7 +95,8 @@ def check_live(checks):
         running.write(b"open\nin 1 00")
         checks.same("first line of a live record", (running.wait_for(1), running.last), (True, b"     1  opened\n"))
         running.write(b"e1\n")
-        checks.same("second line of a live record", (running.wait_for(2), running.last.splitlines()[-1]), (True, b"     1  <-  7.01 CSM"))
+        checks.same("second line of a live record", (running.wait_for(2), running.last.splitlines()[-1]),
+                    (True, b"     1  <-  7.01 CSM"))
         checks.same("status of a live record", running.end(), 0)
 
 
@@ -113,7 +116,9 @@ def check_memory(checks, megabytes):
         checks.same("lines of all megabytes", running.wait_for(lines), True)
         large = running.memory()
         print("%d MB explained in %.1f s, with at most %d KiB" % (megabytes, time.monotonic() - began, large))
-        checks.same("growth of the memory from %d to %d KiB" % (small, large), large - small <= MOST_GROWTH and large <= MOST_MEMORY, True)
+        checks.same("growth of the memory from %d to %d KiB" % (small, large),
+                    large - small <= MOST_GROWTH and large <= MOST_MEMORY, True)
         checks.same("status of a long record", (running.end(), running.lines), (0, lines))
         checks.same("last line of a long record", running.last.splitlines()[-1],
-                    b"     1  ->  2.05 Content token 3132333435363738 Content-Format=0 (text/plain) payload \"coap+tcp\"")
+                    b"     1  ->  2.05 Content token 3132333435363738 Content-Format=0 (text/plain) payload "
+                    b"\"coap+tcp\"")

@@ -9,12 +9,15 @@ from explained import LIMIT, SERVER, SETTINGS, explain, is_printable, message
 from messages import parse, split
 from workspace import ROOT
 
-# Bytes of random values, and a table that makes them of random bytes: zero bytes, escapes, parts of invalid UTF-8, quotation marks, letters.
+# Bytes of random values, and a table that makes them of random bytes: zero bytes, escapes, parts of invalid UTF-8,
+# quotation marks, letters.
 SPECIAL = b"\x00\x1b[\n\r\x7f\xff\xc3aZ%\"\\"
 SPOILED = bytes(SPECIAL[it % len(SPECIAL)] for it in range(256))
 
-# Numbers of the options in random messages: all that coap_print names, and others. Those of signalling messages are below 8.
-NUMBERS = [1, 2, 3, 4, 5, 6, 7, 8, 9, 11, 12, 14, 15, 16, 17, 19, 20, 21, 23, 27, 28, 31, 35, 39, 60, 252, 255, 258, 292, 65_001]
+# Numbers of the options in random messages: all that coap_print names, and others. Those of signalling messages are
+# below 8.
+NUMBERS = [1, 2, 3, 4, 5, 6, 7, 8, 9, 11, 12, 14, 15, 16, 17, 19, 20, 21, 23, 27, 28, 31, 35, 39, 60, 252, 255, 258,
+           292, 65_001]
 SIGNALLING = range(1, 8)
 
 # Codes of random messages.
@@ -31,17 +34,22 @@ def check_random_bytes(checks):
     for _ in range(200):
         lines = ["open"]
         for _ in range(chance.randrange(1, 30)):
-            piece = bytes(chance.choice(b"\x00\x1b[\n\x7f\xff\xc3aZ%\"\\\x60\x01\xe1") for _ in range(chance.randrange(1, 40)))
+            piece = bytes(chance.choice(b"\x00\x1b[\n\x7f\xff\xc3aZ%\"\\\x60\x01\xe1")
+                          for _ in range(chance.randrange(1, 40)))
             lines.append(chance.choice([
-                "in 1 " + SETTINGS.hex(), "in 1 " + piece.hex(), "open", "in %d %s" % (chance.randrange(1, 5), piece.hex()), "drain 1", "drain 2 5",
-                "#" + piece.replace(b"\n", b"").decode("latin-1"), "put /%1b%ff 65535 " + piece.hex(), "put /\x1b[2J - -", "remove /\x1b[2J",
+                "in 1 " + SETTINGS.hex(), "in 1 " + piece.hex(), "open",
+                "in %d %s" % (chance.randrange(1, 5), piece.hex()), "drain 1", "drain 2 5",
+                "#" + piece.replace(b"\n", b"").decode("latin-1"), "put /%1b%ff 65535 " + piece.hex(),
+                "put /\x1b[2J - -", "remove /\x1b[2J",
                 "drop %d" % chance.randrange(1, 4), "end 1"]))
         status, said, error = explain(lines)
         checks.same("printable lines of %r" % lines, (status, is_printable(said), error), (0, True, ""))
     for _ in range(200):
-        record = bytes(chance.choice(b"open\nin 1 00e1# options: --log\x1b\xff\x00") for _ in range(chance.randrange(200)))
+        record = bytes(chance.choice(b"open\nin 1 00e1# options: --log\x1b\xff\x00")
+                       for _ in range(chance.randrange(200)))
         status, said, error = explain(record)
-        checks.same("printable lines of %r" % record, (status in (0, 1), is_printable(said), is_printable(error)), (True, True, True))
+        checks.same("printable lines of %r" % record, (status in (0, 1), is_printable(said), is_printable(error)),
+                    (True, True, True))
 
 
 def random_value(chance, most):
@@ -54,11 +62,13 @@ def random_message(chance):
     """Returns the code of a random message, and the message."""
     code = chance.choice(SIGNALS if chance.random() < 0.2 else METHODS_AND_RESPONSES)
     numbers = sorted(chance.choices(SIGNALLING if code in SIGNALS else NUMBERS, k=chance.randrange(5)))
-    return code, message(code, chance.randbytes(chance.randrange(9)), [(it, random_value(chance, 12)) for it in numbers], random_value(chance, 70))
+    return code, message(code, chance.randbytes(chance.randrange(9)),
+                         [(it, random_value(chance, 12)) for it in numbers], random_value(chance, 70))
 
 
 def message_script(chance, count):
-    """Returns a script with this number of random messages, each signal on a connection that ends after it, and the codes of all its messages."""
+    """Returns a script with this number of random messages, each signal on a connection that ends after it, and the
+    codes of all its messages."""
     lines, codes, opened, is_open = ["# options: -d 1000"], [], 0, False
     for _ in range(count):
         if not is_open:
@@ -75,7 +85,8 @@ def message_script(chance, count):
 
 
 def check_random_messages(checks, count):
-    """Whatever is in options and payloads, each line is printable ASCII, and no message and no kind of option is missing."""
+    """Whatever is in options and payloads, each line is printable ASCII, and no message and no kind of option is
+    missing."""
     with open(os.path.join(ROOT, "crates/coap_print/src/tables.rt"), encoding="utf-8") as file:
         named = dict.fromkeys(re.findall(r'"([\w-]+)",\s+Format::', file.read()), 0)
     checks.same("number of named options", len(named), 33)
@@ -102,7 +113,8 @@ def random_script(chance):
         at = chance.randrange(len(sent) + 1)
         connection = chance.randrange(1, opened + 1)
         lines += ["in %d %s" % (connection, it.hex()) for it in (sent[:at], sent[at:]) if it]
-        lines += chance.choice([[], ["drain %d" % connection], ["drain %d %d" % (connection, chance.randrange(1, 40))], ["tick %d" % turn]])
+        lines += chance.choice([[], ["drain %d" % connection], ["drain %d %d" % (connection, chance.randrange(1, 40))],
+                                ["tick %d" % turn]])
     return lines + ["drain 1", "drain 2"]
 
 

@@ -22,7 +22,8 @@ def check_full(checks, setting):
         late = stack.enter_context(front.peer(Kind("127.0.0.5")))
         late.connection.sendall(PEER_SETTINGS)
         checks.same("a peer that waits in vain for a connection", lasted(late.end(), QUEUED), (b"", True))
-        checks.same("a full server is up", (front.status("one"), front.counts("one")["chkfail"]), (("UP", "L7OK"), failed))
+        checks.same("a full server is up", (front.status("one"), front.counts("one")["chkfail"]),
+                    (("UP", "L7OK"), failed))
         late = stack.enter_context(front.peer(Kind("127.0.0.6")))
         late.connection.sendall(PEER_SETTINGS)
         checks.same("a peer that waits for a connection", late.is_silent(QUEUED / 4), True)
@@ -51,7 +52,8 @@ def check_killed(checks, setting):
             checks.same("an observer", observer.ask(spelled(GET, b"o", "who", True)), (CONTENT, b"o", b"one"))
             front.kill("one")
             told, seconds = front.who(source)
-            checks.same("the next connection goes to the other server", (told, seconds < AT_ONCE or seconds), ("two", True))
+            checks.same("the next connection goes to the other server", (told, seconds < AT_ONCE or seconds),
+                        ("two", True))
             checks.same("the observer's connection ends", observer.end()[1] is not None, True)
         with front.greeted(source) as observer:
             checks.same("it observes again", observer.ask(spelled(GET, b"o", "who", True)), (CONTENT, b"o", b"two"))

@@ -20,7 +20,8 @@ def held(connections):
 
 
 def check_silent(checks, setting):
-    """Checks many peers of one source that send nothing at all, beside peers of another source. No silent peer ends by itself."""
+    """Checks many peers of one source that send nothing at all, beside peers of another source. No silent peer ends by
+    itself."""
     with setting.front(places=[("timeout client 10s", "timeout client 60s")]) as front, contextlib.ExitStack() as stack:
         silent = []
         for _ in range(SILENT):
@@ -28,14 +29,16 @@ def check_silent(checks, setting):
             with contextlib.suppress(ConnectionResetError):
                 silent.append(stack.enter_context(connect(front.port, "127.0.0.2")))
         told, seconds = front.who("127.0.0.3")
-        checks.same("another source beside %d silent peers" % SILENT, (told, seconds < AT_ONCE or seconds), ("one", True))
+        checks.same("another source beside %d silent peers" % SILENT, (told, seconds < AT_ONCE or seconds),
+                    ("one", True))
         checks.same("libcoap beside them", libcoap(front, "/who", ["-a", "127.0.0.4"]), (0, b"one\n", b""))
         front.wait(lambda: held(silent) <= HELD, AT_ONCE)
         checks.same("silent peers that stay connected", held(silent), HELD)
 
 
 def check_places(checks, setting):
-    """Checks many peers of one source that use connections of a server and then are silent, beside a peer of another source."""
+    """Checks many peers of one source that use connections of a server and then are silent, beside a peer of another
+    source."""
     places = [("maxconn 255", "maxconn 39"), ("sc0_conn_rate gt 100", "sc0_conn_rate gt 1000")]
     with setting.front(words=["--connections", "40"], places=places) as front, contextlib.ExitStack() as stack:
         greeted = 0
@@ -59,4 +62,5 @@ def check_rate(checks, setting):
         # On a slow machine, some of them may fall into the next period.
         checks.same("connections of a quick source", told == [True] * allowed + [False] * 5 or took > 2 or told, True)
         checks.same("another source beside it", front.who("127.0.0.3")[0], "one")
-        checks.same("the quick source later", front.wait(lambda: front.who("127.0.0.2")[0] == "one" or time.sleep(1)), True)
+        checks.same("the quick source later", front.wait(lambda: front.who("127.0.0.2")[0] == "one" or time.sleep(1)),
+                    True)

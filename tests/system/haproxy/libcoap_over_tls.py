@@ -60,7 +60,8 @@ def check_body(checks, front):
 
 @contextlib.contextmanager
 def observing(front, path, words=()):
-    """Observes with libcoap's client. Yields a function that waits until the client has printed these states, and returns its output."""
+    """Observes with libcoap's client. Yields a function that waits until the client has printed these states, and
+    returns its output."""
     output = os.path.join(front.folder, "observed")
     uri = "coaps+tcp://%s:%d%s" % (HOST, front.port, path)
     line = ["coap-client-openssl", "-R", os.path.join(front.folder, "authority.pem"), "-w", "-s", "60", *words, uri]
@@ -83,7 +84,8 @@ def observing(front, path, words=()):
 
 
 def check_observer(checks, front):
-    """Checks an observer of a resource that another client changes. Each change follows the notification of the one before."""
+    """Checks an observer of a resource that another client changes. Each change follows the notification of the one
+    before."""
     states = [b"first", b"second", b"third"]
     with observing(front, "/stored") as printed:
         checks.same("libcoap over TLS: the observer's first state", printed(states[:1]), states[:1])

@@ -40,15 +40,16 @@ def check_idle(checks, setting):
 def check_alive(checks, setting):
     """Checks peers that send little, for twice the timeout of a silent connection.
 
-    One peer sends Pings. Another one is an observer that sends nothing, but is notified of changes. The third is libcoap's client, which observes
-    a resource that does not change, and sends Pings.
+    One peer sends Pings. Another one is an observer that sends nothing, but is notified of changes. The third is
+    libcoap's client, which observes a resource that does not change, and sends Pings.
     """
     with contextlib.ExitStack() as stack:
         front = stack.enter_context(setting.front(places=IDLE))
         pings, observes = (stack.enter_context(front.greeted(HOST)) for _ in range(2))
         changes = stack.enter_context(Stream(connect(front.ports["one"])))
         changes.greet()
-        checks.same("a resource to observe", changes.ask(spelled(PUT, b"p", "seen", payload=b"0")), (CREATED, b"p", b""))
+        checks.same("a resource to observe", changes.ask(spelled(PUT, b"p", "seen", payload=b"0")),
+                    (CREATED, b"p", b""))
         checks.same("its observer", observes.ask(spelled(GET, b"o", "seen", True)), (CONTENT, b"o", b"0"))
         printed = stack.enter_context(observing(front, "/who", ["-K", "1"]))
         checks.same("libcoap's observer", printed([b"one"]), [b"one"])
@@ -64,7 +65,8 @@ def check_alive(checks, setting):
         checks.same("missing notifications and Pongs", troubles, [])
         checks.same("number of changes", number > 2 or number, True)
         changes.ask(spelled(PUT, b"p", "who", payload=b"new"))
-        checks.same("libcoap's observer is notified of a change afterwards", printed([b"one", b"new"]), [b"one", b"new"])
+        checks.same("libcoap's observer is notified of a change afterwards", printed([b"one", b"new"]),
+                    [b"one", b"new"])
 
 
 def check_unread(checks, setting):

@@ -1,4 +1,4 @@
-"""Checks which peers are served over TLS, and which are rejected."""
+"""Checks peers that are served over TLS, and others that are rejected."""
 
 import contextlib
 import ssl
@@ -9,7 +9,8 @@ from proxies import GET, OWN_SETTINGS, PEER_SETTINGS, Kind, Stream, connect, spe
 
 
 def refused(front, kind):
-    """Returns the bytes that a rejected peer receives before the end of its connection, or the error of its handshake."""
+    """Returns the bytes that a rejected peer receives before the end of its connection, or the error of its
+    handshake."""
     try:
         with front.peer(kind) as peer:
             with contextlib.suppress(OSError):

@@ -51,9 +51,9 @@ class Peer:
 
     async def read(self, size):
         """Returns `size` bytes, or fewer at the end of the connection."""
-        told = b""
+        told, loop = b"", asyncio.get_running_loop()
         with contextlib.suppress(ConnectionError):
-            while len(told) < size and (piece := await asyncio.get_running_loop().sock_recv(self.connection, size - len(told))):
+            while len(told) < size and (piece := await loop.sock_recv(self.connection, size - len(told))):
                 told += piece
         return told
 
@@ -66,8 +66,8 @@ class Peer:
         return b"".join(pieces)
 
 
-# The attacks, one function for each kind. Each begins after the CSM of the server, and returns the bytes received until the end of the
-# connection, and the expected bytes.
+# The attacks, one function for each kind. Each begins after the CSM of the server, and returns the bytes received until
+# the end of the connection, and the expected bytes.
 
 
 async def slow(peer, number, over):
@@ -147,7 +147,8 @@ KINDS = [slow, broken_off, half_closed, too_long, long_token, unsettled, floodin
 
 
 def last_text(told):
-    """Returns the text of the Abort at the end of the bytes received, or an empty text. Returns malformed bytes unchanged."""
+    """Returns the text of the Abort at the end of the bytes received, or an empty text. Returns malformed bytes
+    unchanged."""
     try:
         frames, left = messages.split(told)
         parsed = [messages.parse(frame) for frame in frames]
@@ -174,7 +175,8 @@ def judged(frame, is_open):
 
 
 def earned(stream):
-    """Returns the text of the Abort that a stream must cause, or an empty text. Options of signalling messages are not checked."""
+    """Returns the text of the Abort that a stream must cause, or an empty text. Options of signalling messages are not
+    checked."""
     is_open = False
     while stream:
         try:
@@ -207,7 +209,8 @@ async def act(kind, number, address, peer, over):
 
 
 async def attack(kind, number, address, peer, over, acts):
-    """Repeats the attack of a hostile peer on new connections until `over` is set. Returns the first error, or an empty text."""
+    """Repeats the attack of a hostile peer on new connections until `over` is set. Returns the first error, or an empty
+    text."""
     trouble = ""
     try:
         while not trouble:
@@ -224,6 +227,7 @@ async def attack(kind, number, address, peer, over, acts):
 async def open_all(checks, address):
     """Opens all hostile connections at once, and waits for the CSM of the server on each."""
     peers = [(kind, number, Peer(kind is flooding)) for kind in KINDS for number in range(EACH)]
-    opened = await asyncio.gather(*(asyncio.wait_for(it.open(address), LIMIT) for _, _, it in peers), return_exceptions=True)
+    opened = await asyncio.gather(*(asyncio.wait_for(it.open(address), LIMIT) for _, _, it in peers),
+                                  return_exceptions=True)
     checks.same("hostile connections at once", [repr(it) for it in opened if it], [])
     return peers

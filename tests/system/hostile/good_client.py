@@ -65,30 +65,35 @@ TIME = path_option(0, b"time")
 STORED = path_option(0, b"good")
 OBSERVED = bytes([OBSERVE << 4]) + path_option(OBSERVE, b"good")
 
-# The requests of the well-behaved client: it creates a resource and observes it. Then it changes it, reads it, and reads /time, in turn.
+# The requests of the well-behaved client: it creates a resource and observes it. Then it changes it, reads it, and
+# reads /time, in turn.
 ROUNDS = 66
 OBSERVER = b"\x00"
 
 
 def good_requests():
-    """Yields the 200 requests of the well-behaved client: name, bytes, and the expected messages, with `None` for a time."""
+    """Yields the 200 requests of the well-behaved client: name, bytes, and the expected messages, with `None` for a
+    time."""
     yield "PUT", request(PUT, b"\x01", STORED, b"0"), {b"\x01": (CREATED, False, b"")}
     yield "observation", request(GET, OBSERVER, OBSERVED), {OBSERVER: (CONTENT, True, b"0")}
     for number in range(1, ROUNDS + 1):
         token, value = bytes([number]), b"%d" % number
-        yield "PUT", request(PUT, token, STORED, value), {token: (CHANGED, False, b""), OBSERVER: (CONTENT, True, value)}
+        changed = {token: (CHANGED, False, b""), OBSERVER: (CONTENT, True, value)}
+        yield "PUT", request(PUT, token, STORED, value), changed
         yield "GET", request(GET, token, STORED), {token: (CONTENT, False, value)}
         yield "GET of /time", request(GET, token, TIME), {token: (CONTENT, False, None)}
 
 
 def moments_left_out(answers, moments):
     """Returns the messages with `None` for each payload that is one of these times."""
-    return {token: (code, observe, None if payload in moments else payload) for token, (code, observe, payload) in answers.items()}
+    return {token: (code, observe, None if payload in moments else payload)
+            for token, (code, observe, payload) in answers.items()}
 
 
 def be_good(address, acts):
-    """Sends all requests, each after an attack of another hostile peer. Stops at the first request without a response in time. Returns the
-    names of the requests with the messages received and expected, and the seconds of the slowest response."""
+    """Sends all requests, each after an attack of another hostile peer. Stops at the first request without a response
+    in time. Returns the names of the requests with the messages received and expected, and the seconds of the slowest
+    response."""
     client, answered, go_on = GoodClient(address), [], True
     with client.connection:
         for name, stream, wanted in good_requests():

@@ -11,7 +11,8 @@ PEER_SETTINGS = bytes.fromhex("00e1")
 GET_ROOT = bytes.fromhex("010101")
 ROOT = bytes.fromhex("a14501" + GREETING)
 
-# Pings with their numbers as tokens, and their Pongs. PINGS is the maximum number for each flood, and BURST the number sent at once.
+# Pings with their numbers as tokens, and their Pongs. PINGS is the maximum number for each flood, and BURST the number
+# sent at once.
 PINGS = 200_000
 BURST = 500
 FLOOD = b"".join(b"\x04\xe2" + struct.pack(">I", it) for it in range(PINGS))

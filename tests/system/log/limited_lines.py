@@ -69,9 +69,11 @@ def random_message(chance):
     options, number = [], 0
     for _ in range(chance.randrange(5)):
         number += chance.choice([1, 2, 3, 4, 5, 7, 11, 13, 255, 1_000])
-        options.append((number, bytes(chance.choice(b"\x00\x1b[\n\r\x7f\xff\xc3aZ%\"\\") for _ in range(chance.randrange(9)))))
+        options.append((number,
+                        bytes(chance.choice(b"\x00\x1b[\n\r\x7f\xff\xc3aZ%\"\\") for _ in range(chance.randrange(9)))))
     payload = bytes(chance.randrange(256) for _ in range(chance.randrange(40)))
-    return encoded(chance.choice([0x01, 0x02, 0x03, 0x04, 0x05, 0x45, 0x9f, 0xe2, 0x1f]), chance.randbytes(chance.randrange(9)), options, payload)
+    return encoded(chance.choice([0x01, 0x02, 0x03, 0x04, 0x05, 0x45, 0x9f, 0xe2, 0x1f]),
+                   chance.randbytes(chance.randrange(9)), options, payload)
 
 
 def check_printable(checks, count=100_000):
@@ -90,7 +92,8 @@ def check_printable(checks, count=100_000):
                         pass
         time.sleep(1.5)
         lines = lines_in(name)
-        checks.same("random messages: each line is one of a log", [it for it in lines if not LINE.fullmatch(it)][:3], [])
+        checks.same("random messages: each line is one of a log", [it for it in lines if not LINE.fullmatch(it)][:3],
+                    [])
         checks.same("random messages: length of lines", max(map(len, lines)) <= MOST_BYTES + 1, True)
         checks.same("random messages: some lines", len(lines) > 50, True)
         checks.same("random messages: the server still serves", ask(port, GET_ROOT), GREETING)
@@ -99,13 +102,15 @@ def check_printable(checks, count=100_000):
 def check_last_lines(checks):
     """The last line of a log is written although the limit is reached, and the number of lines left out before it."""
     count = 1_000
-    ran = subprocess.run([SERVER, "--stdio", "--log", "3"], input=SETTINGS + count * GET_ROOT, capture_output=True, timeout=LIMIT)
+    ran = subprocess.run([SERVER, "--stdio", "--log", "3"], input=SETTINGS + count * GET_ROOT, capture_output=True,
+                         timeout=LIMIT)
     check_sum(checks, "stdio", ran.stderr, 2 * (count + 1) + 2)
     texts = texts_of(ran.stderr)
     checks.same("stdio: the count of messages", texts[-1].partition(";")[0], "connection 1 ended: end of input")
     checks.same("stdio: the count comes before the last line", texts[-2].startswith("lines left out: "), True)
     put = b"".join(encoded(3, b"\x01", [(11, b"a%d" % at)], b"x") for at in range(count))
-    ran = subprocess.run([SERVER, "--stdio", "--log", "1", "-d", "1"], input=SETTINGS + put, capture_output=True, timeout=LIMIT)
+    ran = subprocess.run([SERVER, "--stdio", "--log", "1", "-d", "1"], input=SETTINGS + put, capture_output=True,
+                         timeout=LIMIT)
     # The first resource is created, and the others are refused.
     check_sum(checks, "stdio at level 1", ran.stderr, count - 1)
     notifications = b"".join(encoded(0x45, b"\x01", [(6, b"%c" % (at % 200 + 1))], b"%d" % at) for at in range(count))
@@ -113,7 +118,8 @@ def check_last_lines(checks):
     # The CSMs, the request, the notifications, and the Release are messages.
     check_sum(checks, "client", ran.stderr, count + 4 + 2)
     last = [it for it in texts_of(ran.stderr) if " ended: " in it or "lines left out: " in it][-2:]
-    checks.same("client: the last lines", [re.sub(r"\d+$|;.*", "", it) for it in last], ["lines left out: ", "connection 1 ended: the server sent Release"])
+    checks.same("client: the last lines", [re.sub(r"\d+$|;.*", "", it) for it in last],
+                ["lines left out: ", "connection 1 ended: the server sent Release"])
 
 
 def check_sum(checks, name, error, count):

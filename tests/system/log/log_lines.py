@@ -34,8 +34,8 @@ QUIET = {"stdin": subprocess.DEVNULL, "stdout": subprocess.DEVNULL}
 
 @contextlib.contextmanager
 def logging(*words, file=None, says=True, **how):
-    """Runs a server whose standard error is a file, and yields the server, its port and the name of the file. The server
-    listens: its first line is in the file, or with `says` false it has accepted a connection."""
+    """Runs a server whose standard error is a file, and yields the server, its port and the name of the file. The
+    server listens: its first line is in the file, or with `says` false it has accepted a connection."""
     with tempfile.TemporaryDirectory() as folder:
         name, port = file or f"{folder}/log", free_port()
         command = [SERVER, "-A", LOCAL, "-p", str(port), *words]
@@ -74,7 +74,8 @@ def texts_in(name):
 
 
 def ask(port, *messages):
-    """Sends a CSM and messages, and returns the response to the last one, a GET of the root. The connection is closed."""
+    """Sends a CSM and messages, and returns the response to the last one, a GET of the root. The connection is
+    closed."""
     with socket.create_connection((LOCAL, port), LIMIT) as peer:
         peer.sendall(SETTINGS + b"".join(messages))
         got = b""
@@ -97,7 +98,8 @@ def settled(name, count, seconds=3):
 
 def check_times(checks, name, error, began):
     """Checks that each line has a time since `began`, by the clock of this test."""
-    ends, texts = time.time(), [found[1].decode() for it in error.splitlines(keepends=True) if (found := LINE.fullmatch(it))]
+    ends = time.time()
+    texts = [found[1].decode() for it in error.splitlines(keepends=True) if (found := LINE.fullmatch(it))]
     times = [calendar.timegm(time.strptime(it, "%Y-%m-%dT%H:%M:%S")) for it in texts]
     is_now = times != [] and began - LATE <= min(times) and max(times) <= ends + LATE
     checks.same(f"{name}: lines have the time of the clock", is_now, True)

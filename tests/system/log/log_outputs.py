@@ -34,12 +34,13 @@ def check_standard_error(checks):
     with logging("--log", "3", file="/dev/full", says=False) as (process, port, _):
         checks.same("a full disk: the server still serves", [ask(port, GET_ROOT) for _ in range(3)], [GREETING] * 3)
     with logging("--log", "3", says=False, preexec_fn=lambda: os.close(2)) as (process, port, _):
-        checks.same("a closed standard error: the server still serves", [ask(port, GET_ROOT) for _ in range(3)], [GREETING] * 3)
+        checks.same("a closed standard error: the server still serves", [ask(port, GET_ROOT) for _ in range(3)],
+                    [GREETING] * 3)
 
 
 def on_terminal(words, given):
-    """Runs a program whose standard error is a terminal, with this input, and returns the bytes of its log as the program
-    wrote them."""
+    """Runs a program whose standard error is a terminal, with this input, and returns the bytes of its log as the
+    program wrote them."""
     terminal, device = pty.openpty()
     error, how = b"", {"stdin": subprocess.PIPE, "stdout": subprocess.DEVNULL, "stderr": device}
     with open(terminal, "rb", 0), started(words, **how) as process:

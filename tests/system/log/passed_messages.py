@@ -24,8 +24,8 @@ def passed_in(texts):
 
 
 def asked(count, size):
-    """Returns a PUT of a resource of this size and `count` GETs of it, each with a token of its own. Returns each request
-    of the log too, with its response."""
+    """Returns a PUT of a resource of this size and `count` GETs of it, each with a token of its own. Returns each
+    request of the log too, with its response."""
     path, gets = [(11, b"a")], [bytes([at]) for at in range(1, count + 1)]
     stream = encoded(3, b"\0", path, bytes(size)) + b"".join(encoded(1, it, path, b"") for it in gets)
     pairs = [(("in", "0.01", it.hex()), ("out", "2.05", it.hex())) for it in gets]

@@ -32,9 +32,13 @@ def check_lines(checks):
         check_times(checks, "server", b"".join(lines_in(name)), began)
         checks.same("first line", lines[:1], [f"connection 1 opened by 127.0.0.1:{own}"])
         checks.same("CSM", [it for it in lines if "CSM" in it or "7.01" in it][:1] != [], True)
-        checks.same("PUT", any(" in: " in it and "PUT" in it and "Uri-Path" in it and "heat" in it and "21.5" in it for it in lines), True)
+        checks.same("PUT",
+                    any(" in: " in it and "PUT" in it and "Uri-Path" in it and "heat" in it and "21.5" in it
+                        for it in lines), True)
         checks.same("2.01", any(" out: " in it and "2.01 Created" in it for it in lines), True)
-        checks.same("last line", bool(re.fullmatch(r"connection 1 ended: end of input; 2 messages, \d+ bytes in; 2 messages, \d+ bytes out", lines[-1])), True)
+        checks.same("last line",
+                    bool(re.fullmatch(r"connection 1 ended: end of input; 2 messages, \d+ bytes in; 2 messages, \d+ "
+                                      r"bytes out", lines[-1])), True)
 
 
 def check_warnings(checks):
@@ -43,11 +47,15 @@ def check_warnings(checks):
         put = [encoded(3, bytes([i]), [(11, b"a%d" % i)], b"x") for i in range(2)]
         ask(port, *put, GET_ROOT)
         lines = settled(name, 1)
-        checks.same("a full store is a warning", [it for it in lines if "out: 4.06 Not Acceptable" in it and it.startswith("connection ")] != [], True)
+        checks.same("a full store is a warning",
+                    [it for it in lines if "out: 4.06 Not Acceptable" in it and it.startswith("connection ")] != [],
+                    True)
         # A representation that is too long, a full pending list, and a response that is too large for the peer.
-        ask(port, encoded(3, b"\x01", [(11, b"a0")], bytes(65_001)), encoded(1, b"\x02", [(11, b"async")], b""), SMALL, encoded(1, b"\x03", [], b""), LARGE, GET_ROOT)
+        ask(port, encoded(3, b"\x01", [(11, b"a0")], bytes(65_001)), encoded(1, b"\x02", [(11, b"async")], b""), SMALL,
+            encoded(1, b"\x03", [], b""), LARGE, GET_ROOT)
         lines = settled(name, 4)
-        refusals = ["connection 2 out: 4.13 Request Entity Too Large token 01 Size1=65000", "connection 2 out: 5.03 Service Unavailable token 02",
+        refusals = ["connection 2 out: 4.13 Request Entity Too Large token 01 Size1=65000",
+                    "connection 2 out: 5.03 Service Unavailable token 02",
                     "connection 2 out: 5.00 Internal Server Error token 03"]
         checks.same("refusals are warnings", [it for it in lines if it.startswith("connection 2 ")], refusals)
         with socket.create_connection((LOCAL, port), LIMIT), socket.create_connection((LOCAL, port), LIMIT):
@@ -80,10 +88,13 @@ def check_idle(checks):
         time.sleep(seconds + 2)
         reset(waiting)
         lines = settled(name, 12)
-        reasons = {int(it.split()[1]): it.partition(" ended: ")[2].partition(";")[0] for it in lines if " ended: " in it}
-        wanted = {1: "no CSM in time", 2: "Release by the server", 3: "silent connection that could not be released", 4: "failed connection", 5: "failed connection"}
+        reasons = {int(it.split()[1]): it.partition(" ended: ")[2].partition(";")[0] for it in lines
+                   if " ended: " in it}
+        wanted = {1: "no CSM in time", 2: "Release by the server", 3: "silent connection that could not be released",
+                  4: "failed connection", 5: "failed connection"}
         checks.same("reasons with --idle", reasons, wanted)
-        checks.same("failed connections with --idle", [it for it in lines if it.endswith(" failed")], ["connection 5 failed", "connection 4 failed"])
+        checks.same("failed connections with --idle", [it for it in lines if it.endswith(" failed")],
+                    ["connection 5 failed", "connection 4 failed"])
         for peer in (mute, mild, tiny):
             peer.close()
     with logging("--log", "1", "--idle", "60") as (_, port, name):
@@ -95,16 +106,23 @@ def check_idle(checks):
 
 
 def check_stdio(checks):
-    """The log of a server over standard input and output has its connection and its messages, and leaves its output as it is."""
+    """The log of a server over standard input and output has its connection and its messages, and leaves its output as
+    it is."""
     said = {}
     for level in ("0", "2", "3"):
-        ran = subprocess.run([SERVER, "--stdio", "--log", level], input=SETTINGS + GET_ROOT, capture_output=True, timeout=LIMIT)
+        ran = subprocess.run([SERVER, "--stdio", "--log", level], input=SETTINGS + GET_ROOT, capture_output=True,
+                             timeout=LIMIT)
         said[level] = ran.stdout
         texts = texts_of(ran.stderr)
         checks.same(f"stdio at level {level}: only lines of a log", len(texts), len(ran.stderr.splitlines()))
-        checks.same(f"stdio at level {level}: first line", texts[:1] == ["connection 1 opened by standard input"], level != "0")
-        checks.same(f"stdio at level {level}: last line", any(it.startswith("connection 1 ended: end of input; 2 messages, ") for it in texts[-1:]), level != "0")
-        checks.same(f"stdio at level {level}: messages", any(" in: 0.01 GET" in it for it in texts) and any(" out: 2.05 Content" in it for it in texts), level == "3")
+        checks.same(f"stdio at level {level}: first line", texts[:1] == ["connection 1 opened by standard input"],
+                    level != "0")
+        checks.same(f"stdio at level {level}: last line",
+                    any(it.startswith("connection 1 ended: end of input; 2 messages, ") for it in texts[-1:]),
+                    level != "0")
+        checks.same(f"stdio at level {level}: messages",
+                    any(" in: 0.01 GET" in it for it in texts) and any(" out: 2.05 Content" in it for it in texts),
+                    level == "3")
     checks.same("stdio: the same output", said["3"] == said["2"] == said["0"] != b"", True)
 
 
@@ -127,7 +145,8 @@ def check_stops(checks):
     """The last line of a connection over standard input names the message that stopped it. Such a connection has not
     failed."""
     for stream, reason, warning in STOPS:
-        warnings, first, last = [warning] if warning else [], "connection 1 opened by standard input", "connection 1 ended: "
+        warnings, first, last = ([warning] if warning else [], "connection 1 opened by standard input",
+                                 "connection 1 ended: ")
         for level, wanted in (("1", warnings), ("2", [first, *warnings, last + reason])):
             words = [SERVER, "--stdio", "--log", level]
             ran = subprocess.run(words, input=bytes.fromhex(stream), capture_output=True, timeout=LIMIT)

@@ -10,21 +10,24 @@ from checks import CSM
 from manual_pages import USAGE, run
 from peers import Server, read_bytes, read_to_end
 
-SECTIONS = ["NAME", "SYNOPSIS", "DESCRIPTION", "EXIT STATUS", "EXAMPLES", "DIAGNOSTICS", "SEE ALSO", "STANDARDS", "LIMITATIONS"]
+SECTIONS = ["NAME", "SYNOPSIS", "DESCRIPTION", "EXIT STATUS", "EXAMPLES", "DIAGNOSTICS", "SEE ALSO", "STANDARDS",
+            "LIMITATIONS"]
 
-# Timeouts in seconds: of an example, which may listen or wait, and of one of the client with a server that responds. The
-# longest of these observes for ten seconds.
+# Timeouts in seconds: of an example, which may listen or wait, and of one of the client with a server that responds.
+# The longest of these observes for ten seconds.
 EXAMPLE_LASTS = 1
 ANSWERED_LASTS = 30
 
 # Sentences of a manual, as they are rendered.
-SENTENCES = {"coap-server": ["A signal ends it at once, without Release to its clients.", "Without --idle there is no timeout: a silent client keeps its connection."]}
+SENTENCES = {"coap-server": ["A signal ends it at once, without Release to its clients.",
+                             "Without --idle there is no timeout: a silent client keeps its connection."]}
 
 # Words of the client's limitations: what is not supported, and the way around it in the same section or paragraph.
 WAYS_AROUND = [
     ('The scheme "coaps+tcp" is not supported.', "Run a proxy such as HAProxy"),
     ("in an IPv6 address is not supported.", "Use an address of the host that needs no zone"),
-    ("There is no block-wise transfer", "Split a larger content into several resources, or use a client with block-wise transfer"),
+    ("There is no block-wise transfer",
+     "Split a larger content into several resources, or use a client with block-wise transfer"),
 ]
 
 
@@ -44,7 +47,8 @@ def check_sentences(checks, manual):
         checks.same("%s: %r" % (manual.name, sentence), sentence in " ".join(text.split()), True)
     limits = [" ".join(it.split()) for it in text.partition("\nLIMITATIONS\n")[2].split("\n\n")]
     for feature, way in WAYS_AROUND if manual.name == "coap-client" else []:
-        checks.same("%s: the way around %r" % (manual.name, feature), [way in it for it in limits if feature in it], [True])
+        checks.same("%s: the way around %r" % (manual.name, feature), [way in it for it in limits if feature in it],
+                    [True])
 
 
 def check_signal(checks, program):
@@ -60,7 +64,8 @@ def check_signal(checks, program):
 def play(command, folder, programs, lasts=EXAMPLE_LASTS):
     """Runs an example. Returns its status, or None if it had to be killed, its output and its error output."""
     words = dict(os.environ, PATH=programs + os.pathsep + os.environ["PATH"])
-    ran = subprocess.Popen(["sh", "-c", command], cwd=folder, env=words, stdin=subprocess.DEVNULL, stdout=subprocess.PIPE,
+    ran = subprocess.Popen(["sh", "-c", command], cwd=folder, env=words, stdin=subprocess.DEVNULL,
+                           stdout=subprocess.PIPE,
                            stderr=subprocess.PIPE, start_new_session=True)
     try:
         output, error = ran.communicate(timeout=lasts)
@@ -81,9 +86,11 @@ def check_examples(checks, manual, programs):
         with tempfile.TemporaryDirectory() as folder:
             for command, shown in block:
                 status, output, error = play(command, folder, programs)
-                checks.same("%s: %r is valid" % (manual.name, command), (status == USAGE, "error:" in error), (False, False))
+                checks.same("%s: %r is valid" % (manual.name, command), (status == USAGE, "error:" in error),
+                            (False, False))
                 if shown.strip():
-                    checks.same("%s: output of %r" % (manual.name, command), (status, output.rstrip()), (0, shown.rstrip()))
+                    checks.same("%s: output of %r" % (manual.name, command), (status, output.rstrip()),
+                                (0, shown.rstrip()))
 
 
 def check_answered(checks, manual, server, programs):
@@ -92,4 +99,5 @@ def check_answered(checks, manual, server, programs):
         for command, _ in (example for block in manual.examples() for example in block):
             there = re.sub(r"//(127\.0\.0\.1|\[::1\]:5700)/", "//127.0.0.1:%d/" % listening.port, command)
             status, _, error = play(there, folder, programs, ANSWERED_LASTS)
-            checks.same("%s: %r is answered" % (manual.name, command), (str(listening.port) in there, status, error), (True, 0, ""))
+            checks.same("%s: %r is answered" % (manual.name, command), (str(listening.port) in there, status, error),
+                        (True, 0, ""))

@@ -5,12 +5,14 @@ import re
 from manual_pages import front_of, nested_items, plain, run
 from manual_sources import ERRORS, UNREACHED, code_of, printed, shape, source_of
 
-# Values other than texts that programs give to `print_fault`. Their texts are those of ERRORS, and the second lines of which other checks know.
+# Values other than texts that programs give to `print_fault`. Their texts are those of ERRORS, and the second lines of
+# which other checks know.
 VALUES = {"fault", "hindrance", "line.as_str()", "reason.as_str()", "text"}
 
 # Error texts that a program does not print, and the text in place of that of clap.
 UNPRINTED = {"coap-server": {"bad target {}"}, "coap-client": set()}
-UNPRINTED.update({"coap-explain": {"bad target {}", "options exclude each other", "cannot read"}, "coap-directory": {"bad target {}", "cannot read"}})
+UNPRINTED.update({"coap-explain": {"bad target {}", "options exclude each other", "cannot read"},
+                  "coap-directory": {"bad target {}", "cannot read"}})
 USAGE_TEXT = "{}"
 
 # Lines whose entries in a manual have a list of all second lines that `print_fault` prints after them.
@@ -35,7 +37,8 @@ def server_faults(port):
 
 
 def directory_faults(port):
-    """Returns arguments, standard input, and the line of the manual for them. The directory cannot listen at the port."""
+    """Returns arguments, standard input, and the line of the manual for them. The directory cannot listen at the
+    port."""
     return [
         (["-p", "0"], b"", "bad value for option"),
         (["--registrations", "0"], b"", "bad value for option"),
@@ -77,34 +80,41 @@ def explain_faults(_):
 def check_statuses(checks, manual, source):
     """Checks that the statuses are those for which the program has a constant."""
     listed = {int(words[0]) for words, _ in manual.items("EXIT STATUS")}
-    checks.same("%s: statuses" % manual.name, listed, {int(it) for it in re.findall(r"const [A-Z_]+: u8 = (\d);", source)})
+    checks.same("%s: statuses" % manual.name, listed,
+                {int(it) for it in re.findall(r"const [A-Z_]+: u8 = (\d);", source)})
 
 
 def check_lines(checks, manual, source):
     """Checks that the source has each line of the manual, and the manual each line of the source."""
-    said = {front_of(text.removeprefix(manual.name).removeprefix(": ")) for text in re.findall(r'b?"([^"\n]+?)(?:\\n)?"', source)}
+    said = {front_of(text.removeprefix(manual.name).removeprefix(": "))
+            for text in re.findall(r'b?"([^"\n]+?)(?:\\n)?"', source)}
     told = set(re.findall(r'"%s: ([^"{]+)' % manual.name, source))
     listed = {front_of(line) for line in manual.lines_told()}
     checks.same("%s: lines missing in the source" % manual.name, sorted(listed - said), [])
-    checks.same("%s: lines missing in the manual" % manual.name, sorted({front_of(it) for it in told} - UNREACHED - listed), [])
+    checks.same("%s: lines missing in the manual" % manual.name,
+                sorted({front_of(it) for it in told} - UNREACHED - listed), [])
 
 
 def check_printed(checks, manual):
-    """Checks that the manual has each text that the program prints for an error, and that its lists of second lines have no other. Each entry has at
-    least two sentences: the cause and a remedy."""
+    """Checks that the manual has each text that the program prints for an error, and that its lists of second lines
+    have no other. Each entry has at least two sentences: the cause and a remedy."""
     texts, values = printed(manual.name)
-    errors = {shape(it) for it in re.findall(r'#\[error\("([^"]+)"', code_of(ERRORS[manual.name]))} - UNPRINTED[manual.name]
+    errors = {shape(it) for it in re.findall(r'#\[error\("([^"]+)"', code_of(ERRORS[manual.name]))}
+    errors -= UNPRINTED[manual.name]
     entries = {plain(words): lines for words, lines in manual.items("DIAGNOSTICS")}
     nested = {name: [it for it, _ in nested_items(lines)] for name, lines in entries.items()}
     checks.same("%s: texts are found" % manual.name, (len(texts) > 3, len(errors) > 1), (True, True))
     checks.same("%s: unknown values that are printed" % manual.name, sorted(values - VALUES), [])
     listed = {*entries, *(it for lines in nested.values() for it in lines), USAGE_TEXT, *UNREACHED}
     values_of_file = {it for it in texts if it.startswith("-f takes ")}
-    checks.same("%s: printed texts missing in the manual" % manual.name, sorted((texts | errors) - listed - values_of_file), [])
+    checks.same("%s: printed texts missing in the manual" % manual.name,
+                sorted((texts | errors) - listed - values_of_file), [])
     extra = {name: sorted(set(nested[name]) - texts) for name in SECOND_LINES if name in nested}
-    checks.same("%s: second lines that are not printed" % manual.name, {name: it for name, it in extra.items() if it}, {})
+    checks.same("%s: second lines that are not printed" % manual.name, {name: it for name, it in extra.items() if it},
+                {})
     ends = {name: sum(line.endswith((".", ":")) for line in lines) for name, lines in entries.items()}
-    checks.same("%s: entries without a remedy" % manual.name, [it for it, count in ends.items() if count < 2 and it != "listening on {}"], [])
+    checks.same("%s: entries without a remedy" % manual.name,
+                [it for it, count in ends.items() if count < 2 and it != "listening on {}"], [])
 
 
 def check_hindrances(checks, manual):
@@ -116,7 +126,8 @@ def check_hindrances(checks, manual):
 
 
 def check_causes(checks, manual):
-    """Checks that the manual has the words for each cause of an end that the source has, except for ends that no run has."""
+    """Checks that the manual has the words for each cause of an end that the source has, except for ends that no run
+    has."""
     text = " ".join(manual.rendered()[1].split())
     source = source_of(["coap_client_engine/src/cause_line.rt"])
     for words in re.findall(r'(?:=>|\{)\s+"([^"]+)"', source):
@@ -126,9 +137,11 @@ def check_causes(checks, manual):
 # Files with the texts of a log, patterns that find these texts, and their number at least.
 LOGS = {
     "coap-server": (["coap_server_common/src/log.rt", "coap_server_common/src/reasons.rt"], 23,
-                    [r'Reason::\w+(?:\(_\))? => "([^"]+)"', r'warn\(id, "([^"]+)"', r'"(connections not accepted[^"]*|failed waits)"', r'(?m)^ +(?:return )?"([^"]+)";?$']),
+                    [r'Reason::\w+(?:\(_\))? => "([^"]+)"', r'warn\(id, "([^"]+)"',
+                     r'"(connections not accepted[^"]*|failed waits)"', r'(?m)^ +(?:return )?"([^"]+)";?$']),
     "coap-client": (["coap_client_main/src/logged.rt", "coap_log/src/log*.rt"], 10,
-                    [r'line\.text\("([^"]+)"', r'connection_line\(number, "([^"]+)"', r'text_line\((?:self\.)?number, "([^"]+)"']),
+                    [r'line\.text\("([^"]+)"', r'connection_line\(number, "([^"]+)"',
+                     r'text_line\((?:self\.)?number, "([^"]+)"']),
 }
 
 

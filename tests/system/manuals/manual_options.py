@@ -25,19 +25,23 @@ def check_options(checks, manual, program):
 
 def check_order(checks, manual, program, more):
     """Checks that of several bad values the first one in the order of the synopsis is reported."""
-    left = [name for name, value in manual.called_with() if value and name not in ("-e", "-f", "-o", "--script", "--record")]
+    left = [name for name, value in manual.called_with()
+            if value and name not in ("-e", "-f", "-o", "--script", "--record")]
     while left:
         # No option is given twice.
-        words = [program] + [word for name in reversed(left) for word in (name, "x")] + ([] if more[:1] == left[:1] else more)
+        words = ([program] + [word for name in reversed(left) for word in (name, "x")]
+                 + ([] if more[:1] == left[:1] else more))
         told = "%s: bad value for %s" % (manual.name, left[0])
         status, output, error = run(words)
-        checks.same("%s: bad values of %r" % (manual.name, left), (status, output, error.partition("\n")[0]), (USAGE, "", told))
+        checks.same("%s: bad values of %r" % (manual.name, left), (status, output, error.partition("\n")[0]),
+                    (USAGE, "", told))
         left = left[1:]
 
 
 def check_ranges(checks, manual, program, more):
     """Checks that the ends of each range are accepted, and the numbers beyond them are rejected."""
-    ranges = [(name, found) for name, _, text in manual.options() if (found := re.search(r"([\d,]+) to ([\d,]+)", text))]
+    ranges = [(name, found) for name, _, text in manual.options()
+              if (found := re.search(r"([\d,]+) to ([\d,]+)", text))]
     for name, found in ranges:
         low, high = (int(end.replace(",", "")) for end in found.groups())
         for number in [low - 1, low, high, high + 1]:
@@ -66,7 +70,8 @@ def check_defaults(checks, manual, source):
     texts = {name: text for name, _, text in manual.options()}
     for name, word in rows:
         found = re.search(r"default is ([\d,]*\d)", texts[name])
-        checks.same("%s: default of %s" % (manual.name, name), found and found[1].replace(",", ""), number_in(word, source))
+        checks.same("%s: default of %s" % (manual.name, name), found and found[1].replace(",", ""),
+                    number_in(word, source))
 
 
 def check_formats(checks, manual, program, more):
@@ -81,20 +86,24 @@ def check_formats(checks, manual, program, more):
 
 def value_texts(name):
     """Returns the options of a program with the values that each takes, as in its error lines."""
-    tables, reasons = code_of(["coap_command_line/src/arguments/reasons/tables.rt"]), code_of(["coap_command_line/src/arguments/reasons.rt"])
+    tables, reasons = (code_of(["coap_command_line/src/arguments/reasons/tables.rt"]),
+                       code_of(["coap_command_line/src/arguments/reasons.rt"]))
     named = dict(re.findall(r'const (\w+): &str =\s*"([^"]+)";', tables))
     table = re.search(r"(?s)pub const %s_VALUES: .*?\];" % name.removeprefix("coap-").upper(), tables)[0]
-    rows = {option: text.strip('"') for option, text in re.findall(r'\(\s*"(-[^"]+)",\s*("[^"]*"|[A-Z]+),?\s*\)', table)}
+    rows = {option: text.strip('"')
+            for option, text in re.findall(r'\(\s*"(-[^"]+)",\s*("[^"]*"|[A-Z]+),?\s*\)', table)}
     rows = {option: named.get(text, text) for option, text in rows.items()}
     if name == "coap-server":
-        rows.update({"--queue": "n" + re.search(r'"--queue", least, "([^"]+)"', reasons)[1], "--application": named["ENTRY"]})
+        rows.update({"--queue": "n" + re.search(r'"--queue", least, "([^"]+)"', reasons)[1],
+                     "--application": named["ENTRY"]})
     if name == "coap-client":
         rows["-f"] = re.search(r'"-f takes ([^"]+)"', code_of(["coap_client_main/src/main.rt"]))[1]
     return rows
 
 
 def check_values(checks, manual, program, more):
-    """Checks that the manual has the values of each option as the second line for a bad value has them. The program prints them for an empty value."""
+    """Checks that the manual has the values of each option as the second line for a bad value has them. The program
+    prints them for an empty value."""
     lines = next(lines for words, lines in manual.items("DIAGNOSTICS") if plain(words) == "bad value for {}")
     listed = dict(nested_items(lines))
     checks.same("%s: values of options" % manual.name, listed, value_texts(manual.name))
@@ -112,11 +121,13 @@ def parts_of(texts):
 
 
 def check_clashes(checks, manual, beginning):
-    """Checks the second lines for options that exclude each other. Those of this program, or their last parts, match `beginning`."""
+    """Checks the second lines for options that exclude each other. Those of this program, or their last parts, match
+    `beginning`."""
     texts = re.findall(r'"([^"\n]+)"', code_of(["coap_command_line/src/arguments/reasons.rt"]))
     wanted = {it.strip() for it in texts if re.search(r" be used|only with ", it) and re.match(beginning, it)}
     lines = next(lines for words, lines in manual.items("DIAGNOSTICS") if plain(words) == "options exclude each other")
-    checks.same("%s: options that exclude each other" % manual.name, parts_of(it for it, _ in nested_items(lines)), wanted)
+    checks.same("%s: options that exclude each other" % manual.name, parts_of(it for it, _ in nested_items(lines)),
+                wanted)
 
 
 def check_targets(checks, manual):

@@ -31,7 +31,8 @@ class Manual:
         self.sections = dict(zip(parts[1::2], (part.splitlines() for part in parts[2::2])))
 
     def items(self, section):
-        """Returns the items of the outer lists of a section: the words after `.It`, and the lines up to the next item."""
+        """Returns the items of the outer lists of a section: the words after `.It`, and the lines up to the next
+        item."""
         found, depth = [], 0
         for line in self.sections[section]:
             depth += line.startswith(".Bl") - line.startswith(".El")
@@ -69,7 +70,8 @@ class Manual:
         return found
 
     def examples(self):
-        """Returns the blocks of examples as they are rendered: each a list of commands with the lines that they write."""
+        """Returns the blocks of examples as they are rendered: each a list of commands with the lines that they
+        write."""
         shown = re.split(r"(?m)^(?=\S)", self.rendered()[1])
         text = next(part for part in shown if part.startswith("EXAMPLES\n"))
         blocks = [textwrap.dedent(block) for block in text.split("\n\n") if block.lstrip().startswith("$ ")]

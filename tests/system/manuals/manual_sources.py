@@ -22,7 +22,8 @@ SOURCES = {
 }
 
 # Files with error texts that a program prints as lines, beside the texts in its calls of `print_fault`.
-ARGUMENTS, LISTENS = "coap_command_line/src/arguments.rt", ["coap_sockets/src/door.rt", "coap_server_engine/src/io_fault.rt"]
+ARGUMENTS = "coap_command_line/src/arguments.rt"
+LISTENS = ["coap_sockets/src/door.rt", "coap_server_engine/src/io_fault.rt"]
 ERRORS = {
     "coap-server": [*LISTENS, ARGUMENTS],
     "coap-client": ["coap_sockets/src/client_wire.rt", "coap_client_engine/src/run/state.rt", ARGUMENTS],
@@ -30,8 +31,10 @@ ERRORS = {
     "coap-directory": [*LISTENS, ARGUMENTS],
 }
 
-# Text for a plan that no command line can make, and texts for ends that no run of the client has. The manuals do not have them.
-UNREACHED = {"a limit is out of its range", "the message is too large", "the queue has no room", "the client sent Release"}
+# Text for a plan that no command line can make, and texts for ends that no run of the client has. The manuals do not
+# have them.
+UNREACHED = {"a limit is out of its range", "the message is too large", "the queue has no room",
+             "the client sent Release"}
 
 
 def code_of(patterns):
@@ -40,12 +43,14 @@ def code_of(patterns):
 
 
 def shape(text):
-    """Returns a format string with each of its values as `{}`. The name of an option in the line for a bad value is one too."""
+    """Returns a format string with each of its values as `{}`. The name of an option in the line for a bad value is one
+    too."""
     return re.sub(r"^bad value for -.*", "bad value for {}", re.sub(r"\{[^}]*\}", "{}", text))
 
 
 def printed(name):
-    """Returns the texts that a program gives to `print_fault`, with `{}` for their values, and the values that are no texts."""
+    """Returns the texts that a program gives to `print_fault`, with `{}` for their values, and the values that are no
+    texts."""
     words = re.findall(r'print_fault\(\s*rt,\s*(?:format_args!\(\s*)?("[^"]*"|[\w.()]+)', code_of(SOURCES[name]))
     return {shape(it[1:-1]) for it in words if it[0] == '"'}, {it for it in words if it[0] != '"'}
 

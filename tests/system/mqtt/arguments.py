@@ -73,7 +73,8 @@ def check_flags(checks, program):
             os.mkdir(f"{folder}/{name}")
         os.symlink(f"{os.path.dirname(program)}/libcoap_proved.a", f"{folder}/bin/libcoap_proved.a")
         flags = ["CPPFLAGS=-Wdate-time -D_FORTIFY_SOURCE=3", "CFLAGS=-g -O2 -Werror=format-security"]
-        built = run(["make", "-C", folder, "--silent", "-o", "bin/libcoap_proved.a", "bin/coap-mqtt", *flags], COMPILING)
+        built = run(["make", "-C", folder, "--silent", "-o", "bin/libcoap_proved.a", "bin/coap-mqtt", *flags],
+                    COMPILING)
         checks.same("remarks of the compiler", (built.returncode, built.stderr), (0, ""))
         for of in (program, f"{folder}/bin/coap-mqtt"):
             parts, entries = (run(["readelf", it, "-W", of]).stdout for it in ("-l", "-d"))

@@ -17,13 +17,16 @@ from workspace import ROOT
 # Control fields of each package.
 FIELDS = {
     NAME: {"Package": NAME, "Section": "net", "Depends": r"libc6 \(>= [\d.]+\)"},
-    LIBRARY: {"Package": LIBRARY, "Source": NAME, "Section": "libdevel", "Depends": r"libc6-dev \| libc-dev", "Multi-Arch": "same"},
-    GATEWAY: {"Package": GATEWAY, "Source": NAME, "Section": "net", "Depends": r"libc6 \(>= [\d.]+\), libmosquitto1 \(>= [\d.]+\)"},
+    LIBRARY: {"Package": LIBRARY, "Source": NAME, "Section": "libdevel", "Depends": r"libc6-dev \| libc-dev",
+              "Multi-Arch": "same"},
+    GATEWAY: {"Package": GATEWAY, "Source": NAME, "Section": "net",
+              "Depends": r"libc6 \(>= [\d.]+\), libmosquitto1 \(>= [\d.]+\)"},
 }
 
 
 def copy_tree(tree, programs, archive):
-    """Copies the inputs of `make deb`. The programs and the archive are newer than the sources, so that they are not built again."""
+    """Copies the inputs of `make deb`. The programs and the archive are newer than the sources, so that they are not
+    built again."""
     os.makedirs(os.path.join(tree, "crates"))
     for name in ("examples", "gateway", "include", "install", "man"):
         shutil.copytree(os.path.join(ROOT, name), os.path.join(tree, name))
@@ -40,7 +43,8 @@ def make_deb(checks, tree, wanted, mask=0o022):
     """Builds the packages of this version from a copy. Returns their paths, that of the programs first."""
     status, said = run(["make", "deb"], cwd=tree, umask=mask)
     architecture = run(["dpkg", "--print-architecture"])[1].strip()
-    made = [os.path.join(tree, "bin", "%s_%s_%s.deb" % (name, wanted, architecture)) for name in (NAME, LIBRARY, GATEWAY)]
+    made = [os.path.join(tree, "bin", "%s_%s_%s.deb" % (name, wanted, architecture))
+            for name in (NAME, LIBRARY, GATEWAY)]
     missing = [path for path in made if not os.path.isfile(path)]
     checks.same("make deb, version %s" % wanted, (status, missing), (0, []))
     if missing:
@@ -61,18 +65,21 @@ def check_wrong_version(checks, tree):
     """Checks that no package is built if the changelog has another version than the file VERSION."""
     write("9\n", os.path.join(tree, "VERSION"))
     status, said = run(["make", "deb"], cwd=tree)
-    checks.same("VERSION differs from the changelog", (status != 0, "has another version" in said, glob.glob(tree + "/bin/*.deb")), (True, True, []))
+    checks.same("VERSION differs from the changelog",
+                (status != 0, "has another version" in said, glob.glob(tree + "/bin/*.deb")), (True, True, []))
     shutil.copy(os.path.join(ROOT, "VERSION"), tree)
 
 
 def members(package):
     """Returns the members of a package that are not folders: path, mode, owner, and content."""
-    packed = subprocess.run(["dpkg-deb", "--fsys-tarfile", package], stdout=subprocess.PIPE, check=True, timeout=LIMIT).stdout
+    packed = subprocess.run(["dpkg-deb", "--fsys-tarfile", package], stdout=subprocess.PIPE, check=True,
+                            timeout=LIMIT).stdout
     with tempfile.TemporaryFile() as file:
         file.write(packed)
         file.seek(0)
         with tarfile.open(fileobj=file) as it:
-            return {member.name.removeprefix("."): (member.mode, member.uname, it.extractfile(member).read()) for member in it if not member.isdir()}
+            return {member.name.removeprefix("."): (member.mode, member.uname, it.extractfile(member).read())
+                    for member in it if not member.isdir()}
 
 
 def check_content(checks, name, package):
@@ -85,9 +92,11 @@ def check_content(checks, name, package):
             checks.same("%s: content of %s" % (name, path), packed[path][2] == read(ROOT, source).encode(), True)
     for field, wanted in FIELDS[name].items():
         status, value = run(["dpkg-deb", "-f", package, field])
-        checks.same("%s: %s is %r" % (name, field, value), (status, bool(re.fullmatch(wanted, value.strip()))), (0, True))
+        checks.same("%s: %s is %r" % (name, field, value), (status, bool(re.fullmatch(wanted, value.strip()))),
+                    (0, True))
     status, said = run(["lintian", "--fail-on", "error,warning", package])
-    checks.same("%s: lintian" % name, (status, [line for line in said.splitlines() if re.match("[EW]:", line)]), (0, []))
+    checks.same("%s: lintian" % name, (status, [line for line in said.splitlines() if re.match("[EW]:", line)]),
+                (0, []))
     return packed
 
 
@@ -110,7 +119,8 @@ def check_library(checks, package, archive, folder):
         file.write(packed[here(ARCHIVE)][2])
     checks.same("exported names of the packed archive", exported(placed), exported(archive))
     status, said = run(["sh", "-c", 'dpkg-deb --ctrl-tarfile "$0" | tar -t', package])
-    checks.same("%s: control files" % LIBRARY, (status, sorted(line.strip("./") for line in said.splitlines())), (0, ["", "control", "md5sums"]))
+    checks.same("%s: control files" % LIBRARY, (status, sorted(line.strip("./") for line in said.splitlines())),
+                (0, ["", "control", "md5sums"]))
 
 
 def check_packages(checks, folder, programs, archive):

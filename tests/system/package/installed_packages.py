@@ -27,8 +27,9 @@ TITLES = {
 }
 
 # Folders in which the installation may create files, folders and links.
-PLACES = ["/etc", "/usr/bin", "/usr/include", "/usr/lib/systemd", LIBRARIES + "/pkgconfig", "/usr/share/bash-completion", "/usr/share/doc",
-          "/usr/share/lintian", "/usr/share/man", "/var/lib/dpkg/info", "/var/lib/systemd"]
+PLACES = ["/etc", "/usr/bin", "/usr/include", "/usr/lib/systemd", LIBRARIES + "/pkgconfig",
+          "/usr/share/bash-completion", "/usr/share/doc", "/usr/share/lintian", "/usr/share/man", "/var/lib/dpkg/info",
+          "/var/lib/systemd"]
 
 # Arguments of the server after its address and port.
 STORES = ["-d", "100"]
@@ -63,7 +64,8 @@ def dpkg_status(name):
 
 def files_in_places():
     """Returns the paths of all files, folders and links below PLACES."""
-    return {os.path.join(at, name) for place in map(here, PLACES) for at, folders, names in os.walk(place) for name in [*folders, *names]}
+    return {os.path.join(at, name) for place in map(here, PLACES) for at, folders, names in os.walk(place)
+            for name in [*folders, *names]}
 
 
 def ask(program, *words):
@@ -72,14 +74,17 @@ def ask(program, *words):
 
 
 def check_served(checks, name, port):
-    """Starts the server by the command of the unit, and sends requests to it by the installed client and by libcoap's."""
+    """Starts the server by the command of the unit, and sends requests to it by the installed client and by
+    libcoap's."""
     command = unit_command()
-    checks.same("%s: command of the unit" % name, command, ["/usr/bin/coap-server", "-A", LOCAL, "-p", str(port), *STORES])
+    checks.same("%s: command of the unit" % name, command,
+                ["/usr/bin/coap-server", "-A", LOCAL, "-p", str(port), *STORES])
     with Server("/usr/bin/coap-server", STORES, port=port) as server:
         checks.same("%s: the root" % name, ask("/usr/bin/coap-client", "-w", server.uri()), (0, "coap+tcp\n"))
         checks.same("%s: put" % name, ask("/usr/bin/coap-client", "-m", "put", "-e", "21.5", server.uri("/a")), (0, ""))
         checks.same("%s: get" % name, ask("/usr/bin/coap-client", "-w", server.uri("/a")), (0, "21.5\n"))
-        checks.same("%s: get by libcoap" % name, ask("/usr/bin/coap-client-notls", "-m", "get", server.uri("/a")), (0, "21.5\n"))
+        checks.same("%s: get by libcoap" % name, ask("/usr/bin/coap-client-notls", "-m", "get", server.uri("/a")),
+                    (0, "21.5\n"))
 
 
 def check_manuals(checks, names):
@@ -87,14 +92,18 @@ def check_manuals(checks, names):
     for name in names if shutil.which("man") else ():
         environment = dict(os.environ, MANPAGER="cat", MANWIDTH="100", LC_ALL="C.UTF-8")
         status, said = run(["man", "-M", "/usr/share/man", name], env=environment)
-        checks.same("man %s" % name, (status, re.findall(r"(?m)^ +(\S+) \S (%s)$" % re.escape(TITLES[name]), said)), (0, [(name, TITLES[name])]))
+        checks.same("man %s" % name, (status, re.findall(r"(?m)^ +(\S+) \S (%s)$" % re.escape(TITLES[name]), said)),
+                    (0, [(name, TITLES[name])]))
 
 
 def check_compiled(checks, client):
-    """Compiles the installed example by the paths of pkg-config, and runs it. Variables that name other folders are not passed on."""
+    """Compiles the installed example by the paths of pkg-config, and runs it. Variables that name other folders are not
+    passed on."""
     environment = {name: value for name, value in os.environ.items() if not name.startswith("PKG_CONFIG")}
-    for words, wanted in (["--modversion"], version()), (["--variable=libdir"], here(LIBRARIES)), (["--variable=includedir"], "/usr/include"):
-        checks.same("pkg-config %s" % words[0], run(["pkg-config", *words, "coap_proved"], env=environment), (0, wanted + "\n"))
+    for word, wanted in {"--modversion": version(), "--variable=libdir": here(LIBRARIES),
+                         "--variable=includedir": "/usr/include"}.items():
+        checks.same("pkg-config %s" % word, run(["pkg-config", word, "coap_proved"], env=environment),
+                    (0, wanted + "\n"))
     with tempfile.TemporaryDirectory() as folder:
         command = "cc -std=c11 -Wall -Wextra -Werror -o server %s $(pkg-config --cflags --libs coap_proved)" % EXAMPLE
         compiled = run(["sh", "-c", command], cwd=folder, env=environment)
@@ -129,7 +138,8 @@ def check_life(checks, package, higher):
     libcoap = run(["dpkg-query", "-L", "libcoap3-bin"])[1].split()
     port = free_port()
     check_installed(checks, NAME, package)
-    checks.same("missing files of libcoap3-bin", [path for path in libcoap if path.startswith("/usr/bin/") and not os.path.exists(path)], [])
+    checks.same("missing files of libcoap3-bin",
+                [path for path in libcoap if path.startswith("/usr/bin/") and not os.path.exists(path)], [])
     checks.same("the unit is disabled", os.path.lexists(ENABLED), False)
     checks.same("command of the unit without options", unit_command(), ["/usr/bin/coap-server"])
     check_manuals(checks, PROGRAMS)
@@ -168,7 +178,8 @@ def check_gateway_life(checks, package, higher):
     os.makedirs(os.path.dirname(GATEWAY_ENABLED), exist_ok=True)
     os.symlink(GATEWAY_UNIT, GATEWAY_ENABLED)
     check_upgraded(checks, GATEWAY, higher)
-    checks.same("the upgraded gateway", run(["/usr/bin/coap-mqtt", "--version"]), (0, "coap-mqtt %s+test\n" % version()))
+    checks.same("the upgraded gateway", run(["/usr/bin/coap-mqtt", "--version"]),
+                (0, "coap-mqtt %s+test\n" % version()))
     kept = read(GATEWAY_OPTIONS), os.path.lexists(GATEWAY_ENABLED)
     checks.same("options and link after the upgrade", kept, (changed, True))
     check_ended(checks, GATEWAY, [GATEWAY_OPTIONS])

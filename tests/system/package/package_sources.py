@@ -1,4 +1,4 @@
-"""Checks what the packages are made from: versions, completions, the copyright and the maintainer scripts."""
+"""Checks the sources of the packages: versions, completions, the copyright and the maintainer scripts."""
 
 import os
 import re
@@ -11,7 +11,8 @@ from workspace import ROOT, crates, listed
 # The crates of each package.
 CRATES = {NAME: ["coap_server", "coap_client_main", "coap_explain", "coap_directory"], LIBRARY: ["coap_c"]}
 
-# Maintainer scripts with their arguments, and the calls that they make on a machine with systemd. None starts or restarts the server.
+# Maintainer scripts with their arguments, and the calls that they make on a machine with systemd. None starts or
+# restarts the server.
 SCRIPT_CALLS = [
     ("postinst", ["configure", ""], [
         "deb-systemd-helper debian-installed coap-server.service",
@@ -73,13 +74,17 @@ COMPLETED = [
 
 
 def check_versions(checks, programs):
-    """Checks that the programs, both changelogs, the comparison and the manual's record have the version of the file VERSION."""
+    """Checks that the programs, both changelogs, the comparison and the manual's record have the version of the file
+    VERSION."""
     for name, program in zip(PROGRAMS, programs):
         checks.same("%s: version" % name, run([program, "--version"]), (0, "%s %s\n" % (name, version())))
     checks.same("version in CHANGELOG.md", re.findall(r"report version (\S+)", read(ROOT, "CHANGELOG.md")), [version()])
-    checks.same("version in Debian's changelog", re.match(r"dachreup \((\S+)\) ", read(ROOT, "install/debian/changelog"))[1], version())
-    checks.same("version in docs/COMPARISON.md", re.findall(r"\| Dachreup (\S+) \|", read(ROOT, "docs/COMPARISON.md")), [version()])
-    checks.same("version in the record of the manual", re.findall(r"(?m)^# Record of coap\\-server (\S+),", read(ROOT, "man/coap-server.1")), [version()])
+    checks.same("version in Debian's changelog",
+                re.match(r"dachreup \((\S+)\) ", read(ROOT, "install/debian/changelog"))[1], version())
+    checks.same("version in docs/COMPARISON.md", re.findall(r"\| Dachreup (\S+) \|", read(ROOT, "docs/COMPARISON.md")),
+                [version()])
+    checks.same("version in the record of the manual",
+                re.findall(r"(?m)^# Record of coap\\-server (\S+),", read(ROOT, "man/coap-server.1")), [version()])
 
 
 def check_completion(checks, programs):
@@ -89,40 +94,49 @@ def check_completion(checks, programs):
             write("", os.path.join(folder, name))
         for name, program in zip(PROGRAMS, programs):
             script = os.path.join(ROOT, "install/completions", name)
-            helped = re.findall(r"(?m)^ +(?:(-\w)(?:, )?)?(--[\w-]+)?(?: <(\S+)>)?  ", run([program, "--help"])[1].partition("Options:\n")[2])
+            helped = re.findall(r"(?m)^ +(?:(-\w)(?:, )?)?(--[\w-]+)?(?: <(\S+)>)?  ",
+                                run([program, "--help"])[1].partition("Options:\n")[2])
             options = {option for short, long, _ in helped for option in (short, long) if option}
-            checks.same("%s: the options of --help are found" % name, len(options) > (4 if name in ("coap-explain", "coap-directory") else 10), True)
-            checks.same("%s: completed options" % name, sorted(completions(script, [name, "-"], folder)), sorted(options))
+            checks.same("%s: the options of --help are found" % name,
+                        len(options) > (4 if name in ("coap-explain", "coap-directory") else 10), True)
+            checks.same("%s: completed options" % name, sorted(completions(script, [name, "-"], folder)),
+                        sorted(options))
             for option, value in ((short or long, value) for short, long, value in helped if value):
                 got = completions(script, [name, option, ""], folder)
                 checks.same("%s %s: completed options as its value" % (name, option), sorted(options & set(got)), [])
                 checks.same("%s %s: completed files as its value" % (name, option), "one.txt" in got, value == "FILE")
             for before, word, wanted in COMPLETED:
                 if before[0] == name:
-                    checks.same("completed: %s" % " ".join([*before, word]), sorted(completions(script, [*before, word], folder)), sorted(wanted))
+                    checks.same("completed: %s" % " ".join([*before, word]),
+                                sorted(completions(script, [*before, word], folder)), sorted(wanted))
     script = os.path.join(ROOT, "install/completions/coap-client")
     methods = re.search(r"Method: ([\w, ]+?) \[", run([programs[1], "--help"])[1])[1]
     checks.same("completed methods", completions(script, ["coap-client", "-m", ""], ROOT), re.split(", | or ", methods))
     formats = re.findall(r"(?m)^\.Dq (\w+/\S+)\n\(\d+\)", read(ROOT, "man/coap-client.1"))
     checks.same("the manual has content formats", len(formats) > 1, True)
     for option in ("-t", "-A"):
-        checks.same("completed content formats, %s" % option, completions(script, ["coap-client", option, ""], ROOT), formats)
+        checks.same("completed content formats, %s" % option, completions(script, ["coap-client", option, ""], ROOT),
+                    formats)
 
 
 def check_copyright(checks):
     """Checks that the copyright file names each library of Rattle's kit that crates.txt lists for a package."""
     text, below, uses = read(ROOT, "install/debian/copyright"), crates(), listed()
     for name, built in CRATES.items():
-        used = {library for top in built for crate in [top, *below[top]] for library in uses[crate] if library not in uses}
-        missing = [library for library in sorted(used) if not re.search(r"(?m)^(?:Files:)? kit/rattle/%s/\*$" % library, text)]
+        used = {library for top in built for crate in [top, *below[top]] for library in uses[crate]
+                if library not in uses}
+        missing = [library for library in sorted(used)
+                   if not re.search(r"(?m)^(?:Files:)? kit/rattle/%s/\*$" % library, text)]
         checks.same("%s: libraries of the kit without copyright" % name, (len(used) > 1, missing), (True, []))
     named = set(re.findall(r"(?m)^License: (.*)$", text))
     names = {name for line in named for name in re.split(r" (?:and|or) ", line.replace("(", "").replace(")", ""))}
-    checks.same("licences without a text", [name for name in sorted(names) if not re.search(r"(?m)^License: %s\n " % re.escape(name), text)], [])
+    checks.same("licences without a text",
+                [name for name in sorted(names) if not re.search(r"(?m)^License: %s\n " % re.escape(name), text)], [])
 
 
 def script_calls(script, words, folder):
-    """Runs a maintainer script as on a machine with systemd. Returns the status, and the calls of systemd's programs."""
+    """Runs a maintainer script as on a machine with systemd. Returns the status, and the calls of systemd's
+    programs."""
     stubs, log = os.path.join(folder, "stubs"), os.path.join(folder, "log")
     os.makedirs(stubs, exist_ok=True)
     for name in ("systemctl", "deb-systemd-helper", "deb-systemd-invoke"):

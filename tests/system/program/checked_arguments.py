@@ -13,10 +13,12 @@ def run(program, words, stream=b"", stdin=None, stdout=subprocess.PIPE):
 
 
 def refused_words(name, values, clashes, targets=()):
-    """Returns rows of command lines that a program refuses with a reason: arguments, status and both lines after the program's name."""
+    """Returns rows of command lines that a program refuses with a reason: arguments, status and both lines after the
+    program's name."""
     return (
         [(words, 1, f"bad target {number}\n{name}: {why}") for words, number, why in targets]
-        + [(words, 1, f"bad value for {option}\n{name}: {option} takes {allowed}, not {given}") for words, option, allowed, given in values]
+        + [(words, 1, f"bad value for {option}\n{name}: {option} takes {allowed}, not {given}")
+           for words, option, allowed, given in values]
         + [(words, 1, f"options exclude each other\n{name}: {why}") for words, why in clashes]
     )
 
@@ -35,15 +37,18 @@ def check_help(program, name, told, checks):
     begins, explained = told
     for words in [["--help"], ["-h"], ["--help", "x", "-x"]]:
         done = run(program, words)
-        checks.same("%s %r" % (name, words), (done.returncode, done.stdout[: len(begins)], done.stderr), (0, begins, b""))
+        checks.same("%s %r" % (name, words), (done.returncode, done.stdout[: len(begins)], done.stderr),
+                    (0, begins, b""))
         lines = done.stdout.decode().splitlines()
         for option in explained:
             found = [it for it in lines if re.match(r" +%s  +\S" % re.escape(option), it)]
             checks.same("%s explains %s" % (name, option), len(found), 1)
     for words in [["--version"], ["-V"], ["-V", "--help"]]:
         done = run(program, words)
-        checks.same("%s %r" % (name, words), (done.returncode, done.stdout, done.stderr), (0, b"%s 0.1.0\n" % name.encode(), b""))
+        checks.same("%s %r" % (name, words), (done.returncode, done.stdout, done.stderr),
+                    (0, b"%s 0.1.0\n" % name.encode(), b""))
     with open("/dev/full", "wb") as full:
         for words in [["--help"], ["--version"]]:
             done = run(program, words, stdout=full)
-            checks.same("%s %r into a full device" % (name, words), (done.returncode, done.stderr), (3, b"%s: cannot write\n" % name.encode()))
+            checks.same("%s %r into a full device" % (name, words), (done.returncode, done.stderr),
+                        (3, b"%s: cannot write\n" % name.encode()))

@@ -18,9 +18,11 @@ from message_syntax import encoded, uint
 from peers import LIMIT, Server, reset
 from records import frames_in, joined, record_in, replay, resident, until
 
-# The options of a server with many peers. Its queues are small, so that slow readers fill them, and their memory is in use early in a run.
+# The options of a server with many peers. Its queues are small, so that slow readers fill them, and their memory is in
+# use early in a run.
 PEERS, RESOURCES, QUEUE = 64, 16, 4_608
-WORDS = ["--connections", str(PEERS), "-d", str(RESOURCES), "--max-message", "2048", "--max-sent", "1152", "--queue", str(QUEUE)]
+WORDS = ["--connections", str(PEERS), "-d", str(RESOURCES), "--max-message", "2048", "--max-sent", "1152", "--queue",
+         str(QUEUE)]
 
 # Numbers of peers by their kind. The others are hostile or observe.
 GOOD, SLOW, BROKEN_OFF = 34, 4, 8
@@ -37,7 +39,8 @@ LINE = re.compile(rb"open|in \d+ (?:[0-9a-f]{2})+|drain \d+ \d+|tick \d+|(?:end|
 
 def some_message(chance):
     """Returns a random message of a well-behaved peer: mostly a request for a resource that all peers share."""
-    token, path, kind = chance.randbytes(chance.randrange(9)), "r%d" % chance.randrange(RESOURCES + 2), chance.randrange(16)
+    token, path, kind = (chance.randbytes(chance.randrange(9)), "r%d" % chance.randrange(RESOURCES + 2),
+                         chance.randrange(16))
     if kind < 5:
         return asked(GET, token, path)
     if kind < 9:
@@ -67,7 +70,8 @@ def listings(count):
 def observations(chance, count):
     """Returns the bytes of a CSM and of requests that observe, or that end an observation."""
     paths = ["time", *("r%d" % it for it in range(6))]
-    said = [asked(GET, bytes([it % 20]), chance.choice(paths), [(OBSERVE, uint(chance.choice([0, 0, 0, 1])))]) for it in range(count - 1)]
+    said = [asked(GET, bytes([it % 20]), chance.choice(paths), [(OBSERVE, uint(chance.choice([0, 0, 0, 1])))])
+            for it in range(count - 1)]
     return PEER_SETTINGS + b"".join(said)
 
 
@@ -92,8 +96,8 @@ HOSTILE = [
 class Peer:
     """A connection, with the bytes to be sent and those received.
 
-    `number` is that of the connection in the server. A slow reader reads `sip` bytes at once. A peer breaks off as soon as it has received
-    `breaks_at` bytes. If it `stays`, it does not end its output itself.
+    `number` is that of the connection in the server. A slow reader reads `sip` bytes at once. A peer breaks off as soon
+    as it has received `breaks_at` bytes. If it `stays`, it does not end its output itself.
     """
 
     def __init__(self, server, number, stream, sip=None, breaks_at=None, stays=False):
@@ -154,20 +158,24 @@ class Peer:
 
 
 def crowd(server, count, seed):
-    """Opens the connections of 64 peers of all kinds. Those that send all their messages, and no bad one, send at least this number together."""
+    """Opens the connections of 64 peers of all kinds. Those that send all their messages, and no bad one, send at least
+    this number together."""
     chance, each = random.Random(seed), -(-count // (GOOD + SLOW))
     pool = [some_message(chance) for _ in range(2_000)]
     kinds = [{"stream": messages(chance, pool, each)} for _ in range(GOOD)]
-    kinds += [{"stream": messages(chance, pool, each), "breaks_at": chance.randrange(1, 8 * each)} for _ in range(BROKEN_OFF)]
+    kinds += [{"stream": messages(chance, pool, each), "breaks_at": chance.randrange(1, 8 * each)}
+              for _ in range(BROKEN_OFF)]
     kinds += [{"stream": listings(each), "sip": SIP} for _ in range(SLOW)]
-    kinds += [{"stream": observations(chance, 60), "stays": True} for _ in range(PEERS - GOOD - SLOW - BROKEN_OFF - len(HOSTILE))]
+    kinds += [{"stream": observations(chance, 60), "stays": True}
+              for _ in range(PEERS - GOOD - SLOW - BROKEN_OFF - len(HOSTILE))]
     kinds += [{"stream": it} for it in HOSTILE]
     chance.shuffle(kinds)
     return [Peer(server, number, **kind) for number, kind in enumerate(kinds, 1)]
 
 
 def talk(peers, watch):
-    """Sends and receives until all connections have ended. Peers that stay end their output after all others have ended.
+    """Sends and receives until all connections have ended. Peers that stay end their output after all others have
+    ended.
 
     `watch` is called often, with the number of all bytes received.
     """
@@ -192,7 +200,8 @@ def talk(peers, watch):
 
 
 def crowded(checks, server, count, record=None):
-    """Runs 64 peers at a server, and checks its memory. If a name is given, the server has a record. Returns the peers."""
+    """Runs 64 peers at a server, and checks its memory. If a name is given, the server has a record. Returns the
+    peers."""
     memory = []
 
     def watch(received):
@@ -203,7 +212,8 @@ def crowded(checks, server, count, record=None):
         peers = crowd(running, count, seed=1)
         talk(peers, watch)
         if record:
-            checks.same("the record has the end of each connection", until(lambda: record_in(record).text.count(b"\ndrop ") == PEERS), True)
+            checks.same("the record has the end of each connection",
+                        until(lambda: record_in(record).text.count(b"\ndrop ") == PEERS), True)
     name = "with a record" if record else "without a record"
     print(f"resident memory {name}: {memory} kB")
     early, late = memory[: len(memory) // 3], memory[len(memory) // 3 :]
@@ -212,7 +222,8 @@ def crowded(checks, server, count, record=None):
 
 
 def check_peers(checks, server, count=100_000):
-    """Checks that the replay of a record of 64 peers gives the bytes that each received, and that recording takes no memory."""
+    """Checks that the replay of a record of 64 peers gives the bytes that each received, and that recording takes no
+    memory."""
     with tempfile.TemporaryDirectory() as folder:
         crowded(checks, server, count)
         peers = crowded(checks, server, count, record=f"{folder}/record")
@@ -229,18 +240,22 @@ def check_peers(checks, server, count=100_000):
         got, wanted, taken = bytes(peer.got), outputs.get(peer.number, b""), accepted.get(peer.number, b"")
         checks.same(f"peer {peer.number}: the record has a front of what it sent", peer.stream.startswith(taken), True)
         if peer.end == "the end":
-            checks.same(f"peer {peer.number}: the replay has what it received", (len(got), got == wanted), (len(wanted), True))
+            checks.same(f"peer {peer.number}: the replay has what it received", (len(got), got == wanted),
+                        (len(wanted), True))
         else:
-            checks.same(f"peer {peer.number}, {peer.end}: the replay begins with what it received", wanted.startswith(got), True)
+            checks.same(f"peer {peer.number}, {peer.end}: the replay begins with what it received",
+                        wanted.startswith(got), True)
         if len(peer.stream) > 1_000 and peer.breaks_at is None:
             checks.same(f"peer {peer.number}: the record has all that it sent", len(taken), len(peer.stream))
-    print(f"ends of the peers: {ends}; {sum(len(it.got) for it in peers)} bytes received; record of {len(record.text)} bytes")
+    print(f"ends of the peers: {ends}; {sum(len(it.got) for it in peers)} bytes received; record of {len(record.text)} "
+          "bytes")
     checks.same("peers that received all", ends.get("the end", 0) >= 50, True)
     checks.same("peers that broke off", ends.get("broken off", 0) >= 4, True)
 
 
 def check_killed(checks, server, count=30_000):
-    """Checks the record of a server that is killed in the middle: its whole lines replay, and lack at most the last turn."""
+    """Checks the record of a server that is killed in the middle: its whole lines replay, and lack at most the last
+    turn."""
     with tempfile.TemporaryDirectory() as folder:
         name = f"{folder}/record"
         with Server(server, [*WORDS, "--record", name]) as running:
@@ -261,6 +276,8 @@ def check_killed(checks, server, count=30_000):
         for cut in (1, 4):
             with open(f"{folder}/torn", "wb") as it:
                 it.write(record.whole[:-cut])
-            done = subprocess.run([server, "--script", f"{folder}/torn", *record.options()], capture_output=True, timeout=8 * LIMIT)
+            done = subprocess.run([server, "--script", f"{folder}/torn", *record.options()], capture_output=True,
+                                  timeout=8 * LIMIT)
             wanted = b"coap-server: bad script line %d\n" % record.whole.count(b"\n")
-            checks.same(f"a record without its last {cut} bytes", (done.returncode, done.stdout, done.stderr), (1, b"", wanted))
+            checks.same(f"a record without its last {cut} bytes", (done.returncode, done.stdout, done.stderr),
+                        (1, b"", wanted))

@@ -15,16 +15,19 @@ from records import record_in, replay, said_by
 
 def check_ended(checks, name, running, reason):
     """Checks that a server whose record has ended goes on serving, and reports that once."""
-    checks.same(f"{name}: the server goes on serving", (all(ask(running) for _ in range(80)), running.process.poll()), (True, None))
+    checks.same(f"{name}: the server goes on serving", (all(ask(running) for _ in range(80)), running.process.poll()),
+                (True, None))
     checks.same(f"{name}: the report", said_by(running), f"coap-server: record ended: {reason}\n")
     checks.same(f"{name}: no other report", (ask(running), said_by(running)), (True, ""))
 
 
 def check_front(checks, name, server, record):
-    """Checks that the whole lines of a record that has ended replay, and that their output is a front of what was sent."""
+    """Checks that the whole lines of a record that has ended replay, and that their output is a front of what was
+    sent."""
     status, outputs, said = replay(server, ["--script", "-", *record.options()], record.whole)
     checks.same(f"{name}: the replay of the whole lines", (status, said), (0, b""))
-    checks.same(f"{name}: the output of the replay", outputs != {} and all(GREETED.startswith(it) for it in outputs.values()), True)
+    checks.same(f"{name}: the output of the replay",
+                outputs != {} and all(GREETED.startswith(it) for it in outputs.values()), True)
 
 
 def check_limit(checks, server):
@@ -35,7 +38,8 @@ def check_limit(checks, server):
             with Server(server, ["--record", name, "--record-limit", str(limit)]) as running:
                 check_ended(checks, f"limit {limit}", running, f"{name} has reached {limit} bytes")
             record = record_in(name)
-            checks.same(f"limit {limit}: the record begins with its first line", record.header[0].startswith(b"# Record of coap-server "), True)
+            checks.same(f"limit {limit}: the record begins with its first line",
+                        record.header[0].startswith(b"# Record of coap-server "), True)
             checks.same(f"limit {limit}: the record ends with a whole line", record.torn, b"")
             checks.same(f"limit {limit}: the size with the last line", len(record.text) >= limit, True)
             if limit > 1:
@@ -61,7 +65,8 @@ def check_full(checks, server):
                 check_ended(checks, f"a disk of {size} bytes", running, f"cannot write {name}")
             checks.same(f"a disk of {size} bytes: size of the record", os.path.getsize(name), size)
         check_front(checks, "a disk of 1500 bytes", server, record_in(name))
-        done = subprocess.run([server, "--stdio", "--record", f"{folder}/streams"], input=PEER_SETTINGS + GET_ROOT, capture_output=True, timeout=LIMIT,
+        done = subprocess.run([server, "--stdio", "--record", f"{folder}/streams"], input=PEER_SETTINGS + GET_ROOT,
+                              capture_output=True, timeout=LIMIT,
                               preexec_fn=lambda: with_small_files(300))
         wanted = (0, GREETED, b"coap-server: record ended: cannot write %s/streams\n" % folder.encode())
         checks.same("a full disk: standard streams", (done.returncode, done.stdout, done.stderr), wanted)
@@ -102,4 +107,5 @@ def check_blocked(checks, server):
             checks.same("a full pipe: the record has ended", 2_000 <= os.path.getsize(name) < 2_200, True)
             checks.same("a full pipe: nothing is reported", said_by(running).strip("x"), "")
             checks.same("a free pipe: the server serves", ask(running), True)
-            checks.same("a free pipe: the report", said_by(running), f"coap-server: record ended: {name} has reached 2000 bytes\n")
+            checks.same("a free pipe: the report", said_by(running),
+                        f"coap-server: record ended: {name} has reached 2000 bytes\n")

@@ -11,7 +11,8 @@ from waits import Waits
 
 
 def check_reserved(checks, programs):
-    """Checks a server that is started without the permission for a port that the system reserves, and one for which the system fails otherwise."""
+    """Checks a server that is started without the permission for a port that the system reserves, and one for which the
+    system fails otherwise."""
     with open("/proc/sys/net/ipv4/ip_unprivileged_port_start", encoding="ascii") as file:
         port = min(int(file.read()), 1024) - 1
     words = ["setpriv", "--bounding-set", "-net_bind_service"] if os.geteuid() == 0 else []
@@ -21,8 +22,10 @@ def check_reserved(checks, programs):
         why = "permission denied for address %s port %d; choose a port from 1024 on with -p" % (LOCAL, port)
         checks.same("a reserved port", done, (3, b"", cannot_listen(why)))
     # The standard streams and the set of events use all descriptors.
-    done = client(programs.server, ["-A", LOCAL, "-p", "5683"], preexec_fn=lambda: resource.setrlimit(resource.RLIMIT_NOFILE, (4, 4)))
-    checks.same("no descriptor for the socket", done, (3, b"", cannot_listen("address %s port 5683: Too many open files (os error 24)" % LOCAL)))
+    done = client(programs.server, ["-A", LOCAL, "-p", "5683"],
+                  preexec_fn=lambda: resource.setrlimit(resource.RLIMIT_NOFILE, (4, 4)))
+    checks.same("no descriptor for the socket", done,
+                (3, b"", cannot_listen("address %s port 5683: Too many open files (os error 24)" % LOCAL)))
 
 
 def check_address(checks, programs):
@@ -61,7 +64,8 @@ def silent_port(stack, hosts, other):
 
 
 def check_addresses(checks, programs):
-    """Checks a name with several addresses: the time for each, the addresses that are tried, and the error of the last one."""
+    """Checks a name with several addresses: the time for each, the addresses that are tried, and the error of the last
+    one."""
     silent = ["127.0.0.%d" % number for number in range(2, 5)]
     good, unreachable = "127.0.0.5", "127.0.0.6"
     with Waits("names", at_most=200, UNREACHABLE=unreachable) as waits, contextlib.ExitStack() as stack:
@@ -70,22 +74,27 @@ def check_addresses(checks, programs):
         rows = [
             # The addresses, -B, the result, and the seconds after which it must come.
             ([good], 5, "coap+tcp", 0), ([silent[0], good], 4, "coap+tcp", 2), ([*silent, good], 4, "coap+tcp", 3),
-            ([silent[0], good], 1000, "coap+tcp", 500), ([silent[0], silent[1], good], 1000, "coap+tcp", 1000 / 3 + 1000 / 3),
-            ([silent[0], good, *["127.0.0.7"] * 8], 3, "coap+tcp", 1), ([silent[0], good], 1, "timed out", 1), (silent, 3, "timed out", 3),
+            ([silent[0], good], 1000, "coap+tcp", 500),
+            ([silent[0], silent[1], good], 1000, "coap+tcp", 1000 / 3 + 1000 / 3),
+            ([silent[0], good, *["127.0.0.7"] * 8], 3, "coap+tcp", 1), ([silent[0], good], 1, "timed out", 1),
+            (silent, 3, "timed out", 3),
             (["127.0.0.7", silent[0]], 1, "timed out", 1), ([unreachable, "127.0.0.7"], 1, "connection refused", 0),
             (["127.0.0.7", unreachable], 1, "host unreachable", 0), ([], 1, "unknown name", 0),
             (["127.0.0.7"] * 31 + [good], 1, "coap+tcp", 0), (["127.0.0.7"] * 32 + [good], 1, "connection refused", 0),
         ]
         for addresses, seconds, told, after in rows:
             names = {"NAMES": " ".join(addresses)} if addresses else {}
-            done = client(programs.client, ["-B", str(seconds), "coap+tcp://many.test:%d/" % port], **waits.how(**names))
+            done = client(programs.client, ["-B", str(seconds), "coap+tcp://many.test:%d/" % port],
+                          **waits.how(**names))
             wanted = (0, told.encode(), b"") if told == "coap+tcp" else (3, b"", cannot_connect(told))
             checks.same("a name for %r, -B %d" % (addresses, seconds), done, wanted)
-            checks.same("a name for %r, -B %d: %.2f s" % (addresses, seconds, waits.passed()), after <= waits.passed() + 0.01 < after + 0.9, True)
+            checks.same("a name for %r, -B %d: %.2f s" % (addresses, seconds, waits.passed()),
+                        after <= waits.passed() + 0.01 < after + 0.9, True)
 
 
 def check_timeouts(checks, programs):
-    """Checks that -B is the timeout of connecting, and that of the response. The clock of the client is advanced, so that hours pass at once."""
+    """Checks that -B is the timeout of connecting, and that of the response. The clock of the client is advanced, so
+    that hours pass at once."""
     silent, mute = "127.0.0.2", LOCAL
     with Waits("names", at_most=5, NAMES="%s %s" % (silent, mute)) as waits, contextlib.ExitStack() as stack:
         port = silent_port(stack, [silent], mute)
@@ -103,6 +112,8 @@ def check_timeouts(checks, programs):
         for host, seconds, wanted, after in rows:
             done = client(programs.client, ["-B", str(seconds), "coap+tcp://%s:%d/" % (host, port)], **waits.how())
             checks.same("%s, -B %d" % (host, seconds), done, wanted)
-            checks.same("%s, -B %d: %.2f s" % (host, seconds, waits.passed()), after <= waits.passed() + 0.01 < after + 0.5, True)
+            checks.same("%s, -B %d: %.2f s" % (host, seconds, waits.passed()),
+                        after <= waits.passed() + 0.01 < after + 0.5, True)
             if host == mute:
-                checks.same("%s, -B %d: the client sends at once" % (host, seconds), [at < 0.5 for at, _ in waits.calls("send")], [True])
+                checks.same("%s, -B %d: the client sends at once" % (host, seconds),
+                            [at < 0.5 for at, _ in waits.calls("send")], [True])

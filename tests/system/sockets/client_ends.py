@@ -28,7 +28,8 @@ def check_connecting(checks, programs):
         file.flush()
         done = client(programs.client, ["-o", file.name, "coap+tcp://%s:%d/" % (LOCAL, port)])
         with open(file.name, "rb") as it:
-            checks.same("no program listens", (done, it.read()), ((3, b"", cannot_connect("connection refused")), b"kept"))
+            checks.same("no program listens", (done, it.read()),
+                        ((3, b"", cannot_connect("connection refused")), b"kept"))
     with Server(programs.server) as server:
         done = client(programs.client, ["-o", "/nothing/here", server.uri()])
         checks.same("no such file", done, (3, b"", b"coap-client: cannot open /nothing/here\n"))
@@ -37,7 +38,8 @@ def check_connecting(checks, programs):
 
 
 def ended(programs, how):
-    """Returns the result of a client whose peer ends the connection with `how` after it received the CSM of the client."""
+    """Returns the result of a client whose peer ends the connection with `how` after it received the CSM of the
+    client."""
     with socket.create_server((LOCAL, 0)) as listener:
         uri = "coap+tcp://" + authority(*listener.getsockname())
         with started([programs.client, uri], stderr=subprocess.PIPE) as process:
@@ -55,24 +57,32 @@ def check_ended(checks, programs):
     checks.same("a peer that resets", ended(programs, reset), wanted)
 
 
-# Arguments of a client, and a path: a GET of 3 bytes, and a PUT of 2,000 bytes. The last is an observation that is cancelled after its first
-# notification.
+# Arguments of a client, and a path: a GET of 3 bytes, and a PUT of 2,000 bytes. The last is an observation that is
+# cancelled after its first notification.
 GET, PUT, OBSERVE = (["-B", "1"], ""), (["-m", "put", "-e", "a" * 1992], "/a"), (["-s", "0", "-B", "1"], "/a")
 
-# Such arguments, what the peer sends in turn, the status of the client, and both lines that it writes. A line is empty if it is not written.
+# Such arguments, what the peer sends in turn, the status of the client, and both lines that it writes. A line is empty
+# if it is not written.
 CAUSES = [
     (PUT, ["00e1"], 3, "request fault 3", "the request has 2000 bytes; the peer accepts 1152"),
     (PUT, ["30e12207cf"], 3, "request fault 3", "the request has 2000 bytes; the peer accepts 1999"),
     (PUT, ["30e12207d0", "014401"], 0, "", ""),
-    (OBSERVE, ["20e12106", "11450160"], 3, "request fault 3", "the message that cancels the observation has 7 bytes; the peer accepts 6"),
+    (OBSERVE, ["20e12106", "11450160"], 3, "request fault 3",
+     "the message that cancels the observation has 7 bytes; the peer accepts 6"),
     # The peer announces a smaller size after the request.
-    (OBSERVE, ["00e1", "20e1210511450160"], 3, "request fault 3", "the message that cancels the observation has 7 bytes; the peer accepts 5"),
+    (OBSERVE, ["00e1", "20e1210511450160"], 3, "request fault 3",
+     "the message that cancels the observation has 7 bytes; the peer accepts 5"),
     # The options Block2, Block1, Q-Block2, OSCORE, and one that is not registered.
-    (GET, ["00e1", "314501d10a0a"], 2, "bad option 23", "the response uses block-wise transfer (option 23, Block2), which is not supported"),
-    (GET, ["00e1", "314501d10e0a"], 2, "bad option 27", "the response uses block-wise transfer (option 27, Block1), which is not supported"),
-    (GET, ["00e1", "314501d1120a"], 2, "bad option 31", "the response uses block-wise transfer (option 31, Q-Block2), which is not supported"),
-    (GET, ["00e1", "11450190"], 2, "bad option 9", "the response has a critical option (option 9, OSCORE), which is not supported"),
-    (GET, ["00e1", "314501e0fcdc"], 2, "bad option 65001", "the response has a critical option (option 65001), which is not supported"),
+    (GET, ["00e1", "314501d10a0a"], 2, "bad option 23",
+     "the response uses block-wise transfer (option 23, Block2), which is not supported"),
+    (GET, ["00e1", "314501d10e0a"], 2, "bad option 27",
+     "the response uses block-wise transfer (option 27, Block1), which is not supported"),
+    (GET, ["00e1", "314501d1120a"], 2, "bad option 31",
+     "the response uses block-wise transfer (option 31, Q-Block2), which is not supported"),
+    (GET, ["00e1", "11450190"], 2, "bad option 9",
+     "the response has a critical option (option 9, OSCORE), which is not supported"),
+    (GET, ["00e1", "314501e0fcdc"], 2, "bad option 65001",
+     "the response has a critical option (option 65001), which is not supported"),
     (GET, ["00e1", "114501ff"], 3, "stopped 1", "the server sent a malformed message"),
     (GET, ["00e1", "f0ffffffff01"], 3, "stopped 2", "the server sent a message of more than 65536 bytes"),
     (GET, ["00e1", "0d4534"], 3, "stopped 3", "the server sent a token of more than 64 bytes"),
@@ -95,7 +105,8 @@ CAUSES = [
 
 
 def caused(programs, arguments, pieces):
-    """Returns the result of a client whose peer sends each of these pieces after it has received bytes from the client."""
+    """Returns the result of a client whose peer sends each of these pieces after it has received bytes from the
+    client."""
     words, path = arguments
     with socket.create_server((LOCAL, 0)) as listener:
         uri = "coap+tcp://" + authority(*listener.getsockname()) + path
@@ -113,7 +124,8 @@ def check_causes(checks, programs):
     """Checks the last line of a client that ends without a response that it accepts."""
     for arguments, pieces, status, first, cause in CAUSES:
         wanted = b"".join(it.encode() + b"\n" for it in [first] if it) + (explained(cause) if cause else b"")
-        checks.same("%r, and the peer sends %r" % ([it[:8] for it in arguments[0]], pieces), caused(programs, arguments, pieces), (status, b"", wanted))
+        checks.same("%r, and the peer sends %r" % ([it[:8] for it in arguments[0]], pieces),
+                    caused(programs, arguments, pieces), (status, b"", wanted))
 
 
 def check_silent(checks, programs):
@@ -133,11 +145,14 @@ def check_flooded_client(checks, programs):
     with socket.create_server((LOCAL, 0)) as listener:
         # Small socket buffers of the peer, so that the queue of the client is soon full.
         listener.setsockopt(socket.SOL_SOCKET, socket.SO_RCVBUF, 4096)
-        with started([programs.client, "-B", "7", "coap+tcp://%s:%d/" % listener.getsockname()], stderr=subprocess.PIPE) as process:
+        with started([programs.client, "-B", "7", "coap+tcp://%s:%d/" % listener.getsockname()],
+                     stderr=subprocess.PIPE) as process:
             with listener.accept()[0] as peer:
                 peer.sendall(bytes.fromhex("00e1"))
                 flood(peer, bytes.fromhex("01e201") * 20_000)
                 before = processor_time(process)
                 select.select([process.stderr], [], [], 4)
-                checks.same("a client in a flood, in 4 s", (process.poll(), processor_time(process) - before < 0.2), (None, True))
-                checks.same("it ends in time", (process.wait(LIMIT), process.stderr.read()), (4, explained("no response arrived within 7 seconds")))
+                checks.same("a client in a flood, in 4 s", (process.poll(), processor_time(process) - before < 0.2),
+                            (None, True))
+                checks.same("it ends in time", (process.wait(LIMIT), process.stderr.read()),
+                            (4, explained("no response arrived within 7 seconds")))

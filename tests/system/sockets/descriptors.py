@@ -19,7 +19,8 @@ def check_room(checks, programs):
         for count in range(4):
             done = client(programs.client, ["-B", "5", server.uri()], **waits.how(SENDS_WITHOUT_ROOM=str(count)))
             checks.same("a client whose socket is full %d times" % count, done, (0, b"coap+tcp", b""))
-            checks.same("a client waits less than a second, %d times: %.2f s" % (count, waits.passed()), waits.passed() < 0.9, True)
+            checks.same("a client waits less than a second, %d times: %.2f s" % (count, waits.passed()),
+                        waits.passed() < 0.9, True)
             checks.same("a client sends without delay", [result for _, result in waits.calls("nodelay")], [1])
     # More bytes than the system buffers between the two.
     body, count = bytes(65_000), 100
@@ -31,7 +32,8 @@ def check_room(checks, programs):
             waits.until_idle()
             taken = sum(result for _, result in waits.calls("send") if result > 0)
             checks.same("a peer that does not read does not receive all bytes", taken < count * len(body), True)
-            checks.same("after it reads, the peer receives the rest", len(read_bytes(peer, count * len(body))), count * len(body))
+            checks.same("after it reads, the peer receives the rest", len(read_bytes(peer, count * len(body))),
+                        count * len(body))
 
 
 # The options of TCP keep-alive that both programs set, and the seconds of silence before the first probe.
@@ -45,14 +47,16 @@ def keep_alive(waits):
 
 
 def probe_in(local, remote):
-    """Returns the seconds until the system probes the peer of the connection between two local ports, or None if it does not."""
+    """Returns the seconds until the system probes the peer of the connection between two local ports, or None if it
+    does not."""
     ends = time.monotonic() + LIMIT / 3
     while time.monotonic() < ends:
         with open("/proc/net/tcp", encoding="ascii") as file:
             rows = [line.split() for line in file.readlines()[1:]]
         for row in rows:
             ports = [int(row[it].split(":")[1], 16) for it in (1, 2)]
-            # Timer 2 is that of keep-alive, with hundredths of a second. Another one runs while the peer has not acknowledged all bytes.
+            # Timer 2 is that of keep-alive, with hundredths of a second. Another one runs while the peer has not
+            # acknowledged all bytes.
             timer, left = (int(it, 16) for it in row[5].split(":"))
             if ports == [local, remote] and timer == 2:
                 return left / 100
@@ -61,20 +65,23 @@ def probe_in(local, remote):
 
 
 def check_alive(checks, programs):
-    """Checks that both programs let the system probe silent peers: the options, and the timers of an accepted and of a connected socket."""
+    """Checks that both programs let the system probe silent peers: the options, and the timers of an accepted and of a
+    connected socket."""
     with Waits() as waits, Server(programs.server, **waits.how()) as server, server.connect() as peer:
         peer.sendall(HELLO)
         read_bytes(peer, len(GREETED))
         checks.same("the options of the server", keep_alive(waits), KEEP_ALIVE)
         left = probe_in(server.port, peer.getsockname()[1])
-        checks.same("an accepted socket is probed in %s s" % left, left is not None and KEEP_IDLE - 10 < left <= KEEP_IDLE + 1, True)
+        checks.same("an accepted socket is probed in %s s" % left,
+                    left is not None and KEEP_IDLE - 10 < left <= KEEP_IDLE + 1, True)
     with Waits() as waits, socket.create_server((LOCAL, 0)) as listener:
         words = [programs.client, "-B", "10", "coap+tcp://%s:%d/" % listener.getsockname()]
         with started(words, stderr=subprocess.PIPE, **waits.how()) as process, listener.accept()[0] as peer:
             read_bytes(peer, len(CSM) // 2)
             checks.same("the options of the client", keep_alive(waits), KEEP_ALIVE)
             left = probe_in(peer.getpeername()[1], peer.getsockname()[1])
-            checks.same("the socket of a client is probed in %s s" % left, left is not None and KEEP_IDLE - 10 < left <= KEEP_IDLE + 1, True)
+            checks.same("the socket of a client is probed in %s s" % left,
+                        left is not None and KEEP_IDLE - 10 < left <= KEEP_IDLE + 1, True)
             process.kill()
 
 
@@ -90,7 +97,8 @@ def check_closed(checks, programs):
         with socket.create_server((LOCAL, 0)) as listener:
             listener.settimeout(LIMIT)
             words = [programs.client, "-m", "put", "-f", "-", "-w", "coap+tcp://%s:%d/x" % listener.getsockname()]
-            with started(words, stdin=subprocess.PIPE, stdout=subprocess.PIPE, stderr=subprocess.PIPE, preexec_fn=closing(numbers)) as process:
+            with started(words, stdin=subprocess.PIPE, stdout=subprocess.PIPE, stderr=subprocess.PIPE,
+                         preexec_fn=closing(numbers)) as process:
                 # A pipe without a reader fails when it is closed.
                 with contextlib.suppress(BrokenPipeError):
                     process.stdin.write(body)
@@ -107,9 +115,11 @@ def check_closed(checks, programs):
                 checks.same("a client without %r: open files" % (numbers,), held, ["/dev/null"] * len(numbers))
                 checks.same("a client without %r: bytes at its peer" % (numbers,), got + more, asked)
                 said = b"" if 2 in numbers else b"4.04 hi\n"
-                checks.same("a client without %r" % (numbers,), (process.wait(LIMIT), process.stdout.read(), process.stderr.read()), (2, b"", said))
+                checks.same("a client without %r" % (numbers,),
+                            (process.wait(LIMIT), process.stdout.read(), process.stderr.read()), (2, b"", said))
         check_closed_server(checks, programs, numbers)
-    done = subprocess.run([programs.server, "--stdio"], stderr=subprocess.PIPE, preexec_fn=closing([0, 1]), timeout=LIMIT)
+    done = subprocess.run([programs.server, "--stdio"], stderr=subprocess.PIPE, preexec_fn=closing([0, 1]),
+                          timeout=LIMIT)
     checks.same("--stdio without standard streams", (done.returncode, done.stderr), (0, b""))
 
 

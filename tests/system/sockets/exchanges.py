@@ -30,14 +30,16 @@ def check_requests(checks, programs):
             (["-B", "1"], "/async?5", (4, b"", explained("no response arrived within 1 second"))),
         ]
         for words, path, wanted in rows:
-            checks.same("coap-client %r %s" % (words, path), client(programs.client, [*words, server.uri(path)]), wanted)
+            checks.same("coap-client %r %s" % (words, path), client(programs.client, [*words, server.uri(path)]),
+                        wanted)
         began = int(time.time())
         told = client(programs.client, [server.uri("/time")])
         checks.same("/time is the seconds since 1970", abs(int(told[1] or 0) - began) <= 2, True)
 
 
 def asked_by(length):
-    """Returns an empty CSM and a GET of the root with a token of this length, and all bytes that a server sends for them."""
+    """Returns an empty CSM and a GET of the root with a token of this length, and all bytes that a server sends for
+    them."""
     token = bytes(range(100, 100 + length))
     nibble, extension = (length, b"") if length < 13 else (13, bytes([length - 13]))
     sent = bytes.fromhex("00e1") + bytes([nibble, 1]) + extension + token
@@ -45,7 +47,8 @@ def asked_by(length):
 
 
 def check_tokens(checks, programs):
-    """Checks that responses have long tokens, and that a token that is too long causes an Abort (RFC 8974 section 2.1)."""
+    """Checks that responses have long tokens, and that a token that is too long causes an Abort (RFC 8974 section
+    2.1)."""
     with Server(programs.server) as server:
         for length in (8, 9, 12, 13, 64):
             with server.connect() as peer:
@@ -55,7 +58,8 @@ def check_tokens(checks, programs):
         with server.connect() as peer:
             # An empty CSM, and the message up to the byte that completes its token length.
             peer.sendall(asked_by(65)[0][:5])
-            checks.same("a token of 65 bytes", read_to_end(peer), (bytes.fromhex(CSM + ABORTS["bad token length"]), "the end"))
+            checks.same("a token of 65 bytes", read_to_end(peer),
+                        (bytes.fromhex(CSM + ABORTS["bad token length"]), "the end"))
 
 
 def check_observers(checks, programs):
@@ -88,23 +92,29 @@ def check_bodies(checks, programs):
         sent, got = os.path.join(folder, "sent"), os.path.join(folder, "got")
         with open(sent, "wb") as it:
             it.write(body)
-        checks.same("put of a file", client(programs.client, ["-m", "put", "-f", sent, server.uri("/a")]), (0, b"", b""))
+        checks.same("put of a file", client(programs.client, ["-m", "put", "-f", sent, server.uri("/a")]),
+                    (0, b"", b""))
         # The old content of the file is longer.
         with open(got, "wb") as it:
             it.write(body + body)
         checks.same("get into a file", client(programs.client, ["-o", got, server.uri("/a")]), (0, b"", b""))
         with open(got, "rb") as it:
             checks.same("the file", it.read() == body, True)
-        checks.same("put of standard input", client(programs.client, ["-m", "put", "-f", "-", server.uri("/b")], body), (0, b"", b""))
+        checks.same("put of standard input", client(programs.client, ["-m", "put", "-f", "-", server.uri("/b")], body),
+                    (0, b"", b""))
         checks.same("get", client(programs.client, [server.uri("/b")]) == (0, body, b""), True)
-        checks.same("get into standard output", client(programs.client, ["-o", "-", server.uri("/b")]) == (0, body, b""), True)
+        checks.same("get into standard output",
+                    client(programs.client, ["-o", "-", server.uri("/b")]) == (0, body, b""), True)
         largest = bytes(1 << 20)
         done = client(programs.client, ["-m", "put", "-f", "-", server.uri("/c")], largest)
-        checks.same("the largest payload, which exceeds any request", done, (3, b"", b"request fault 3\n" + explained(TOO_BIG)))
+        checks.same("the largest payload, which exceeds any request", done,
+                    (3, b"", b"request fault 3\n" + explained(TOO_BIG)))
         done = client(programs.client, ["-m", "put", "-f", "-", server.uri("/c")], largest + b"x")
-        checks.same("a file that is longer than the largest payload", done, (1, b"", b"coap-client: bad value for -f\ncoap-client: -f takes a file of at most 1048576 bytes\n"))
+        checks.same("a file that is longer than the largest payload", done,
+                    (1, b"", b"coap-client: bad value for -f\ncoap-client: -f takes a file of at most 1048576 bytes\n"))
         with open("/dev/full", "wb") as full:
-            done = subprocess.run([programs.client, server.uri("/a")], stdout=full, stderr=subprocess.PIPE, timeout=LIMIT)
+            done = subprocess.run([programs.client, server.uri("/a")], stdout=full, stderr=subprocess.PIPE,
+                                  timeout=LIMIT)
             checks.same("writing fails", (done.returncode, done.stderr), (3, b"coap-client: cannot write\n"))
 
 
@@ -140,7 +150,8 @@ def check_versions(checks, programs):
 
 
 def check_recorded(checks, programs):
-    """Checks that the bytes of a connection, replayed with the start values of their server, have the same responses, with the same ETag."""
+    """Checks that the bytes of a connection, replayed with the start values of their server, have the same responses,
+    with the same ETag."""
     # PUT and GET of /a.
     sent = "00e1" "410301b161ff78" "210102b161"
     with Server(programs.server, ["-d", "1"]) as server, server.connect() as peer:

@@ -1,4 +1,4 @@
-"""Checks how a server accepts, serves and ends many connections."""
+"""Checks that a server accepts, serves and ends many connections."""
 
 import contextlib
 import errno
@@ -19,10 +19,12 @@ PING, PONG = bytes.fromhex("00e2"), bytes.fromhex("00e3")
 
 
 def check_files(checks, programs):
-    """Checks a server with a low limit on open files. Without a free descriptor it accepts no connection, tries again after a second, whatever else
-    arrives, and uses no processor time. After a connection closes, it accepts again. The log has each kind of failed call."""
+    """Checks a server with a low limit on open files. Without a free descriptor it accepts no connection, tries again
+    after a second, whatever else arrives, and uses no processor time. After a connection closes, it accepts again. The
+    log has each kind of failed call."""
     failing = {"WAITS_FAILING": 1, "ACCEPTS_ABORTED": 2}
-    with Waits(**failing) as waits, Server(programs.server, ["--log", "1"], files=16, **waits.how()) as server, contextlib.ExitStack() as stack:
+    with (Waits(**failing) as waits, Server(programs.server, ["--log", "1"], files=16, **waits.how()) as server,
+          contextlib.ExitStack() as stack):
         peers = []
         while len(peers) < 16:
             peer = stack.enter_context(server.connect())
@@ -44,39 +46,46 @@ def check_files(checks, programs):
         checks.same("the last peer is served", read_bytes(peers[-1], len(GREETED)), GREETED)
         accepts = waits.calls("accept")
         pauses = [later - at for (at, result), (later, _) in zip(accepts, accepts[1:]) if result == -errno.EMFILE]
-        checks.same("the server tries again after a second", (len(pauses) > 1, [it for it in pauses if not 0.99 < it < 1.9]), (True, []))
+        checks.same("the server tries again after a second",
+                    (len(pauses) > 1, [it for it in pauses if not 0.99 < it < 1.9]), (True, []))
         os.set_blocking(server.process.stderr.fileno(), False)
         texts = re.findall(r"Z coap-server: (.*): (\d+) so far\n", (server.process.stderr.read() or b"").decode())
         told = {text: [int(number) for it, number in texts if it == text] for text, _ in texts}
         starved = told.pop("connections not accepted for lack of descriptors or memory", [])
         checks.same("failed calls in the log", told, {"failed waits": [1], "connections not accepted": [1, 2]})
-        checks.same("calls without a descriptor in the log", (len(starved) > 1, starved), (True, list(range(1, len(starved) + 1))))
+        checks.same("calls without a descriptor in the log", (len(starved) > 1, starved),
+                    (True, list(range(1, len(starved) + 1))))
 
 
 def check_close(checks, programs):
-    """Checks that a connection that the server stops receives the Abort and ends, without a reset because of unread bytes."""
+    """Checks that a connection that the server stops receives the Abort and ends, without a reset because of unread
+    bytes."""
     with Server(programs.server) as server, server.connect() as peer:
         # The server is stopped, so that it finds all bytes at once.
         server.process.send_signal(signal.SIGSTOP)
         peer.sendall(bytes.fromhex("00e1" "f0ffffffff01") + bytes(50_000))
         server.process.send_signal(signal.SIGCONT)
-        checks.same("a message that is too large", read_to_end(peer), (bytes.fromhex(CSM + ABORTS["message too large"]), "the end"))
+        checks.same("a message that is too large", read_to_end(peer),
+                    (bytes.fromhex(CSM + ABORTS["message too large"]), "the end"))
         time.sleep(0.1)
         checks.same("no reset", peer.getsockopt(socket.SOL_SOCKET, socket.SO_ERROR), 0)
 
 
 def check_connections(checks, programs):
-    """Checks that the server serves as many connections as --connections allows, and one more only after one of them ends."""
+    """Checks that the server serves as many connections as --connections allows, and one more only after one of them
+    ends."""
     for count in (1, 9, 256):
         with Server(programs.server, ["--connections", str(count)]) as server, contextlib.ExitStack() as stack:
             peers = [stack.enter_context(server.connect()) for _ in range(count + 1)]
             for it in peers:
                 it.sendall(HELLO)
-            served = sum(1 for _ in itertools.takewhile(lambda it: read_bytes(it, len(GREETED)) == GREETED, peers[:count]))
+            greeted = itertools.takewhile(lambda it: read_bytes(it, len(GREETED)) == GREETED, peers[:count])
+            served = sum(1 for _ in greeted)
             checks.same("--connections %d: served connections" % count, served, count)
             checks.same("--connections %d: one more is not served" % count, is_silent(peers[count]), True)
             peers[0].close()
-            checks.same("--connections %d: it is served after one leaves" % count, read_bytes(peers[count], len(GREETED)), GREETED)
+            checks.same("--connections %d: it is served after one leaves" % count,
+                        read_bytes(peers[count], len(GREETED)), GREETED)
 
 
 def check_urgent(checks, programs):
@@ -99,8 +108,8 @@ def check_urgent(checks, programs):
 
 
 def ask_each(checks, name, peers):
-    """Checks that each of these connections has a response to a request before the next one makes a request. Returns true if
-    all have."""
+    """Checks that each of these connections has a response to a request before the next one makes a request. Returns
+    true if all have."""
     request, answered = HELLO[2:], GREETED[len(CSM) // 2 :]
     late = []
     for place, peer in peers:
@@ -113,10 +122,11 @@ def ask_each(checks, name, peers):
 
 
 def check_sleepers(checks, programs):
-    """Checks that each of 250 connections is answered after a pause, alone and beside 70 active ones, also after others have ended.
+    """Checks that each of 250 connections is answered after a pause, alone and beside 70 active ones, also after others
+    have ended.
 
-    While no other peer makes a request, nothing but the event of its own socket wakes a connection. The first missing answer
-    ends the check, since a wait for it takes LIMIT seconds.
+    While no other peer makes a request, nothing but the event of its own socket wakes a connection. The first missing
+    answer ends the check, since a wait for it takes LIMIT seconds.
     """
     order = random.Random(5)
     with Server(programs.server, ["--connections", "256"]) as server, contextlib.ExitStack() as stack:
@@ -141,7 +151,8 @@ def check_sleepers(checks, programs):
                 return
         for place in (0, 100, 249):
             peers.pop(place).close()
-            if not ask_each(checks, "each after connection %d has ended" % place, order.sample(sorted(peers.items()), len(peers))):
+            if not ask_each(checks, "each after connection %d has ended" % place,
+                            order.sample(sorted(peers.items()), len(peers))):
                 return
         peers.update((place, stack.enter_context(server.connect())) for place in (300, 301, 302))
         for place in (300, 301, 302):
