@@ -5,7 +5,7 @@ lines of all crates that it tried and of which no edit failed. It writes nothing
 from the commit during the run. The file is committed with the next change. So all edits can be tried in one run, or in
 several.
 
-A crate differs from its run in each of these cases. Comments and white space do not count.
+A crate differs from its run in each of these cases. Comments and line breaks do not count.
 
 - It has no line.
 - A file of its src, specs or proofs differs, or one of its edits.
@@ -37,6 +37,12 @@ MOST_COMMITS = 200
 # The folders of a crate whose files count, and a line of a comment in them.
 FOLDERS = ("src", "specs", "proofs")
 COMMENT = re.compile(r"^ *(//|--).*$", re.M)
+
+# The marks that `rt fmt` adds to a bracket with line breaks: a last `,` or `;`, and a first `|`.
+MARKS = re.compile(r"[,;](?=[)}\]])|(?<=\[)\|")
+
+# An import without white space: its module, and the imported names. Several imports count as one of all names.
+IMPORT = re.compile(r"((?:pub|unfoldable|ghost)*use[^{};]*\.)\{([^{}]*)\};?")
 
 # The folder with the edits of each crate, in a file CRATE.edits, and the line before an edit.
 EDITS = "tests/mutants/edits"
@@ -122,8 +128,10 @@ def differing_names(then, now):
 
 
 def essence(text):
-    """Returns a text without comments and white space."""
-    return "".join(COMMENT.sub("", text).split())
+    """Returns a text without comments, white space, and the marks of a bracket with line breaks. Each imported name has an
+    import of its own."""
+    bare = MARKS.sub("", "".join(COMMENT.sub("", text).split()))
+    return IMPORT.sub(lambda it: "".join(f"{it[1]}{name};" for name in it[2].split(",")), bare)
 
 
 def edits_since(commit):

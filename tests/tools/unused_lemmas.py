@@ -30,6 +30,7 @@ WIDTH = 120
 ANSWERS = ("Answers", "Invariants", "Proof")
 WORD = re.compile(r"[^\s()\[\]{},;\"λ|]+")
 IMPORT = re.compile(r"(?:ghost |pub |unfoldable pub )?use ([\w.«»]+?)(?:\.\{(.*)\}| as (\w+))?;?$")
+OPEN_IMPORT = re.compile(r"(?:ghost |pub |unfoldable pub )?use [\w.«»]+\.\{$")
 MODULE = re.compile(r"(pub )?mod ")
 HEAD = re.compile(r"((?:(?:abbrev|unfoldable|pub|record|data|ruleset) )*)([^\s:)\]}][^\s:]*)(?= [:({=]| where|$)")
 
@@ -81,6 +82,23 @@ class Scope:
                 yield re.sub(r"^Rattle\.crate\b", self.module, "Rattle." + word.replace("::", "."))
 
 
+def joined(lines):
+    """Yields the lines of a file with their numbers. An import that has its items on lines of their own is one line. So
+    is the head of a module."""
+    whole, first, last = "", 0, ""
+    for number, line in enumerate(lines, 1):
+        text = line.strip()
+        if whole:
+            whole += text if whole.endswith("{") or text.startswith("}") else " " + text
+        elif OPEN_IMPORT.match(text) or text.startswith("module ") and not text.endswith(" where"):
+            whole, first, last = line.rstrip(), number, "}" if text.endswith("{") else " where"
+        else:
+            yield number, line
+        if whole and last in line:
+            yield first, whole.replace(",}", "}")
+            whole = ""
+
+
 def operator(name):
     """Returns an operator as it is written between its arguments."""
     return name.replace("◌", "")
@@ -95,7 +113,7 @@ def read_antt(path, crate):
     module = module_of(path)
     scope, found, blocks = Scope(module), [], []
     with open(path, encoding="utf-8") as lines:
-        for number, line in enumerate(lines, 1):
+        for number, line in joined(lines):
             line = line.partition("-- ")[0].rstrip()
             text = line.lstrip()
             if not text:
@@ -140,7 +158,7 @@ def read_rust(path, crate):
     """Returns the names that a source file cites, and its number of lines of ghost imports."""
     scope, words = Scope(f"Rattle.{crate}"), []
     with open(path, encoding="utf-8") as lines:
-        for line in lines:
+        for _, line in joined(lines):
             line = line.partition("// ")[0].strip()
             if line.startswith("ghost use "):
                 scope.add_import(line)

@@ -1,5 +1,6 @@
 -- The segments of a list, one by one.
-use Rattle.std.proofs.Common.{◌≡◌, ℕ, zero, suc, ◌<◌, ◌≤◌, true, false, List, [], ◌∷◌, ◌++◌, length, take, drop, Option, Some, None, refl, sym, ap, ◌∙◌, append_assoc, length-append, length-drop, arith}
+use Rattle.std.proofs.Common.{◌≡◌, ℕ, zero, suc, ◌<◌, ◌≤◌, true, false, List, [], ◌∷◌, ◌++◌, length, take, drop, Option}
+use Rattle.std.proofs.Common.{Some, None, refl, sym, ap, ◌∙◌, append_assoc, length-append, length-drop, arith}
 use Rattle.std.specs.Prelude.{nat_le, option_map, option_and_then, if◌then◌else◌}
 use Rattle.std.proofs.lemmas.Bool.Decides.{nat_tests}
 use Rattle.std.proofs.lemmas.List.{append-nil, length-map}
@@ -18,7 +19,8 @@ abbrev pub after_first : ℕ → List ℕ → Option Path → Option Path
 after_first n bytes others = if nat_le n (length bytes) then option_map (λ ss. take n bytes ∷ ss) others else None
 
 -- Any two numbers of turns that are at least that of the bytes give the same segments.
-enough : (turns more : ℕ) (bytes : List ℕ) → length bytes ≤ turns → length bytes ≤ more → listed_by turns bytes ≡ listed_by more bytes
+enough : (turns more : ℕ) (bytes : List ℕ) → length bytes ≤ turns → length bytes ≤ more
+    → listed_by turns bytes ≡ listed_by more bytes
 unfolding listed_by
 enough turns more [] fits also = refl
 enough zero more (n ∷ rest) fits also = absurd (omega arith)
@@ -39,13 +41,17 @@ one_more : (front : Path) (segment : List ℕ) (others : Option Path)
 one_more front segment None = refl
 one_more front segment (Some ss) = ap (λ (p : Path). Some p) (append_assoc front (segment ∷ []) ss)
 
-one_more_step : (front : Path) (n : ℕ) (rest list : List ℕ) → n ≤ length rest → after_front front (listed_segments (n ∷ rest)) ≡ listed_segments list
+one_more_step : (front : Path) (n : ℕ) (rest list : List ℕ) → n ≤ length rest
+    → after_front front (listed_segments (n ∷ rest)) ≡ listed_segments list
     → after_front (front ++ take n rest ∷ []) (listed_segments (drop n rest)) ≡ listed_segments list
 one_more_step front n rest list within so_far =
-    let first : after_first n rest (listed_segments (drop n rest)) ≡ option_map (λ ss. take n rest ∷ ss) (listed_segments (drop n rest)) = grind (arith, nat_tests) in
-    one_more front (take n rest) (listed_segments (drop n rest)) ∙ ap (after_front front) (sym first ∙ sym (first_listed n rest)) ∙ so_far
+    let first : after_first n rest (listed_segments (drop n rest))
+    ≡ option_map (λ ss. take n rest ∷ ss) (listed_segments (drop n rest)) = grind (arith, nat_tests) in
+    one_more front (take n rest) (listed_segments (drop n rest))
+    ∙ ap (after_front front) (sym first ∙ sym (first_listed n rest)) ∙ so_far
 
-segments_append : (so_far : List (Bor (List ℕ))) (segment : Bor (List ℕ)) → segment_list (so_far ++ segment ∷ []) ≡ segment_list so_far ++ segment.now ∷ []
+segments_append : (so_far : List (Bor (List ℕ))) (segment : Bor (List ℕ))
+    → segment_list (so_far ++ segment ∷ []) ≡ segment_list so_far ++ segment.now ∷ []
 segments_append [] segment = refl
 segments_append (s ∷ ss) segment = ap (λ (p : Path). s.now ∷ p) (segments_append ss segment)
 
@@ -59,10 +65,12 @@ goes_on so_far segment n size rest behind left list splits is within whole after
     segments_append so_far segment ∙ ap (λ (s : List ℕ). segment_list so_far ++ s ∷ []) whole in
     ap (λ (p : Path). after_front p (listed_segments behind)) all
     ∙ ap (λ (bytes : List ℕ). after_front (segment_list so_far ++ take n rest ∷ []) (listed_segments bytes)) after
-    ∙ one_more_step (segment_list so_far) n rest list within (ap (λ (bytes : List ℕ). after_front (segment_list so_far) (listed_segments bytes)) (sym first) ∙ before)
+    ∙ one_more_step (segment_list so_far) n rest list within
+    (ap (λ (bytes : List ℕ). after_front (segment_list so_far) (listed_segments bytes)) (sym first) ∙ before)
 
 -- No segment is left.
-pub at_end : (so_far : Path) (left list : List ℕ) → length left ≡ 0 → after_front so_far (listed_segments left) ≡ listed_segments list → listed_segments list ≡ Some so_far
+pub at_end : (so_far : Path) (left list : List ℕ) → length left ≡ 0
+    → after_front so_far (listed_segments left) ≡ listed_segments list → listed_segments list ≡ Some so_far
 unfolding listed_segments listed_by
 at_end so_far [] list none before = sym before ∙ ap (λ (p : Path). Some p) (append-nil so_far)
 at_end so_far (n ∷ rest) list none before = absurd (omega arith)
@@ -89,11 +97,14 @@ more_than front segment (Some ss) full =
     let all = length-append front (segment ∷ ss) in
     long (front ++ segment ∷ ss) (omega arith)
 
-pub too_many_listed : (so_far : List (Bor (List ℕ))) (n size : ℕ) (rest left list : List ℕ) → left ≡ size ∷ rest → n ≡ size → n ≤ length rest → length so_far ≡ 16
+pub too_many_listed : (so_far : List (Bor (List ℕ))) (n size : ℕ) (rest left list : List ℕ) → left ≡ size ∷ rest
+    → n ≡ size → n ≤ length rest → length so_far ≡ 16
     → after_front (segment_list so_far) (listed_segments left) ≡ listed_segments list → None ≡ listed_path list
 too_many_listed so_far n size rest left list splits is within full before =
     let split : left ≡ n ∷ rest = splits ∙ ap (λ (k : ℕ). k ∷ rest) (sym is) in
-    let first : after_first n rest (listed_segments (drop n rest)) ≡ option_map (λ ss. take n rest ∷ ss) (listed_segments (drop n rest)) = grind (arith, nat_tests) in
-    more_than (segment_list so_far) (take n rest) (listed_segments (drop n rest)) (length-map so_far (λ s. s.now) ∙ full)
+    let first : after_first n rest (listed_segments (drop n rest))
+    ≡ option_map (λ ss. take n rest ∷ ss) (listed_segments (drop n rest)) = grind (arith, nat_tests) in
+    more_than (segment_list so_far) (take n rest) (listed_segments (drop n rest))
+    (length-map so_far (λ s. s.now) ∙ full)
     ∙ ap (λ (s : Option Path). option_and_then path_with s)
     (ap (after_front (segment_list so_far)) (sym (ap listed_segments split ∙ first_listed n rest ∙ first)) ∙ before)

@@ -24,13 +24,18 @@ handle_of at value = record { at = at; value = value }
 
 module _ {M : Type 1} {𝓤 : Ura M} {𝓛 : Logic 𝓤} {K : Type 0} {Γ : List (Item 𝓤)} {G : Goal 𝓤 𝓛.H} where
   -- A handle is made of its address and of what it owns.
-  pub handle_in : K → (at : Ptr) (x : Option ServerValue) → Step K 𝓛 (‵ (Handle.own_val (handle_of at x) (handle_val at ∷ [])) ∷ Γ) G (‵ (server_slot at x) ∷ Γ) G
+  pub handle_in : K → (at : Ptr) (x : Option ServerValue)
+      → Step K 𝓛 (‵ (Handle.own_val (handle_of at x) (handle_val at ∷ [])) ∷ Γ) G (‵ (server_slot at x) ∷ Γ) G
   handle_in t at x = step (λ s. let v : Val = handle_val at in
-      nothing t $ feq_i t (List Val) (ptr_val at ∷ []) (ptr_val at ∷ []) refl $ fjoin t $ feq_i t (List Val) (v ∷ []) (v ∷ []) refl $ fjoin t $
-      fpack t (Valss (RawPtr ∷ [])) (within (shape handle.the_type) (at, tt) (v ∷ [])) (ptr_val at ∷ [], tt) $ fjoin t $ s)
+      nothing t $ feq_i t (List Val) (ptr_val at ∷ []) (ptr_val at ∷ []) refl $ fjoin t
+      $ feq_i t (List Val) (v ∷ []) (v ∷ []) refl $ fjoin t $
+      fpack t (Valss (RawPtr ∷ [])) (within (shape handle.the_type) (at, tt) (v ∷ [])) (ptr_val at ∷ [], tt)
+      $ fjoin t $ s)
 
   -- A handle is taken apart into its address and what it owns.
-  pub handle_out : K → (d : Handle.Denot) (vs : List Val) → (vs ≡ handle_val d.at ∷ [] → Seq K 𝓛 (‵ (server_slot d.at d.value) ∷ Γ) G) → Seq K 𝓛 (‵ (Handle.own_val d vs) ∷ Γ) G
+  pub handle_out : K → (d : Handle.Denot) (vs : List Val)
+      → (vs ≡ handle_val d.at ∷ [] → Seq K 𝓛 (‵ (server_slot d.at d.value) ∷ Γ) G)
+      → Seq K 𝓛 (‵ (Handle.own_val d vs) ∷ Γ) G
   handle_out t d vs k =
       fsplit t $ fpick t (λ vss. fsplit t $ feq_l t (λ ev. fsplit t $ feq_l t (λ ep. drop t $ k
       (subst (λ (ps : List Val). vs ≡ vstruct (of_list (ps ++ [])) ∷ []) ep ev))))

@@ -1,4 +1,5 @@
--- Defined by this project: the results of the calls on the handle of entries, and of the call that makes a server of them.
+-- Defined by this project: the results of the calls on the handle of entries, and of the call that makes a
+-- server of them.
 use Rattle.std.specs.Prelude.{◌≡◌, ℕ, Bool, true, false, ◌==◌, List, [], Option, Some, None, option_map, ◌⊎◌}
 use Rattle.coap_path.specs.Paths.{Path}
 use Rattle.coap_path.specs.Applications.{ApplicationsValue}
@@ -29,14 +30,17 @@ IsCreated deadline (Some a) a' r = (r ≡ 3) × (a' ≡ Some a)
 
 -- ---- add
 
--- The entry is added at the end. Otherwise the call fails with 2, because an allocation failed, or with the number of the
--- entry's error, and changes nothing.
+-- The entry is added at the end. Otherwise the call fails with 2, because an allocation failed, or with the number of
+-- the entry's error, and changes nothing.
 abbrev pub AddsEntry : Path → (methods attributes : List ℕ) → ApplicationsValue → ApplicationsValue → ℕ → Type 0
 AddsEntry path methods attributes a a' r = ((r ≡ 2) × (a' ≡ a))
-    ⊎ Answers (Unit {0}) (option_map entry_code (entry_refusal a.entries path methods attributes)) (a' ≡ with_entry a path methods attributes) a a' r
+    ⊎ Answers (Unit {0}) (option_map entry_code (entry_refusal a.entries path methods attributes))
+    (a' ≡ with_entry a path methods attributes) a a' r
 
 abbrev pub IsAdded : List ℕ → ℕ → List ℕ → Option ApplicationsValue → Option ApplicationsValue → ℕ → Type 0
-IsAdded text bits attributes = OnHandle (Unit {0}) (AtPath (Unit {0}) (text_path text) (λ path a a' r. AddsEntry path (methods_named bits) attributes a a' r))
+IsAdded text bits attributes =
+    OnHandle (Unit {0})
+    (AtPath (Unit {0}) (text_path text) (λ path a a' r. AddsEntry path (methods_named bits) attributes a a' r))
 
 -- ---- a server of the entries
 
@@ -55,8 +59,9 @@ MadeForUnless None s a a' v' r = TakesEntries s a a' v' r
 MadeForUnless (Some number) s a a' v' r = (r ≡ number) × ((a' ≡ a) × (v' ≡ None))
 
 -- `new_for` returns 3 if the handle has a server, then the number of a value out of range, then 1 if there are no
--- entries. Both handles are as before then. Otherwise it takes the entries: it fails with 2, and the handle stays empty,
--- or it makes the server.
-abbrev pub IsMadeFor : Settings → (a a' : Option ApplicationsValue) → Option ServerValue → Option ServerValue → ℕ → Type 0
+-- entries. Both handles are as before then. Otherwise it takes the entries: it fails with 2, and the handle stays
+-- empty, or it makes the server.
+abbrev pub IsMadeFor : Settings → (a a' : Option ApplicationsValue) → Option ServerValue
+    → Option ServerValue → ℕ → Type 0
 IsMadeFor s a a' None v' r = MadeForUnless (settings_refusal s) s a a' v' r
 IsMadeFor s a a' (Some v) v' r = (r ≡ 3) × ((a' ≡ a) × (v' ≡ Some v))

@@ -1,5 +1,5 @@
--- Defined by this project: the bytes that a call on a handle lends. A span is the place of bytes in memory. Only the bytes
--- of an input have a place that contracts know.
+-- Defined by this project: the bytes that a call on a handle lends. A span is the place of bytes in memory. Only the
+-- bytes of an input have a place that contracts know.
 use Rattle.std.specs.Prelude.{◌≡◌, ℕ, List, length, take, Option, Some, None}
 use denote.RawPtr.{Ptr, null_ptr, block_ptr}
 use denote.Ref.{Bor}
@@ -20,8 +20,9 @@ unfoldable pub IsInPiece : List ℕ → ℕ → Option (List ℕ) → Type 0
 IsInPiece piece bytes None = Unit {0}
 IsInPiece piece bytes (Some frame) = length frame ≡ bytes → take bytes piece ≡ frame
 
--- The span of a frame that the first `bytes` bytes of `piece` end, or of no bytes. A frame that has no other bytes is these
--- bytes, and the span is their place. If earlier calls accepted bytes of the frame, its place is not specified.
+-- The span of a frame that the first `bytes` bytes of `piece` end, or of no bytes. A frame that has no other bytes is
+-- these bytes, and the span is their place. If earlier calls accepted bytes of the frame, its place is not specified.
 abbrev pub LendsFrame : Bor (List ℕ) → ℕ → Span → Option (List ℕ) → Type 0
 LendsFrame piece bytes s None = HasCount 0 s
-LendsFrame piece bytes s (Some frame) = HasCount (length frame) s × (length frame ≡ bytes → (s ≡ span_at piece 0 bytes) × (take bytes piece.now ≡ frame))
+LendsFrame piece bytes s (Some frame) =
+    HasCount (length frame) s × (length frame ≡ bytes → (s ≡ span_at piece 0 bytes) × (take bytes piece.now ≡ frame))

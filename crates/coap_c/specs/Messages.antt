@@ -1,5 +1,6 @@
 -- Defined by this project: the results of the calls on messages. `r` is the number that the call returns.
-use Rattle.std.specs.Prelude.{◌≡◌, ℕ, ◌+◌, ◌≤◌, List, [], ◌∷◌, ◌++◌, length, take, drop, Option, Some, None, Result, Ok, Err, nat_lt, ◌==◌, if◌then◌else◌}
+use Rattle.std.specs.Prelude.{◌≡◌, ℕ, ◌+◌, ◌≤◌, List, [], ◌∷◌, ◌++◌, length, take, drop, Option, Some, None, Result, Ok}
+use Rattle.std.specs.Prelude.{Err, nat_lt, ◌==◌, if◌then◌else◌}
 use denote.Ref.{Bor}
 use Rattle.coap_handle.specs.Spans.{span_at}
 use Rattle.coap_handle.specs.declared.span.Span.{Span}
@@ -50,7 +51,8 @@ IsPathOf (Err e) buffer buffer' count count' r = (r ≡ format_code e) × ((buff
 -- option counts from `base`.
 abbrev pub first_option : ℕ → List ℕ → Option (Result (CoapOption × List ℕ) FormatFault)
 first_option base [] = None
-first_option base (b ∷ s) = if b == 255 then None else Some (if nat_lt 65535 base then Err format.OptionNumber else option_at base b s)
+first_option base (b ∷ s) =
+    if b == 255 then None else Some (if nat_lt 65535 base then Err format.OptionNumber else option_at base b s)
 
 -- The place of an iteration over options.
 pub record OptionPlace : Type 0 where
@@ -91,7 +93,8 @@ append_refusal room count last number value =
 
 abbrev pub IsAppended : Option ℕ → List ℕ → ℕ → (b b' : OptionBuffer) → ℕ → Type 0
 IsAppended (Some refusal) value number b b' r = (r ≡ refusal) × (b' ≡ b)
-IsAppended None value number b b' r = (r ≡ 0) × ((b'.count ≡ b.count + length (option_bytes b.last number value)) × ((b'.last ≡ number)
+IsAppended None value number b b' r =
+    (r ≡ 0) × ((b'.count ≡ b.count + length (option_bytes b.last number value)) × ((b'.last ≡ number)
     × (b'.bytes ≡ take b.count b.bytes ++ (option_bytes b.last number value ++ drop b'.count b.bytes))))
 
 -- ---- write a message
@@ -111,19 +114,23 @@ coded_options bytes = options_alone (body_at 0 bytes)
 
 -- The message with these encoded options.
 abbrev pub message_with : ℕ → List ℕ → List ℕ → List ℕ → Message
-message_with code token options payload = record { code = code; token = token; options = options_in 0 options; payload = payload }
+message_with code token options payload =
+    record { code = code; token = token; options = options_in 0 options; payload = payload }
 
 abbrev pub write_refusal_for : Option (List CoapOption) → Message → ℕ → Option ℕ
 write_refusal_for None m room = Some 19
 write_refusal_for (Some os) m room =
-    if nat_lt LARGEST_MESSAGE (length (body_spelling m)) then Some 20 else (if nat_lt room (length (spelling m)) then Some 16 else None)
+    if nat_lt LARGEST_MESSAGE (length (body_spelling m)) then Some 20
+    else (if nat_lt room (length (spelling m)) then Some 16 else None)
 
 -- The number of the first error, for a buffer of `room` bytes.
 abbrev pub write_refusal : Message → Option (List CoapOption) → ℕ → Option ℕ
 write_refusal m coded room =
-    if nat_lt 255 m.code then Some 17 else (if nat_lt greatest_token (length m.token) then Some 18 else write_refusal_for coded m room)
+    if nat_lt 255 m.code then Some 17
+    else (if nat_lt greatest_token (length m.token) then Some 18 else write_refusal_for coded m room)
 
 -- The buffer begins with the encoding, and its other bytes are the same.
 abbrev pub IsWritten : Option ℕ → Message → (buffer buffer' : List ℕ) → (count count' : ℕ) → ℕ → Type 0
 IsWritten (Some refusal) m buffer buffer' count count' r = (r ≡ refusal) × ((buffer' ≡ buffer) × (count' ≡ count))
-IsWritten None m buffer buffer' count count' r = (r ≡ 0) × ((count' ≡ length (spelling m)) × (buffer' ≡ spelling m ++ drop count' buffer))
+IsWritten None m buffer buffer' count count' r =
+    (r ≡ 0) × ((count' ≡ length (spelling m)) × (buffer' ≡ spelling m ++ drop count' buffer))

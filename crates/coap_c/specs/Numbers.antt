@@ -3,7 +3,8 @@
 -- - 3: `new` on a handle that has an engine. 4: the text is not a path. 5: a value that is one of a few is none of
 --   them.
 -- - From 16 on: the errors of the call itself. Each is 15 plus the number of the engine's error. The errors of a
---   configuration, after those of the limits, are 31 plus their number. So are those of a request, after those of a URI.
+--   configuration, after those of the limits, are 31 plus their number. So are those of a request, after
+--   those of a URI.
 use Rattle.std.specs.Prelude.{ℕ}
 use Rattle.coap_conn.specs.Reasons.{reason_number}
 use Rattle.coap_conn.specs.declared.phase.Phase.{Phase}

@@ -1,5 +1,7 @@
 -- Defined by this project: the path, the Content-Format and the methods that C names.
-use Rattle.std.specs.Prelude.{◌≡◌, ◌≢◌, ℕ, zero, suc, ◌+◌, ◌/◌, ◌%◌, Bool, true, false, List, [], ◌∷◌, ◌++◌, length, take, drop, Option, Some, None, option_map, option_and_then, nat_le, nat_lt, ◌==◌, ◌⊎◌, if◌then◌else◌}
+use Rattle.std.specs.Prelude.{◌≡◌, ◌≢◌, ℕ, zero, suc, ◌+◌, ◌/◌, ◌%◌, Bool, true, false, List, [], ◌∷◌, ◌++◌, length}
+use Rattle.std.specs.Prelude.{take, drop, Option, Some, None, option_map, option_and_then, nat_le, nat_lt, ◌==◌, ◌⊎◌}
+use Rattle.std.specs.Prelude.{if◌then◌else◌}
 use Rattle.coap_path.specs.Paths.{Path, is_path}
 use Rattle.coap_text.specs.Words.{parts}
 
@@ -21,10 +23,11 @@ unfoldable pub listed_by : (turns : ℕ) → List ℕ → Option Path
 listed_by turns [] = Some []
 listed_by zero (n ∷ rest) = None
 listed_by (suc turns) (n ∷ rest) =
-    if nat_le n (length rest) then option_map (λ segments. take n rest ∷ segments) (listed_by turns (drop n rest)) else None
+    if nat_le n (length rest)
+    then option_map (λ segments. take n rest ∷ segments) (listed_by turns (drop n rest)) else None
 
--- The segments of a list: each is a byte with its length, followed by that many bytes. The empty list has none. `None` if
--- the last segment is truncated. Each segment takes at least one byte, so their number is at most that of the bytes.
+-- The segments of a list: each is a byte with its length, followed by that many bytes. The empty list has none. `None`
+-- if the last segment is truncated. Each segment takes at least one byte, so their number is at most that of the bytes.
 unfoldable pub listed_segments : List ℕ → Option Path
 listed_segments list = listed_by (length list) list
 
@@ -48,13 +51,15 @@ WritesNothing number buffer buffer' count count' r = (r ≡ number) × ((buffer'
 -- A text was written to the start of a buffer, whose other bytes are the same, unless the buffer is too short for it.
 abbrev pub WritesText : (short : Bool) → List ℕ → (buffer buffer' : List ℕ) → (count count' : ℕ) → ℕ → Type 0
 WritesText true text buffer buffer' count count' r = WritesNothing 23 buffer buffer' count count' r
-WritesText false text buffer buffer' count count' r = (r ≡ 0) × ((count' ≡ length text) × (buffer' ≡ text ++ drop count' buffer))
+WritesText false text buffer buffer' count count' r =
+    (r ≡ 0) × ((count' ≡ length text) × (buffer' ≡ text ++ drop count' buffer))
 
 -- The text that names a path was written, or 4 says that no text names it, or that there is no path.
 abbrev pub IsPathWritten : Option Path → (buffer buffer' : List ℕ) → (count count' : ℕ) → ℕ → Type 0
 IsPathWritten None buffer buffer' count count' r = WritesNothing 4 buffer buffer' count count' r
 IsPathWritten (Some path) buffer buffer' count count' r =
-    ((text : List ℕ) × (text_path text ≡ Some path) × WritesText (nat_lt (length buffer) (length text)) text buffer buffer' count count' r)
+    ((text : List ℕ) × (text_path text ≡ Some path)
+    × WritesText (nat_lt (length buffer) (length text)) text buffer buffer' count count' r)
     ⊎ (HasNoText path × WritesNothing 4 buffer buffer' count count' r)
 
 -- The Content-Format that a number names: itself if it has 16 bits, otherwise none.
@@ -69,7 +74,8 @@ format_number None = 65536
 -- The numbers from `n` on whose bits are set in `bits`, whose first bit is that of `n`, among the next `count` bits.
 abbrev pub set_bits : (count bits n : ℕ) → List ℕ
 set_bits zero bits n = []
-set_bits (suc count) bits n = if bits % 2 == 1 then n ∷ set_bits count (bits / 2) (n + 1) else set_bits count (bits / 2) (n + 1)
+set_bits (suc count) bits n =
+    if bits % 2 == 1 then n ∷ set_bits count (bits / 2) (n + 1) else set_bits count (bits / 2) (n + 1)
 
 -- The codes of class 0 whose bits are set.
 abbrev pub methods_named : ℕ → List ℕ

@@ -1,5 +1,6 @@
 -- Defined by this project: the request and the URI that a C program names.
-use Rattle.std.specs.Prelude.{◌≡◌, ℕ, ◌+◌, Bool, true, false, List, ◌∷◌, ◌++◌, length, drop, Option, Some, None, Result, Ok, Err, nat_lt, ◌==◌, if◌then◌else◌, ◌⊎◌}
+use Rattle.std.specs.Prelude.{◌≡◌, ℕ, ◌+◌, Bool, true, false, List, ◌∷◌, ◌++◌, length, drop, Option, Some, None, Result}
+use Rattle.std.specs.Prelude.{Ok, Err, nat_lt, ◌==◌, if◌then◌else◌, ◌⊎◌}
 use Rattle.std.specs.Str.{IsUtf8}
 use Rattle.coap_request.specs.Requests.{ExtrasValue}
 use Rattle.coap_request.specs.Targets.{TargetValue, target_of}
@@ -14,7 +15,8 @@ use Rattle.coap_c.specs.declared.requests.Request.{Request}
 -- The method whose code has this detail.
 abbrev pub method_named : ℕ → Option Method
 method_named n =
-    if n == 1 then Some method.Get else (if n == 2 then Some method.Post else (if n == 3 then Some method.Put else (if n == 4 then Some method.Delete else None)))
+    if n == 1 then Some method.Get else (if n == 2 then Some method.Post
+    else (if n == 3 then Some method.Put else (if n == 4 then Some method.Delete else None)))
 
 abbrev pub flag_named : ℕ → Option Bool
 flag_named n = if n == 0 then Some false else (if n == 1 then Some true else None)
@@ -41,7 +43,9 @@ asked r payload = asked_with r payload (method_named r.method) (flag_named r.obs
 
 -- The number of the error of a URI: 2 for memory, 16 if the text is not UTF-8, otherwise that of its first error.
 abbrev pub IsUriRefusal : List ℕ → ℕ → Type 0
-IsUriRefusal uri r = (r ≡ 2) ⊎ (((r ≡ 16) × ¬ (IsUtf8 uri)) ⊎ (IsUtf8 uri × ((why : TargetFault) × ((target_of uri ≡ Err why) × (r ≡ target_code why)))))
+IsUriRefusal uri r =
+    (r ≡ 2) ⊎ (((r ≡ 16) × ¬ (IsUtf8 uri))
+    ⊎ (IsUtf8 uri × ((why : TargetFault) × ((target_of uri ≡ Err why) × (r ≡ target_code why)))))
 
 -- The target of a URI, or the number of its error.
 abbrev pub GivesTarget : List ℕ → Result TargetValue ℕ → Type 0
@@ -51,9 +55,11 @@ GivesTarget uri (Err r) = IsUriRefusal uri r
 -- The host of a target and a zero byte, at the start of a buffer that has room for them, and its other parts.
 abbrev pub HasPlace : Bool → TargetValue → (host host' : List ℕ) → (p p' : Place) → ℕ → Type 0
 HasPlace false t host host' p p' r = (r ≡ 23) × ((host' ≡ host) × (p' ≡ p))
-HasPlace true t host host' p p' r = (r ≡ 0) × ((host' ≡ t.host ++ (0 ∷ drop (length t.host + 1) host)) × ((p'.host ≡ length t.host)
+HasPlace true t host host' p p' r =
+    (r ≡ 0) × ((host' ≡ t.host ++ (0 ∷ drop (length t.host + 1) host)) × ((p'.host ≡ length t.host)
     × ((p'.is_address ≡ (if t.is_address then 1 else 0)) × (p'.port ≡ t.port))))
 
 abbrev pub IsLocated : List ℕ → (host host' : List ℕ) → (p p' : Place) → ℕ → Type 0
 IsLocated uri host host' p p' r = (IsUriRefusal uri r × ((host' ≡ host) × (p' ≡ p)))
-    ⊎ (IsUtf8 uri × ((t : TargetValue) × ((target_of uri ≡ Ok t) × HasPlace (nat_lt (length t.host) (length host)) t host host' p p' r)))
+    ⊎ (IsUtf8 uri × ((t : TargetValue)
+    × ((target_of uri ≡ Ok t) × HasPlace (nat_lt (length t.host) (length host)) t host host' p p' r)))

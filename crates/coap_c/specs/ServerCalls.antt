@@ -1,17 +1,24 @@
 -- Defined by this project: the results of the calls on the handle of a server.
-use Rattle.std.specs.Prelude.{◌≡◌, ℕ, ◌+◌, List, [], ◌∷◌, ◌++◌, true, length, take, Option, Some, None, option_map, option_and_then, nat_le, if◌then◌else◌, ◌⊎◌}
+use Rattle.std.specs.Prelude.{◌≡◌, ℕ, ◌+◌, List, [], ◌∷◌, ◌++◌, true, length, take, Option, Some, None, option_map}
+use Rattle.std.specs.Prelude.{option_and_then, nat_le, if◌then◌else◌, ◌⊎◌}
 use Rattle.coap_path.specs.Paths.{Path}
 use Rattle.coap_path.specs.ResourceKinds.{kind_of_path, is_dynamic}
 use Rattle.coap_store.specs.Refusals.{put_refusal, remove_refusal}
 use Rattle.coap_model.specs.declared.answers.Status.{Status}
-use Rattle.coap_model.specs.world.Events.{AcceptedCall, Opened, Took, Wrote, Ticked, Stored, Removed, Ended, Released, Announced, Dropped}
+use Rattle.coap_model.specs.world.Events.{AcceptedCall, Opened, Took, Wrote, Ticked, Stored, Removed, Ended, Released}
+use Rattle.coap_model.specs.world.Events.{Announced, Dropped}
 use Rattle.coap_server_session.specs.values.SessionAnswers.{announced_refusal_on, WantsRoom}
 use Rattle.coap_server_session.specs.values.Sessions.{SessionValue}
 use Rattle.coap_server_engine.specs.values.Flushes.{waiting_at}
-use Rattle.coap_server_engine.specs.values.ServerAnswers.{open_refusal, written_refusal, released_refusal, handled_by, RefusesPieceOn, status_of}
-use Rattle.coap_server_engine.specs.values.Servers.{ServerValue, session_of, is_there, new_server, count_taken, server_opened, server_taken, server_written, server_ticked, server_put, server_removed, server_ended, server_released, server_announced, server_dropped, server_given}
+use Rattle.coap_server_engine.specs.values.ServerAnswers.{open_refusal, written_refusal, released_refusal, handled_by}
+use Rattle.coap_server_engine.specs.values.ServerAnswers.{RefusesPieceOn, status_of}
+use Rattle.coap_server_engine.specs.values.Servers.{ServerValue, session_of, is_there, new_server, count_taken}
+use Rattle.coap_server_engine.specs.values.Servers.{server_opened, server_taken, server_written, server_ticked}
+use Rattle.coap_server_engine.specs.values.Servers.{server_put, server_removed, server_ended, server_released}
+use Rattle.coap_server_engine.specs.values.Servers.{server_announced, server_dropped, server_given}
 use Rattle.coap_server_engine.specs.world.Shows.{Shows}
-use Rattle.coap_c.specs.Numbers.{open_code, written_code, store_code, release_code, announce_code, handled_code, handled_reason, phase_code, phase_reason, response_code, reply_code}
+use Rattle.coap_c.specs.Numbers.{open_code, written_code, store_code, release_code, announce_code, handled_code}
+use Rattle.coap_c.specs.Numbers.{handled_reason, phase_code, phase_reason, response_code, reply_code}
 use Rattle.coap_c.specs.Loans.{HasCount, LendsFrame}
 use Rattle.coap_c.specs.PathTexts.{format_number}
 use Rattle.coap_c.specs.Results.{OnHandle, AtPath, Answers, AnswersOrMemory}
@@ -63,12 +70,14 @@ IsOpened id id' = OnHandle (id' ≡ id) (λ v v' r. AnswersOrMemory (id' ≡ id)
 
 -- A result that reports nothing but accepted bytes.
 abbrev pub IsTookBytes : ℕ → TookResult → Type 0
-IsTookBytes bytes t = (t.bytes ≡ bytes) × ((t.handled ≡ 0) × ((t.reason ≡ 0) × (HasCount 0 t.request × HasCount 0 t.changed)))
+IsTookBytes bytes t =
+    (t.bytes ≡ bytes) × ((t.handled ≡ 0) × ((t.reason ≡ 0) × (HasCount 0 t.request × HasCount 0 t.changed)))
 
 abbrev pub IsBlank : TookResult → Type 0
 IsBlank t = IsTookBytes 0 t
 
--- The stores of the worlds before and after a `take` differ at the path of the request that is reported, and nowhere else.
+-- The stores of the worlds before and after a `take` differ at the path of the request that is reported,
+-- and nowhere else.
 abbrev pub Alters : ℕ → List ℕ → ℕ → ServerValue → Type 0
 Alters id piece bytes v = (events : List AcceptedCall) → Shows v events →
     ChangesBy v.config events (Took id (take bytes piece)) (option_and_then frame_key (changing_frame v id piece))
@@ -105,22 +114,30 @@ IsTicked now = OnHandle Nothing (λ v v' r. Answers Nothing (if nat_le v.host.no
     (Does (Ticked now) (server_ticked v now) v v') v v' r)
 
 -- `put` at the path that C names, if it names one.
-abbrev pub IsPut : Option Path → Option ℕ → List ℕ → (version version' : ℕ) → Option ServerValue → Option ServerValue → ℕ → Type 0
-IsPut named format bytes version version' = OnHandle (version' ≡ version) (AtPath (version' ≡ version) named (λ path v v' r.
+abbrev pub IsPut : Option Path → Option ℕ → List ℕ → (version version' : ℕ) → Option ServerValue
+    → Option ServerValue → ℕ → Type 0
+IsPut named format bytes version version' =
+    OnHandle (version' ≡ version) (AtPath (version' ≡ version) named (λ path v v' r.
     AnswersOrMemory (version' ≡ version) (option_map store_code (put_refusal v.host.store path bytes))
-    ((version' ≡ v.host.store.versions + 1) × Does (Stored path format bytes) (server_put v path format bytes) v v') v v' r))
+    ((version' ≡ v.host.store.versions + 1) × Does (Stored path format bytes) (server_put v path format bytes) v v') v
+    v' r))
 
 -- `remove` at the path that C names, if it names one.
 abbrev pub IsRemoved : Option Path → Option ServerValue → Option ServerValue → ℕ → Type 0
 IsRemoved named = OnHandle Nothing (AtPath Nothing named (λ path v v' r.
-    Answers Nothing (option_map store_code (remove_refusal v.host.store path)) (Does (Removed path) (server_removed v path) v v') v v' r))
+    Answers Nothing (option_map store_code (remove_refusal v.host.store path))
+    (Does (Removed path) (server_removed v path) v v') v v' r))
 
 -- ---- the application
 
 abbrev pub IsResponded : ℕ → List ℕ → (reply reply' : ℕ) → Option ServerValue → Option ServerValue → ℕ → Type 0
-IsResponded id response reply reply' = OnHandle (reply' ≡ reply) (λ v v' r. Answers (reply' ≡ reply) (option_map response_code (responded_refusal v id response))
+IsResponded id response reply reply' =
+    OnHandle (reply' ≡ reply)
+    (λ v v' r. Answers (reply' ≡ reply) (option_map response_code (responded_refusal v id response))
     (((queued : Reply) × (IsReplyOn response queued (session_of id v.sessions) × (reply' ≡ reply_code queued)))
-    × ((v' ≡ server_given v id response) × ((events : List AcceptedCall) → Shows v events → Shows v' (events ++ response_event id (message_of response))))) v v' r)
+    × ((v' ≡ server_given v id response)
+    × ((events : List AcceptedCall) → Shows v events → Shows v' (events ++ response_event id (message_of response)))))
+    v v' r)
 
 -- ---- connections
 
@@ -130,13 +147,19 @@ absent_code None = Some 16
 absent_code (Some s) = None
 
 abbrev pub IsEnded : ℕ → Option ServerValue → Option ServerValue → ℕ → Type 0
-IsEnded id = OnHandle Nothing (λ v v' r. Answers Nothing (absent_code (session_of id v.sessions)) (Does (Ended id) (server_ended v id) v v') v v' r)
+IsEnded id =
+    OnHandle Nothing (λ v v' r. Answers Nothing (absent_code (session_of id v.sessions))
+    (Does (Ended id) (server_ended v id) v v') v v' r)
 
 abbrev pub IsDropped : ℕ → Option ServerValue → Option ServerValue → ℕ → Type 0
-IsDropped id = OnHandle Nothing (λ v v' r. Answers Nothing (absent_code (session_of id v.sessions)) (Does (Dropped id) (server_dropped v id) v v') v v' r)
+IsDropped id =
+    OnHandle Nothing (λ v v' r. Answers Nothing (absent_code (session_of id v.sessions))
+    (Does (Dropped id) (server_dropped v id) v v') v v' r)
 
 abbrev pub IsReleased : ℕ → Option ServerValue → Option ServerValue → ℕ → Type 0
-IsReleased id = OnHandle Nothing (λ v v' r. Answers Nothing (option_map release_code (released_refusal v id)) (Does (Released id) (server_released v id) v v') v v' r)
+IsReleased id =
+    OnHandle Nothing (λ v v' r. Answers Nothing (option_map release_code (released_refusal v id))
+    (Does (Released id) (server_released v id) v v') v v' r)
 
 -- An announcement can also fail with 2, but only if the size is above the current one.
 abbrev pub AnnouncedOrMemory : ℕ → ℕ → Option ℕ → ServerValue → ServerValue → ℕ → Type 0
@@ -162,11 +185,14 @@ HasParts id v v' parts parts' r = OnHandle (parts' ≡ parts) (λ x x' n. AsksOn
 
 -- The fields of a status.
 abbrev pub ShowsStatus : ConnectionStatus → Status → Type 0
-ShowsStatus c s = (c.phase ≡ phase_code s.phase) × ((c.reason ≡ phase_reason s.phase) × ((c.kept ≡ s.kept) × ((c.waiting ≡ s.waiting)
-    × ((c.pending ≡ s.pending) × ((c.observers ≡ s.observers) × ((c.peer_max ≡ s.peer_max) × (c.finished ≡ (if s.finished then 1 else 0))))))))
+ShowsStatus c s =
+    (c.phase ≡ phase_code s.phase) × ((c.reason ≡ phase_reason s.phase) × ((c.kept ≡ s.kept) × ((c.waiting ≡ s.waiting)
+    × ((c.pending ≡ s.pending)
+    × ((c.observers ≡ s.observers) × ((c.peer_max ≡ s.peer_max) × (c.finished ≡ (if s.finished then 1 else 0))))))))
 
 abbrev pub HasStatus : ℕ → (status status' : ConnectionStatus) → Option ServerValue → Option ServerValue → ℕ → Type 0
-HasStatus id status status' = OnHandle (status' ≡ status) (λ v v' r. AsksOn (status' ≡ status) (ShowsStatus status') (status_of v id) v v' r)
+HasStatus id status status' =
+    OnHandle (status' ≡ status) (λ v v' r. AsksOn (status' ≡ status) (ShowsStatus status') (status_of v id) v v' r)
 
 -- The fields of the state of a resource. Of its bytes, only their number is specified.
 abbrev pub ShowsState : ResourceState → Representation → Type 0
@@ -177,6 +203,7 @@ abbrev pub lent_state : ServerValue → Path → Option Representation
 lent_state v path = if is_dynamic (kind_of_path path) then state_of v.host.store v.host.now path else None
 
 -- `state` at the path that C names, if it names one.
-abbrev pub HasState : Option Path → (state state' : ResourceState) → Option ServerValue → Option ServerValue → ℕ → Type 0
+abbrev pub HasState : Option Path → (state state' : ResourceState) → Option ServerValue
+    → Option ServerValue → ℕ → Type 0
 HasState named state state' = OnHandle (state' ≡ state) (AtPath (state' ≡ state) named (λ path v v' r.
     AsksOn (state' ≡ state) (ShowsState state') (lent_state v path) v v' r))

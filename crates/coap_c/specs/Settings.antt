@@ -13,7 +13,8 @@ settings_limits s = limits_of s.max_message s.max_sent s.queue s.pending s.obser
 -- The configuration.
 abbrev pub settings_config : Settings → ConfigValues
 settings_config s =
-    config_of (settings_limits s) s.connections s.dynamic_max s.rep_max s.turns (record { moment = s.moment; versions = s.versions; ids = s.ids })
+    config_of (settings_limits s) s.connections s.dynamic_max s.rep_max s.turns
+    (record { moment = s.moment; versions = s.versions; ids = s.ids })
 
 -- The number of the first limit that is out of range, otherwise of the first other value.
 abbrev pub refusal_after : Option LimitFault → ConfigValues → Option ℕ

@@ -78,8 +78,8 @@ pub extern "C" fn dachreup_applications_free(alloc: Global, handle: &mut Applica
     }
 }
 
-/// Makes a server whose application answers the requests of the entries, if its handle is empty. Takes the entries out of
-/// their handle.
+/// Makes a server whose application answers the requests of the entries, if its handle is empty. Takes the entries out
+/// of their handle.
 #[unsafe(no_mangle)]
 pub extern "C" fn dachreup_server_new_for(
     alloc: Global,

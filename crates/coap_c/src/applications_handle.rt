@@ -61,7 +61,8 @@ impl ApplicationsHandle {
 
     /// Takes the entries out of a handle, which is empty then. Returns `None` if the handle has none.
     pub(crate) fn take_applications(&mut self, alloc: Global) -> Option<Box<Applications>>
-        ensures value { MatchOption result (self.old.value ≡ None) (λ applications. self.old.value ≡ Some applications.value) }
+        ensures value { MatchOption result (self.old.value ≡ None)
+            (λ applications. self.old.value ≡ Some applications.value) }
         ensures empty { self.new.value ≡ None }
     {
         let parts = replace(self, ApplicationsHandle::empty()).into_parts(alloc)?;

@@ -72,7 +72,8 @@ pub extern "C" fn dachreup_option_next(
     value: &mut Span,
 ) -> u32
     ensures { spec.IsNext options.entry (record { at = at.old; number = number.old; value = value.old })
-        (record { at = at.new; number = number.new; value = value.new }) (spec.first_option number.old (drop at.old options.now)) result }
+        (record { at = at.new; number = number.new; value = value.new })
+        (spec.first_option number.old (drop at.old options.now)) result }
 {
     let Some((first, after)) = bytes_from(options, *at).split_first() else {
         return 16;
@@ -103,7 +104,8 @@ pub extern "C" fn dachreup_option_write(
     number: u32,
     value: &[u8],
 ) -> u32
-    ensures { spec.IsAppended (spec.append_refusal (len options.old) length.old last.old number value.now) value.now number
+    ensures { spec.IsAppended (spec.append_refusal (len options.old) length.old last.old number value.now)
+        value.now number
         (record { bytes = options.old; count = length.old; last = last.old })
         (record { bytes = options.new; count = length.new; last = last.new }) result }
 {
@@ -136,7 +138,8 @@ pub extern "C" fn dachreup_message_write(
     buffer: &mut [u8],
     length: &mut usize,
 ) -> u32
-    ensures { spec.IsWritten (spec.write_refusal (spec.message_with code token.now options.now payload.now) (spec.coded_options options.now) (len buffer.old))
+    ensures { spec.IsWritten (spec.write_refusal (spec.message_with code token.now options.now payload.now)
+        (spec.coded_options options.now) (len buffer.old))
         (spec.message_with code token.now options.now payload.now) buffer.old buffer.new length.old length.new result }
 {
     let Ok(code) = u8::try_from(code) else {

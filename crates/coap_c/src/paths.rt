@@ -51,8 +51,8 @@ pub(crate) fn path_in(text: &[u8]) -> Option<PathKey>
     PathKey::from_segments(segments.as_slice())
 }
 
-/// Returns the segments of a list, each after a byte with its length. Returns `None` if the last one is truncated, or if
-/// there are more than 16.
+/// Returns the segments of a list, each after a byte with its length. Returns `None` if the last one is truncated, or
+/// if there are more than 16.
 fn segments_at(list: &[u8]) -> Option<ArrayVec<&[u8], MAX_SEGMENTS>>
     ensures some { IfSome result (λ segments. listed_segments list.now ≡ Some (map (λ s. s.now) segments.items)) }
     ensures none { IfNone result (None ≡ listed_path list.now) }
@@ -67,8 +67,8 @@ fn segments_at(list: &[u8]) -> Option<ArrayVec<&[u8], MAX_SEGMENTS>>
     Some(segments)
 }
 
-/// Returns the path that a list of segments names: each segment after a byte with its length. Returns `None` if the list
-/// is truncated, or if a path cannot have these segments.
+/// Returns the path that a list of segments names: each segment after a byte with its length. Returns `None` if the
+/// list is truncated, or if a path cannot have these segments.
 pub(crate) fn path_at(list: &[u8]) -> Option<PathKey>
     ensures { result ≡ listed_path list.now }
 {
@@ -103,8 +103,8 @@ fn names(text: &[u8], path: &PathKey) -> bool
     }
 }
 
-/// Writes the text that names a path to the start of a buffer, and sets the number of its bytes. Returns `NOT_A_PATH` if no
-/// text names the path, or `NO_ROOM_FOR_PATH` if the text has more bytes than the buffer.
+/// Writes the text that names a path to the start of a buffer, and sets the number of its bytes. Returns `NOT_A_PATH`
+/// if no text names the path, or `NO_ROOM_FOR_PATH` if the text has more bytes than the buffer.
 pub(crate) fn write_path(path: &PathKey, buffer: &mut [u8], length: &mut usize) -> u32
     ensures { IsPathWritten (Some path.now) buffer.old buffer.new length.old length.new result }
 {

@@ -147,8 +147,8 @@ pub extern "C" fn dachreup_server_take(
     answer
 }
 
-/// Returns the place of a frame that the first `bytes` bytes of `piece` end, or of no bytes if there is none. A frame that
-/// has no other bytes is in the piece.
+/// Returns the place of a frame that the first `bytes` bytes of `piece` end, or of no bytes if there is none. A frame
+/// that has no other bytes is in the piece.
 #[tactic(auto, unfolding(crate::specs::Loans::IsInPiece))]
 fn frame_span(piece: &[u8], bytes: usize, frame: Option<&[u8]>) -> Span
     requires within { bytes ≤ length piece.now }

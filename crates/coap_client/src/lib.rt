@@ -2,10 +2,10 @@
 //! public names of three crates:
 //!
 //! - `coap_request`: targets, requests and plans (`Target`, `Method`, `Extras`, `ClientPlan`, `ServerPlan`).
-//! - `coap_command_line`: parsers of command lines (`client_words`, `server_words`, `WordsFault`), and reasons for their
-//!   errors (`client_reason`, `server_reason`).
-//! - `coap_client_engine`: the connection and its run (`Client`, `Event`, `run_client`, `run_to_end`), and the theorems in
-//!   `laws`.
+//! - `coap_command_line`: parsers of command lines (`client_words`, `server_words`, `WordsFault`), and reasons for
+//!   their errors (`client_reason`, `server_reason`).
+//! - `coap_client_engine`: the connection and its run (`Client`, `Event`, `run_client`, `run_to_end`), and the
+//!   theorems in `laws`.
 //!
 //! The types of arguments and results are re-exported too. `coap_conn` defines limits, phases and errors, `coap_wire`
 //! tokens and messages, `coap_io` the traits for transports and clocks, and `coap_print` the line of `explain`.

@@ -1,14 +1,19 @@
 -- Properties of a client after accepted calls, and the state of the client after one more call.
-use Rattle.std.proofs.Common.{◌≡◌, ℕ, ◌≤◌, Bool, true, false, cond, List, [], ◌∷◌, ◌++◌, length, map, take, Some, None, Result, Ok, Err, refl, sym, ap, subst, ◌∙◌, arith}
-use Rattle.coap_client_engine.specs.Prelude.{nat_le, Message, message_of, StreamFault, OfFrame, Format, Stream, frame_then}
-use Rattle.coap_client_engine.specs.Prelude.{fault_bytes, FormatFault, Framing, FrameEventValue, Nothing, AFrame, AFault, framing}
+use Rattle.std.proofs.Common.{◌≡◌, ℕ, ◌≤◌, Bool, true, false, cond, List, [], ◌∷◌, ◌++◌, length, map, take, Some, None}
+use Rattle.std.proofs.Common.{Result, Ok, Err, refl, sym, ap, subst, ◌∙◌, arith}
+use Rattle.coap_client_engine.specs.Prelude.{nat_le, Message, message_of, StreamFault, OfFrame, Format, Stream}
+use Rattle.coap_client_engine.specs.Prelude.{frame_then}
+use Rattle.coap_client_engine.specs.Prelude.{fault_bytes, FormatFault, Framing, FrameEventValue, Nothing, AFrame}
+use Rattle.coap_client_engine.specs.Prelude.{AFault, framing}
 use Rattle.coap_client_engine.specs.Prelude.{Phase, Reject, Client, LimitValues, takes_messages, reject_of}
 use Rattle.coap_client_engine.specs.Prelude.{OutstandingValue, History, IsHistory, new_history, after, after_asking}
 use Rattle.coap_client_engine.specs.Prelude.{link_of, LinkValue, free_in, link_after, Method, TargetValue, ExtrasValue}
-use Rattle.coap_client_engine.specs.Prelude.{request_of, cancel_of, ClientValue, ClientTakeOutcome, taking_rejected, taking_read}
+use Rattle.coap_client_engine.specs.Prelude.{request_of, cancel_of, ClientValue, ClientTakeOutcome, taking_rejected}
+use Rattle.coap_client_engine.specs.Prelude.{taking_read}
 use Rattle.coap_client_engine.specs.Prelude.{taking_found, taking, is_cut, client_written, client_ended, client_sent}
 use Rattle.coap_client_engine.specs.Prelude.{client_cancelled, client_pinged, ClientCall, Took, Sent, Cancelled, Pinged}
-use Rattle.coap_client_engine.specs.Prelude.{Wrote, Ended, ClientStep, Handles, Faults, Requests, Cancels, Pings, Writes}
+use Rattle.coap_client_engine.specs.Prelude.{Wrote, Ended, ClientStep, Handles, Faults, Requests, Cancels, Pings}
+use Rattle.coap_client_engine.specs.Prelude.{Writes}
 use Rattle.coap_client_engine.specs.Prelude.{Ends, taken_by, stream_in, new_fault, steps_by, after_steps, client_after}
 use Rattle.coap_client_engine.specs.Prelude.{handles, takes, event_by, event_of, IsAccepted, AreAccepted, kept_after}
 use Rattle.coap_client_engine.specs.Prelude.{client_of}
@@ -18,7 +23,9 @@ use Rattle.coap_conn.specs.Calls as call
 use Rattle.coap_conn.proofs.LinkLemmas.{new_shown, shows, shown_after}
 use Rattle.coap_client_engine.specs.ClientWorld as client
 use Rattle.coap_frame.proofs.FrontLaws.{front, front_whole, added_by, added_front, front_kept}
-use Rattle.coap_client_engine.proofs.ClientSteps.{stream_stays, stream_first, stream_rest_unfinished, client_first, client_same, client_step, client_more, by_calls, AddsTo, take_adds, empty_take_stream, empty_take_steps}
+use Rattle.coap_client_engine.proofs.ClientSteps.{stream_stays, stream_first, stream_rest_unfinished, client_first}
+use Rattle.coap_client_engine.proofs.ClientSteps.{client_same, client_step, client_more, by_calls, AddsTo, take_adds}
+use Rattle.coap_client_engine.proofs.ClientSteps.{empty_take_stream, empty_take_steps}
 
 -- ---- steps
 
@@ -43,9 +50,11 @@ steps_limits h [] = refl
 steps_limits h (s ∷ ss) = steps_limits (client.step h s) ss ∙ step_limits h s
 
 -- The limits in the history are those of the client.
-pub limits_same : (limits : LimitValues) (tokens : ℕ) (calls : List ClientCall) → (client_after limits tokens calls).limits ≡ limits
+pub limits_same : (limits : LimitValues) (tokens : ℕ) (calls : List ClientCall)
+    → (client_after limits tokens calls).limits ≡ limits
 unfolding client_after
-limits_same limits tokens calls = steps_limits (new_history Client limits tokens) (client.steps_of limits.max_message calls)
+limits_same limits tokens calls =
+    steps_limits (new_history Client limits tokens) (client.steps_of limits.max_message calls)
 
 phase_if : (does : Bool) (h k : History) → k.phase ≡ h.phase → (cond does k h).phase ≡ h.phase
 phase_if true h k e = e
@@ -58,7 +67,8 @@ asking_phase h m e = phase_if _ h _ refl
 pub cancel_phase : (h : History) (token : List ℕ) (m : Message) → (after h (call.Cancel token m)).phase ≡ h.phase
 cancel_phase h token m = phase_if _ h _ refl
 
-over_if : (h k : History) (takes : Bool) → takes_messages h.phase ≡ takes → takes_messages k.phase ≡ false → takes_messages (cond takes k h).phase ≡ false
+over_if : (h k : History) (takes : Bool) → takes_messages h.phase ≡ takes → takes_messages k.phase ≡ false
+    → takes_messages (cond takes k h).phase ≡ false
 over_if h k true e over = over
 over_if h k false e over = e
 
@@ -95,11 +105,13 @@ steps_found (AFault fault) = Faults (OfFrame fault) ∷ []
 abbrev read_stream : List ℕ → Result Message FormatFault → Stream
 read_stream frame r = frame_then frame r (record { messages = []; rest = []; fault = None })
 
-read_added : (frame : List ℕ) (r : Result Message FormatFault) → map Handles (read_stream frame r).messages ++ new_fault None (read_stream frame r).fault ≡ steps_read r
+read_added : (frame : List ℕ) (r : Result Message FormatFault)
+    → map Handles (read_stream frame r).messages ++ new_fault None (read_stream frame r).fault ≡ steps_read r
 read_added frame (Ok m) = refl
 read_added frame (Err e) = refl
 
-added_steps : (kept bytes : List ℕ) (f : FrameEventValue) → map Handles (added_by kept bytes f).messages ++ new_fault None (added_by kept bytes f).fault ≡ steps_found f
+added_steps : (kept bytes : List ℕ) (f : FrameEventValue)
+    → map Handles (added_by kept bytes f).messages ++ new_fault None (added_by kept bytes f).fault ≡ steps_found f
 added_steps kept bytes Nothing = refl
 added_steps kept bytes (AFrame frame) = read_added frame (message_of frame)
 added_steps kept bytes (AFault fault) = refl
@@ -125,7 +137,9 @@ true_false true e now = absurd cc
 true_false false e now = absurd cc
 
 module _ (h : History) (is : IsHistory h) (live : takes_messages h.phase ≡ true) (kept bytes : List ℕ) where
-  taken_fault : (count : ℕ) (fault : StreamFault) (rest : List ℕ) → IsTaken h (taking_rejected (client_shown h kept) count (reject_of fault)) count (Faults fault ∷ []) (record { messages = []; rest = rest; fault = Some fault })
+  taken_fault : (count : ℕ) (fault : StreamFault) (rest : List ℕ)
+      → IsTaken h (taking_rejected (client_shown h kept) count (reject_of fault)) count (Faults fault ∷ [])
+      (record { messages = []; rest = rest; fault = Some fault })
   unfolding after_steps client.step
   taken_fault count fault rest =
       let r : Reject = reject_of fault in
@@ -134,28 +148,37 @@ module _ (h : History) (is : IsHistory h) (live : takes_messages h.phase ≡ tru
       record {
         count = refl;
         event = refl;
-        client = ap (λ (l : LinkValue). record { frame = []; link = l }) now.same ∙ ap (λ (f : List ℕ). record { frame = f; link = link_of (after h (call.Reject r)) }) (sym (kept_none (after h (call.Reject r)) rest over));
+        client =
+            ap (λ (l : LinkValue). record { frame = []; link = l }) now.same
+            ∙ ap (λ (f : List ℕ). record { frame = f; link = link_of (after h (call.Reject r)) })
+            (sym (kept_none (after h (call.Reject r)) rest over));
         is_history = now.is_history;
         live = λ takes. absurd (true_false _ over takes);
       }
 
-  taken_message : (count : ℕ) (m : Message) → IsTaken h (taking_read (client_shown h kept) count (Ok m)) count (Handles m ∷ []) (record { messages = m ∷ []; rest = []; fault = None })
+  taken_message : (count : ℕ) (m : Message) → IsTaken h (taking_read (client_shown h kept) count (Ok m)) count
+      (Handles m ∷ []) (record { messages = m ∷ []; rest = []; fault = None })
   unfolding after_steps client.step
   taken_message count m =
       let now = shown_after h (call.Handle m) tt is in
       record {
         count = refl;
         event = refl;
-        client = ap (λ (l : LinkValue). record { frame = []; link = l }) now.same ∙ ap (λ (f : List ℕ). record { frame = f; link = link_of (after h (call.Handle m)) }) (sym (nil_if (takes_messages (after h (call.Handle m)).phase)));
+        client =
+            ap (λ (l : LinkValue). record { frame = []; link = l }) now.same
+            ∙ ap (λ (f : List ℕ). record { frame = f; link = link_of (after h (call.Handle m)) })
+            (sym (nil_if (takes_messages (after h (call.Handle m)).phase)));
         is_history = now.is_history;
         live = λ takes. refl;
       }
 
-  taken_read : (count : ℕ) (frame : List ℕ) (r : Result Message FormatFault) → IsTaken h (taking_read (client_shown h kept) count r) count (steps_read r) (read_stream frame r)
+  taken_read : (count : ℕ) (frame : List ℕ) (r : Result Message FormatFault)
+      → IsTaken h (taking_read (client_shown h kept) count r) count (steps_read r) (read_stream frame r)
   taken_read count frame (Ok m) = taken_message count m
   taken_read count frame (Err e) = taken_fault count Format frame
 
-  taken_nothing : (f : Framing) → f.kept ≡ kept ++ bytes → IsTaken h (taking_found (client_shown h kept) f Nothing) f.taken [] (record { messages = []; rest = kept ++ bytes; fault = None })
+  taken_nothing : (f : Framing) → f.kept ≡ kept ++ bytes → IsTaken h (taking_found (client_shown h kept) f Nothing)
+      f.taken [] (record { messages = []; rest = kept ++ bytes; fault = None })
   unfolding after_steps
   taken_nothing f all = record {
     count = refl;
@@ -165,7 +188,8 @@ module _ (h : History) (is : IsHistory h) (live : takes_messages h.phase ≡ tru
     live = λ takes. refl;
   }
 
-  taken_found : (f : Framing) (found : FrameEventValue) → (found ≡ Nothing → f.kept ≡ kept ++ bytes) → IsTaken h (taking_found (client_shown h kept) f found) f.taken (steps_found found) (added_by kept bytes found)
+  taken_found : (f : Framing) (found : FrameEventValue) → (found ≡ Nothing → f.kept ≡ kept ++ bytes)
+      → IsTaken h (taking_found (client_shown h kept) f found) f.taken (steps_found found) (added_by kept bytes found)
   taken_found f Nothing all = taken_nothing f (all refl)
   taken_found f (AFrame frame) all = taken_read f.taken frame (message_of frame)
   taken_found f (AFault fault) all = taken_fault f.taken (OfFrame fault) (fault_bytes (kept ++ bytes))
@@ -175,10 +199,12 @@ module _ (h : History) (is : IsHistory h) (live : takes_messages h.phase ≡ tru
 -- The history satisfies its invariant. If messages are accepted, the stream has no fault.
 pub record CallsReach (limits : LimitValues) (tokens : ℕ) (calls : List ClientCall) : Type 0 where
   pub is_history : IsHistory (client_after limits tokens calls)
-  pub live : takes_messages (client_after limits tokens calls).phase ≡ true → (stream_in limits.max_message calls).fault ≡ None
+  pub live : takes_messages (client_after limits tokens calls).phase ≡ true
+      → (stream_in limits.max_message calls).fault ≡ None
 
 -- The client after calls.
-pub after_of : (limits : LimitValues) (tokens : ℕ) (calls : List ClientCall) → client_of limits tokens calls ≡ left (client_after limits tokens calls) (stream_in limits.max_message calls).rest
+pub after_of : (limits : LimitValues) (tokens : ℕ) (calls : List ClientCall)
+    → client_of limits tokens calls ≡ left (client_after limits tokens calls) (stream_in limits.max_message calls).rest
 unfolding client_of
 after_of limits tokens calls = refl
 
@@ -195,23 +221,30 @@ module _ (limits : LimitValues) (tokens : ℕ) (calls : List ClientCall) where
 
   -- ---- a call that takes no byte and makes one step
 
-  step_left : (c : ClientCall) (s : ClientStep) → steps_by max_taken calls c ≡ s ∷ [] → taken_by c ≡ [] → client_of limits tokens (calls ++ c ∷ []) ≡ left (client.step h s) calls_stream.rest
+  step_left : (c : ClientCall) (s : ClientStep) → steps_by max_taken calls c ≡ s ∷ [] → taken_by c ≡ []
+      → client_of limits tokens (calls ++ c ∷ []) ≡ left (client.step h s) calls_stream.rest
   step_left c s one none =
       after_of limits tokens (calls ++ c ∷ [])
       ∙ ap (λ (k : History). left k (stream_in max_taken (calls ++ c ∷ [])).rest)
       (client_step limits tokens calls c s one)
       ∙ ap (λ (u : Stream). left (client.step h s) u.rest) (stream_stays max_taken calls c none)
 
-  bare_call_reached : (c : ClientCall) (s : ClientStep) (k : History) → steps_by max_taken calls c ≡ s ∷ [] → taken_by c ≡ [] → client.step h s ≡ k → CallsReach limits tokens calls → IsHistory k → (takes_messages k.phase ≡ true → takes_messages h.phase ≡ true) → CallsReach limits tokens (calls ++ c ∷ [])
+  bare_call_reached : (c : ClientCall) (s : ClientStep) (k : History) → steps_by max_taken calls c ≡ s ∷ []
+      → taken_by c ≡ [] → client.step h s ≡ k → CallsReach limits tokens calls → IsHistory k
+      → (takes_messages k.phase ≡ true → takes_messages h.phase ≡ true) → CallsReach limits tokens (calls ++ c ∷ [])
   bare_call_reached c s k one none makes before is from =
       let now : client_after limits tokens (calls ++ c ∷ []) ≡ k = client_step limits tokens calls c s one ∙ makes in
       record {
         is_history = subst IsHistory (sym now) is;
-        live = λ takes. ap (λ (u : Stream). u.fault) (stream_stays max_taken calls c none) ∙ before.live (from (subst (λ (g : History). takes_messages g.phase ≡ true) now takes));
+        live = λ takes. ap (λ (u : Stream). u.fault) (stream_stays max_taken calls c none)
+            ∙ before.live (from (subst (λ (g : History). takes_messages g.phase ≡ true) now takes));
       }
 
-  same_reached : (c : ClientCall) (s : ClientStep) (k : History) → steps_by max_taken calls c ≡ s ∷ [] → taken_by c ≡ [] → client.step h s ≡ k → CallsReach limits tokens calls → IsHistory k → k.phase ≡ h.phase → CallsReach limits tokens (calls ++ c ∷ [])
-  same_reached c s k one none makes before is same = bare_call_reached c s k one none makes before is (λ takes. sym (ap takes_messages same) ∙ takes)
+  same_reached : (c : ClientCall) (s : ClientStep) (k : History) → steps_by max_taken calls c ≡ s ∷ [] → taken_by c ≡ []
+      → client.step h s ≡ k → CallsReach limits tokens calls → IsHistory k → k.phase ≡ h.phase
+      → CallsReach limits tokens (calls ++ c ∷ [])
+  same_reached c s k one none makes before is same =
+      bare_call_reached c s k one none makes before is (λ takes. sym (ap takes_messages same) ∙ takes)
 
   -- ---- a take
 
@@ -225,7 +258,8 @@ module _ (limits : LimitValues) (tokens : ℕ) (calls : List ClientCall) where
         let now = client_same limits tokens calls (Took []) (empty_take_steps max_taken calls) in
         record {
           is_history = subst IsHistory (sym now) before.is_history;
-          live = λ takes. ap (λ (u : Stream). u.fault) (empty_take_stream max_taken calls) ∙ before.live (subst (λ (g : History). takes_messages g.phase ≡ true) now takes);
+          live = λ takes. ap (λ (u : Stream). u.fault) (empty_take_stream max_taken calls)
+              ∙ before.live (subst (λ (g : History). takes_messages g.phase ≡ true) now takes);
         }
 
     -- At least one byte of a slice is accepted.
@@ -249,10 +283,15 @@ module _ (limits : LimitValues) (tokens : ℕ) (calls : List ClientCall) where
       stream_has_no_fault = before.live takes_now
 
       found_adds : AddsTo max_taken calls taken added
-      found_adds = take_adds max_taken calls taken added stream_has_no_fault (added_front max_taken calls_stream.rest piece (stream_rest_unfinished max_taken calls stream_has_no_fault))
+      found_adds =
+          take_adds max_taken calls taken added stream_has_no_fault
+          (added_front max_taken calls_stream.rest piece (stream_rest_unfinished max_taken calls stream_has_no_fault))
 
-      found_taken : IsTaken h (taking_found (client_shown h calls_stream.rest) found_of_piece found_of_piece.finding) found_of_piece.taken (steps_found found_of_piece.finding) added
-      found_taken = taken_found h before.is_history takes_now calls_stream.rest taken found_of_piece found_of_piece.finding (front_kept max_taken calls_stream.rest piece)
+      found_taken : IsTaken h (taking_found (client_shown h calls_stream.rest) found_of_piece found_of_piece.finding)
+          found_of_piece.taken (steps_found found_of_piece.finding) added
+      found_taken =
+          taken_found h before.is_history takes_now calls_stream.rest taken found_of_piece found_of_piece.finding
+          (front_kept max_taken calls_stream.rest piece)
 
       found_steps : steps_by max_taken calls (Took taken) ≡ steps_found found_of_piece.finding
       found_steps = found_adds.steps ∙ added_steps calls_stream.rest taken found_of_piece.finding
@@ -263,7 +302,8 @@ module _ (limits : LimitValues) (tokens : ℕ) (calls : List ClientCall) where
       found_piece_reached : CallsReach limits tokens (after_take taken)
       found_piece_reached = record {
         is_history = subst IsHistory (sym found_after) found_taken.is_history;
-        live = λ takes. ap (λ (u : Stream). u.fault) found_adds.stream ∙ found_taken.live (subst (λ (g : History). takes_messages g.phase ≡ true) found_after takes);
+        live = λ takes. ap (λ (u : Stream). u.fault) found_adds.stream
+            ∙ found_taken.live (subst (λ (g : History). takes_messages g.phase ≡ true) found_after takes);
       }
 
       found_left : client_of limits tokens (after_take taken) ≡ left after_found added.rest
@@ -276,9 +316,15 @@ module _ (limits : LimitValues) (tokens : ℕ) (calls : List ClientCall) where
           ≡ taking_found (client_shown h calls_stream.rest) found_of_piece found_of_piece.finding
       unfolding taking
       taking_is =
-          ap (λ (v : ClientValue). taking v piece) (after_of limits tokens calls ∙ ap (client_shown h) (kept_all h calls_stream.rest takes_now))
-          ∙ ap (λ (b : Bool). cond b (taking_found (client_shown h calls_stream.rest) (framing h.limits.max_message calls_stream.rest piece) (framing h.limits.max_message calls_stream.rest piece).finding) (record { count = 0; client = client_shown h calls_stream.rest; event = None })) does
-          ∙ ap (λ (l : LimitValues). taking_found (client_shown h calls_stream.rest) (framing l.max_message calls_stream.rest piece) (framing l.max_message calls_stream.rest piece).finding) (limits_same limits tokens calls)
+          ap (λ (v : ClientValue). taking v piece)
+          (after_of limits tokens calls ∙ ap (client_shown h) (kept_all h calls_stream.rest takes_now))
+          ∙ ap (λ (b : Bool). cond b
+          (taking_found (client_shown h calls_stream.rest) (framing h.limits.max_message calls_stream.rest piece)
+          (framing h.limits.max_message calls_stream.rest piece).finding)
+          (record { count = 0; client = client_shown h calls_stream.rest; event = None })) does
+          ∙ ap (λ (l : LimitValues). taking_found (client_shown h calls_stream.rest)
+          (framing l.max_message calls_stream.rest piece) (framing l.max_message calls_stream.rest piece).finding)
+          (limits_same limits tokens calls)
 
       takes_is : (other : List ℕ) → takes limits tokens calls other ≡ (framing max_taken calls_stream.rest other).taken
       unfolding takes
@@ -300,12 +346,19 @@ module _ (limits : LimitValues) (tokens : ℕ) (calls : List ClientCall) where
     pub client : (taking (client_of limits tokens calls) piece).client ≡ client_of limits tokens (after_take bytes)
     pub accepted : IsAccepted limits tokens calls (Took bytes)
 
-  told_front : (before : CallsReach limits tokens calls) (piece : List ℕ) (does : handles h ≡ true) → IsTakenAndTold piece (front limits.max_message calls_stream.rest piece)
+  told_front : (before : CallsReach limits tokens calls) (piece : List ℕ) (does : handles h ≡ true)
+      → IsTakenAndTold piece (front limits.max_message calls_stream.rest piece)
   unfolding event_of
   told_front before piece does = record {
-    count = ap (λ (t : ClientTakeOutcome). t.count) (taking_is before piece does) ∙ (found_taken before piece does).count ∙ sym (takes_is before piece does piece);
-    event = ap (λ (t : ClientTakeOutcome). t.event) (taking_is before piece does) ∙ (found_taken before piece does).event ∙ ap (event_by h) (sym (found_steps before piece does));
-    client = ap (λ (t : ClientTakeOutcome). t.client) (taking_is before piece does) ∙ (found_taken before piece does).client ∙ sym (found_left before piece does);
+    count =
+        ap (λ (t : ClientTakeOutcome). t.count) (taking_is before piece does) ∙ (found_taken before piece does).count
+        ∙ sym (takes_is before piece does piece);
+    event =
+        ap (λ (t : ClientTakeOutcome). t.event) (taking_is before piece does) ∙ (found_taken before piece does).event
+        ∙ ap (event_by h) (sym (found_steps before piece does));
+    client =
+        ap (λ (t : ClientTakeOutcome). t.client) (taking_is before piece does) ∙ (found_taken before piece does).client
+        ∙ sym (found_left before piece does);
     accepted = front_is_accepted before piece does;
   }
 
@@ -314,16 +367,20 @@ module _ (limits : LimitValues) (tokens : ℕ) (calls : List ClientCall) where
   unfolding takes
   takes_nothing piece not = ap (λ (b : Bool). cond b (framing max_taken calls_stream.rest piece).taken 0) not
 
-  taking_without_room : (piece : List ℕ) → handles h ≡ false → taking (client_of limits tokens calls) piece ≡ record { count = 0; client = client_of limits tokens calls; event = None }
+  taking_without_room : (piece : List ℕ) → handles h ≡ false → taking (client_of limits tokens calls) piece
+      ≡ record { count = 0; client = client_of limits tokens calls; event = None }
   unfolding taking client_of
   taking_without_room piece not =
       let v : ClientValue = client_of limits tokens calls in
-      ap (λ (b : Bool). cond b (taking_found v (framing h.limits.max_message v.frame piece) (framing h.limits.max_message v.frame piece).finding) (record { count = 0; client = v; event = None })) not
+      ap (λ (b : Bool). cond b
+      (taking_found v (framing h.limits.max_message v.frame piece) (framing h.limits.max_message v.frame piece).finding)
+      (record { count = 0; client = v; event = None })) not
 
   empty_take_left : client_of limits tokens (after_take []) ≡ client_of limits tokens calls
   empty_take_left =
       after_of limits tokens (after_take [])
-      ∙ ap (λ (g : History). left g (stream_in max_taken (after_take [])).rest) (client_same limits tokens calls (Took []) (empty_take_steps max_taken calls))
+      ∙ ap (λ (g : History). left g (stream_in max_taken (after_take [])).rest)
+      (client_same limits tokens calls (Took []) (empty_take_steps max_taken calls))
       ∙ ap (λ (u : Stream). left h u.rest) (empty_take_stream max_taken calls)
       ∙ sym (after_of limits tokens calls)
 
@@ -338,35 +395,44 @@ module _ (limits : LimitValues) (tokens : ℕ) (calls : List ClientCall) where
     accepted = takes_nothing [] not;
   }
 
-  told_if : (before : CallsReach limits tokens calls) (piece : List ℕ) (does : Bool) → handles h ≡ does → IsTakenAndTold piece (take (takes limits tokens calls piece) piece)
+  told_if : (before : CallsReach limits tokens calls) (piece : List ℕ) (does : Bool) → handles h ≡ does
+      → IsTakenAndTold piece (take (takes limits tokens calls piece) piece)
   told_if before piece true e =
       subst (IsTakenAndTold piece) (sym (front_is_taken before piece e)) (told_front before piece e)
-  told_if before piece false e = subst (IsTakenAndTold piece) (sym (ap (λ (n : ℕ). take n piece) (takes_nothing piece e))) (nothing_taken_is_told piece e)
+  told_if before piece false e =
+      subst (IsTakenAndTold piece) (sym (ap (λ (n : ℕ). take n piece) (takes_nothing piece e)))
+      (nothing_taken_is_told piece e)
 
-  pub takes_and_tells : (before : CallsReach limits tokens calls) (piece : List ℕ) → IsTakenAndTold piece (take (takes limits tokens calls piece) piece)
+  pub takes_and_tells : (before : CallsReach limits tokens calls) (piece : List ℕ)
+      → IsTakenAndTold piece (take (takes limits tokens calls piece) piece)
   takes_and_tells before piece = told_if before piece (handles h) refl
 
   -- ---- the state after one more call
 
-  take_is_reached : (bytes : List ℕ) (does : Bool) → handles h ≡ does → CallsReach limits tokens calls → takes limits tokens calls bytes ≡ length bytes → CallsReach limits tokens (after_take bytes)
+  take_is_reached : (bytes : List ℕ) (does : Bool) → handles h ≡ does → CallsReach limits tokens calls
+      → takes limits tokens calls bytes ≡ length bytes → CallsReach limits tokens (after_take bytes)
   take_is_reached bytes true e before all =
-      let whole : front limits.max_message calls_stream.rest bytes ≡ bytes = sym (front_is_taken before bytes e) ∙ ap (λ (n : ℕ). take n bytes) all ∙ take_all (length bytes) bytes (omega arith) in
+      let whole : front limits.max_message calls_stream.rest bytes ≡ bytes = sym (front_is_taken before bytes e)
+      ∙ ap (λ (n : ℕ). take n bytes) all ∙ take_all (length bytes) bytes (omega arith) in
       subst (λ (bs : List ℕ). CallsReach limits tokens (after_take bs)) whole (found_piece_reached before bytes e)
   take_is_reached bytes false e before all =
       let none : bytes ≡ [] = nil_from_length bytes (sym all ∙ takes_nothing bytes e) in
       subst (λ (bs : List ℕ). CallsReach limits tokens (after_take bs)) (sym none) (none_reached before)
 
-  call_reached : (c : ClientCall) → CallsReach limits tokens calls → IsAccepted limits tokens calls c → CallsReach limits tokens (calls ++ c ∷ [])
+  call_reached : (c : ClientCall) → CallsReach limits tokens calls → IsAccepted limits tokens calls c
+      → CallsReach limits tokens (calls ++ c ∷ [])
   unfolding steps_by IsAccepted client.step
   call_reached (Took bytes) before all = take_is_reached bytes (handles h) refl before all
   call_reached (Sent method target extras) before none =
       let m : Message = request_of method target extras in
       let now = shown_after h (call.Request m extras.observe) tt before.is_history in
-      same_reached (Sent method target extras) (Requests m extras.observe) _ refl refl refl before now.is_history (asking_phase h _ _)
+      same_reached (Sent method target extras) (Requests m extras.observe) _ refl refl refl before
+      now.is_history (asking_phase h _ _)
   call_reached (Cancelled token target extras) before none =
       let m : Message = cancel_of target extras in
       let now = shown_after h (call.Cancel token m) tt before.is_history in
-      same_reached (Cancelled token target extras) (Cancels token m) _ refl refl refl before now.is_history (cancel_phase h token m)
+      same_reached (Cancelled token target extras) (Cancels token m) _ refl refl refl before
+      now.is_history (cancel_phase h token m)
   call_reached (Pinged custody) before none =
       let now = shown_after h (call.Ping custody) tt before.is_history in
       same_reached (Pinged custody) (Pings custody) _ refl refl refl before now.is_history (asking_phase h _ _)
@@ -376,7 +442,8 @@ module _ (limits : LimitValues) (tokens : ℕ) (calls : List ClientCall) where
   call_reached Ended before none =
       let cut : Bool = is_cut calls_stream.rest in
       let now = shown_after h (call.End cut) tt before.is_history in
-      bare_call_reached Ended (Ends cut) _ refl refl refl before now.is_history (λ takes. absurd (true_false _ (end_over h cut) takes))
+      bare_call_reached Ended (Ends cut) _ refl refl refl before now.is_history
+      (λ takes. absurd (true_false _ (end_over h cut) takes))
 
 no_call_reached : (limits : LimitValues) (tokens : ℕ) → CallsReach limits tokens []
 no_call_reached limits tokens = record {
@@ -385,8 +452,11 @@ no_call_reached limits tokens = record {
 }
 
 -- The state after any accepted calls.
-pub accepted_reach : (limits : LimitValues) (tokens : ℕ) (calls : List ClientCall) → AreAccepted limits tokens calls → CallsReach limits tokens calls
-accepted_reach limits tokens calls all = by_calls limits tokens (CallsReach limits tokens) (no_call_reached limits tokens) (λ before c accepted last reached. call_reached limits tokens before c reached last) calls all
+pub accepted_reach : (limits : LimitValues) (tokens : ℕ) (calls : List ClientCall) → AreAccepted limits tokens calls
+    → CallsReach limits tokens calls
+accepted_reach limits tokens calls all =
+    by_calls limits tokens (CallsReach limits tokens) (no_call_reached limits tokens)
+    (λ before c accepted last reached. call_reached limits tokens before c reached last) calls all
 
 -- ---- the client after one call more
 
@@ -398,7 +468,9 @@ module _ (limits : LimitValues) (tokens : ℕ) (calls : List ClientCall) (before
   rest_so_far = (stream_in limits.max_message calls).rest
 
   -- A call that makes one step, accepts no byte and keeps the phase.
-  same_left : (c : ClientCall) (s : ClientStep) (k : History) (l : LinkValue) → steps_by limits.max_message calls c ≡ s ∷ [] → taken_by c ≡ [] → client.step now s ≡ k → k.phase ≡ now.phase → l ≡ link_of k
+  same_left : (c : ClientCall) (s : ClientStep) (k : History) (l : LinkValue)
+      → steps_by limits.max_message calls c ≡ s ∷ [] → taken_by c ≡ [] → client.step now s ≡ k
+      → k.phase ≡ now.phase → l ≡ link_of k
       → record (client_of limits tokens calls) { link = l } ≡ client_of limits tokens (calls ++ c ∷ [])
   same_left c s k l one none makes same is =
       ap (λ (v : ClientValue). record v { link = l }) (after_of limits tokens calls)
@@ -410,34 +482,46 @@ module _ (limits : LimitValues) (tokens : ℕ) (calls : List ClientCall) (before
   pub client_link : (client_of limits tokens calls).link ≡ link_of now
   client_link = ap (λ (v : ClientValue). v.link) (after_of limits tokens calls)
 
-  pub sent_left : (method : Method) (target : TargetValue) (extras : ExtrasValue) → client_sent (client_of limits tokens calls) method target extras ≡ client_of limits tokens (calls ++ Sent method target extras ∷ [])
+  pub sent_left : (method : Method) (target : TargetValue) (extras : ExtrasValue)
+      → client_sent (client_of limits tokens calls) method target extras
+      ≡ client_of limits tokens (calls ++ Sent method target extras ∷ [])
   unfolding steps_by client.step
   sent_left method target extras =
       let m : Message = request_of method target extras in
       same_left (Sent method target extras) (Requests m extras.observe) _ _ refl refl refl (asking_phase now _ _)
-      (shows (client_of limits tokens calls).link _ (call.Request m extras.observe) tt refl now (record { is_history = before.is_history; same = client_link })).same
+      (shows (client_of limits tokens calls).link _ (call.Request m extras.observe) tt refl now
+      (record { is_history = before.is_history; same = client_link })).same
 
-  pub cancelled_left : (token : List ℕ) (target : TargetValue) (extras : ExtrasValue) → client_cancelled (client_of limits tokens calls) token target extras ≡ client_of limits tokens (calls ++ Cancelled token target extras ∷ [])
+  pub cancelled_left : (token : List ℕ) (target : TargetValue) (extras : ExtrasValue)
+      → client_cancelled (client_of limits tokens calls) token target extras
+      ≡ client_of limits tokens (calls ++ Cancelled token target extras ∷ [])
   unfolding steps_by client.step
   cancelled_left token target extras =
       let m : Message = cancel_of target extras in
       same_left (Cancelled token target extras) (Cancels token m) _ _ refl refl refl (cancel_phase now token m)
-      (shows (client_of limits tokens calls).link _ (call.Cancel token m) tt refl now (record { is_history = before.is_history; same = client_link })).same
+      (shows (client_of limits tokens calls).link _ (call.Cancel token m) tt refl now
+      (record { is_history = before.is_history; same = client_link })).same
 
-  pub pinged_left : (custody : Bool) → client_pinged (client_of limits tokens calls) custody ≡ client_of limits tokens (calls ++ Pinged custody ∷ [])
+  pub pinged_left : (custody : Bool)
+      → client_pinged (client_of limits tokens calls) custody ≡ client_of limits tokens (calls ++ Pinged custody ∷ [])
   unfolding steps_by client.step
   pinged_left custody =
       same_left (Pinged custody) (Pings custody) _ _ refl refl refl (asking_phase now _ _)
-      (shows (client_of limits tokens calls).link _ (call.Ping custody) tt refl now (record { is_history = before.is_history; same = client_link })).same
+      (shows (client_of limits tokens calls).link _ (call.Ping custody) tt refl now
+      (record { is_history = before.is_history; same = client_link })).same
 
-  pub wrote_left : (n : ℕ) → n ≤ length (client_of limits tokens calls).link.waiting → client_written (client_of limits tokens calls) n ≡ client_of limits tokens (calls ++ Wrote n ∷ [])
+  pub wrote_left : (n : ℕ) → n ≤ length (client_of limits tokens calls).link.waiting
+      → client_written (client_of limits tokens calls) n ≡ client_of limits tokens (calls ++ Wrote n ∷ [])
   unfolding steps_by client.step
   wrote_left n few =
       same_left (Wrote n) (Writes n) _ _ refl refl refl refl
-      (shows (client_of limits tokens calls).link _ (call.Written n) few refl now (record { is_history = before.is_history; same = client_link })).same
+      (shows (client_of limits tokens calls).link _ (call.Written n) few refl now
+      (record { is_history = before.is_history; same = client_link })).same
 
   -- If no message is accepted, the end of the input changes nothing.
-  ended_if : (takes : Bool) → takes_messages now.phase ≡ takes → link_after (link_of now) (call.End (is_cut (cond takes rest_so_far []))) ≡ link_after (link_of now) (call.End (is_cut rest_so_far))
+  ended_if : (takes : Bool) → takes_messages now.phase ≡ takes
+      → link_after (link_of now) (call.End (is_cut (cond takes rest_so_far [])))
+      ≡ link_after (link_of now) (call.End (is_cut rest_so_far))
   ended_if true e = refl
   ended_if false e = stays (is_cut []) ∙ sym (stays (is_cut rest_so_far))
     where

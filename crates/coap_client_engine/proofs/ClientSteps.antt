@@ -1,8 +1,11 @@
 -- Lists of calls: their bytes, their steps, the connection after them, and which calls are accepted.
-use Rattle.std.proofs.Common.{◌≡◌, ℕ, List, [], ◌∷◌, ◌++◌, length, map, Option, Some, None, refl, sym, ap, subst, ◌∙◌, append_assoc}
-use Rattle.coap_client_engine.specs.Prelude.{flat_map, Message, Unfinished, prefix_kind, StreamFault, Stream, split, behind}
+use Rattle.std.proofs.Common.{◌≡◌, ℕ, List, [], ◌∷◌, ◌++◌, length, map, Option, Some, None, refl, sym, ap, subst, ◌∙◌}
+use Rattle.std.proofs.Common.{append_assoc}
+use Rattle.coap_client_engine.specs.Prelude.{flat_map, Message, Unfinished, prefix_kind, StreamFault, Stream, split}
+use Rattle.coap_client_engine.specs.Prelude.{behind}
 use Rattle.coap_client_engine.specs.Prelude.{continued, split_on, framing, LimitValues, History, new_history, Client}
-use Rattle.coap_client_engine.specs.Prelude.{ClientCall, Took, ClientStep, Handles, taken_by, stream_in, new_fault, beyond}
+use Rattle.coap_client_engine.specs.Prelude.{ClientCall, Took, ClientStep, Handles, taken_by, stream_in, new_fault}
+use Rattle.coap_client_engine.specs.Prelude.{beyond}
 use Rattle.coap_client_engine.specs.Prelude.{steps_by, steps_behind, steps_of, after_steps, client_after, IsAccepted}
 use Rattle.coap_client_engine.specs.Prelude.{AreAcceptedBehind, AreAccepted}
 use Rattle.std.proofs.lemmas.List.{append-nil}
@@ -15,23 +18,32 @@ use Rattle.coap_frame.proofs.FrontLaws.{added_by, added_whole}
 -- ---- bytes
 
 -- The bytes of one more call.
-pub taken_with_call : (calls : List ClientCall) (c : ClientCall) → flat_map taken_by (calls ++ c ∷ []) ≡ flat_map taken_by calls ++ taken_by c
-taken_with_call calls c = flat_map-append taken_by calls (c ∷ []) ∙ ap (λ (t : List ℕ). flat_map taken_by calls ++ t) (append-nil (taken_by c))
+pub taken_with_call : (calls : List ClientCall) (c : ClientCall)
+    → flat_map taken_by (calls ++ c ∷ []) ≡ flat_map taken_by calls ++ taken_by c
+taken_with_call calls c =
+    flat_map-append taken_by calls (c ∷ [])
+    ∙ ap (λ (t : List ℕ). flat_map taken_by calls ++ t) (append-nil (taken_by c))
 
 -- A call without bytes keeps the stream.
-pub stream_stays : (M : ℕ) (calls : List ClientCall) (c : ClientCall) → taken_by c ≡ [] → stream_in M (calls ++ c ∷ []) ≡ stream_in M calls
-stream_stays M calls c none = ap (split M) (taken_with_call calls c ∙ ap (λ (t : List ℕ). flat_map taken_by calls ++ t) none ∙ append-nil (flat_map taken_by calls))
+pub stream_stays : (M : ℕ) (calls : List ClientCall) (c : ClientCall) → taken_by c ≡ []
+    → stream_in M (calls ++ c ∷ []) ≡ stream_in M calls
+stream_stays M calls c none =
+    ap (split M) (taken_with_call calls c ∙ ap (λ (t : List ℕ). flat_map taken_by calls ++ t) none
+    ∙ append-nil (flat_map taken_by calls))
 
 -- Accepted bytes continue the stream.
-pub stream_goes_on : (M : ℕ) (calls : List ClientCall) (bytes : List ℕ) → stream_in M (calls ++ Took bytes ∷ []) ≡ split_on M (stream_in M calls) bytes
-stream_goes_on M calls bytes = ap (split M) (taken_with_call calls (Took bytes)) ∙ split_goes_on M (flat_map taken_by calls) bytes
+pub stream_goes_on : (M : ℕ) (calls : List ClientCall) (bytes : List ℕ)
+    → stream_in M (calls ++ Took bytes ∷ []) ≡ split_on M (stream_in M calls) bytes
+stream_goes_on M calls bytes =
+    ap (split M) (taken_with_call calls (Took bytes)) ∙ split_goes_on M (flat_map taken_by calls) bytes
 
 -- The stream is empty before the first call.
 pub stream_first : (M : ℕ) → stream_in M [] ≡ record { messages = []; rest = []; fault = None }
 stream_first M = split_unfinished M [] (unfinished_empty M)
 
 -- The rest of a stream without a fault is unfinished.
-pub stream_rest_unfinished : (M : ℕ) (calls : List ClientCall) → (stream_in M calls).fault ≡ None → prefix_kind M (stream_in M calls).rest ≡ Unfinished
+pub stream_rest_unfinished : (M : ℕ) (calls : List ClientCall) → (stream_in M calls).fault ≡ None
+    → prefix_kind M (stream_in M calls).rest ≡ Unfinished
 stream_rest_unfinished M calls none = split_rest M (flat_map taken_by calls) none
 
 -- ---- steps
@@ -44,47 +56,69 @@ client_steps_then h [] ts = refl
 client_steps_then h (s ∷ ss) ts = client_steps_then (client.step h s) ss ts
 
 -- The steps of two lists of calls in turn.
-pub call_steps_behind_more : (M : ℕ) (a calls more : List ClientCall) → steps_behind M a (calls ++ more) ≡ steps_behind M a calls ++ steps_behind M (a ++ calls) more
+pub call_steps_behind_more : (M : ℕ) (a calls more : List ClientCall)
+    → steps_behind M a (calls ++ more) ≡ steps_behind M a calls ++ steps_behind M (a ++ calls) more
 unfolding steps_behind
 call_steps_behind_more M a [] more = ap (λ (b : List ClientCall). steps_behind M b more) (sym (append-nil a))
 call_steps_behind_more M a (c ∷ calls) more =
     ap (λ (t : List ClientStep). steps_by M a c ++ t) (call_steps_behind_more M (a ++ c ∷ []) calls more)
-    ∙ sym (append_assoc (steps_by M a c) (steps_behind M (a ++ c ∷ []) calls) (steps_behind M ((a ++ c ∷ []) ++ calls) more))
-    ∙ ap (λ (b : List ClientCall). (steps_by M a c ++ steps_behind M (a ++ c ∷ []) calls) ++ steps_behind M b more) (append_assoc a (c ∷ []) calls)
+    ∙ sym
+    (append_assoc (steps_by M a c) (steps_behind M (a ++ c ∷ []) calls) (steps_behind M ((a ++ c ∷ []) ++ calls) more))
+    ∙ ap (λ (b : List ClientCall). (steps_by M a c ++ steps_behind M (a ++ c ∷ []) calls) ++ steps_behind M b more)
+    (append_assoc a (c ∷ []) calls)
 
-pub steps_with_call : (M : ℕ) (calls : List ClientCall) (c : ClientCall) → steps_of M (calls ++ c ∷ []) ≡ steps_of M calls ++ steps_by M calls c
+pub steps_with_call : (M : ℕ) (calls : List ClientCall) (c : ClientCall)
+    → steps_of M (calls ++ c ∷ []) ≡ steps_of M calls ++ steps_by M calls c
 unfolding steps_of steps_behind
-steps_with_call M calls c = call_steps_behind_more M [] calls (c ∷ []) ∙ ap (λ (t : List ClientStep). steps_behind M [] calls ++ t) (append-nil (steps_by M calls c))
+steps_with_call M calls c =
+    call_steps_behind_more M [] calls (c ∷ [])
+    ∙ ap (λ (t : List ClientStep). steps_behind M [] calls ++ t) (append-nil (steps_by M calls c))
 
 -- ---- the connection
 
 -- The history before the first call, and after one more call.
-pub client_first : (limits : LimitValues) (tokens : ℕ) → client_after limits tokens [] ≡ new_history Client limits tokens
+pub client_first : (limits : LimitValues) (tokens : ℕ)
+    → client_after limits tokens [] ≡ new_history Client limits tokens
 unfolding client_after steps_of steps_behind after_steps
 client_first limits tokens = refl
 
-pub client_more : (limits : LimitValues) (tokens : ℕ) (calls : List ClientCall) (c : ClientCall) → client_after limits tokens (calls ++ c ∷ []) ≡ after_steps (client_after limits tokens calls) (steps_by limits.max_message calls c)
+pub client_more : (limits : LimitValues) (tokens : ℕ) (calls : List ClientCall) (c : ClientCall)
+    → client_after limits tokens (calls ++ c ∷ [])
+    ≡ after_steps (client_after limits tokens calls) (steps_by limits.max_message calls c)
 unfolding client_after
 client_more limits tokens calls c =
     ap (after_steps (new_history Client limits tokens)) (steps_with_call limits.max_message calls c)
-    ∙ client_steps_then (new_history Client limits tokens) (steps_of limits.max_message calls) (steps_by limits.max_message calls c)
+    ∙ client_steps_then (new_history Client limits tokens) (steps_of limits.max_message calls)
+    (steps_by limits.max_message calls c)
 
 -- The history after a call that makes no step, or one step.
-pub client_same : (limits : LimitValues) (tokens : ℕ) (calls : List ClientCall) (c : ClientCall) → steps_by limits.max_message calls c ≡ [] → client_after limits tokens (calls ++ c ∷ []) ≡ client_after limits tokens calls
+pub client_same : (limits : LimitValues) (tokens : ℕ) (calls : List ClientCall) (c : ClientCall)
+    → steps_by limits.max_message calls c ≡ []
+    → client_after limits tokens (calls ++ c ∷ []) ≡ client_after limits tokens calls
 unfolding after_steps
-client_same limits tokens calls c none = client_more limits tokens calls c ∙ ap (after_steps (client_after limits tokens calls)) none
+client_same limits tokens calls c none =
+    client_more limits tokens calls c ∙ ap (after_steps (client_after limits tokens calls)) none
 
-pub client_step : (limits : LimitValues) (tokens : ℕ) (calls : List ClientCall) (c : ClientCall) (s : ClientStep) → steps_by limits.max_message calls c ≡ s ∷ [] → client_after limits tokens (calls ++ c ∷ []) ≡ client.step (client_after limits tokens calls) s
+pub client_step : (limits : LimitValues) (tokens : ℕ) (calls : List ClientCall) (c : ClientCall) (s : ClientStep)
+    → steps_by limits.max_message calls c ≡ s ∷ []
+    → client_after limits tokens (calls ++ c ∷ []) ≡ client.step (client_after limits tokens calls) s
 unfolding after_steps
-client_step limits tokens calls c s one = client_more limits tokens calls c ∙ ap (after_steps (client_after limits tokens calls)) one
+client_step limits tokens calls c s one =
+    client_more limits tokens calls c ∙ ap (after_steps (client_after limits tokens calls)) one
 
 -- ---- accepted calls
 
-accepted_behind_calls : (limits : LimitValues) (tokens : ℕ) (a calls : List ClientCall) (c : ClientCall) → AreAcceptedBehind limits tokens a calls → IsAccepted limits tokens (a ++ calls) c → AreAcceptedBehind limits tokens a (calls ++ c ∷ [])
+accepted_behind_calls : (limits : LimitValues) (tokens : ℕ) (a calls : List ClientCall) (c : ClientCall)
+    → AreAcceptedBehind limits tokens a calls → IsAccepted limits tokens (a ++ calls) c
+    → AreAcceptedBehind limits tokens a (calls ++ c ∷ [])
 unfolding AreAcceptedBehind
-accepted_behind_calls limits tokens a [] c before last = (subst (λ (b : List ClientCall). IsAccepted limits tokens b c) (append-nil a) last, tt)
-accepted_behind_calls limits tokens a (d ∷ calls) c before last =
-    (before.0, accepted_behind_calls limits tokens (a ++ d ∷ []) calls c before.1 (subst (λ (b : List ClientCall). IsAccepted limits tokens b c) (sym (append_assoc a (d ∷ []) calls)) last))
+accepted_behind_calls limits tokens a [] c before last =
+    (subst (λ (b : List ClientCall). IsAccepted limits tokens b c) (append-nil a) last, tt)
+accepted_behind_calls limits tokens a (d ∷ calls) c before last = (
+  before.0,
+  accepted_behind_calls limits tokens (a ++ d ∷ []) calls c before.1
+      (subst (λ (b : List ClientCall). IsAccepted limits tokens b c) (sym (append_assoc a (d ∷ []) calls)) last),
+)
 
 -- The empty list of calls is accepted.
 pub accepted_no_call : (limits : LimitValues) (tokens : ℕ) → AreAccepted limits tokens []
@@ -92,20 +126,28 @@ unfolding AreAcceptedBehind
 accepted_no_call limits tokens = tt
 
 -- One more accepted call.
-pub accepted_with_call : (limits : LimitValues) (tokens : ℕ) (calls : List ClientCall) (c : ClientCall) → AreAccepted limits tokens calls → IsAccepted limits tokens calls c → AreAccepted limits tokens (calls ++ c ∷ [])
+pub accepted_with_call : (limits : LimitValues) (tokens : ℕ) (calls : List ClientCall) (c : ClientCall)
+    → AreAccepted limits tokens calls → IsAccepted limits tokens calls c → AreAccepted limits tokens (calls ++ c ∷ [])
 accepted_with_call limits tokens calls c before last = accepted_behind_calls limits tokens [] calls c before last
 
 -- Induction over accepted calls.
-by_calls_behind : (limits : LimitValues) (tokens : ℕ) (P : List ClientCall → Type 0) → ((calls : List ClientCall) (c : ClientCall) → AreAccepted limits tokens calls → IsAccepted limits tokens calls c → P calls → P (calls ++ c ∷ []))
-    → (a calls : List ClientCall) → AreAccepted limits tokens a → P a → AreAcceptedBehind limits tokens a calls → P (a ++ calls)
+by_calls_behind : (limits : LimitValues) (tokens : ℕ) (P : List ClientCall → Type 0)
+    → ((calls : List ClientCall) (c : ClientCall) → AreAccepted limits tokens calls → IsAccepted limits tokens calls c
+    → P calls → P (calls ++ c ∷ []))
+    → (a calls : List ClientCall) → AreAccepted limits tokens a → P a
+    → AreAcceptedBehind limits tokens a calls → P (a ++ calls)
 unfolding AreAcceptedBehind
 by_calls_behind limits tokens P go a [] before holds all = subst P (sym (append-nil a)) holds
 by_calls_behind limits tokens P go a (c ∷ calls) before holds all =
-    subst P (append_assoc a (c ∷ []) calls) (by_calls_behind limits tokens P go (a ++ c ∷ []) calls (accepted_with_call limits tokens a c before all.0) (go a c before all.0 holds) all.1)
+    subst P (append_assoc a (c ∷ []) calls) (by_calls_behind limits tokens P go (a ++ c ∷ []) calls
+    (accepted_with_call limits tokens a c before all.0) (go a c before all.0 holds) all.1)
 
-pub by_calls : (limits : LimitValues) (tokens : ℕ) (P : List ClientCall → Type 0) → P [] → ((calls : List ClientCall) (c : ClientCall) → AreAccepted limits tokens calls → IsAccepted limits tokens calls c → P calls → P (calls ++ c ∷ []))
+pub by_calls : (limits : LimitValues) (tokens : ℕ) (P : List ClientCall → Type 0) → P []
+    → ((calls : List ClientCall) (c : ClientCall) → AreAccepted limits tokens calls → IsAccepted limits tokens calls c
+    → P calls → P (calls ++ c ∷ []))
     → (calls : List ClientCall) → AreAccepted limits tokens calls → P calls
-by_calls limits tokens P first go calls all = by_calls_behind limits tokens P go [] calls (accepted_no_call limits tokens) first all
+by_calls limits tokens P first go calls all =
+    by_calls_behind limits tokens P go [] calls (accepted_no_call limits tokens) first all
 
 -- ---- the stream and the steps of a take
 
@@ -115,26 +157,36 @@ pub record AddsTo (M : ℕ) (calls : List ClientCall) (bytes : List ℕ) (added 
   pub stream : stream_in M (calls ++ Took bytes ∷ []) ≡ behind (stream_in M calls).messages added
 
 -- The added steps, if the stream before has no fault.
-steps_beyond_added : (before after added : Stream) → before.fault ≡ None → after ≡ behind before.messages added → beyond before after ≡ map Handles added.messages ++ new_fault None added.fault
+steps_beyond_added : (before after added : Stream) → before.fault ≡ None → after ≡ behind before.messages added
+    → beyond before after ≡ map Handles added.messages ++ new_fault None added.fault
 steps_beyond_added before after added none is =
     ap (beyond before) is
-    ∙ ap (λ (ms : List Message). map Handles ms ++ new_fault before.fault added.fault) (drop-append_seam before.messages added.messages)
+    ∙ ap (λ (ms : List Message). map Handles ms ++ new_fault before.fault added.fault)
+    (drop-append_seam before.messages added.messages)
     ∙ ap (λ (f : Option StreamFault). map Handles added.messages ++ new_fault f added.fault) none
 
-pub take_adds : (M : ℕ) (calls : List ClientCall) (bytes : List ℕ) (added : Stream) → (stream_in M calls).fault ≡ None → split M ((stream_in M calls).rest ++ bytes) ≡ added → AddsTo M calls bytes added
+pub take_adds : (M : ℕ) (calls : List ClientCall) (bytes : List ℕ) (added : Stream) → (stream_in M calls).fault ≡ None
+    → split M ((stream_in M calls).rest ++ bytes) ≡ added → AddsTo M calls bytes added
 unfolding steps_by
 take_adds M calls bytes added none is =
     let after : stream_in M (calls ++ Took bytes ∷ []) ≡ behind (stream_in M calls).messages added =
     stream_goes_on M calls bytes
-    ∙ ap (λ (f : Option StreamFault). continued (stream_in M calls) f (split M ((stream_in M calls).rest ++ bytes))) none
+    ∙ ap (λ (f : Option StreamFault). continued (stream_in M calls) f (split M ((stream_in M calls).rest ++ bytes)))
+    none
     ∙ ap (behind (stream_in M calls).messages) is
     in
-    record { steps = steps_beyond_added (stream_in M calls) (stream_in M (calls ++ Took bytes ∷ [])) added none after; stream = after }
+    record {
+      steps = steps_beyond_added (stream_in M calls) (stream_in M (calls ++ Took bytes ∷ [])) added none after;
+      stream = after;
+    }
 
 -- Bytes that are accepted in full add what the framer finds in them, if the stream has no fault.
-pub adds_whole : (M : ℕ) (calls : List ClientCall) (bytes : List ℕ) → (stream_in M calls).fault ≡ None → (framing M (stream_in M calls).rest bytes).taken ≡ length bytes
+pub adds_whole : (M : ℕ) (calls : List ClientCall) (bytes : List ℕ) → (stream_in M calls).fault ≡ None
+    → (framing M (stream_in M calls).rest bytes).taken ≡ length bytes
     → AddsTo M calls bytes (added_by (stream_in M calls).rest bytes (framing M (stream_in M calls).rest bytes).finding)
-adds_whole M calls bytes none all = take_adds M calls bytes _ none (added_whole M (stream_in M calls).rest bytes (stream_rest_unfinished M calls none) all)
+adds_whole M calls bytes none all =
+    take_adds M calls bytes _ none
+    (added_whole M (stream_in M calls).rest bytes (stream_rest_unfinished M calls none) all)
 
 -- ---- no bytes
 
@@ -148,4 +200,6 @@ empty_take_stream M calls = stream_stays M calls (Took []) refl
 
 pub empty_take_steps : (M : ℕ) (calls : List ClientCall) → steps_by M calls (Took []) ≡ []
 unfolding steps_by
-empty_take_steps M calls = ap (beyond (stream_in M calls)) (empty_take_stream M calls) ∙ nothing_beyond_itself (stream_in M calls) (stream_in M calls).fault refl
+empty_take_steps M calls =
+    ap (beyond (stream_in M calls)) (empty_take_stream M calls)
+    ∙ nothing_beyond_itself (stream_in M calls) (stream_in M calls).fault refl

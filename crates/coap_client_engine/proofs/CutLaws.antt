@@ -1,9 +1,12 @@
 -- Segmentation is irrelevant: an input slice and its two parts in turn make the same steps and leave the same client.
-use Rattle.std.proofs.Common.{◌≡◌, ℕ, List, [], ◌∷◌, ◌++◌, map, Option, Some, None, refl, sym, ap, subst, ◌∙◌, append_assoc}
+use Rattle.std.proofs.Common.{◌≡◌, ℕ, List, [], ◌∷◌, ◌++◌, map, Option, Some, None, refl, sym, ap, subst, ◌∙◌}
+use Rattle.std.proofs.Common.{append_assoc}
 use Rattle.coap_client_engine.specs.Prelude.{flat_map, Message, StreamFault, Stream, split, behind, continued, split_on}
 use Rattle.coap_client_engine.specs.Prelude.{Client, LimitValues, History, new_history, link_of, ClientValue, is_cut}
-use Rattle.coap_client_engine.specs.Prelude.{ClientCall, Took, Sent, Cancelled, Pinged, Wrote, Ended, ClientStep, Handles}
-use Rattle.coap_client_engine.specs.Prelude.{Ends, taken_by, stream_in, new_fault, beyond, steps_by, steps_behind, steps_of}
+use Rattle.coap_client_engine.specs.Prelude.{ClientCall, Took, Sent, Cancelled, Pinged, Wrote, Ended, ClientStep}
+use Rattle.coap_client_engine.specs.Prelude.{Handles}
+use Rattle.coap_client_engine.specs.Prelude.{Ends, taken_by, stream_in, new_fault, beyond, steps_by, steps_behind}
+use Rattle.coap_client_engine.specs.Prelude.{steps_of}
 use Rattle.coap_client_engine.specs.Prelude.{after_steps, client_after, kept_after, client_of}
 use Rattle.std.proofs.lemmas.List.{append-nil, map-append}
 use Rattle.std.proofs.lemmas.List.Concat.{flat_map-append}
@@ -18,7 +21,8 @@ TookAlike calls others = flat_map taken_by calls ≡ flat_map taken_by others
 
 alike_then : (calls others more : List ClientCall) → TookAlike calls others → TookAlike (calls ++ more) (others ++ more)
 alike_then calls others more alike =
-    flat_map-append taken_by calls more ∙ ap (λ (t : List ℕ). t ++ flat_map taken_by more) alike ∙ sym (flat_map-append taken_by others more)
+    flat_map-append taken_by calls more ∙ ap (λ (t : List ℕ). t ++ flat_map taken_by more) alike
+    ∙ sym (flat_map-append taken_by others more)
 
 call_steps_alike : (M : ℕ) (calls others : List ClientCall) (c : ClientCall) → TookAlike calls others
     → steps_by M calls c ≡ steps_by M others c
@@ -39,7 +43,8 @@ later_steps_alike M calls others [] alike = refl
 later_steps_alike M calls others (c ∷ later) alike =
     ap (λ (ss : List ClientStep). ss ++ steps_behind M (calls ++ c ∷ []) later)
     (call_steps_alike M calls others c alike)
-    ∙ ap (λ (ss : List ClientStep). steps_by M others c ++ ss) (later_steps_alike M (calls ++ c ∷ []) (others ++ c ∷ []) later (alike_then calls others (c ∷ []) alike))
+    ∙ ap (λ (ss : List ClientStep). steps_by M others c ++ ss)
+    (later_steps_alike M (calls ++ c ∷ []) (others ++ c ∷ []) later (alike_then calls others (c ∷ []) alike))
 
 -- ---- a stream continued in two parts
 
@@ -47,36 +52,47 @@ later_steps_alike M calls others (c ∷ later) alike =
 beyond_more : (before others : Stream) → before.fault ≡ None
     → beyond before (behind before.messages others) ≡ map Handles others.messages ++ new_fault None others.fault
 beyond_more before others none =
-    ap (λ (ms : List Message). map Handles ms ++ new_fault before.fault others.fault) (drop-append_seam before.messages others.messages)
+    ap (λ (ms : List Message). map Handles ms ++ new_fault before.fault others.fault)
+    (drop-append_seam before.messages others.messages)
     ∙ ap (λ (f : Option StreamFault). map Handles others.messages ++ new_fault f others.fault) none
 
 -- The steps of a stream without a fault that `s` and then `t` continue.
 beyond_gone_on : (before s t : Stream) (fault : Option StreamFault) → before.fault ≡ None → s.fault ≡ fault
-    → beyond before (continued (behind before.messages s) fault t) ≡ beyond before (behind before.messages s) ++ beyond (behind before.messages s) (continued (behind before.messages s) fault t)
+    → beyond before (continued (behind before.messages s) fault t) ≡ beyond before (behind before.messages s)
+    ++ beyond (behind before.messages s) (continued (behind before.messages s) fault t)
 beyond_gone_on before s t None none is =
     let after : Stream = behind before.messages s in
-    ap (λ (ms : List Message). beyond before (record t { messages = ms })) (append_assoc before.messages s.messages t.messages)
+    ap (λ (ms : List Message). beyond before (record t { messages = ms }))
+    (append_assoc before.messages s.messages t.messages)
     ∙ beyond_more before (behind s.messages t) none
     ∙ ap (λ (ss : List ClientStep). ss ++ new_fault None t.fault) (map-append Handles s.messages t.messages)
     ∙ append_assoc (map Handles s.messages) (map Handles t.messages) (new_fault None t.fault)
     ∙ sym (
-    ap (λ (ss : List ClientStep). ss ++ beyond after (behind after.messages t)) (beyond_more before s none ∙ ap (λ (f : Option StreamFault). map Handles s.messages ++ new_fault None f) is ∙ append-nil (map Handles s.messages))
+    ap (λ (ss : List ClientStep). ss ++ beyond after (behind after.messages t))
+    (beyond_more before s none ∙ ap (λ (f : Option StreamFault). map Handles s.messages ++ new_fault None f) is
+    ∙ append-nil (map Handles s.messages))
     ∙ ap (λ (ss : List ClientStep). map Handles s.messages ++ ss) (beyond_more after t is))
 beyond_gone_on before s t (Some fault) none is =
     let after : Stream = behind before.messages s in
-    sym (ap (λ (ss : List ClientStep). beyond before after ++ ss) (nothing_beyond_itself after after.fault refl) ∙ append-nil (beyond before after))
+    sym (ap (λ (ss : List ClientStep). beyond before after ++ ss) (nothing_beyond_itself after after.fault refl)
+    ∙ append-nil (beyond before after))
 
 -- The steps of any stream that two slices continue in turn.
 beyond_two_pieces : (M : ℕ) (before : Stream) (fault : Option StreamFault) (one other : List ℕ) → before.fault ≡ fault
-    → beyond before (split_on M (split_on M before one) other) ≡ beyond before (split_on M before one) ++ beyond (split_on M before one) (split_on M (split_on M before one) other)
+    → beyond before (split_on M (split_on M before one) other)
+    ≡ beyond before (split_on M before one) ++ beyond (split_on M before one) (split_on M (split_on M before one) other)
 beyond_two_pieces M before None one other none =
     let s : Stream = split M (before.rest ++ one) in
-    let on : split_on M before one ≡ behind before.messages s = ap (λ (f : Option StreamFault). continued before f s) none in
-    subst (λ (a : Stream). beyond before (split_on M a other) ≡ beyond before a ++ beyond a (split_on M a other)) (sym on)
+    let on : split_on M before one ≡ behind before.messages s =
+    ap (λ (f : Option StreamFault). continued before f s) none in
+    subst (λ (a : Stream). beyond before (split_on M a other) ≡ beyond before a ++ beyond a (split_on M a other))
+    (sym on)
     (beyond_gone_on before s (split M (s.rest ++ other)) s.fault none refl)
 beyond_two_pieces M before (Some fault) one other is =
-    let on : (more : List ℕ) → split_on M before more ≡ before = λ more. ap (λ (f : Option StreamFault). continued before f (split M (before.rest ++ more))) is in
-    subst (λ (a : Stream). beyond before (split_on M a other) ≡ beyond before a ++ beyond a (split_on M a other)) (sym (on one))
+    let on : (more : List ℕ) → split_on M before more ≡ before =
+    λ more. ap (λ (f : Option StreamFault). continued before f (split M (before.rest ++ more))) is in
+    subst (λ (a : Stream). beyond before (split_on M a other) ≡ beyond before a ++ beyond a (split_on M a other))
+    (sym (on one))
     (sym (ap (λ (ss : List ClientStep). ss ++ beyond before (split_on M before other))
     (nothing_beyond_itself before before.fault refl)))
 
@@ -92,13 +108,16 @@ taken_twice calls one other =
 
 -- The steps of a slice are those of its parts.
 piece_steps_by_parts : (M : ℕ) (calls : List ClientCall) (one other : List ℕ)
-    → steps_by M calls (Took (one ++ other)) ≡ steps_by M calls (Took one) ++ steps_by M (calls ++ Took one ∷ []) (Took other)
+    → steps_by M calls (Took (one ++ other))
+    ≡ steps_by M calls (Took one) ++ steps_by M (calls ++ Took one ∷ []) (Took other)
 unfolding steps_by
 piece_steps_by_parts M calls one other =
     let before : Stream = stream_in M calls in
     let half = stream_goes_on M calls one in
-    let both : stream_in M ((calls ++ Took one ∷ []) ++ Took other ∷ []) ≡ split_on M (split_on M before one) other = stream_goes_on M (calls ++ Took one ∷ []) other ∙ ap (λ (s : Stream). split_on M s other) half in
-    let whole : stream_in M (calls ++ Took (one ++ other) ∷ []) ≡ split_on M (split_on M before one) other = ap (split M) (taken_twice calls one other) ∙ both in
+    let both : stream_in M ((calls ++ Took one ∷ []) ++ Took other ∷ []) ≡ split_on M (split_on M before one) other =
+    stream_goes_on M (calls ++ Took one ∷ []) other ∙ ap (λ (s : Stream). split_on M s other) half in
+    let whole : stream_in M (calls ++ Took (one ++ other) ∷ []) ≡ split_on M (split_on M before one) other =
+    ap (split M) (taken_twice calls one other) ∙ both in
     ap (beyond before) whole
     ∙ beyond_two_pieces M before before.fault one other refl
     ∙ sym (
@@ -114,9 +133,12 @@ cut_call_steps M earlier later one other =
     let half : List ClientCall = earlier ++ Took one ∷ [] in
     call_steps_behind_more M [] earlier (Took (one ++ other) ∷ later)
     ∙ ap (λ (ss : List ClientStep). steps_behind M [] earlier ++ ss) (
-    ap (λ (ss : List ClientStep). ss ++ steps_behind M (earlier ++ Took (one ++ other) ∷ []) later) (piece_steps_by_parts M earlier one other)
-    ∙ ap (λ (ss : List ClientStep). (steps_by M earlier (Took one) ++ steps_by M half (Took other)) ++ ss) (later_steps_alike M _ _ later (taken_twice earlier one other))
-    ∙ append_assoc (steps_by M earlier (Took one)) (steps_by M half (Took other)) (steps_behind M (half ++ Took other ∷ []) later))
+    ap (λ (ss : List ClientStep). ss ++ steps_behind M (earlier ++ Took (one ++ other) ∷ []) later)
+    (piece_steps_by_parts M earlier one other)
+    ∙ ap (λ (ss : List ClientStep). (steps_by M earlier (Took one) ++ steps_by M half (Took other)) ++ ss)
+    (later_steps_alike M _ _ later (taken_twice earlier one other))
+    ∙ append_assoc (steps_by M earlier (Took one)) (steps_by M half (Took other))
+    (steps_behind M (half ++ Took other ∷ []) later))
     ∙ sym (call_steps_behind_more M [] earlier (Took one ∷ Took other ∷ later))
 
 -- The client, as a function of the steps and the accepted bytes.
@@ -133,9 +155,12 @@ cut_bytes earlier later one other =
     ∙ sym (flat_map-append taken_by earlier (Took one ∷ Took other ∷ later))
 
 pub cut_client : (limits : LimitValues) (tokens : ℕ) (earlier later : List ClientCall) (one other : List ℕ)
-    → client_of limits tokens (earlier ++ Took (one ++ other) ∷ later) ≡ client_of limits tokens (earlier ++ Took one ∷ Took other ∷ later)
+    → client_of limits tokens (earlier ++ Took (one ++ other) ∷ later)
+    ≡ client_of limits tokens (earlier ++ Took one ∷ Took other ∷ later)
 unfolding client_of client_after
 cut_client limits tokens earlier later one other =
     let cut : List ClientCall = earlier ++ Took one ∷ Took other ∷ later in
-    ap (λ (ss : List ClientStep). client_by limits tokens ss (flat_map taken_by (earlier ++ Took (one ++ other) ∷ later))) (cut_call_steps limits.max_message earlier later one other)
+    ap
+    (λ (ss : List ClientStep). client_by limits tokens ss (flat_map taken_by (earlier ++ Took (one ++ other) ∷ later)))
+    (cut_call_steps limits.max_message earlier later one other)
     ∙ ap (client_by limits tokens (steps_of limits.max_message cut)) (cut_bytes earlier later one other)

@@ -2,8 +2,10 @@
 use Rattle.std.proofs.Common.{◌≡◌, ℕ, Bool, true, false, cond, List, [], ◌∷◌, ◌++◌, refl, sym, ◌∙◌}
 use Rattle.coap_client_engine.specs.Prelude.{◌+◌, is_none, Message, takes_messages, reject_of, reject_reason, AllFit}
 use Rattle.coap_client_engine.specs.Prelude.{OutstandingValue, Ping, with_cancelled, asking_refusal, cancel_refusal}
-use Rattle.coap_client_engine.specs.Prelude.{next_token, with_token, entry_of, ping_with, ReactionResult, stop, abort, react}
-use Rattle.coap_client_engine.specs.Prelude.{History, limit_now, standing_now, asking_now, with_effect, after_asking, after}
+use Rattle.coap_client_engine.specs.Prelude.{next_token, with_token, entry_of, ping_with, ReactionResult, stop, abort}
+use Rattle.coap_client_engine.specs.Prelude.{react}
+use Rattle.coap_client_engine.specs.Prelude.{History, limit_now, standing_now, asking_now, with_effect, after_asking}
+use Rattle.coap_client_engine.specs.Prelude.{after}
 use Rattle.coap_client_engine.specs.Prelude.{end_reason, ClientStep, Handles, Faults, Requests, Cancels, Pings, Writes}
 use Rattle.coap_client_engine.specs.Prelude.{Ends, step}
 use Rattle.std.proofs.lemmas.List.{append-nil}
@@ -19,12 +21,14 @@ grows_none : (h k : History) → k.queued ≡ h.queued → GrowsFit h k
 grows_none h k same = ([], same ∙ sym (append-nil h.queued), tt)
 
 -- A conditional effect.
-effect_grows_fit : (h : History) (e : ReactionResult) (does : Bool) → AllFit (limit_now h) e.queued → GrowsFit h (cond does (with_effect h e) h)
+effect_grows_fit : (h : History) (e : ReactionResult) (does : Bool) → AllFit (limit_now h) e.queued
+    → GrowsFit h (cond does (with_effect h e) h)
 effect_grows_fit h e true fit = (e.queued, refl, fit)
 effect_grows_fit h e false fit = grows_none h h refl
 
 heard_grows : (h : History) (m : Message) (takes : Bool)
-    → GrowsFit h (cond takes (record (with_effect h (react (standing_now h) m).effect) { handled = h.handled ++ m ∷ [] }) h)
+    → GrowsFit h
+    (cond takes (record (with_effect h (react (standing_now h) m).effect) { handled = h.handled ++ m ∷ [] }) h)
 heard_grows h m true = ((react (standing_now h) m).effect.queued, refl, reaction_fits h m)
 heard_grows h m false = grows_none h h refl
 
@@ -52,8 +56,10 @@ pub step_grows : (h : History) (s : ClientStep)
 unfolding step
 step_grows h (Handles m) = heard_grows h m (takes_messages h.phase)
 step_grows h (Faults fault) =
-    effect_grows_fit h (abort (standing_now h) (reject_reason (reject_of fault))) (takes_messages h.phase) (stopped_fits h (reject_reason (reject_of fault)))
-step_grows h (Requests m observe) = asked_grows h (with_token m (next_token h.tokens)) (entry_of observe (next_token h.tokens))
+    effect_grows_fit h (abort (standing_now h) (reject_reason (reject_of fault))) (takes_messages h.phase)
+    (stopped_fits h (reject_reason (reject_of fault)))
+step_grows h (Requests m observe) =
+    asked_grows h (with_token m (next_token h.tokens)) (entry_of observe (next_token h.tokens))
 step_grows h (Cancels token m) = cancelled_grows h token m
 step_grows h (Pings custody) = asked_grows h (ping_with custody (next_token h.tokens)) (Ping (next_token h.tokens))
 step_grows h (Writes n) = grows_none h (step h (Writes n)) refl

@@ -1,14 +1,20 @@
 -- The limits of a client hold: for pending and outstanding entries after any calls, for queued and buffered bytes after
 -- accepted calls.
-use Rattle.std.proofs.Common.{◌≡◌, ℕ, ◌+◌, ◌<◌, ◌≤◌, Bool, true, false, cond, List, [], ◌∷◌, ◌++◌, length, drop, refl, sym, ap, subst, ◌∙◌, arith}
+use Rattle.std.proofs.Common.{◌≡◌, ℕ, ◌+◌, ◌<◌, ◌≤◌, Bool, true, false, cond, List, [], ◌∷◌, ◌++◌, length, drop, refl}
+use Rattle.std.proofs.Common.{sym, ap, subst, ◌∙◌, arith}
 use Rattle.coap_client_engine.specs.Prelude.{is_none, Message, spelling, Client, Reason, LimitValues, AreInRange}
 use Rattle.coap_client_engine.specs.Prelude.{takes_messages, abort_of, reject_of, reject_reason, AllFit, fit}
 use Rattle.coap_client_engine.specs.Prelude.{OutstandingValue, Ping, cancelled_by, asking_refusal, cancel_refusal}
-use Rattle.coap_client_engine.specs.Prelude.{next_token, with_token, entry_of, ping_with, ConnectionState, stop, abort, react}
-use Rattle.coap_client_engine.specs.Prelude.{ReactionResult, History, IsHistory, new_history, limit_now, standing_now, asking_now}
-use Rattle.coap_client_engine.specs.Prelude.{waiting_of, with_effect, after, after_asking, bytes_of, end_reason, PendingEntryValue}
-use Rattle.coap_client_engine.specs.Prelude.{request_of, cancel_of, is_cut, ClientCall, ClientStep, Took, Sent, Cancelled}
-use Rattle.coap_client_engine.specs.Prelude.{Pinged, Wrote, Ended, Handles, Faults, Requests, Cancels, Pings, Writes, Ends}
+use Rattle.coap_client_engine.specs.Prelude.{next_token, with_token, entry_of, ping_with, ConnectionState, stop, abort}
+use Rattle.coap_client_engine.specs.Prelude.{react}
+use Rattle.coap_client_engine.specs.Prelude.{ReactionResult, History, IsHistory, new_history, limit_now, standing_now}
+use Rattle.coap_client_engine.specs.Prelude.{asking_now}
+use Rattle.coap_client_engine.specs.Prelude.{waiting_of, with_effect, after, after_asking, bytes_of, end_reason}
+use Rattle.coap_client_engine.specs.Prelude.{PendingEntryValue}
+use Rattle.coap_client_engine.specs.Prelude.{request_of, cancel_of, is_cut, ClientCall, ClientStep, Took, Sent}
+use Rattle.coap_client_engine.specs.Prelude.{Cancelled}
+use Rattle.coap_client_engine.specs.Prelude.{Pinged, Wrote, Ended, Handles, Faults, Requests, Cancels, Pings, Writes}
+use Rattle.coap_client_engine.specs.Prelude.{Ends}
 use Rattle.coap_client_engine.specs.Prelude.{stream_in, steps_by, steps_of, step, after_steps, client_after, handles}
 use Rattle.coap_client_engine.specs.Prelude.{IsAccepted, AreAccepted, client_of}
 use Rattle.std.proofs.lemmas.Bool.{cond_both}
@@ -19,9 +25,11 @@ use Rattle.coap_conn.proofs.SmallLemmas.{first_csm_bytes_small}
 use Rattle.coap_conn.proofs.AskingLaws.{none_where, asked_size, cancel_size}
 use Rattle.coap_conn.proofs.OutstandingLaws.{asked_no_more, asked_few}
 use Rattle.coap_conn.proofs.HistoryLaws.{reaction_fits, stopped_fits}
-use Rattle.coap_client_engine.proofs.ClientSteps.{stream_rest_unfinished, client_first, client_same, client_step, by_calls}
+use Rattle.coap_client_engine.proofs.ClientSteps.{stream_rest_unfinished, client_first, client_same, client_step}
+use Rattle.coap_client_engine.proofs.ClientSteps.{by_calls}
 use Rattle.coap_client_engine.proofs.ClientReached.{limits_same, accepted_reach}
-use Rattle.coap_client_engine.proofs.HandledLaws.{TakeMakes, NoStep, OneMessage, OneFault, handling_has_room, take_makes}
+use Rattle.coap_client_engine.proofs.HandledLaws.{TakeMakes, NoStep, OneMessage, OneFault, handling_has_room}
+use Rattle.coap_client_engine.proofs.HandledLaws.{take_makes}
 use Rattle.coap_conn.proofs.ReactionLaws.{abort_one, react_so}
 use Rattle.coap_conn.proofs.WaitingLaws.{one_small, limit_within, queued_waits, kept_small_by}
 
@@ -38,7 +46,10 @@ react_sparing s m = react_so s m (IsSparing s) (record {
   stands = λ now outstanding stands. record { one = omega arith; none = λ e. e };
   stops = λ why farewell plain one may. record { one = one; none = λ e. refl };
   queues = λ n no. record { one = omega arith; none = λ e. e };
-  keeps = λ ping custody some. record { one = omega arith; none = λ e. absurd (omega (arith, some, ap (λ (held : List PendingEntryValue). length held) e)) };
+  keeps = λ ping custody some. record {
+    one = omega arith;
+    none = λ e. absurd (omega (arith, some, ap (λ (held : List PendingEntryValue). length held) e));
+  };
 })
 
 -- ---- pending and outstanding entries
@@ -49,14 +60,16 @@ record KeepsLimits (limits : LimitValues) (h : History) : Type 0 where
   none : h.held ≡ []
   few : length h.outstanding ≤ limits.outstanding
 
-keeps_if : (limits : LimitValues) (h k : History) (does : Bool) → KeepsLimits limits h → KeepsLimits limits k → KeepsLimits limits (cond does k h)
+keeps_if : (limits : LimitValues) (h k : History) (does : Bool) → KeepsLimits limits h → KeepsLimits limits k
+    → KeepsLimits limits (cond does k h)
 keeps_if limits h k true is then = then
 keeps_if limits h k false is then = is
 
 asked_keeps_held : (h : History) (m : Message) (e : OutstandingValue)
     → ((after_asking h m e).limits ≡ h.limits) × ((after_asking h m e).held ≡ h.held)
 asked_keeps_held h m e =
-    cond_both (is_none (asking_refusal (asking_now h) m)) _ h (λ (k : History). (k.limits ≡ h.limits) × (k.held ≡ h.held)) (λ f. (refl, refl)) (λ f. (refl, refl))
+    cond_both (is_none (asking_refusal (asking_now h) m)) _ h
+    (λ (k : History). (k.limits ≡ h.limits) × (k.held ≡ h.held)) (λ f. (refl, refl)) (λ f. (refl, refl))
 
 asked_keeps : (limits : LimitValues) (h : History) (m : Message) (e : OutstandingValue) → KeepsLimits limits h
     → KeepsLimits limits (after_asking h m e)
@@ -72,16 +85,26 @@ step_keeps_limits : (limits : LimitValues) (h : History) (s : ClientStep) → Ke
     → KeepsLimits limits (step h s)
 unfolding step
 step_keeps_limits limits h (Handles m) is =
-    keeps_if limits h (record (with_effect h (react (standing_now h) m).effect) { handled = h.handled ++ m ∷ [] }) (takes_messages h.phase) is
-    (record { same = is.same; none = (react_sparing (standing_now h) m).none is.none; few = omega (arith, is.few, asked_no_more (standing_now h) m) })
+    keeps_if limits h (record (with_effect h (react (standing_now h) m).effect) { handled = h.handled ++ m ∷ [] })
+    (takes_messages h.phase) is
+    (record {
+      same = is.same;
+      none = (react_sparing (standing_now h) m).none is.none;
+      few = omega (arith, is.few, asked_no_more (standing_now h) m);
+    })
 step_keeps_limits limits h (Faults fault) is =
-    keeps_if limits h (with_effect h (abort (standing_now h) (reject_reason (reject_of fault)))) (takes_messages h.phase) is
+    keeps_if limits h (with_effect h (abort (standing_now h) (reject_reason (reject_of fault))))
+    (takes_messages h.phase) is
     (record { same = is.same; none = refl; few = omega arith })
 step_keeps_limits limits h (Requests m observe) is =
     asked_keeps limits h (with_token m (next_token h.tokens)) (entry_of observe (next_token h.tokens)) is
 step_keeps_limits limits h (Cancels token m) is =
     keeps_if limits h _ (is_none (cancel_refusal (asking_now h) token (with_token m token))) is
-    (record { same = is.same; none = is.none; few = omega (arith, is.few, length-map h.outstanding (cancelled_by token)) })
+    (record {
+      same = is.same;
+      none = is.none;
+      few = omega (arith, is.few, length-map h.outstanding (cancelled_by token));
+    })
 step_keeps_limits limits h (Pings custody) is =
     asked_keeps limits h (ping_with custody (next_token h.tokens)) (Ping (next_token h.tokens)) is
 step_keeps_limits limits h (Writes n) is = record { same = is.same; none = is.none; few = is.few }
@@ -89,17 +112,21 @@ step_keeps_limits limits h (Ends cut) is =
     keeps_if limits h (with_effect h (stop (standing_now h) (end_reason cut) [])) (takes_messages h.phase) is
     (record { same = is.same; none = refl; few = omega arith })
 
-steps_keep_limits : (limits : LimitValues) (h : History) (ss : List ClientStep) → KeepsLimits limits h → KeepsLimits limits (after_steps h ss)
+steps_keep_limits : (limits : LimitValues) (h : History) (ss : List ClientStep) → KeepsLimits limits h
+    → KeepsLimits limits (after_steps h ss)
 unfolding after_steps
 steps_keep_limits limits h [] is = is
 steps_keep_limits limits h (s ∷ ss) is = steps_keep_limits limits (step h s) ss (step_keeps_limits limits h s is)
 
-calls_keep_limits : (limits : LimitValues) (tokens : ℕ) (calls : List ClientCall) → KeepsLimits limits (client_after limits tokens calls)
+calls_keep_limits : (limits : LimitValues) (tokens : ℕ) (calls : List ClientCall)
+    → KeepsLimits limits (client_after limits tokens calls)
 unfolding client_after
 calls_keep_limits limits tokens calls =
-    steps_keep_limits limits (new_history Client limits tokens) (steps_of limits.max_message calls) (record { same = refl; none = refl; few = omega arith })
+    steps_keep_limits limits (new_history Client limits tokens) (steps_of limits.max_message calls)
+    (record { same = refl; none = refl; few = omega arith })
 
-pub client_holds_nothing : (limits : LimitValues) (tokens : ℕ) (calls : List ClientCall) → (client_after limits tokens calls).held ≡ []
+pub client_holds_nothing : (limits : LimitValues) (tokens : ℕ) (calls : List ClientCall)
+    → (client_after limits tokens calls).held ≡ []
 client_holds_nothing limits tokens calls = (calls_keep_limits limits tokens calls).none
 
 pub few_outstanding : (limits : LimitValues) (tokens : ℕ) (calls : List ClientCall)
@@ -113,17 +140,26 @@ abbrev bytes_wait : History → ℕ
 bytes_wait h = length (waiting_of h)
 
 -- A conditional change.
-wait_if : (most : ℕ) (h k : History) (does : Bool) → bytes_wait h ≤ most → (does ≡ true → bytes_wait k ≤ most) → bytes_wait (cond does k h) ≤ most
+wait_if : (most : ℕ) (h k : History) (does : Bool) → bytes_wait h ≤ most → (does ≡ true → bytes_wait k ≤ most)
+    → bytes_wait (cond does k h) ≤ most
 wait_if most h k true few then = then refl
 wait_if most h k false few then = few
 
 -- A history in which the queue limit holds.
-module _ (limits : LimitValues) (h : History) (same : h.limits ≡ limits) (is : IsHistory h) (few : length (waiting_of h) ≤ limits.queue) where
+module _ (limits : LimitValues) (h : History) (same : h.limits ≡ limits) (is : IsHistory h)
+    (few : length (waiting_of h) ≤ limits.queue) where
   -- A message whose size was checked has room.
   room_by_size : (m : Message) → length (spelling m) ≤ (asking_now h).free
       → length (drop h.written (bytes_of (h.queued ++ m ∷ []))) ≤ limits.queue
   room_by_size m room =
-      omega (arith, few, room, queued_waits h (m ∷ []) is, length-append (spelling m) [], ap (λ (l : LimitValues). l.queue) same)
+      omega (
+        arith,
+        few,
+        room,
+        queued_waits h (m ∷ []) is,
+        length-append (spelling m) [],
+        ap (λ (l : LimitValues). l.queue) same,
+      )
 
   asking_waits : (m : Message) (e : OutstandingValue) → bytes_wait (after_asking h m e) ≤ limits.queue
   asking_waits m e =
@@ -134,10 +170,12 @@ module _ (limits : LimitValues) (h : History) (same : h.limits ≡ limits) (is :
   cancel_waits token m =
       let sent : Message = with_token m token in
       wait_if limits.queue h _ (is_none (cancel_refusal (asking_now h) token sent)) few
-      (λ may. room_by_size sent (cancel_size (asking_now h) token sent (none_where (cancel_refusal (asking_now h) token sent) may)).room)
+      (λ may. room_by_size sent
+      (cancel_size (asking_now h) token sent (none_where (cancel_refusal (asking_now h) token sent) may)).room)
 
   written_waits : (n : ℕ) → bytes_wait (after h (call.Written n)) ≤ limits.queue
-  written_waits n = omega (arith, few, length-drop h.written (bytes_of h.queued), length-drop (h.written + n) (bytes_of h.queued))
+  written_waits n =
+      omega (arith, few, length-drop h.written (bytes_of h.queued), length-drop (h.written + n) (bytes_of h.queued))
 
   end_waits : (cut : Bool) → bytes_wait (after h (call.End cut)) ≤ limits.queue
   end_waits cut =
@@ -161,14 +199,18 @@ module _ (limits : LimitValues) (h : History) (same : h.limits ≡ limits) (is :
 
     message_waits : (m : Message) → bytes_wait (after h (call.Handle m)) ≤ limits.queue
     message_waits m =
-        wait_if limits.queue h (record (with_effect h (react (standing_now h) m).effect) { handled = h.handled ++ m ∷ [] }) (takes_messages h.phase) few
-        (λ takes. one_waits (react (standing_now h) m).effect.queued (react_sparing (standing_now h) m).one (reaction_fits h m))
+        wait_if limits.queue h
+        (record (with_effect h (react (standing_now h) m).effect) { handled = h.handled ++ m ∷ [] })
+        (takes_messages h.phase) few
+        (λ takes. one_waits (react (standing_now h) m).effect.queued
+        (react_sparing (standing_now h) m).one (reaction_fits h m))
 
     fault_waits : (why : Reason)
         → bytes_wait (cond (takes_messages h.phase) (with_effect h (abort (standing_now h) why)) h) ≤ limits.queue
     fault_waits why =
         wait_if limits.queue h (with_effect h (abort (standing_now h) why)) (takes_messages h.phase) few
-        (λ takes. one_waits (abort (standing_now h) why).queued (abort_one (limit_now h) (abort_of why)) (stopped_fits h why))
+        (λ takes. one_waits (abort (standing_now h) why).queued
+        (abort_one (limit_now h) (abort_of why)) (stopped_fits h why))
 
 -- ---- after accepted calls
 
@@ -179,7 +221,13 @@ module _ (limits : LimitValues) (tokens : ℕ) where
 
   none_wait : AreInRange limits → FewWait []
   none_wait ranges =
-      omega (arith, ap (λ (h : History). bytes_wait h) (client_first limits tokens), first_csm_bytes_small limits.max_message, ranges.sent_low, ranges.queue_low)
+      omega (
+        arith,
+        ap (λ (h : History). bytes_wait h) (client_first limits tokens),
+        first_csm_bytes_small limits.max_message,
+        ranges.sent_low,
+        ranges.queue_low,
+      )
 
   module _ (calls : List ClientCall) (all : AreAccepted limits tokens calls) (few : FewWait calls) where
     abbrev after_calls : History
@@ -206,22 +254,26 @@ module _ (limits : LimitValues) (tokens : ℕ) where
         step_waits (Took bytes) (Handles m) adds.steps
         (message_waits limits after_calls same_limits written_within few does m)
     took_waits bytes (OneFault does fault rest adds) =
-        step_waits (Took bytes) (Faults fault) adds.steps (fault_waits limits after_calls same_limits written_within few does (reject_reason (reject_of fault)))
+        step_waits (Took bytes) (Faults fault) adds.steps
+        (fault_waits limits after_calls same_limits written_within few does (reject_reason (reject_of fault)))
 
     call_waits : (c : ClientCall) → IsAccepted limits tokens calls c → FewWait (calls ++ c ∷ [])
     unfolding steps_by step
     call_waits (Took bytes) last = took_waits bytes (take_makes limits tokens calls bytes all last)
     call_waits (Sent method target extras) last =
         step_waits (Sent method target extras) (Requests (request_of method target extras) extras.observe) refl
-        (asking_waits limits after_calls same_limits written_within few (with_token (request_of method target extras) (next_token after_calls.tokens))
+        (asking_waits limits after_calls same_limits written_within few
+        (with_token (request_of method target extras) (next_token after_calls.tokens))
         (entry_of extras.observe (next_token after_calls.tokens)))
     call_waits (Cancelled token target extras) last =
         step_waits (Cancelled token target extras) (Cancels token (cancel_of target extras)) refl
         (cancel_waits limits after_calls same_limits written_within few token (cancel_of target extras))
     call_waits (Pinged custody) last =
         step_waits (Pinged custody) (Pings custody) refl
-        (asking_waits limits after_calls same_limits written_within few (ping_with custody (next_token after_calls.tokens)) (Ping (next_token after_calls.tokens)))
-    call_waits (Wrote n) last = step_waits (Wrote n) (Writes n) refl (written_waits limits after_calls same_limits written_within few n)
+        (asking_waits limits after_calls same_limits written_within few
+        (ping_with custody (next_token after_calls.tokens)) (Ping (next_token after_calls.tokens)))
+    call_waits (Wrote n) last =
+        step_waits (Wrote n) (Writes n) refl (written_waits limits after_calls same_limits written_within few n)
     call_waits Ended last =
         let cut : Bool = is_cut (stream_in limits.max_message calls).rest in
         step_waits Ended (Ends cut) refl (end_waits limits after_calls same_limits written_within few cut)
@@ -229,7 +281,8 @@ module _ (limits : LimitValues) (tokens : ℕ) where
 pub few_wait : (limits : LimitValues) (tokens : ℕ) (calls : List ClientCall) → AreInRange limits
     → AreAccepted limits tokens calls → length (waiting_of (client_after limits tokens calls)) ≤ limits.queue
 few_wait limits tokens calls ranges accepted =
-    by_calls limits tokens (λ cs. length (waiting_of (client_after limits tokens cs)) ≤ limits.queue) (none_wait limits tokens ranges)
+    by_calls limits tokens (λ cs. length (waiting_of (client_after limits tokens cs)) ≤ limits.queue)
+    (none_wait limits tokens ranges)
     (λ cs c all last before. call_waits limits tokens cs all before c last) calls accepted
 
 -- ---- buffered bytes of an unfinished frame
@@ -240,6 +293,7 @@ pub few_kept : (limits : LimitValues) (tokens : ℕ) (calls : List ClientCall) �
 unfolding client_of
 few_kept limits tokens calls ranges accepted =
     let rest : List ℕ = (stream_in limits.max_message calls).rest in
-    kept_small_by limits.max_message rest (takes_messages (client_after limits tokens calls).phase) (omega (arith, ranges.message_low))
+    kept_small_by limits.max_message rest (takes_messages (client_after limits tokens calls).phase)
+    (omega (arith, ranges.message_low))
     (λ takes. unfinished_below limits.max_message rest (omega (arith, ranges.message_low))
     (stream_rest_unfinished limits.max_message calls ((accepted_reach limits tokens calls accepted).live takes)))

@@ -1,16 +1,22 @@
 -- The event of a `take`: the token of a response is that of its message, and the frame is found again for its second
 -- parse.
-use Rattle.std.proofs.Common.{◌≡◌, ℕ, Bool, true, false, cond, List, [], ◌∷◌, ◌++◌, length, take, Option, Some, None, refl, sym, ap, subst, ◌∙◌}
+use Rattle.std.proofs.Common.{◌≡◌, ℕ, Bool, true, false, cond, List, [], ◌∷◌, ◌++◌, length, take, Option, Some, None}
+use Rattle.std.proofs.Common.{refl, sym, ap, subst, ◌∙◌}
 use Rattle.coap_client_engine.specs.Prelude.{◌&&◌, find, nat_lt, ◌==◌, if◌then◌else◌, list_any, Message, StreamPrefix}
 use Rattle.coap_client_engine.specs.Prelude.{Unfinished, Whole, Faulty, prefix_kind, FramerValue, IsFramer, AFrame}
-use Rattle.coap_client_engine.specs.Prelude.{split_frame, framing_at, framing, framing_of, framer_after, frame_back, Reply}
+use Rattle.coap_client_engine.specs.Prelude.{split_frame, framing_at, framing, framing_of, framer_after, frame_back}
+use Rattle.coap_client_engine.specs.Prelude.{Reply}
 use Rattle.coap_client_engine.specs.Prelude.{Bare, Role, Server, Client, Reason, is_waiting, stop_of, ReservedCode}
-use Rattle.coap_client_engine.specs.Prelude.{CsmExpected, BadSignalOption, PeerAbort, bad_csm_option, has_critical_option}
-use Rattle.coap_client_engine.specs.Prelude.{fit, bare_response, without_options, Pong, OutstandingValue, matches_response, is_last}
-use Rattle.coap_client_engine.specs.Prelude.{matches_pong, without_asked, without_pinged, VerdictValue, ConnectionState, Reaction}
+use Rattle.coap_client_engine.specs.Prelude.{CsmExpected, BadSignalOption, PeerAbort, bad_csm_option}
+use Rattle.coap_client_engine.specs.Prelude.{has_critical_option}
+use Rattle.coap_client_engine.specs.Prelude.{fit, bare_response, without_options, Pong, OutstandingValue}
+use Rattle.coap_client_engine.specs.Prelude.{matches_response, is_last}
+use Rattle.coap_client_engine.specs.Prelude.{matches_pong, without_asked, without_pinged, VerdictValue, ConnectionState}
+use Rattle.coap_client_engine.specs.Prelude.{Reaction}
 use Rattle.coap_client_engine.specs.Prelude.{tells, aborts, told_of, sends, is_reserved, is_signal, is_method}
 use Rattle.coap_client_engine.specs.Prelude.{checks_critical_options, asks_custody, pong_with, pong_of, holds, leaves}
-use Rattle.coap_client_engine.specs.Prelude.{late_pong, ping_reaction, not_implemented, request_reaction, release_reaction}
+use Rattle.coap_client_engine.specs.Prelude.{late_pong, ping_reaction, not_implemented, request_reaction}
+use Rattle.coap_client_engine.specs.Prelude.{release_reaction}
 use Rattle.coap_client_engine.specs.Prelude.{csm_reaction, answered, response_reaction, pong_reaction, open_reaction}
 use Rattle.coap_client_engine.specs.Prelude.{live_reaction, reaction_unless, react}
 use Rattle.coap_wire.specs.Codes as code
@@ -31,7 +37,8 @@ IsOf m verdict.Stranger = Unit {0}
 IsOf m (verdict.Stopped why) = Unit {0}
 
 module _ (s : ConnectionState) (m : Message) where
-  of_if : (b : Bool) (one other : Reaction) → IsOf m one.verdict → IsOf m other.verdict → IsOf m (cond b one other).verdict
+  of_if : (b : Bool) (one other : Reaction) → IsOf m one.verdict → IsOf m other.verdict
+      → IsOf m (cond b one other).verdict
   of_if true one other is isnt = is
   of_if false one other is isnt = isnt
 
@@ -52,10 +59,15 @@ module _ (s : ConnectionState) (m : Message) where
   of_csm (Some number) = tt
 
   of_late : IsOf m (late_pong s m).verdict
-  of_late = of_if (nat_lt (length s.held) s.most) (holds s (Pong m.token)) (sends s (pong_with false m.token) (pong_with false m.token)) tt (of_sends (pong_with false m.token) (pong_with false m.token))
+  of_late =
+      of_if (nat_lt (length s.held) s.most) (holds s (Pong m.token))
+      (sends s (pong_with false m.token) (pong_with false m.token)) tt
+      (of_sends (pong_with false m.token) (pong_with false m.token))
 
   of_ping : IsOf m (ping_reaction s m).verdict
-  of_ping = of_if (asks_custody m && nat_lt 0 (length s.held)) (late_pong s m) (sends s (pong_of m) (without_options (pong_of m))) of_late (of_sends (pong_of m) (without_options (pong_of m)))
+  of_ping =
+      of_if (asks_custody m && nat_lt 0 (length s.held)) (late_pong s m)
+      (sends s (pong_of m) (without_options (pong_of m))) of_late (of_sends (pong_of m) (without_options (pong_of m)))
 
   of_request : (role : Role) → IsOf m (request_reaction s m role).verdict
   of_request Server = tt
@@ -63,10 +75,15 @@ module _ (s : ConnectionState) (m : Message) where
 
   of_answered : (e : Option OutstandingValue) → IsOf m (answered s m e).verdict
   of_answered None = tt
-  of_answered (Some e) = of_if (is_last m e) (leaves s (without_asked m.token s.outstanding) (verdict.Answer m.token true)) (tells s (verdict.Answer m.token false)) refl refl
+  of_answered (Some e) =
+      of_if (is_last m e) (leaves s (without_asked m.token s.outstanding) (verdict.Answer m.token true))
+      (tells s (verdict.Answer m.token false)) refl refl
 
   of_pong : IsOf m (pong_reaction s m).verdict
-  of_pong = of_if (list_any (matches_pong m.token) s.outstanding) (leaves s (without_pinged m.token s.outstanding) (verdict.Pong m.token (asks_custody m))) (tells s verdict.Stranger) refl tt
+  of_pong =
+      of_if (list_any (matches_pong m.token) s.outstanding)
+      (leaves s (without_pinged m.token s.outstanding) (verdict.Pong m.token (asks_custody m)))
+      (tells s verdict.Stranger) refl tt
 
   of_response : IsOf m (response_reaction s m).verdict
   of_response = of_answered (find (matches_response m.token) s.outstanding)
@@ -88,7 +105,8 @@ module _ (s : ConnectionState) (m : Message) where
   ping_or = if m.code == code.ping then ping_reaction s m else release_or
 
   of_method_or : IsOf m method_or.verdict
-  of_method_or = of_if (is_method m.code) (request_reaction s m s.role) (response_reaction s m) (of_request s.role) of_response
+  of_method_or =
+      of_if (is_method m.code) (request_reaction s m s.role) (response_reaction s m) (of_request s.role) of_response
 
   of_signal_or : IsOf m signal_or.verdict
   of_signal_or = of_if (is_signal m.code) (tells s verdict.Done) method_or tt of_method_or
@@ -103,7 +121,8 @@ module _ (s : ConnectionState) (m : Message) where
   of_ping_or = of_if (m.code == code.ping) (ping_reaction s m) release_or of_ping of_release_or
 
   of_open : IsOf m (open_reaction s m).verdict
-  of_open = of_if (checks_critical_options m.code && has_critical_option m) (aborts s BadSignalOption) ping_or tt of_ping_or
+  of_open =
+      of_if (checks_critical_options m.code && has_critical_option m) (aborts s BadSignalOption) ping_or tt of_ping_or
 
   -- The cases of a connection that is waiting or open.
   abbrev open_or : Reaction
@@ -122,7 +141,8 @@ module _ (s : ConnectionState) (m : Message) where
   of_open_or = of_if (is_waiting s.phase) (aborts s CsmExpected) (open_reaction s m) tt of_open
 
   of_csm_or : IsOf m csm_or.verdict
-  of_csm_or = of_if (m.code == code.csm) (csm_reaction s (bad_csm_option m)) open_or (of_csm (bad_csm_option m)) of_open_or
+  of_csm_or =
+      of_if (m.code == code.csm) (csm_reaction s (bad_csm_option m)) open_or (of_csm (bad_csm_option m)) of_open_or
 
   of_abort_or : IsOf m abort_or.verdict
   of_abort_or = of_if (m.code == code.abort) (aborts s PeerAbort) csm_or tt of_csm_or
@@ -142,10 +162,12 @@ module _ (s : ConnectionState) (m : Message) where
   unfolding react
   verdict_is_of = of_unless (stop_of s.phase)
 
-pub answer_token : (s : ConnectionState) (m : Message) (token : List ℕ) (last : Bool) → verdict.Answer token last ≡ (react s m).verdict → m.token ≡ token
+pub answer_token : (s : ConnectionState) (m : Message) (token : List ℕ) (last : Bool)
+    → verdict.Answer token last ≡ (react s m).verdict → m.token ≡ token
 answer_token s m token last is = sym (subst (IsOf m) (sym is) (verdict_is_of s m))
 
-pub pong_token : (s : ConnectionState) (m : Message) (token : List ℕ) (custody : Bool) → verdict.Pong token custody ≡ (react s m).verdict → m.token ≡ token
+pub pong_token : (s : ConnectionState) (m : Message) (token : List ℕ) (custody : Bool)
+    → verdict.Pong token custody ≡ (react s m).verdict → m.token ≡ token
 pong_token s m token custody is = sym (subst (IsOf m) (sym is) (verdict_is_of s m))
 
 -- ---- the frame of the message
@@ -155,7 +177,8 @@ back_split [] frame piece is = sym is
 back_split (b ∷ kept) [] piece is = absurd cc
 back_split (b ∷ kept) (f ∷ frame) piece is = refl
 
-back_at : (kept piece frame : List ℕ) (b : StreamPrefix) (n : ℕ) → (framing_at kept piece b).finding ≡ AFrame frame → frame ≡ kept ++ take n piece → frame_back (framing_at kept piece b).spent (take n piece) ≡ frame
+back_at : (kept piece frame : List ℕ) (b : StreamPrefix) (n : ℕ) → (framing_at kept piece b).finding ≡ AFrame frame
+    → frame ≡ kept ++ take n piece → frame_back (framing_at kept piece b).spent (take n piece) ≡ frame
 back_at kept piece frame Unfinished n e is = absurd cc
 back_at kept piece frame (Whole found rest) n e is =
     let same : found ≡ frame = cc in
@@ -163,6 +186,9 @@ back_at kept piece frame (Whole found rest) n e is =
 back_at kept piece frame (Faulty fault) n e is = absurd cc
 
 -- The frame is the split one, or the accepted bytes.
-pub frame_is_back : (v : FramerValue) (piece frame : List ℕ) → IsFramer v → (framing_of v piece).finding ≡ AFrame frame → frame_back (framer_after v piece).spent (take (framing_of v piece).taken piece) ≡ frame
+pub frame_is_back : (v : FramerValue) (piece frame : List ℕ) → IsFramer v → (framing_of v piece).finding ≡ AFrame frame
+    → frame_back (framer_after v piece).spent (take (framing_of v piece).taken piece) ≡ frame
 unfolding framing
-frame_is_back v piece frame is e = back_at v.kept piece frame (prefix_kind v.max (v.kept ++ piece)) (framing_of v piece).taken e (frame_taken v.max v.kept piece frame is.unfinished e)
+frame_is_back v piece frame is e =
+    back_at v.kept piece frame (prefix_kind v.max (v.kept ++ piece)) (framing_of v piece).taken e
+    (frame_taken v.max v.kept piece frame is.unfinished e)

@@ -1,10 +1,14 @@
 -- The framer and the link of a client treat an input slice as the definition `taking` says.
-use Rattle.std.proofs.Common.{◌≡◌, ℕ, Bool, true, false, cond, List, [], ◌++◌, take, Option, None, Result, Ok, Err, refl, sym, ap, subst, ◌∙◌}
+use Rattle.std.proofs.Common.{◌≡◌, ℕ, Bool, true, false, cond, List, [], ◌++◌, take, Option, None, Result, Ok, Err}
+use Rattle.std.proofs.Common.{refl, sym, ap, subst, ◌∙◌}
 use Rattle.coap_client_engine.specs.Prelude.{Message, message_of, StreamPrefix, Unfinished, Whole, Faulty, prefix_kind}
-use Rattle.coap_client_engine.specs.Prelude.{FormatFault, FrameFault, FramerValue, IsFramer, Framing, FrameEventValue, Nothing}
+use Rattle.coap_client_engine.specs.Prelude.{FormatFault, FrameFault, FramerValue, IsFramer, Framing, FrameEventValue}
+use Rattle.coap_client_engine.specs.Prelude.{Nothing}
 use Rattle.coap_client_engine.specs.Prelude.{AFrame, AFault, framing_at, framing, framing_of, framer_after, frame_back}
-use Rattle.coap_client_engine.specs.Prelude.{LimitValues, AreInRange, takes_messages, reject_of_frame, reject_reason, react}
-use Rattle.coap_client_engine.specs.Prelude.{LinkValue, standing_in, ClientValue, ClientEventValue, ClientTakeOutcome, client_takes}
+use Rattle.coap_client_engine.specs.Prelude.{LimitValues, AreInRange, takes_messages, reject_of_frame, reject_reason}
+use Rattle.coap_client_engine.specs.Prelude.{react}
+use Rattle.coap_client_engine.specs.Prelude.{LinkValue, standing_in, ClientValue, ClientEventValue, ClientTakeOutcome}
+use Rattle.coap_client_engine.specs.Prelude.{client_takes}
 use Rattle.coap_client_engine.specs.Prelude.{event_told, taking_read, taking_found, taking, IsClient, heard_value}
 use Rattle.coap_client_engine.specs.Prelude.{taking_framed, Inside, Received}
 use Rattle.coap_frame.proofs.FramingLemmas.{framing_is_framer}
@@ -21,36 +25,49 @@ module _ (v : FramerValue) (l : LinkValue) (piece : List ℕ) where
   abbrev told_of_finding : FrameEventValue → Option ClientEventValue
   told_of_finding found = (taking_found (record { frame = v.kept; link = l }) (framing_of v piece) found).event
 
-  told_as : (h : Received) (read : Result Message FormatFault) (found : FrameEventValue) → (framing_of v piece).finding ≡ found → heard_value h read ≡ told_of_finding found → heard_value h read ≡ (taking_framed v l piece).event
+  told_as : (h : Received) (read : Result Message FormatFault) (found : FrameEventValue)
+      → (framing_of v piece).finding ≡ found → heard_value h read ≡ told_of_finding found
+      → heard_value h read ≡ (taking_framed v l piece).event
   told_as h read found is told = told ∙ ap told_of_finding (sym is)
 
-  pub told_nothing : (h : Received) (read : Result Message FormatFault) → (framing_of v piece).finding ≡ Nothing → h ≡ heard.Nothing → heard_value h read ≡ (taking_framed v l piece).event
+  pub told_nothing : (h : Received) (read : Result Message FormatFault) → (framing_of v piece).finding ≡ Nothing
+      → h ≡ heard.Nothing → heard_value h read ≡ (taking_framed v l piece).event
   told_nothing h read is e = told_as h read Nothing is (ap (λ (k : Received). heard_value k read) e)
 
-  pub told_fault : (h : Received) (read : Result Message FormatFault) (fault : FrameFault) → (framing_of v piece).finding ≡ AFault fault → h ≡ heard.Stopped (reject_reason (reject_of_frame fault)) → heard_value h read ≡ (taking_framed v l piece).event
+  pub told_fault : (h : Received) (read : Result Message FormatFault) (fault : FrameFault)
+      → (framing_of v piece).finding ≡ AFault fault → h ≡ heard.Stopped (reject_reason (reject_of_frame fault))
+      → heard_value h read ≡ (taking_framed v l piece).event
   told_fault h read fault is e = told_as h read (AFault fault) is (ap (λ (k : Received). heard_value k read) e)
 
   -- The event of a frame, by the result of parsing it.
   abbrev told_read : Result Message FormatFault → Option ClientEventValue
   told_read read = (taking_read (record { frame = v.kept; link = l }) (framing_of v piece).taken read).event
 
-  pub told_bad : (h : Received) (read : Result Message FormatFault) (frame : List ℕ) (bad : FormatFault) → (framing_of v piece).finding ≡ AFrame frame → message_of frame ≡ Err bad → h ≡ heard.Stopped (reject_reason reject.Format) → heard_value h read ≡ (taking_framed v l piece).event
-  told_bad h read frame bad is reads e = told_as h read (AFrame frame) is (ap (λ (k : Received). heard_value k read) e ∙ ap told_read (sym reads))
+  pub told_bad : (h : Received) (read : Result Message FormatFault) (frame : List ℕ) (bad : FormatFault)
+      → (framing_of v piece).finding ≡ AFrame frame → message_of frame ≡ Err bad
+      → h ≡ heard.Stopped (reject_reason reject.Format) → heard_value h read ≡ (taking_framed v l piece).event
+  told_bad h read frame bad is reads e =
+      told_as h read (AFrame frame) is (ap (λ (k : Received). heard_value k read) e ∙ ap told_read (sym reads))
 
   -- The message is the one in the frame that `frame_back` returns.
-  pub told_message : (h : Received) (frame : List ℕ) (m : Message) → IsFramer v → (framing_of v piece).finding ≡ AFrame frame → message_of frame ≡ Ok m → heard_value h (Ok m) ≡ event_told m (react (standing_in l) m).verdict
-      → heard_value h (message_of (frame_back (framer_after v piece).spent (take (framing_of v piece).taken piece))) ≡ (taking_framed v l piece).event
+  pub told_message : (h : Received) (frame : List ℕ) (m : Message) → IsFramer v
+      → (framing_of v piece).finding ≡ AFrame frame → message_of frame ≡ Ok m
+      → heard_value h (Ok m) ≡ event_told m (react (standing_in l) m).verdict
+      → heard_value h (message_of (frame_back (framer_after v piece).spent (take (framing_of v piece).taken piece)))
+      ≡ (taking_framed v l piece).event
   told_message h frame m framer is reads e =
       ap (λ (f : List ℕ). heard_value h (message_of f)) (frame_is_back v piece frame framer is)
       ∙ ap (heard_value h) reads ∙ e ∙ ap told_read (sym reads) ∙ ap told_of_finding (sym is)
 
   -- ---- buffered bytes and limits
 
-  count_of_read : (read : Result Message FormatFault) (n : ℕ) → n ≡ (taking_read (record { frame = v.kept; link = l }) n read).count
+  count_of_read : (read : Result Message FormatFault) (n : ℕ)
+      → n ≡ (taking_read (record { frame = v.kept; link = l }) n read).count
   count_of_read (Ok m) n = refl
   count_of_read (Err e) n = refl
 
-  count_by : (found : FrameEventValue) → (framing_of v piece).taken ≡ (taking_found (record { frame = v.kept; link = l }) (framing_of v piece) found).count
+  count_by : (found : FrameEventValue) → (framing_of v piece).taken
+      ≡ (taking_found (record { frame = v.kept; link = l }) (framing_of v piece) found).count
   count_by Nothing = refl
   count_by (AFrame frame) = count_of_read (message_of frame) (framing_of v piece).taken
   count_by (AFault fault) = refl
@@ -59,11 +76,14 @@ module _ (v : FramerValue) (l : LinkValue) (piece : List ℕ) where
   pub framed_count : (framing_of v piece).taken ≡ (taking_framed v l piece).count
   framed_count = count_by (framing_of v piece).finding
 
-  kept_by_beginning : (b : StreamPrefix) → (framing_at v.kept piece b).kept ≡ (taking_found (record { frame = v.kept; link = l }) (framing_at v.kept piece b) (framing_at v.kept piece b).finding).client.frame
+  kept_by_beginning : (b : StreamPrefix)
+      → (framing_at v.kept piece b).kept ≡ (taking_found (record { frame = v.kept; link = l })
+      (framing_at v.kept piece b) (framing_at v.kept piece b).finding).client.frame
   kept_by_beginning Unfinished = refl
   kept_by_beginning (Whole frame rest) = kept_frame (message_of frame)
     where
-      kept_frame : (read : Result Message FormatFault) → [] ≡ (taking_read (record { frame = v.kept; link = l }) (framing_at v.kept piece (Whole frame rest)).taken read).client.frame
+      kept_frame : (read : Result Message FormatFault) → [] ≡ (taking_read (record { frame = v.kept; link = l })
+          (framing_at v.kept piece (Whole frame rest)).taken read).client.frame
       kept_frame (Ok m) = refl
       kept_frame (Err e) = refl
   kept_by_beginning (Faulty fault) = refl
@@ -72,11 +92,13 @@ module _ (v : FramerValue) (l : LinkValue) (piece : List ℕ) where
   unfolding framing
   kept_framed = kept_by_beginning (prefix_kind v.max (v.kept ++ piece))
 
-limits_read : (w : ClientValue) (n : ℕ) (read : Result Message FormatFault) → (taking_read w n read).client.link.limits ≡ w.link.limits
+limits_read : (w : ClientValue) (n : ℕ) (read : Result Message FormatFault)
+    → (taking_read w n read).client.link.limits ≡ w.link.limits
 limits_read w n (Ok m) = stays_so (λ (l : LinkValue). l.limits) (takes_messages w.link.phase) w.link _ refl
 limits_read w n (Err e) = stays_so (λ (l : LinkValue). l.limits) (takes_messages w.link.phase) w.link _ refl
 
-pub limits_found : (w : ClientValue) (f : Framing) (found : FrameEventValue) → (taking_found w f found).client.link.limits ≡ w.link.limits
+pub limits_found : (w : ClientValue) (f : Framing) (found : FrameEventValue)
+    → (taking_found w f found).client.link.limits ≡ w.link.limits
 limits_found w f Nothing = refl
 limits_found w f (AFrame frame) = limits_read w f.taken (message_of frame)
 limits_found w f (AFault fault) = stays_so (λ (l : LinkValue). l.limits) (takes_messages w.link.phase) w.link _ refl
@@ -85,7 +107,8 @@ limits_found w f (AFault fault) = stays_so (λ (l : LinkValue). l.limits) (takes
 -- ---- the client
 
 -- The invariant of a client is kept if the framer and the limits keep theirs.
-pub is_still : (i : Inside) (framer : FramerValue) (link : LinkValue) → IsClient i → framer.max ≡ i.framer.max → IsFramer framer → link.limits ≡ i.link.limits → IsClient (record { framer = framer; link = link })
+pub is_still : (i : Inside) (framer : FramerValue) (link : LinkValue) → IsClient i → framer.max ≡ i.framer.max
+    → IsFramer framer → link.limits ≡ i.link.limits → IsClient (record { framer = framer; link = link })
 is_still i framer link is same framed limits = record {
   ranges = subst AreInRange (sym limits) is.ranges;
   greatest = same ∙ is.greatest ∙ ap (λ (l : LimitValues). l.max_message) (sym limits);
@@ -97,27 +120,36 @@ module _ (i : Inside) (v : ClientValue) (piece : List ℕ) (is : IsClient i) (vi
   pub takes_none : client_takes v ≡ false → taking v piece ≡ record { count = 0; client = v; event = None }
   unfolding taking
   takes_none not =
-      ap (λ (b : Bool). cond b (taking_found v (framing v.link.limits.max_message v.frame piece) (framing v.link.limits.max_message v.frame piece).finding) (record { count = 0; client = v; event = None })) not
+      ap (λ (b : Bool). cond b (taking_found v (framing v.link.limits.max_message v.frame piece)
+      (framing v.link.limits.max_message v.frame piece).finding) (record { count = 0; client = v; event = None })) not
 
   -- The framer and the link accept the bytes.
   pub takes_framed : client_takes v ≡ true → taking v piece ≡ taking_framed i.framer i.link piece
   unfolding taking
   takes_framed does =
-      ap (λ (b : Bool). cond b (taking_found v (framing v.link.limits.max_message v.frame piece) (framing v.link.limits.max_message v.frame piece).finding) (record { count = 0; client = v; event = None })) does
-      ∙ ap (λ (w : ClientValue). taking_found w (framing w.link.limits.max_message w.frame piece) (framing w.link.limits.max_message w.frame piece).finding) (sym view)
-      ∙ ap (λ (M : ℕ). taking_found (client_value i) (framing M i.framer.kept piece) (framing M i.framer.kept piece).finding) (sym is.greatest)
+      ap (λ (b : Bool). cond b (taking_found v (framing v.link.limits.max_message v.frame piece)
+      (framing v.link.limits.max_message v.frame piece).finding) (record { count = 0; client = v; event = None })) does
+      ∙ ap (λ (w : ClientValue). taking_found w (framing w.link.limits.max_message w.frame piece)
+      (framing w.link.limits.max_message w.frame piece).finding) (sym view)
+      ∙ ap
+      (λ (M : ℕ). taking_found (client_value i) (framing M i.framer.kept piece) (framing M i.framer.kept piece).finding)
+      (sym is.greatest)
 
-  module _ (framer : FramerValue) (link : LinkValue) (framed : framer ≡ framer_after i.framer piece) (handled : link ≡ (taking_framed i.framer i.link piece).client.link) where
+  module _ (framer : FramerValue) (link : LinkValue) (framed : framer ≡ framer_after i.framer piece)
+      (handled : link ≡ (taking_framed i.framer i.link piece).client.link) where
     -- The invariant of the client holds after the call.
     pub took_is : IsClient (record { framer = framer; link = link })
     took_is =
-        is_still i framer link is (ap (λ (f : FramerValue). f.max) framed) (subst IsFramer (sym framed) (framing_is_framer i.framer piece is.framer))
-        (ap (λ (l : LinkValue). l.limits) handled ∙ limits_found (record { frame = i.framer.kept; link = i.link }) (framing_of i.framer piece) (framing_of i.framer piece).finding)
+        is_still i framer link is (ap (λ (f : FramerValue). f.max) framed)
+        (subst IsFramer (sym framed) (framing_is_framer i.framer piece is.framer))
+        (ap (λ (l : LinkValue). l.limits) handled ∙ limits_found (record { frame = i.framer.kept; link = i.link })
+        (framing_of i.framer piece) (framing_of i.framer piece).finding)
 
     -- The client is the one that the definition gives.
     pub took_client : client_takes v ≡ true → record { frame = framer.kept; link = link } ≡ (taking v piece).client
     took_client does =
         ap (λ (f : FramerValue). record { frame = f.kept; link = link }) framed
         ∙ ap (λ (l : LinkValue). record { frame = (framer_after i.framer piece).kept; link = l }) handled
-        ∙ ap (λ (k : List ℕ). record { frame = k; link = (taking_framed i.framer i.link piece).client.link }) (kept_framed i.framer i.link piece)
+        ∙ ap (λ (k : List ℕ). record { frame = k; link = (taking_framed i.framer i.link piece).client.link })
+        (kept_framed i.framer i.link piece)
         ∙ ap (λ (t : ClientTakeOutcome). t.client) (sym (takes_framed does))

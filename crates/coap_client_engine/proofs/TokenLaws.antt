@@ -1,9 +1,14 @@
 -- Each token is given once: its number is larger than those of all calls before it.
-use Rattle.std.proofs.Common.{◌≡◌, ℕ, ◌+◌, ◌<◌, ◌≤◌, Bool, true, false, cond, List, [], ◌∷◌, ◌++◌, Option, Some, None, refl, sym, ap, subst, ◌∙◌, arith}
-use Rattle.coap_client_engine.specs.Prelude.{◌≢◌, is_none, AllByRecursion, Message, RequestFault, TooBig, takes_messages}
-use Rattle.coap_client_engine.specs.Prelude.{reject_of, reject_reason, LimitValues, OutstandingValue, Ping, else_refusal}
-use Rattle.coap_client_engine.specs.Prelude.{new_refusal, asking_refusal, cancel_refusal, next_token, with_token, entry_of}
-use Rattle.coap_client_engine.specs.Prelude.{ping_with, stop, abort, react, History, standing_now, asking_now, with_effect}
+use Rattle.std.proofs.Common.{◌≡◌, ℕ, ◌+◌, ◌<◌, ◌≤◌, Bool, true, false, cond, List, [], ◌∷◌, ◌++◌, Option, Some, None}
+use Rattle.std.proofs.Common.{refl, sym, ap, subst, ◌∙◌, arith}
+use Rattle.coap_client_engine.specs.Prelude.{◌≢◌, is_none, AllByRecursion, Message, RequestFault, TooBig}
+use Rattle.coap_client_engine.specs.Prelude.{takes_messages}
+use Rattle.coap_client_engine.specs.Prelude.{reject_of, reject_reason, LimitValues, OutstandingValue, Ping}
+use Rattle.coap_client_engine.specs.Prelude.{else_refusal}
+use Rattle.coap_client_engine.specs.Prelude.{new_refusal, asking_refusal, cancel_refusal, next_token, with_token}
+use Rattle.coap_client_engine.specs.Prelude.{entry_of}
+use Rattle.coap_client_engine.specs.Prelude.{ping_with, stop, abort, react, History, standing_now, asking_now}
+use Rattle.coap_client_engine.specs.Prelude.{with_effect}
 use Rattle.coap_client_engine.specs.Prelude.{after_asking, link_of, end_reason, Method, TargetValue, ExtrasValue}
 use Rattle.coap_client_engine.specs.Prelude.{request_of, is_too_long, send_refusal, ClientCall, ClientStep, Took, Sent}
 use Rattle.coap_client_engine.specs.Prelude.{Cancelled, Pinged, Wrote, Ended, Handles, Faults, Requests, Cancels, Pings}
@@ -27,11 +32,15 @@ asked_more h m e = if_more h _ (is_none (asking_refusal (asking_now h) m)) (omeg
 step_tokens : (h : History) (s : ClientStep) → h.tokens ≤ (step h s).tokens
 unfolding step
 step_tokens h (Handles m) =
-    if_more h (record (with_effect h (react (standing_now h) m).effect) { handled = h.handled ++ m ∷ [] }) (takes_messages h.phase) (omega arith)
+    if_more h (record (with_effect h (react (standing_now h) m).effect) { handled = h.handled ++ m ∷ [] })
+    (takes_messages h.phase) (omega arith)
 step_tokens h (Faults fault) =
-    if_more h (with_effect h (abort (standing_now h) (reject_reason (reject_of fault)))) (takes_messages h.phase) (omega arith)
-step_tokens h (Requests m observe) = asked_more h (with_token m (next_token h.tokens)) (entry_of observe (next_token h.tokens))
-step_tokens h (Cancels token m) = if_more h _ (is_none (cancel_refusal (asking_now h) token (with_token m token))) (omega arith)
+    if_more h (with_effect h (abort (standing_now h) (reject_reason (reject_of fault))))
+    (takes_messages h.phase) (omega arith)
+step_tokens h (Requests m observe) =
+    asked_more h (with_token m (next_token h.tokens)) (entry_of observe (next_token h.tokens))
+step_tokens h (Cancels token m) =
+    if_more h _ (is_none (cancel_refusal (asking_now h) token (with_token m token))) (omega arith)
 step_tokens h (Pings custody) = asked_more h (ping_with custody (next_token h.tokens)) (Ping (next_token h.tokens))
 step_tokens h (Writes n) = omega arith
 step_tokens h (Ends cut) =
@@ -57,7 +66,9 @@ call_tokens limits tokens earlier c =
 asked_counts_token : (h : History) (m : Message) (e : OutstandingValue) → asking_refusal (asking_now h) m ≡ None
     → (after_asking h m e).tokens ≡ h.tokens + 1
 asked_counts_token h m e may =
-    ap (λ (r : Option RequestFault). (cond (is_none r) (record h { queued = h.queued ++ m ∷ []; outstanding = h.outstanding ++ e ∷ []; tokens = h.tokens + 1 }) h).tokens) may
+    ap (λ (r : Option RequestFault). (cond (is_none r)
+    (record h { queued = h.queued ++ m ∷ []; outstanding = h.outstanding ++ e ∷ []; tokens = h.tokens + 1 }) h).tokens)
+    may
 
 refused_so : (o : Option RequestFault) → else_refusal o (Some TooBig) ≡ None → ⊥
 refused_so None e = cc
@@ -68,7 +79,8 @@ sent_asked : (h : History) (method : Method) (target : TargetValue) (extras : Ex
     → send_refusal (link_of h) method target extras ≡ None
     → asking_refusal (asking_now h) (with_token (request_of method target extras) (next_token h.tokens)) ≡ None
 sent_asked h method target extras =
-    cond_both (is_too_long extras) _ _ (λ (r : Option RequestFault). r ≡ None → asking_refusal (asking_now h) (with_token (request_of method target extras) (next_token h.tokens)) ≡ None)
+    cond_both (is_too_long extras) _ _ (λ (r : Option RequestFault). r ≡ None
+    → asking_refusal (asking_now h) (with_token (request_of method target extras) (next_token h.tokens)) ≡ None)
     (λ long e. absurd (refused_so (new_refusal (asking_now h)) e)) (λ short e. e)
 
 -- The history continues with the next number, if one was left.
@@ -80,13 +92,17 @@ asked_gives : (h : History) (m : Message) (e : OutstandingValue) → asking_refu
     → UsesToken h (after_asking h m e)
 asked_gives h m e may = record { next = asked_counts_token h m e may; left = token_left h m may }
 
-sent_gives : (limits : LimitValues) (tokens : ℕ) (earlier : List ClientCall) (method : Method) (target : TargetValue) (extras : ExtrasValue) → IsAccepted limits tokens earlier (Sent method target extras)
-    → UsesToken (client_after limits tokens earlier) (client_after limits tokens (earlier ++ Sent method target extras ∷ []))
+sent_gives : (limits : LimitValues) (tokens : ℕ) (earlier : List ClientCall) (method : Method) (target : TargetValue)
+    (extras : ExtrasValue) → IsAccepted limits tokens earlier (Sent method target extras)
+    → UsesToken (client_after limits tokens earlier)
+    (client_after limits tokens (earlier ++ Sent method target extras ∷ []))
 unfolding IsAccepted step steps_by
 sent_gives limits tokens earlier method target extras accepted =
     let h : History = client_after limits tokens earlier in
-    subst (UsesToken h) (sym (client_step limits tokens earlier (Sent method target extras) (Requests (request_of method target extras) extras.observe) refl))
-    (asked_gives h (with_token (request_of method target extras) (next_token h.tokens)) (entry_of extras.observe (next_token h.tokens))
+    subst (UsesToken h) (sym (client_step limits tokens earlier (Sent method target extras)
+    (Requests (request_of method target extras) extras.observe) refl))
+    (asked_gives h (with_token (request_of method target extras) (next_token h.tokens))
+    (entry_of extras.observe (next_token h.tokens))
     (sent_asked h method target extras accepted))
 
 pinged_gives : (limits : LimitValues) (tokens : ℕ) (earlier : List ClientCall) (custody : Bool)
@@ -113,15 +129,19 @@ AreNew n ts = AllByRecursion (IsLater n) ts × AreDifferent ts
 
 all_earlier : (n k : ℕ) (ts : List (List ℕ)) → n ≤ k → AllByRecursion (IsLater k) ts → AllByRecursion (IsLater n) ts
 all_earlier n k [] h each = tt
-all_earlier n k (t ∷ ts) h each =
-    (record { number = each.0.number; is = each.0.is; later = omega (arith, h, each.0.later); small = each.0.small }, all_earlier n k ts h each.1)
+all_earlier n k (t ∷ ts) h each = (
+  record { number = each.0.number; is = each.0.is; later = omega (arith, h, each.0.later); small = each.0.small },
+  all_earlier n k ts h each.1,
+)
 
 -- The tokens differ from that of an earlier number.
 all_other : (n : ℕ) (ts : List (List ℕ)) → n < 18446744073709551615 → AllByRecursion (IsLater (n + 1)) ts
     → AllByRecursion (λ other. next_token n ≢ other) ts
 all_other n [] small each = tt
-all_other n (t ∷ ts) small each =
-    (λ same. omega (arith, each.0.later, tokens_differ n each.0.number small each.0.small (same ∙ each.0.is)), all_other n ts small each.1)
+all_other n (t ∷ ts) small each = (
+  λ same. omega (arith, each.0.later, tokens_differ n each.0.number small each.0.small (same ∙ each.0.is)),
+  all_other n ts small each.1,
+)
 
 -- Tokens that are new after a call are also new before it, together with the token that the call gives.
 none_new : (h k : History) (ts : List (List ℕ)) → h.tokens ≤ k.tokens → AreNew k.tokens ts → AreNew h.tokens ([] ++ ts)
@@ -130,8 +150,12 @@ none_new h k ts more are = (all_earlier h.tokens k.tokens ts more are.0, are.1)
 one_new : (h k : History) (ts : List (List ℕ)) → UsesToken h k → AreNew k.tokens ts
     → AreNew h.tokens ((next_token h.tokens ∷ []) ++ ts)
 one_new h k ts gives are =
-    let behind : AllByRecursion (IsLater (h.tokens + 1)) ts = subst (λ (n : ℕ). AllByRecursion (IsLater n) ts) gives.next are.0 in (
-      (record { number = h.tokens; is = refl; later = omega arith; small = gives.left }, all_earlier h.tokens (h.tokens + 1) ts (omega arith) behind),
+    let behind : AllByRecursion (IsLater (h.tokens + 1)) ts =
+    subst (λ (n : ℕ). AllByRecursion (IsLater n) ts) gives.next are.0 in (
+      (
+        record { number = h.tokens; is = refl; later = omega arith; small = gives.left },
+        all_earlier h.tokens (h.tokens + 1) ts (omega arith) behind,
+      ),
       (all_other h.tokens ts gives.left behind, are.1),
     )
 
@@ -141,18 +165,24 @@ module _ (limits : LimitValues) (tokens : ℕ) (earlier : List ClientCall) where
   abbrev after_one : ClientCall → History
   after_one c = client_after limits tokens (earlier ++ c ∷ [])
 
-  given_new : (c : ClientCall) (ts : List (List ℕ)) → IsAccepted limits tokens earlier c → AreNew (after_one c).tokens ts
+  given_new : (c : ClientCall) (ts : List (List ℕ)) → IsAccepted limits tokens earlier c
+      → AreNew (after_one c).tokens ts
       → AreNew (client_after limits tokens earlier).tokens (token_given limits tokens earlier c ++ ts)
   given_new (Took bytes) ts accepted are =
-      none_new (client_after limits tokens earlier) (after_one (Took bytes)) ts (call_tokens limits tokens earlier (Took bytes)) are
+      none_new (client_after limits tokens earlier) (after_one (Took bytes)) ts
+      (call_tokens limits tokens earlier (Took bytes)) are
   given_new (Sent method target extras) ts accepted are =
-      one_new (client_after limits tokens earlier) (after_one (Sent method target extras)) ts (sent_gives limits tokens earlier method target extras accepted) are
+      one_new (client_after limits tokens earlier) (after_one (Sent method target extras)) ts
+      (sent_gives limits tokens earlier method target extras accepted) are
   given_new (Cancelled token target extras) ts accepted are =
-      none_new (client_after limits tokens earlier) (after_one (Cancelled token target extras)) ts (call_tokens limits tokens earlier (Cancelled token target extras)) are
+      none_new (client_after limits tokens earlier) (after_one (Cancelled token target extras)) ts
+      (call_tokens limits tokens earlier (Cancelled token target extras)) are
   given_new (Pinged custody) ts accepted are =
-      one_new (client_after limits tokens earlier) (after_one (Pinged custody)) ts (pinged_gives limits tokens earlier custody accepted) are
+      one_new (client_after limits tokens earlier) (after_one (Pinged custody)) ts
+      (pinged_gives limits tokens earlier custody accepted) are
   given_new (Wrote n) ts accepted are =
-      none_new (client_after limits tokens earlier) (after_one (Wrote n)) ts (call_tokens limits tokens earlier (Wrote n)) are
+      none_new (client_after limits tokens earlier) (after_one (Wrote n)) ts
+      (call_tokens limits tokens earlier (Wrote n)) are
   given_new Ended ts accepted are =
       none_new (client_after limits tokens earlier) (after_one Ended) ts (call_tokens limits tokens earlier Ended) are
 
@@ -162,7 +192,8 @@ behind_new : (limits : LimitValues) (tokens : ℕ) (earlier calls : List ClientC
 unfolding AreAcceptedBehind
 behind_new limits tokens earlier [] accepted = (tt, tt)
 behind_new limits tokens earlier (c ∷ calls) accepted =
-    given_new limits tokens earlier c (tokens_behind limits tokens (earlier ++ c ∷ []) calls) accepted.0 (behind_new limits tokens (earlier ++ c ∷ []) calls accepted.1)
+    given_new limits tokens earlier c (tokens_behind limits tokens (earlier ++ c ∷ []) calls) accepted.0
+    (behind_new limits tokens (earlier ++ c ∷ []) calls accepted.1)
 
 pub tokens_once : (limits : LimitValues) (tokens : ℕ) (calls : List ClientCall) → AreAccepted limits tokens calls
     → AreDifferent (tokens_given limits tokens calls)

@@ -1,13 +1,16 @@
 -- Defined by this project: the words for the cause of the end of a run.
-use Rattle.std.specs.Prelude.{ℕ, Bool, ◌==◌, ◌||◌, nat_lt, List, [], ◌++◌, Option, Some, None, codes, decimal, if◌then◌else◌}
+use Rattle.std.specs.Prelude.{ℕ, Bool, ◌==◌, ◌||◌, nat_lt, List, [], ◌++◌, Option, Some, None, codes, decimal}
+use Rattle.std.specs.Prelude.{if◌then◌else◌}
 use Rattle.coap_wire.specs.declared.sizes.TheConstants.{LARGEST_SENT_MESSAGE}
 use Rattle.coap_print.specs.Names.{option_name}
 use Rattle.coap_conn.specs.declared.phase.RequestFault.{RequestFault}
-use Rattle.coap_conn.specs.declared.phase.RequestFault.TheVariants.{NotOpen, TooMany, TooBig, NoRoom, TokensSpent, NoSuchToken}
+use Rattle.coap_conn.specs.declared.phase.RequestFault.TheVariants.{NotOpen, TooMany, TooBig, NoRoom, TokensSpent}
+use Rattle.coap_conn.specs.declared.phase.RequestFault.TheVariants.{NoSuchToken}
 use Rattle.coap_conn.specs.declared.reason.Reason.{Reason}
 use Rattle.coap_conn.specs.declared.reason.Reason.TheVariants as reason
 use Rattle.coap_client_engine.specs.declared.run_end.Cause.{Cause}
-use Rattle.coap_client_engine.specs.declared.run_end.Cause.TheVariants.{BadOption, Request, Cancellation, Stopped, TimedOut}
+use Rattle.coap_client_engine.specs.declared.run_end.Cause.TheVariants.{BadOption, Request, Cancellation, Stopped}
+use Rattle.coap_client_engine.specs.declared.run_end.Cause.TheVariants.{TimedOut}
 use Rattle.coap_client_engine.specs.declared.run_end.Refusal.{Refusal}
 use Rattle.coap_client_engine.specs.declared.run_end.Awaited.{Awaited}
 use Rattle.coap_client_engine.specs.declared.run_end.Awaited.TheVariants.{Csm, Response, LastResponse}
@@ -20,7 +23,8 @@ is_block_option number = number == 19 || number == 23 || number == 27 || number 
 
 -- The words for what a response does with a critical option.
 abbrev pub fault_of_option : ℕ → List ℕ
-fault_of_option number = if is_block_option number then codes "uses block-wise transfer" else codes "has a critical option"
+fault_of_option number =
+    if is_block_option number then codes "uses block-wise transfer" else codes "has a critical option"
 
 -- A comma and the name of an option, or nothing if it has no name.
 abbrev pub name_text : Option (List ℕ) → List ℕ
@@ -30,7 +34,8 @@ name_text (Some name) = codes ", " ++ name
 -- A response with a critical option that is not recognised.
 abbrev pub option_text : ℕ → List ℕ
 option_text number =
-    codes "the response " ++ fault_of_option number ++ codes " (option " ++ decimal number ++ name_text (option_name number) ++ codes "), which is not supported"
+    codes "the response " ++ fault_of_option number ++ codes " (option " ++ decimal number
+    ++ name_text (option_name number) ++ codes "), which is not supported"
 
 -- ---- messages that cannot be sent
 
@@ -114,7 +119,8 @@ awaited_words LastResponse = codes "no response to the cancellation arrived with
 
 -- A wait of this number of seconds.
 abbrev pub wait_text : Awaited → ℕ → List ℕ
-wait_text awaited seconds = awaited_words awaited ++ decimal seconds ++ (if seconds == 1 then codes " second" else codes " seconds")
+wait_text awaited seconds =
+    awaited_words awaited ++ decimal seconds ++ (if seconds == 1 then codes " second" else codes " seconds")
 
 -- ---- the words for a cause
 

@@ -8,7 +8,8 @@ use Rattle.coap_client_engine.specs.ClientWorld.{ClientCall, Took, Sent, Cancell
 -- The token that a call gives after the calls `earlier`, in a list of at most one token.
 abbrev pub token_given : LimitValues → ℕ → List ClientCall → ClientCall → List (List ℕ)
 token_given limits tokens earlier (Took bytes) = []
-token_given limits tokens earlier (Sent method target extras) = next_token (client_after limits tokens earlier).tokens ∷ []
+token_given limits tokens earlier (Sent method target extras) =
+    next_token (client_after limits tokens earlier).tokens ∷ []
 token_given limits tokens earlier (Cancelled token target extras) = []
 token_given limits tokens earlier (Pinged custody) = next_token (client_after limits tokens earlier).tokens ∷ []
 token_given limits tokens earlier (Wrote n) = []
@@ -17,7 +18,8 @@ token_given limits tokens earlier Ended = []
 -- The tokens that calls give after the calls `earlier`, in order.
 abbrev pub tokens_behind : LimitValues → ℕ → List ClientCall → List ClientCall → List (List ℕ)
 tokens_behind limits tokens earlier [] = []
-tokens_behind limits tokens earlier (c ∷ cs) = token_given limits tokens earlier c ++ tokens_behind limits tokens (earlier ++ c ∷ []) cs
+tokens_behind limits tokens earlier (c ∷ cs) =
+    token_given limits tokens earlier c ++ tokens_behind limits tokens (earlier ++ c ∷ []) cs
 
 -- The tokens that a list of calls gives, in order.
 abbrev pub tokens_given : LimitValues → ℕ → List ClientCall → List (List ℕ)

@@ -7,7 +7,11 @@ use Rattle.coap_io.specs.declared.output.WriteFailed.{WriteFailed}
 use Rattle.coap_io.specs.streams.Device.{AddsBytes}
 use Rattle.coap_io.specs.streams.DeviceTraces.{TellsMore}
 use Rattle.coap_client_engine.specs.ClientWorld.{AreAccepted, ClientShows}
-use Rattle.coap_client_engine.specs.RunTrace.{RunTrace, Begins, calls_in, history_in, token_in, moments_in, turns_in, moment_in, started_in, first_in, cancelled_in, answers_in, taken_in, given_in, rest_in, waiting_in, written_in, status_in, output_in, errors_in, has_looked, IsAskedWhereDue, IsTakenUp, IsResting, IsBetween, MayWrite, HasWritten, IsRunTrace}
+use Rattle.coap_client_engine.specs.RunTrace.{RunTrace, Begins, calls_in, history_in, token_in, moments_in, turns_in}
+use Rattle.coap_client_engine.specs.RunTrace.{moment_in, started_in, first_in, cancelled_in, answers_in, taken_in}
+use Rattle.coap_client_engine.specs.RunTrace.{given_in, rest_in, waiting_in, written_in, status_in, output_in}
+use Rattle.coap_client_engine.specs.RunTrace.{errors_in, has_looked, IsAskedWhereDue, IsTakenUp, IsResting, IsBetween}
+use Rattle.coap_client_engine.specs.RunTrace.{MayWrite, HasWritten, IsRunTrace}
 use Rattle.coap_request.specs.declared.plan.ClientPlan.{ClientPlan}
 use Rattle.coap_client_engine.specs.RunCauses.{cause_in}
 use Rattle.coap_client_engine.specs.declared.run.state.Run.{Run}
@@ -27,7 +31,8 @@ pub record RunDevices : Type 0 where
   pub err : Option (List ℕ)
 
 -- The records of the devices, field by field.
-abbrev pub seen : (given written : Option (List ℕ)) (answers : Option (List Got)) (moments out err : Option (List ℕ)) → RunDevices
+abbrev pub seen : (given written : Option (List ℕ)) (answers : Option (List Got))
+    (moments out err : Option (List ℕ)) → RunDevices
 seen given written answers moments out err =
     record { given = given; written = written; answers = answers; moments = moments; out = out; err = err }
 
@@ -53,7 +58,8 @@ IsEnded course status = (status_in course ≡ Some status) × HasWritten course
 
 -- Says that the run made all iterations to their end, that none of them ended it, and that the status is 4.
 abbrev pub IsOutOfTurns : RunTrace → ℕ → Type 0
-IsOutOfTurns course status = (status_in course ≡ None) × IsBetween course × (turns_in course ≡ most_turns) × (status ≡ 4)
+IsOutOfTurns course status =
+    (status_in course ≡ None) × IsBetween course × (turns_in course ≡ most_turns) × (status ≡ 4)
 
 -- The contract of a run that returns an exit status. There is a trace of calls that the client accepts. The accepted
 -- bytes are a prefix of the bytes that the wire gave, and the written bytes are a prefix of the queued bytes. The
@@ -101,7 +107,8 @@ pub record IsAtTrace (plan : ClientPlan) (start now : RunDevices) (run : Run) (c
 
 -- Says that a part of an iteration leads to a trace for which `P` holds. `next` is the exit status after that trace, or
 -- `None` if the run continues.
-pub record ExtendsTraceOn (plan : ClientPlan) (start now : RunDevices) (run : Run) (P : RunTrace → Type 0) (next : Option ℕ) : Type 0 where
+pub record ExtendsTraceOn (plan : ClientPlan) (start now : RunDevices) (run : Run) (P : RunTrace → Type 0)
+    (next : Option ℕ) : Type 0 where
   pub course : RunTrace
   pub stands : IsAtTrace plan start now run course
   pub ends : status_in course ≡ next
@@ -158,27 +165,35 @@ abbrev pub with_outlets : (out err : Option (List ℕ)) → RunDevices → RunDe
 with_outlets out err now = seen now.given now.written now.answers now.moments out err
 
 -- The records of the devices with other records of the wire and of the outlet for reports.
-abbrev pub with_wire : (given written : Option (List ℕ)) (answers : Option (List Got)) (err : Option (List ℕ)) → RunDevices → RunDevices
+abbrev pub with_wire : (given written : Option (List ℕ)) (answers : Option (List Got)) (err : Option (List ℕ))
+    → RunDevices → RunDevices
 with_wire given written answers err now = seen given written answers now.moments now.out err
 
 -- The records of the devices with other records of the wire and of both outlets.
-abbrev pub with_all : (given written : Option (List ℕ)) (answers : Option (List Got)) (out err : Option (List ℕ)) → RunDevices → RunDevices
+abbrev pub with_all : (given written : Option (List ℕ)) (answers : Option (List Got)) (out err : Option (List ℕ))
+    → RunDevices → RunDevices
 with_all given written answers out err now = seen given written answers now.moments out err
 
 -- The contract of a part of an iteration. If the run has not ended and its trace satisfies `P`, the part leads to a
 -- trace that satisfies `Q`.
-abbrev pub ExtendsTrace : (old new : RunDevices → RunDevices) (P : RunTrace → Type 0) (Q : ℕ → RunTrace → Type 0) → ClientPlan → (before after : Run) → Result (Option ℕ) WriteFailed → Type 0
+abbrev pub ExtendsTrace : (old new : RunDevices → RunDevices) (P : RunTrace → Type 0) (Q : ℕ → RunTrace → Type 0)
+    → ClientPlan → (before after : Run) → Result (Option ℕ) WriteFailed → Type 0
 ExtendsTrace old new P Q plan before after result =
-    (start now : RunDevices) (course : RunTrace) → IsAtTrace plan start (old now) before course → status_in course ≡ None → P course
+    (start now : RunDevices) (course : RunTrace) → IsAtTrace plan start (old now) before course
+    → status_in course ≡ None → P course
     → IfOk result (ExtendsTraceOn plan start (new now) after (Q (turns_in course)))
 
 -- The contract of a part of an iteration that holds for every plan.
-abbrev pub ExtendsAllTraces : (old new : RunDevices → RunDevices) (P : RunTrace → Type 0) (Q : ℕ → RunTrace → Type 0) → (before after : Run) → Result (Option ℕ) WriteFailed → Type 0
-ExtendsAllTraces old new P Q before after result = (plan : ClientPlan) → ExtendsTrace old new P Q plan before after result
+abbrev pub ExtendsAllTraces : (old new : RunDevices → RunDevices) (P : RunTrace → Type 0) (Q : ℕ → RunTrace → Type 0)
+    → (before after : Run) → Result (Option ℕ) WriteFailed → Type 0
+ExtendsAllTraces old new P Q before after result =
+    (plan : ClientPlan) → ExtendsTrace old new P Q plan before after result
 
 -- The contract of a write. The trace before it ends the run with the status `next`, or everything else in the iteration
 -- was done.
-abbrev pub Flushes : (old new : RunDevices → RunDevices) → (before after : Run) → Option ℕ → Result (Option ℕ) WriteFailed → Type 0
+abbrev pub Flushes : (old new : RunDevices → RunDevices) → (before after : Run) → Option ℕ
+    → Result (Option ℕ) WriteFailed → Type 0
 Flushes old new before after next result =
-    (plan : ClientPlan) (start now : RunDevices) (course : RunTrace) → IsAtTrace plan start (old now) before course → status_in course ≡ next → MayWrite course → (status_in course ≡ None → IsResting course)
+    (plan : ClientPlan) (start now : RunDevices) (course : RunTrace) → IsAtTrace plan start (old now) before course
+    → status_in course ≡ next → MayWrite course → (status_in course ≡ None → IsResting course)
     → IfOk result (ExtendsTraceOn plan start (new now) after (IsFlushed (turns_in course)))

@@ -1,5 +1,6 @@
 -- Defined by this project: the state of a client, and the effect of each call on that state.
-use Rattle.std.specs.Prelude.{ℕ, Bool, true, false, ◌&&◌, List, [], length, Option, Some, None, Result, Ok, Err, nat_le, nat_lt, if◌then◌else◌}
+use Rattle.std.specs.Prelude.{ℕ, Bool, true, false, ◌&&◌, List, [], length, Option, Some, None, Result, Ok, Err, nat_le}
+use Rattle.std.specs.Prelude.{nat_lt, if◌then◌else◌}
 use Rattle.coap_wire.specs.Message.{Message}
 use Rattle.coap_wire.specs.Reading.{message_of}
 use Rattle.coap_wire.specs.Spelling.{spelling}
@@ -19,7 +20,8 @@ use Rattle.coap_conn.specs.Rejects.{reject_of, reject_reason}
 use Rattle.coap_conn.specs.Verdicts.{VerdictValue}
 use Rattle.coap_conn.specs.Verdicts as verdict
 use Rattle.coap_conn.specs.Reaction.{react}
-use Rattle.coap_conn.specs.RequestState.{else_refusal, new_refusal, asking_refusal, observation_refusal, cancel_refusal, next_token, with_token, ping_with}
+use Rattle.coap_conn.specs.RequestState.{else_refusal, new_refusal, asking_refusal, observation_refusal, cancel_refusal}
+use Rattle.coap_conn.specs.RequestState.{next_token, with_token, ping_with}
 use Rattle.coap_conn.specs.LinkValue.{LinkValue, new_link, free_in, standing_in, asking_in}
 use Rattle.coap_conn.specs.Calls.{link_after}
 use Rattle.coap_conn.specs.Calls as call
@@ -86,11 +88,19 @@ pub record ClientTakeOutcome : Type 0 where
 
 -- The result of a `take` of malformed bytes: the connection stops with the reason of the error.
 abbrev pub taking_rejected : ClientValue → ℕ → Reject → ClientTakeOutcome
-taking_rejected v count fault = record { count = count; client = record { frame = []; link = link_after v.link (call.Reject fault) }; event = Some (Stopped (reject_reason fault)) }
+taking_rejected v count fault = record {
+  count = count;
+  client = record { frame = []; link = link_after v.link (call.Reject fault) };
+  event = Some (Stopped (reject_reason fault));
+}
 
 -- The result of a `take` that completes a frame, by the result of parsing that frame.
 abbrev pub taking_read : ClientValue → ℕ → Result Message FormatFault → ClientTakeOutcome
-taking_read v count (Ok m) = record { count = count; client = record { frame = []; link = link_after v.link (call.Handle m) }; event = event_told m (react (standing_in v.link) m).verdict }
+taking_read v count (Ok m) = record {
+  count = count;
+  client = record { frame = []; link = link_after v.link (call.Handle m) };
+  event = event_told m (react (standing_in v.link) m).verdict;
+}
 taking_read v count (Err e) = taking_rejected v count reject.Format
 
 -- The result of a `take`, by what the framer found in the bytes: nothing, a frame or an error.
@@ -102,7 +112,8 @@ taking_found v f (AFrame frame) = taking_read v f.taken (message_of frame)
 -- The result of a `take` of `piece`. No byte is accepted if `client_takes` is false.
 unfoldable pub taking : ClientValue → List ℕ → ClientTakeOutcome
 taking v piece =
-    if client_takes v then taking_found v (framing (client_max v) v.frame piece) (framing (client_max v) v.frame piece).finding
+    if client_takes v
+    then taking_found v (framing (client_max v) v.frame piece) (framing (client_max v) v.frame piece).finding
     else record { count = 0; client = v; event = None }
 
 -- ---- the other calls
@@ -118,10 +129,13 @@ abbrev pub client_ended : ClientValue → ClientValue
 client_ended v = record { frame = []; link = link_after v.link (call.End (is_cut v.frame)) }
 
 abbrev pub client_sent : ClientValue → Method → TargetValue → ExtrasValue → ClientValue
-client_sent v method target extras = record v { link = link_after v.link (call.Request (request_of method target extras) extras.observe) }
+client_sent v method target extras = record v {
+  link = link_after v.link (call.Request (request_of method target extras) extras.observe);
+}
 
 abbrev pub client_cancelled : ClientValue → List ℕ → TargetValue → ExtrasValue → ClientValue
-client_cancelled v token target extras = record v { link = link_after v.link (call.Cancel token (cancel_of target extras)) }
+client_cancelled v token target extras =
+    record v { link = link_after v.link (call.Cancel token (cancel_of target extras)) }
 
 abbrev pub client_pinged : ClientValue → Bool → ClientValue
 client_pinged v custody = record v { link = link_after v.link (call.Ping custody) }

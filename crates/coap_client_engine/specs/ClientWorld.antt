@@ -1,5 +1,6 @@
 -- Defined by this project: the client model. Accepted calls give steps, and steps give the history of the connection.
-use Rattle.std.specs.Prelude.{◌≡◌, ℕ, ◌≤◌, Bool, ◌&&◌, List, [], ◌∷◌, ◌++◌, length, map, drop, Option, Some, None, nat_le, if◌then◌else◌}
+use Rattle.std.specs.Prelude.{◌≡◌, ℕ, ◌≤◌, Bool, ◌&&◌, List, [], ◌∷◌, ◌++◌, length, map, drop, Option, Some, None}
+use Rattle.std.specs.Prelude.{nat_le, if◌then◌else◌}
 use Rattle.std.specs.List.{flat_map}
 use Rattle.coap_wire.specs.Message.{Message}
 use Rattle.coap_wire.specs.Stream.{StreamFault, Stream, split}
@@ -15,7 +16,8 @@ use Rattle.coap_conn.specs.LinkValue.{free_in}
 use Rattle.coap_request.specs.declared.request.Method.{Method}
 use Rattle.coap_request.specs.Targets.{TargetValue}
 use Rattle.coap_request.specs.Requests.{ExtrasValue, request_of, cancel_of}
-use Rattle.coap_client_engine.specs.ClientValues.{ClientValue, ClientEventValue, Stopped, event_told, is_cut, send_refusal, cancelling_refusal, ping_refusal}
+use Rattle.coap_client_engine.specs.ClientValues.{ClientValue, ClientEventValue, Stopped, event_told, is_cut}
+use Rattle.coap_client_engine.specs.ClientValues.{send_refusal, cancelling_refusal, ping_refusal}
 
 -- An accepted call with its arguments. A refused call is not recorded.
 pub data ClientCall : Type 0 where
@@ -113,7 +115,8 @@ handles h = takes_messages h.phase && nat_le h.limits.max_sent (free_in (link_of
 -- message, up to the byte that reveals an error, or all of `piece`.
 unfoldable pub takes : LimitValues → ℕ → List ClientCall → List ℕ → ℕ
 takes limits tokens calls piece =
-    if handles (client_after limits tokens calls) then (framing limits.max_message (stream_in limits.max_message calls).rest piece).taken else 0
+    if handles (client_after limits tokens calls)
+    then (framing limits.max_message (stream_in limits.max_message calls).rest piece).taken else 0
 
 -- ---- events
 
@@ -130,7 +133,8 @@ event_by h (Ends cut ∷ more) = None
 
 -- The event of a call after the calls `earlier`.
 unfoldable pub event_of : LimitValues → ℕ → List ClientCall → ClientCall → Option ClientEventValue
-event_of limits tokens earlier call = event_by (client_after limits tokens earlier) (steps_by limits.max_message earlier call)
+event_of limits tokens earlier call =
+    event_by (client_after limits tokens earlier) (steps_by limits.max_message earlier call)
 
 -- ---- accepted calls
 
@@ -138,16 +142,20 @@ event_of limits tokens earlier call = event_by (client_after limits tokens earli
 -- request, cancellation or Ping is not refused. No more bytes are written than are queued.
 unfoldable pub IsAccepted : LimitValues → ℕ → List ClientCall → ClientCall → Type 0
 IsAccepted limits tokens earlier (Took bytes) = takes limits tokens earlier bytes ≡ length bytes
-IsAccepted limits tokens earlier (Sent method target extras) = send_refusal (link_of (client_after limits tokens earlier)) method target extras ≡ None
-IsAccepted limits tokens earlier (Cancelled token target extras) = cancelling_refusal (link_of (client_after limits tokens earlier)) token target extras ≡ None
-IsAccepted limits tokens earlier (Pinged custody) = ping_refusal (link_of (client_after limits tokens earlier)) custody ≡ None
+IsAccepted limits tokens earlier (Sent method target extras) =
+    send_refusal (link_of (client_after limits tokens earlier)) method target extras ≡ None
+IsAccepted limits tokens earlier (Cancelled token target extras) =
+    cancelling_refusal (link_of (client_after limits tokens earlier)) token target extras ≡ None
+IsAccepted limits tokens earlier (Pinged custody) =
+    ping_refusal (link_of (client_after limits tokens earlier)) custody ≡ None
 IsAccepted limits tokens earlier (Wrote n) = n ≤ length (waiting_of (client_after limits tokens earlier))
 IsAccepted limits tokens earlier Ended = Unit {0}
 
 -- Says that each call is accepted after the calls before it.
 unfoldable pub AreAcceptedBehind : LimitValues → ℕ → List ClientCall → List ClientCall → Type 0
 AreAcceptedBehind limits tokens earlier [] = Unit {0}
-AreAcceptedBehind limits tokens earlier (c ∷ cs) = IsAccepted limits tokens earlier c × AreAcceptedBehind limits tokens (earlier ++ c ∷ []) cs
+AreAcceptedBehind limits tokens earlier (c ∷ cs) =
+    IsAccepted limits tokens earlier c × AreAcceptedBehind limits tokens (earlier ++ c ∷ []) cs
 
 -- Says that a new client accepts all calls of a list.
 abbrev pub AreAccepted : LimitValues → ℕ → List ClientCall → Type 0
@@ -162,7 +170,10 @@ kept_after h rest = if takes_messages h.phase then rest else []
 -- The client after a list of calls.
 unfoldable pub client_of : LimitValues → ℕ → List ClientCall → ClientValue
 client_of limits tokens calls =
-    record { frame = kept_after (client_after limits tokens calls) (stream_in limits.max_message calls).rest; link = link_of (client_after limits tokens calls) }
+    record {
+      frame = kept_after (client_after limits tokens calls) (stream_in limits.max_message calls).rest;
+      link = link_of (client_after limits tokens calls);
+    }
 
 -- Says that a client accepted the calls, and that its state is the one to which they lead.
 pub record ClientShows (v : ClientValue) (tokens : ℕ) (calls : List ClientCall) : Type 0 where

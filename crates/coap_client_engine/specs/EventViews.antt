@@ -7,10 +7,12 @@ use Rattle.coap_wire.specs.declared.fault.FormatFault.{FormatFault}
 use Rattle.coap_frame.specs.Framing.{FramerValue, IsFramer, framing_of}
 use Rattle.coap_conn.specs.Limits.{AreInRange}
 use Rattle.coap_conn.specs.LinkValue.{LinkValue}
-use Rattle.coap_client_engine.specs.ClientValues.{ClientValue, ClientEventValue, ClientTakeOutcome, answer_told, taking_found}
+use Rattle.coap_client_engine.specs.ClientValues.{ClientValue, ClientEventValue, ClientTakeOutcome, answer_told}
+use Rattle.coap_client_engine.specs.ClientValues.{taking_found}
 use Rattle.coap_client_engine.specs.ClientValues as value
 use Rattle.coap_client_engine.specs.declared.client.Event.{Event}
-use Rattle.coap_client_engine.specs.declared.client.Event.TheVariants.{Ready, Response, Notification, Rejected, Pong, Stranger, Stopped}
+use Rattle.coap_client_engine.specs.declared.client.Event.TheVariants.{Ready, Response, Notification, Rejected, Pong}
+use Rattle.coap_client_engine.specs.declared.client.Event.TheVariants.{Stranger, Stopped}
 use Rattle.coap_client_engine.specs.declared.client.Received.{Received}
 use Rattle.coap_client_engine.specs.declared.client.Received.TheVariants as heard
 use Rattle.coap_client_engine.specs.declared.client.Taken.{Taken}
@@ -72,4 +74,5 @@ taken_event t = heard_value t.heard (message_of (taken_frame t))
 
 -- The result of a `take` of `piece` by the framer `f` and the link `l`.
 abbrev pub taking_framed : FramerValue → LinkValue → List ℕ → ClientTakeOutcome
-taking_framed f l piece = taking_found (record { frame = f.kept; link = l }) (framing_of f piece) (framing_of f piece).finding
+taking_framed f l piece =
+    taking_found (record { frame = f.kept; link = l }) (framing_of f piece) (framing_of f piece).finding

@@ -20,14 +20,16 @@ pub use Rattle.coap_wire.specs.declared.fault.FormatFault.{FormatFault}
 pub use Rattle.coap_wire.specs.declared.fault.FrameFault.{FrameFault}
 -- ---- coap_frame
 pub use Rattle.coap_frame.specs.FramedViews.{finding_laid_out}
-pub use Rattle.coap_frame.specs.Framing.{IsFramer, framing_of, framer_after, frame_back, AFault, AFrame, FrameEventValue}
+pub use Rattle.coap_frame.specs.Framing.{IsFramer, framing_of, framer_after, frame_back, AFault, AFrame}
+pub use Rattle.coap_frame.specs.Framing.{FrameEventValue}
 pub use Rattle.coap_frame.specs.Framing.{FramerValue, Framing, Nothing, framing_at, split_frame}
 unfoldable pub use Rattle.coap_frame.specs.Framing.{framing}
 -- ---- coap_conn
 pub use Rattle.coap_conn.specs.Announced.{bad_csm_option, has_critical_option}
 unfoldable pub use Rattle.coap_conn.specs.Announced.{announced}
 pub use Rattle.coap_conn.specs.RequestState.{next_token, else_refusal, entry_of, ping_with, with_token}
-unfoldable pub use Rattle.coap_conn.specs.RequestState.{asking_refusal, cancel_refusal, new_refusal, observation_refusal}
+unfoldable pub use Rattle.coap_conn.specs.RequestState.{asking_refusal, cancel_refusal, new_refusal}
+unfoldable pub use Rattle.coap_conn.specs.RequestState.{observation_refusal}
 pub use Rattle.coap_conn.specs.Calls.{link_after, end_reason}
 pub use Rattle.coap_conn.specs.Fit.{AllFit, bare_response, fit, without_options}
 pub use Rattle.coap_conn.specs.PendingEntries.{PendingEntryValue, Pong}
@@ -35,13 +37,16 @@ pub use Rattle.coap_conn.specs.History.{History, limit_now, waiting_of, IsHistor
 pub use Rattle.coap_conn.specs.History.{link_of, new_history, standing_now, with_effect}
 pub use Rattle.coap_conn.specs.Limits.{LimitValues, AreInRange, default_limits}
 pub use Rattle.coap_conn.specs.LinkValue.{standing_in, LinkValue, asking_in, bytes_of, free_in}
-pub use Rattle.coap_conn.specs.Outstanding.{Observation, OutstandingValue, Ping, Request, cancelled_by, matches_response}
+pub use Rattle.coap_conn.specs.Outstanding.{Observation, OutstandingValue, Ping, Request, cancelled_by}
+pub use Rattle.coap_conn.specs.Outstanding.{matches_response}
 pub use Rattle.coap_conn.specs.Outstanding.{is_last, matches_pong, with_cancelled, without_asked, without_pinged}
 unfoldable pub use Rattle.coap_conn.specs.Outstanding.{is_notification}
 pub use Rattle.coap_conn.specs.Phases.{IsLive, is_waiting, stop_of, takes_messages}
-pub use Rattle.coap_conn.specs.Reaction.{ReactionResult, Reaction, ConnectionState, abort, aborts, answered, asks_custody}
+pub use Rattle.coap_conn.specs.Reaction.{ReactionResult, Reaction, ConnectionState, abort, aborts, answered}
+pub use Rattle.coap_conn.specs.Reaction.{asks_custody}
 pub use Rattle.coap_conn.specs.Reaction.{csm_reaction, holds, is_method, is_reserved, is_signal, late_pong, leaves}
-pub use Rattle.coap_conn.specs.Reaction.{checks_critical_options, not_implemented, open_reaction, ping_reaction, pong_of}
+pub use Rattle.coap_conn.specs.Reaction.{checks_critical_options, not_implemented, open_reaction, ping_reaction}
+pub use Rattle.coap_conn.specs.Reaction.{pong_of}
 pub use Rattle.coap_conn.specs.Reaction.{pong_reaction, pong_with, reaction_unless, release_reaction, request_reaction}
 pub use Rattle.coap_conn.specs.Reaction.{response_reaction, sends, stop, tells, told_of}
 unfoldable pub use Rattle.coap_conn.specs.Reaction.{react, live_reaction}
@@ -79,15 +84,19 @@ pub use Rattle.coap_request.specs.declared.request.Method.{Method}
 pub use Rattle.coap_request.specs.declared.request.Method.TheVariants.{Get}
 -- ---- coap_client_engine
 pub use Rattle.coap_client_engine.specs.ClientLaws.{AreDifferent, tokens_given, token_given, tokens_behind}
-pub use Rattle.coap_client_engine.specs.ClientRun.{IsReady, IsClientRun, IsExplainedRun, FailedBeforeStart, seen, with_outlets, with_wire}
-pub use Rattle.coap_client_engine.specs.ClientRun.{with_all, HasReadClock, IsHeard, IsTaken, IsFinished, IsFlushed, ExtendsTrace}
-pub use Rattle.coap_client_engine.specs.ClientRun.{ExtendsAllTraces, Flushes, IsAsked, IsEnded, IsOutOfTurns, ExtendsTraceOn, RunDevices}
+pub use Rattle.coap_client_engine.specs.ClientRun.{IsReady, IsClientRun, IsExplainedRun, FailedBeforeStart, seen}
+pub use Rattle.coap_client_engine.specs.ClientRun.{with_outlets, with_wire}
+pub use Rattle.coap_client_engine.specs.ClientRun.{with_all, HasReadClock, IsHeard, IsTaken, IsFinished, IsFlushed}
+pub use Rattle.coap_client_engine.specs.ClientRun.{ExtendsTrace}
+pub use Rattle.coap_client_engine.specs.ClientRun.{ExtendsAllTraces, Flushes, IsAsked, IsEnded, IsOutOfTurns}
+pub use Rattle.coap_client_engine.specs.ClientRun.{ExtendsTraceOn, RunDevices}
 pub use Rattle.coap_client_engine.specs.ClientRun.{IsAtTrace, most_turns, token_of}
 pub use Rattle.coap_client_engine.specs.ClientValues.{answer_told, event_told, ClientValue, client_takes, new_client}
 pub use Rattle.coap_client_engine.specs.ClientValues.{client_written, client_ended, client_sent, client_cancelled}
 pub use Rattle.coap_client_engine.specs.ClientValues.{client_pinged, send_refusal, cancelling_refusal, ping_refusal}
 pub use Rattle.coap_client_engine.specs.ClientValues.{request_size, cancellation_size}
-pub use Rattle.coap_client_engine.specs.ClientValues.{ClientEventValue, ClientTakeOutcome, is_cut, taking_found, taking_read}
+pub use Rattle.coap_client_engine.specs.ClientValues.{ClientEventValue, ClientTakeOutcome, is_cut, taking_found}
+pub use Rattle.coap_client_engine.specs.ClientValues.{taking_read}
 pub use Rattle.coap_client_engine.specs.ClientValues.{taking_rejected}
 unfoldable pub use Rattle.coap_client_engine.specs.ClientValues.{taking}
 pub use Rattle.coap_client_engine.specs.ClientWorld.{ClientCall, ClientShows, Took, Sent, Cancelled, Pinged, Wrote}
@@ -115,7 +124,8 @@ pub use Rattle.coap_client_engine.specs.RunCauses.{cause_refused, awaited_in, ca
 pub use Rattle.coap_client_engine.specs.RunFaults.{is_output_fault, IfMemory, IsStatus, EndsWithStatus}
 pub use Rattle.coap_client_engine.specs.RunSteps.{calls_read, calls_written, cancelled_at, client_asking}
 pub use Rattle.coap_client_engine.specs.RunSteps.{client_cancelling, client_read, ended_by, errors_told, first_told}
-pub use Rattle.coap_client_engine.specs.RunSteps.{has_passed, must_send_request, is_to_cancel, timeout_status, may_take, output_told}
+pub use Rattle.coap_client_engine.specs.RunSteps.{has_passed, must_send_request, is_to_cancel, timeout_status, may_take}
+pub use Rattle.coap_client_engine.specs.RunSteps.{output_told}
 pub use Rattle.coap_client_engine.specs.RunSteps.{planned_extras, refusal_text, status_told, stop_behind, stop_written}
 pub use Rattle.coap_client_engine.specs.RunSteps.{token_asking, unless_refused, watched}
 -- ---- coap_client_engine, declared

@@ -4,13 +4,17 @@ use Rattle.coap_conn.specs.declared.phase.Phase.{Phase}
 use Rattle.coap_conn.specs.declared.phase.Phase.TheVariants.{Waiting, Open, Releasing}
 use Rattle.coap_conn.specs.declared.phase.Phase.TheVariants as phase
 use Rattle.coap_conn.specs.declared.phase.RequestFault.{RequestFault}
-use Rattle.coap_conn.specs.declared.phase.RequestFault.TheVariants.{NotOpen, TooMany, TooBig, NoRoom, TokensSpent, NoSuchToken}
+use Rattle.coap_conn.specs.declared.phase.RequestFault.TheVariants.{NotOpen, TooMany, TooBig, NoRoom, TokensSpent}
+use Rattle.coap_conn.specs.declared.phase.RequestFault.TheVariants.{NoSuchToken}
 use Rattle.coap_conn.specs.declared.reason.Reason.{Reason}
 use Rattle.coap_request.specs.declared.plan.ClientPlan.{ClientPlan}
 use Rattle.coap_client_engine.specs.ClientValues.{request_size, cancellation_size}
-use Rattle.coap_client_engine.specs.ClientValues.{ClientEventValue, Ready, Response, Notification, Rejected, Pong, Stranger, Stopped}
+use Rattle.coap_client_engine.specs.ClientValues.{ClientEventValue, Ready, Response, Notification, Rejected, Pong}
+use Rattle.coap_client_engine.specs.ClientValues.{Stranger, Stopped}
 use Rattle.coap_client_engine.specs.RunSteps.{planned_extras, has_passed, is_to_cancel, stop_written}
-use Rattle.coap_client_engine.specs.RunTrace.{RunTrace, Begins, Turns, Reads, Calls, Refuses, GivesUp, Rests, Writes, client_in, phase_in, event_in, token_in, cancelled_in, stop_read, status_in}
+use Rattle.coap_client_engine.specs.RunTrace.{RunTrace, Begins, Turns, Reads, Calls, Refuses, GivesUp, Rests, Writes}
+use Rattle.coap_client_engine.specs.RunTrace.{client_in, phase_in, event_in, token_in, cancelled_in, stop_read}
+use Rattle.coap_client_engine.specs.RunTrace.{status_in}
 use Rattle.coap_client_engine.specs.declared.run_end.Cause.{Cause}
 use Rattle.coap_client_engine.specs.declared.run_end.Cause.TheVariants as cause
 use Rattle.coap_client_engine.specs.declared.run_end.Awaited.{Awaited}
@@ -78,7 +82,8 @@ abbrev pub awaited_after : Option ℕ → Awaited
 awaited_after None = awaited.Response
 awaited_after (Some cancelled) = awaited.LastResponse
 
--- The message that the client awaits: the first CSM of the peer, then a response, and after a cancellation the last one.
+-- The message that the client awaits: the first CSM of the peer, then a response, and after a
+-- cancellation the last one.
 abbrev pub awaited_in : Phase → Option ℕ → Awaited
 awaited_in Waiting cancelled = awaited.Csm
 awaited_in Open cancelled = awaited_after cancelled
@@ -91,9 +96,11 @@ cause_waited what now since wait = if has_passed now since wait then Some (cause
 
 -- The cause that the deadlines give. If the cancellation of the observation is refused, the cause is `refused`.
 abbrev pub watched_cause : Option ℕ → Option ℕ → ℕ → ℕ → ClientPlan → Phase → Option Cause → Option Cause
-watched_cause (Some cancelled) first started moment plan now refused = cause_waited (awaited_in now (Some cancelled)) moment cancelled plan.wait
+watched_cause (Some cancelled) first started moment plan now refused =
+    cause_waited (awaited_in now (Some cancelled)) moment cancelled plan.wait
 watched_cause None None started moment plan now refused = cause_waited (awaited_in now None) moment started plan.wait
-watched_cause None (Some first) started moment plan now refused = if is_to_cancel None (Some first) moment plan.observe then refused else None
+watched_cause None (Some first) started moment plan now refused =
+    if is_to_cancel None (Some first) moment plan.observe then refused else None
 
 -- ---- the cause of a trace
 
@@ -104,7 +111,9 @@ cause_in plan (Turns before moment) = cause_in plan before
 cause_in plan (Reads before got bytes) = cause_after (cause_in plan before) (cause_stopped (stop_read before got bytes))
 cause_in plan (Calls before call) = cause_after (cause_in plan before) (cause_told (event_in before call))
 cause_in plan (Refuses before fault) =
-    cause_after (cause_in plan before) (cause_refused (token_in before) (client_in before).link.peer_max plan (Some fault))
+    cause_after (cause_in plan before)
+    (cause_refused (token_in before) (client_in before).link.peer_max plan (Some fault))
 cause_in plan (GivesUp before) = Some (cause.TimedOut (awaited_in (phase_in before) (cancelled_in before)) plan.wait)
 cause_in plan (Rests before) = cause_in plan before
-cause_in plan (Writes before got) = cause_after (cause_in plan before) (cause_stopped (stop_written (status_in before) got))
+cause_in plan (Writes before got) =
+    cause_after (cause_in plan before) (cause_stopped (stop_written (status_in before) got))

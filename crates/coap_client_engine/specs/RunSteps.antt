@@ -1,5 +1,6 @@
 -- Defined by this project: the results of the steps of a client's run.
-use Rattle.std.specs.Prelude.{ℕ, ◌-◌, ◌==◌, nat_le, Bool, true, false, List, [], ◌∷◌, length, Vec, Option, Some, None, is_some, unwrap_or, option_map, if◌then◌else◌}
+use Rattle.std.specs.Prelude.{ℕ, ◌-◌, ◌==◌, nat_le, Bool, true, false, List, [], ◌∷◌, length, Vec, Option, Some, None}
+use Rattle.std.specs.Prelude.{is_some, unwrap_or, option_map, if◌then◌else◌}
 use Rattle.coap_wire.specs.Codes.{class_of}
 use Rattle.coap_wire.specs.Message.{CoapOption}
 use Rattle.coap_conn.specs.Phases.{stop_of}
@@ -9,8 +10,11 @@ use Rattle.coap_conn.specs.declared.phase.Phase.{Phase}
 use Rattle.coap_conn.specs.declared.phase.Phase.TheVariants.{Waiting, Open, Releasing}
 use Rattle.coap_conn.specs.declared.phase.Phase.TheVariants as phase
 use Rattle.coap_conn.specs.declared.phase.RequestFault.{RequestFault}
-use Rattle.coap_conn.specs.declared.phase.RequestFault.TheVariants.{NotOpen, TooMany, TooBig, NoRoom, TokensSpent, NoSuchToken}
-use Rattle.coap_client_engine.specs.ClientValues.{ClientValue, client_takes, send_refusal, client_sent, ClientEventValue, Ready, Response, Notification, Rejected, Pong, Stranger, Stopped}
+use Rattle.coap_conn.specs.declared.phase.RequestFault.TheVariants.{NotOpen, TooMany, TooBig, NoRoom, TokensSpent}
+use Rattle.coap_conn.specs.declared.phase.RequestFault.TheVariants.{NoSuchToken}
+use Rattle.coap_client_engine.specs.ClientValues.{ClientValue, client_takes, send_refusal, client_sent}
+use Rattle.coap_client_engine.specs.ClientValues.{ClientEventValue, Ready, Response, Notification, Rejected, Pong}
+use Rattle.coap_client_engine.specs.ClientValues.{Stranger, Stopped}
 use Rattle.coap_client_engine.specs.ClientValues as value
 use Rattle.coap_client_engine.specs.ClientWorld.{ClientCall, Wrote, Ended}
 use Rattle.coap_io.specs.declared.wire.Got.{Got}
@@ -42,7 +46,8 @@ must_send_request (phase.Stopped reason) token = false
 -- True if more input can be processed: input is left, no request must be sent first, and the client accepts bytes.
 abbrev pub may_take : {T : Type 0} → ClientValue → List ℕ → Option T → Bool
 may_take client rest token =
-    if length rest == 0 then false else (if must_send_request client.link.phase token then false else client_takes client)
+    if length rest == 0 then false
+    else (if must_send_request client.link.phase token then false else client_takes client)
 
 -- The extra option of a plan.
 abbrev pub planned_option : {A : Type 0} → ℕ × Vec ℕ A → CoapOption
@@ -61,7 +66,9 @@ planned_extras plan = record {
 
 -- The error of the request, if it must be sent and is refused.
 abbrev pub asking_refusal : {T : Type 0} → ClientValue → Option T → ClientPlan → Option RequestFault
-asking_refusal client token plan = if must_send_request client.link.phase token then send_refusal client.link plan.method plan.target (planned_extras plan) else None
+asking_refusal client token plan =
+    if must_send_request client.link.phase token
+    then send_refusal client.link plan.method plan.target (planned_extras plan) else None
 
 -- The value `sent` if nothing was refused, otherwise the value `before`.
 abbrev pub unless_refused : {A : Type 0} → Option RequestFault → A → A → A
@@ -72,20 +79,23 @@ unless_refused (Some refusal) sent before = before
 abbrev pub client_asking : {T : Type 0} → ClientValue → Option T → ClientPlan → ClientValue
 client_asking client token plan =
     if must_send_request client.link.phase token then
-    unless_refused (send_refusal client.link plan.method plan.target (planned_extras plan)) (client_sent client plan.method plan.target (planned_extras plan)) client
+    unless_refused (send_refusal client.link plan.method plan.target (planned_extras plan))
+    (client_sent client plan.method plan.target (planned_extras plan)) client
     else client
 
 -- The token of the request after the request was sent, with the same exceptions.
 abbrev pub token_asking : ClientValue → Option (List ℕ) → ClientPlan → Option (List ℕ)
 token_asking client token plan =
     if must_send_request client.link.phase token then
-    unless_refused (send_refusal client.link plan.method plan.target (planned_extras plan)) (Some (next_token client.link.tokens)) token
+    unless_refused (send_refusal client.link plan.method plan.target (planned_extras plan))
+    (Some (next_token client.link.tokens)) token
     else token
 
 -- The error of the cancellation, if the token is known and the cancellation is refused.
 abbrev pub cancelling_refusal : ClientValue → Option (List ℕ) → ClientPlan → Option RequestFault
 cancelling_refusal client None plan = None
-cancelling_refusal client (Some token) plan = value.cancelling_refusal client.link token plan.target (planned_extras plan)
+cancelling_refusal client (Some token) plan =
+    value.cancelling_refusal client.link token plan.target (planned_extras plan)
 
 -- The calls of the client that a read leads to: at the end of the input, `Ended`.
 abbrev pub calls_read : Got → List ClientCall
@@ -127,7 +137,9 @@ calls_written Failed = []
 -- refused.
 abbrev pub client_cancelling : ClientValue → Option (List ℕ) → ClientPlan → ClientValue
 client_cancelling client None plan = client
-client_cancelling client (Some token) plan = unless_refused (value.cancelling_refusal client.link token plan.target (planned_extras plan)) (value.client_cancelled client token plan.target (planned_extras plan)) client
+client_cancelling client (Some token) plan =
+    unless_refused (value.cancelling_refusal client.link token plan.target (planned_extras plan))
+    (value.client_cancelled client token plan.target (planned_extras plan)) client
 
 -- The time of the cancellation, after an attempt to cancel the observation at the time `moment`.
 abbrev pub cancelled_at : {T : Type 0} → Option T → Option RequestFault → ℕ → Option ℕ → Option ℕ
@@ -147,7 +159,8 @@ is_to_cancel None (Some first) moment observe = has_passed moment first (unwrap_
 abbrev pub watched : Option ℕ → Option ℕ → ℕ → ℕ → ClientPlan → Option ℕ → Option ℕ
 watched (Some cancelled) first started moment plan refused = timeout_status moment cancelled plan.wait
 watched None None started moment plan refused = timeout_status moment started plan.wait
-watched None (Some first) started moment plan refused = if is_to_cancel None (Some first) moment plan.observe then refused else None
+watched None (Some first) started moment plan refused =
+    if is_to_cancel None (Some first) moment plan.observe then refused else None
 
 -- The exit status after a refusal: 3, or none if the queue has no room, because the run then tries again.
 abbrev pub ended_by : Option RequestFault → Option ℕ

@@ -5,7 +5,8 @@ use Rattle.coap_wire.specs.Codes.{class_of, detail_of}
 use Rattle.coap_conn.specs.Reasons.{reason_number}
 use Rattle.coap_conn.specs.declared.reason.Reason.{Reason}
 use Rattle.coap_conn.specs.declared.phase.RequestFault.{RequestFault}
-use Rattle.coap_conn.specs.declared.phase.RequestFault.TheVariants.{NotOpen, TooMany, TooBig, NoRoom, TokensSpent, NoSuchToken}
+use Rattle.coap_conn.specs.declared.phase.RequestFault.TheVariants.{NotOpen, TooMany, TooBig, NoRoom, TokensSpent}
+use Rattle.coap_conn.specs.declared.phase.RequestFault.TheVariants.{NoSuchToken}
 
 -- A text, followed by a number and a newline.
 abbrev pub number_line : List ℕ → ℕ → List ℕ

@@ -1,6 +1,7 @@
 -- Defined by this project: the trace of a client's run, which lists its events in order, and the rules that a trace
 -- follows.
-use Rattle.std.specs.Prelude.{◌≡◌, ◌≢◌, ◌+◌, ℕ, max, nat_lt, Bool, true, false, ◌&&◌, ◌⊎◌, List, [], ◌∷◌, ◌++◌, length, take, drop, Option, Some, None}
+use Rattle.std.specs.Prelude.{◌≡◌, ◌≢◌, ◌+◌, ℕ, max, nat_lt, Bool, true, false, ◌&&◌, ◌⊎◌, List, [], ◌∷◌, ◌++◌, length}
+use Rattle.std.specs.Prelude.{take, drop, Option, Some, None}
 use Rattle.std.specs.List.{flat_map}
 use Rattle.coap_conn.specs.RequestState.{next_token}
 use Rattle.coap_conn.specs.History.{History}
@@ -11,9 +12,13 @@ use Rattle.coap_conn.specs.declared.reason.Reason.{Reason}
 use Rattle.coap_io.specs.declared.wire.Got.{Got}
 use Rattle.coap_io.specs.streams.Wires.{bytes_passed, count_passed}
 use Rattle.coap_client_engine.specs.ClientValues.{ClientValue, client_takes, ClientEventValue}
-use Rattle.coap_client_engine.specs.ClientWorld.{ClientCall, Took, Sent, Cancelled, Pinged, Wrote, Ended, taken_by, client_after, client_of, takes, event_of}
+use Rattle.coap_client_engine.specs.ClientWorld.{ClientCall, Took, Sent, Cancelled, Pinged, Wrote, Ended, taken_by}
+use Rattle.coap_client_engine.specs.ClientWorld.{client_after, client_of, takes, event_of}
 use Rattle.coap_client_engine.specs.RunTexts.{stop_line}
-use Rattle.coap_client_engine.specs.RunSteps.{has_passed, must_send_request, is_to_cancel, planned_extras, asking_refusal, cancelling_refusal, ended_by, refusal_text, status_told, first_told, output_told, errors_told, stop_behind, stop_written, calls_read, calls_written}
+use Rattle.coap_client_engine.specs.RunSteps.{has_passed, must_send_request, is_to_cancel, planned_extras}
+use Rattle.coap_client_engine.specs.RunSteps.{asking_refusal, cancelling_refusal, ended_by, refusal_text, status_told}
+use Rattle.coap_client_engine.specs.RunSteps.{first_told, output_told, errors_told, stop_behind, stop_written}
+use Rattle.coap_client_engine.specs.RunSteps.{calls_read, calls_written}
 use Rattle.coap_request.specs.declared.plan.ClientPlan.{ClientPlan}
 
 -- A trace of a run. Each event follows the trace `before` it.
@@ -352,11 +357,14 @@ has_refused (Writes before got) = has_refused before
 -- observation when that is due.
 abbrev pub IsPlanned : ClientPlan → RunTrace → ClientCall → Type 0
 IsPlanned plan before (Took bytes) =
-    (must_send_request (phase_in before) (token_in before) ≡ false) × (bytes ≡ take (takes default_limits 0 (calls_in before) (rest_in before)) (rest_in before))
+    (must_send_request (phase_in before) (token_in before) ≡ false)
+    × (bytes ≡ take (takes default_limits 0 (calls_in before) (rest_in before)) (rest_in before))
 IsPlanned plan before (Sent method target extras) =
-    (must_send_request (phase_in before) (token_in before) ≡ true) × (method ≡ plan.method) × (target ≡ plan.target) × (extras ≡ planned_extras plan)
+    (must_send_request (phase_in before) (token_in before) ≡ true) × (method ≡ plan.method) × (target ≡ plan.target)
+    × (extras ≡ planned_extras plan)
 IsPlanned plan before (Cancelled token target extras) =
-    (is_cancel_due plan before ≡ true) × (token_in before ≡ Some token) × (target ≡ plan.target) × (extras ≡ planned_extras plan)
+    (is_cancel_due plan before ≡ true) × (token_in before ≡ Some token) × (target ≡ plan.target)
+    × (extras ≡ planned_extras plan)
 IsPlanned plan before (Pinged custody) = ⊥
 IsPlanned plan before (Wrote n) = ⊥
 IsPlanned plan before Ended = ⊥
@@ -380,7 +388,8 @@ IsCancelledWhereDue plan before =
 -- bytes.
 abbrev pub IsTakenUp : RunTrace → Type 0
 IsTakenUp before =
-    (rest_in before ≡ []) ⊎ ((must_send_request (phase_in before) (token_in before) ≡ true) ⊎ (client_takes (client_in before) ≡ false))
+    (rest_in before ≡ [])
+    ⊎ ((must_send_request (phase_in before) (token_in before) ≡ true) ⊎ (client_takes (client_in before) ≡ false))
 
 -- Says that the run has waited long enough. A response that has arrived would be known: the wire was read if no input
 -- was left, and no more input can be processed. No request remains to be sent, except a refused one.
@@ -446,9 +455,11 @@ abbrev pub IsRunTrace : ClientPlan → RunTrace → Type 0
 IsRunTrace plan (Begins moment) = Unit {0}
 IsRunTrace plan (Turns before moment) = IsRunTrace plan before × (status_in before ≡ None) × IsBetween before
 IsRunTrace plan (Reads before got bytes) =
-    IsRunTrace plan before × (status_in before ≡ None) × IsFresh before × (rest_in before ≡ []) × (length bytes ≡ count_passed got)
+    IsRunTrace plan before × (status_in before ≡ None) × IsFresh before × (rest_in before ≡ [])
+    × (length bytes ≡ count_passed got)
 IsRunTrace plan (Calls before call) = IsRunTrace plan before × (status_in before ≡ None) × IsPlanned plan before call
-IsRunTrace plan (Refuses before fault) = IsRunTrace plan before × (status_in before ≡ None) × IsRefused plan before fault
+IsRunTrace plan (Refuses before fault) =
+    IsRunTrace plan before × (status_in before ≡ None) × IsRefused plan before fault
 IsRunTrace plan (GivesUp before) = IsRunTrace plan before × (status_in before ≡ None) × HasWaited plan before
 IsRunTrace plan (Rests before) = IsRunTrace plan before × IsDone plan before
 IsRunTrace plan (Writes before got) =

@@ -35,7 +35,7 @@ const TURNS: u64 = 1_000_000_000_000;
 ///
 /// If a message, a failed request or the time ends the run, its last iteration still tries to write the queued bytes.
 ///
-/// The devices of the programs record nothing. `run_told` in `coap_tests` has the clause `run` for devices that record.
+/// The devices of the programs record nothing. The proved test `run_told` has the clause `run` for devices that record.
 /// No clause gives the order of calls across devices.
 ///
 /// # Errors
@@ -95,7 +95,8 @@ pub fn run_to_end<W: Wire, C: Clock, O: Outlet, E: Outlet>(
     requires out_works { O.is_failed out.old ≡ false }
     requires err_works { E.is_failed err.old ≡ false }
     // A trace of the run agrees with the records of its devices. It ends with the returned status and cause.
-    ensures run { IfOk result (IsExplainedRun plan.now (seen (W.given wire.old) (W.written wire.old) (W.answers wire.old)
+    ensures run { IfOk result
+        (IsExplainedRun plan.now (seen (W.given wire.old) (W.written wire.old) (W.answers wire.old)
         (C.moments clock.old) (O.written out.old) (E.written err.old))
         (seen (W.given wire.new) (W.written wire.new) (W.answers wire.new) (C.moments clock.new) (O.written out.new)
         (E.written err.new))) }
@@ -140,7 +141,8 @@ impl Run {
     ) -> StepResult
         requires out_works { O.is_failed out.old ≡ false }
         requires err_works { E.is_failed err.old ≡ false }
-        ensures runs { ExtendsTrace (with_all (W.given wire.old) (W.written wire.old) (W.answers wire.old) (O.written out.old)
+        ensures runs { ExtendsTrace
+            (with_all (W.given wire.old) (W.written wire.old) (W.answers wire.old) (O.written out.old)
             (E.written err.old)) (with_all (W.given wire.new) (W.written wire.new) (W.answers wire.new)
             (O.written out.new) (E.written err.new)) IsFresh IsFlushed plan.now self.old self.new result }
         ensures status { IfOk result (λ next. IfSome next IsStatus) }

@@ -1,18 +1,21 @@
 -- Defined by this project: the end of a run in the log of a client.
-use Rattle.std.specs.Prelude.{ℕ, Bool, true, false, nat_le, List, Option, Some, None, Result, Ok, Err, codes, if◌then◌else◌}
+use Rattle.std.specs.Prelude.{ℕ, Bool, true, false, nat_le, List, Option, Some, None, Result, Ok, Err, codes}
+use Rattle.std.specs.Prelude.{if◌then◌else◌}
 use Rattle.coap_conn.specs.declared.phase.RequestFault.{RequestFault}
-use Rattle.coap_conn.specs.declared.phase.RequestFault.TheVariants.{NotOpen, TooMany, TooBig, NoRoom, TokensSpent, NoSuchToken}
+use Rattle.coap_conn.specs.declared.phase.RequestFault.TheVariants.{NotOpen, TooMany, TooBig, NoRoom, TokensSpent}
+use Rattle.coap_conn.specs.declared.phase.RequestFault.TheVariants.{NoSuchToken}
 use Rattle.coap_conn.specs.declared.reason.Reason.{Reason}
 use Rattle.coap_conn.specs.declared.reason.Reason.TheVariants as reason
 use Rattle.coap_client_engine.specs.CauseTexts.{cause_text}
 use Rattle.coap_client_engine.specs.declared.run_end.Cause.{Cause}
-use Rattle.coap_client_engine.specs.declared.run_end.Cause.TheVariants.{BadOption, Request, Cancellation, Stopped, TimedOut}
+use Rattle.coap_client_engine.specs.declared.run_end.Cause.TheVariants.{BadOption, Request, Cancellation, Stopped}
+use Rattle.coap_client_engine.specs.declared.run_end.Cause.TheVariants.{TimedOut}
 use Rattle.coap_client_engine.specs.declared.run_end.RunEnd.{RunEnd}
 use Rattle.coap_client_engine.specs.declared.run.state.ClientFault.{ClientFault}
 use Rattle.coap_client_engine.specs.declared.run.state.ClientFault.TheVariants.{Output, Memory}
 
--- The reason for the end of a run with this status, by its cause. A run without a cause ended with the last response, or
--- it had all its iterations.
+-- The reason for the end of a run with this status, by its cause. A run without a cause ended with the last response,
+-- or it had all its iterations.
 abbrev pub end_text : ℕ → Option Cause → List ℕ
 end_text status None = if nat_le status 2 then codes "last response" else codes "too many turns"
 end_text status (Some cause) = cause_text cause

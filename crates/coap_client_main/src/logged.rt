@@ -67,8 +67,8 @@ fn append_end(line: &mut Line, end: &RunEnd)
     }
 }
 
-/// Returns `true` if the end of a run is a warning. A limit has then refused a message, or a system call or an allocation
-/// has failed.
+/// Returns `true` if the end of a run is a warning. A limit has then refused a message, or a system call or an
+/// allocation has failed.
 fn is_warning(end: &Result<RunEnd, ClientFault>) -> bool
     ensures { result ≡ spec.is_warning end.now }
 {

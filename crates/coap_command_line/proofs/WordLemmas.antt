@@ -1,6 +1,8 @@
 -- Lemmas on the results of `clap`, and on the texts of addresses.
-use Rattle.std.proofs.Common.{◌≡◌, ◌∙◌, ◌==◌, ◌≤◌, ℕ, List, [], ◌∷◌, length, Option, Some, None, Result, Ok, Err, sym, ap, refl, subst, option_map, true, append-nil, ne_eqb, arith, lit≤}
-use Rattle.coap_command_line.specs.Prelude.{result_ok, ipv4_octets, ipv6_segments, IsColonHex, IsDotted, IsIpText, Parses}
+use Rattle.std.proofs.Common.{◌≡◌, ◌∙◌, ◌==◌, ◌≤◌, ℕ, List, [], ◌∷◌, length, Option, Some, None, Result, Ok, Err, sym}
+use Rattle.std.proofs.Common.{ap, refl, subst, option_map, true, append-nil, ne_eqb, arith, lit≤}
+use Rattle.coap_command_line.specs.Prelude.{result_ok, ipv4_octets, ipv6_segments, IsColonHex, IsDotted, IsIpText}
+use Rattle.coap_command_line.specs.Prelude.{Parses}
 use Rattle.coap_command_line.specs.Prelude.{Read, read_ipv4, read_ipv6, whole_value, IpAddr, Text, first_of}
 use Rattle.coap_command_line.specs.Prelude.{first_value, rows_of, Found, list_any, Bor, AreHalves, is_comma}
 use Rattle.coap_command_line.specs.Prelude.{address_of, three_in}
@@ -17,11 +19,13 @@ use Rattle.std.proofs.lemmas.Str.Pattern.{IsSplitOnceResult, split_once_first, s
 use Rattle.clap.proofs.CutLemmas.{list_any-Lacks, list_any-at}
 
 -- The text that `clap` keeps for an option is that of its row.
-pub first_text : (f : Found) (name : Text) (said : Option Text) → said ≡ first_value f name → said ≡ first_of name (rows_of f)
+pub first_text : (f : Found) (name : Text) (said : Option Text) → said ≡ first_value f name
+    → said ≡ first_of name (rows_of f)
 first_text f name said e = e ∙ first_value-rows f name
 
 -- The texts that `clap` keeps for an option are those of its row.
-pub all_texts : (f : Found) (name : Text) (said : Option (List Text)) → said ≡ option_map raw_values (matched_of f name) → said ≡ all_of name (rows_of f)
+pub all_texts : (f : Found) (name : Text) (said : Option (List Text)) → said ≡ option_map raw_values (matched_of f name)
+    → said ≡ all_of name (rows_of f)
 all_texts f name said e = e ∙ raw_values-rows f name
 
 -- ---- addresses
@@ -39,10 +43,12 @@ whole_none None none = refl
 whole_none (Some p) none = whole_rest p.0 p.1 (λ e. none p.0 (ap (read_with_rest p.0) e))
 
 v4_found : (text octets : List ℕ) → IsDotted text octets → whole_value (read_ipv4 text) ≡ Some octets
-v4_found text octets h = ap whole_value (sym (ap read_ipv4 (append-nil text)) ∙ read_ipv4_complete text octets [] h (lit≤ tt))
+v4_found text octets h =
+    ap whole_value (sym (ap read_ipv4 (append-nil text)) ∙ read_ipv4_complete text octets [] h (lit≤ tt))
 
 v6_found : (text segments : List ℕ) → IsColonHex text segments → whole_value (read_ipv6 text) ≡ Some segments
-v6_found text segments h = ap whole_value (sym (ap read_ipv6 (append-nil text)) ∙ read_ipv6_complete text segments [] h EndsGroups-nil)
+v6_found text segments h =
+    ap whole_value (sym (ap read_ipv6 (append-nil text)) ∙ read_ipv6_complete text segments [] h EndsGroups-nil)
 
 v4_read : (text octets : List ℕ) → read_ipv4 text ≡ Some (octets, []) → IsDotted text octets
 v4_read text octets e =
@@ -61,13 +67,20 @@ v6_none : (text : List ℕ) → ((segments : List ℕ) → IsColonHex text segme
 v6_none text none = whole_none (read_ipv6 text) (λ segments e. none segments (v6_read text segments e))
 
 -- The parser of the standard library accepts the addresses of `address_of`.
-pub address_read : {E : Type 0} (text : List ℕ) (answer : Result IpAddr E) → Parses IsIpText text answer → result_ok answer ≡ address_of text
+pub address_read : {E : Type 0} (text : List ℕ) (answer : Result IpAddr E) → Parses IsIpText text answer
+    → result_ok answer ≡ address_of text
 unfolding address_of
 address_read text (Ok (ip.V4 a)) h = rw (v4_found text (ipv4_octets a) h) refl
 address_read text (Ok (ip.V6 a)) h =
-    rw (v4_none text (λ octets dotted. IsDotted-not_colon_hex text octets (ipv6_segments a) dotted h), v6_found text (ipv6_segments a) h) refl
+    rw (
+      v4_none text (λ octets dotted. IsDotted-not_colon_hex text octets (ipv6_segments a) dotted h),
+      v6_found text (ipv6_segments a) h,
+    ) refl
 address_read text (Err e) none =
-    rw (v4_none text (λ octets dotted. none (ip.V4 (record { octets = octets })) dotted), v6_none text (λ segments groups. none (ip.V6 (record { segments = segments })) groups)) refl
+    rw (
+      v4_none text (λ octets dotted. none (ip.V4 (record { octets = octets })) dotted),
+      v6_none text (λ segments groups. none (ip.V6 (record { segments = segments })) groups),
+    ) refl
 
 -- ---- the extra option
 
@@ -82,13 +95,15 @@ comma_parts text (Some x) h =
 
 -- ---- start values
 
-more_than_three : (first second third : Text) (more : List Text) → 1 ≤ length more → three_of (first ∷ second ∷ third ∷ more) ≡ None
+more_than_three : (first second third : Text) (more : List Text) → 1 ≤ length more
+    → three_of (first ∷ second ∷ third ∷ more) ≡ None
 more_than_three first second third [] some = absurd (omega (arith, some))
 more_than_three first second third (fourth ∷ more) some = refl
 
 -- A text with three commas or more has no three parts.
 pub three_commas : (text first rest second others third last : Text) → parts comma text ≡ first ∷ parts comma rest
-    → parts comma rest ≡ second ∷ parts comma others → parts comma others ≡ third ∷ parts comma last → three_in text ≡ None
+    → parts comma rest ≡ second ∷ parts comma others → parts comma others ≡ third ∷ parts comma last
+    → three_in text ≡ None
 unfolding three_in
 three_commas text first rest second others third last e1 e2 e3 =
     ap three_of (e1 ∙ ap (λ ps. first ∷ ps) (e2 ∙ ap (λ ps. second ∷ ps) e3))

@@ -1,6 +1,7 @@
 -- Defined by this project: the entries of the application that the values of `--application` name. Each value is
 -- `PATH;METHODS;ATTRIBUTES`.
-use Rattle.std.specs.Prelude.{◌≡◌, ◌∷◌, [], ◌&&◌, ◌==◌, ℕ, Bool, true, false, List, Option, Some, None, option_and_then, option_map, is_none, Result, Ok, Err, codes, if◌then◌else◌}
+use Rattle.std.specs.Prelude.{◌≡◌, ◌∷◌, [], ◌&&◌, ◌==◌, ℕ, Bool, true, false, List, Option, Some, None, option_and_then}
+use Rattle.std.specs.Prelude.{option_map, is_none, Result, Ok, Err, codes, if◌then◌else◌}
 use Rattle.clap.specs.Words.{Row, Text, all_of}
 use Rattle.coap_path.specs.Applications.{ApplicationsValue}
 use Rattle.coap_path.specs.Refusals.{entry_refusal, with_entry}
@@ -20,8 +21,8 @@ dot = 0x2e
 
 -- ---- methods
 
--- RFC 7252 section 12.1.1: the code in a text such as `0.08`. The text is `0.`, followed by two digits of a number from 1
--- to 31.
+-- RFC 7252 section 12.1.1: the code in a text such as `0.08`. The text is `0.`, followed by two digits of a
+-- number from 1 to 31.
 unfoldable pub code_in : Text → Option ℕ
 code_in (class ∷ point ∷ tens ∷ ones ∷ []) =
     if (class == zero_digit) && (point == dot) then number_within 1 31 (tens ∷ ones ∷ []) else None
@@ -42,7 +43,8 @@ method_in text =
 -- The codes of all texts, or nothing if one of them is no method.
 unfoldable pub codes_of : List Text → Option (List ℕ)
 codes_of [] = Some []
-codes_of (text ∷ texts) = option_and_then (λ code. option_map (λ others. code ∷ others) (codes_of texts)) (method_in text)
+codes_of (text ∷ texts) =
+    option_and_then (λ code. option_map (λ others. code ∷ others) (codes_of texts)) (method_in text)
 
 -- The codes of the methods in a text, which are separated by commas.
 abbrev pub methods_in : Text → Option (List ℕ)
@@ -53,19 +55,22 @@ methods_in text = codes_of (parts comma text)
 -- The entries with one more, unless `Applications::add` rejects it.
 abbrev pub with_parts : ApplicationsValue → Option Path → Option (List ℕ) → Text → Option ApplicationsValue
 with_parts v (Some path) (Some methods) attributes =
-    if is_none (entry_refusal v.entries path methods attributes) then Some (with_entry v path methods attributes) else None
+    if is_none (entry_refusal v.entries path methods attributes)
+    then Some (with_entry v path methods attributes) else None
 with_parts v (Some path) None attributes = None
 with_parts v None methods attributes = None
 
 -- The entries with the one that a text names. The text has a path as in the lines of a script, its methods, and the
--- attributes of its link, separated by semicolons. The second semicolon may be missing, and there are no attributes then.
+-- attributes of its link, separated by semicolons. The second semicolon may be missing, and there are no
+-- attributes then.
 unfoldable pub with_text : ApplicationsValue → Text → Option ApplicationsValue
 with_text v text =
     with_parts v (path_value (before semicolon text)) (methods_in (before semicolon (after semicolon text)))
     (after semicolon (after semicolon text))
 
 -- The result of the next texts, or the text that names no entry.
-abbrev pub or_refused : Text → (ApplicationsValue → Result ApplicationsValue Text) → Option ApplicationsValue → Result ApplicationsValue Text
+abbrev pub or_refused : Text → (ApplicationsValue → Result ApplicationsValue Text) → Option ApplicationsValue
+    → Result ApplicationsValue Text
 or_refused text next None = Err text
 or_refused text next (Some v) = next v
 
@@ -83,8 +88,8 @@ abbrev pub found_entries : Result ApplicationsValue Text → Result (Option Appl
 found_entries (Ok v) = Ok (Some v)
 found_entries (Err text) = Err text
 
--- The entries that the values of the option name, or the first value that names none. There is no application without the
--- option.
+-- The entries that the values of the option name, or the first value that names none. There is no application
+-- without the option.
 abbrev pub entries_of : Option (List Text) → Result (Option ApplicationsValue) Text
 entries_of None = Ok None
 entries_of (Some texts) = found_entries (with_texts no_entries texts)

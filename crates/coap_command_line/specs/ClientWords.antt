@@ -1,6 +1,8 @@
 -- Defined by this project: the plan for the arguments of `coap-client`. `-e` or `-f` with GET or DELETE sends a
 -- payload, although these methods define none (RFC 7252 section 5.5).
-use Rattle.std.specs.Prelude.{◌≡◌, ◌∷◌, [], ◌==◌, ◌&&◌, ◌||◌, ℕ, Bool, true, false, not, List, drop, length, nat_eq, nat_le, Option, Some, None, is_some, option_map, unwrap_or, Result, Ok, Err, codes, bytes_eq, if◌then◌else◌}
+use Rattle.std.specs.Prelude.{◌≡◌, ◌∷◌, [], ◌==◌, ◌&&◌, ◌||◌, ℕ, Bool, true, false, not, List, drop, length, nat_eq}
+use Rattle.std.specs.Prelude.{nat_le, Option, Some, None, is_some, option_map, unwrap_or, Result, Ok, Err, codes}
+use Rattle.std.specs.Prelude.{bytes_eq, if◌then◌else◌}
 use Rattle.std.specs.List.{after_first, before_first, list_any, starts_with}
 use Rattle.clap.specs.Simple.{new_shape}
 use Rattle.clap.specs.Words.{App, Row, Rule, Text, fault_of, first_of, matches_of, new_rule}
@@ -8,7 +10,9 @@ use Rattle.percent_encoding.specs.Percent.{percent_decode}
 use Rattle.coap_text.specs.Words.{hex_value}
 use Rattle.coap_print.specs.declared.level.LogLevel.{LogLevel}
 use Rattle.coap_print.specs.declared.level.LogLevel.TheVariants.{Nothing}
-use Rattle.coap_command_line.specs.CommandLines.{◌>>=◌, WordsFaultValue, Clash, Target, Value, is_used, letter_flag, letter_option, level_in, number_within, option_value, unless_refused, word_option}
+use Rattle.coap_command_line.specs.CommandLines.{◌>>=◌, WordsFaultValue, Clash, Target, Value, is_used, letter_flag}
+use Rattle.coap_command_line.specs.CommandLines.{letter_option, level_in, number_within, option_value, unless_refused}
+use Rattle.coap_command_line.specs.CommandLines.{word_option}
 use Rattle.coap_request.specs.Targets.{TargetValue, target_of}
 use Rattle.coap_request.specs.declared.request.Method.{Method}
 use Rattle.coap_request.specs.declared.request.Method.TheVariants.{Get, Put, Post, Delete}
@@ -46,8 +50,11 @@ uri_rule = record (new_rule (codes "URI")) { required = true }
 abbrev pub client_app : App
 client_app = record {
   top = record (new_shape (codes "coap-client")) {
-    rules = letter_option (codes "-m") ∷ letter_option (codes "-e") ∷ letter_option (codes "-f") ∷ letter_option (codes "-o")
-        ∷ letter_option (codes "-t") ∷ letter_option (codes "-A") ∷ letter_option (codes "-s") ∷ letter_option (codes "-B")
+    rules =
+        letter_option (codes "-m") ∷ letter_option (codes "-e") ∷ letter_option (codes "-f")
+        ∷ letter_option (codes "-o")
+        ∷ letter_option (codes "-t") ∷ letter_option (codes "-A") ∷ letter_option (codes "-s")
+        ∷ letter_option (codes "-B")
         ∷ letter_option (codes "-O") ∷ letter_flag (codes "-U") ∷ letter_flag (codes "-w")
         ∷ word_option (codes "--log") ∷ uri_rule ∷ [];
     has_version = true;
@@ -104,7 +111,8 @@ is_comma byte = byte == 44
 -- Says that these are the parts of a text before and after its first comma. A text without a comma has no parts.
 abbrev pub AreHalves : Text → Option (Text × Text) → Type 0
 AreHalves text None = list_any is_comma text ≡ false
-AreHalves text (Some x) = (list_any is_comma text ≡ true) × (x.0 ≡ before_first is_comma text) × (x.1 ≡ after_first is_comma text)
+AreHalves text (Some x) =
+    (list_any is_comma text ≡ true) × (x.0 ≡ before_first is_comma text) × (x.1 ≡ after_first is_comma text)
 
 -- The extra option, if both its number and its value are valid.
 abbrev pub numbered : Option ℕ → Option Text → Option (ℕ × Text)
@@ -115,7 +123,8 @@ numbered _ _ = None
 unfoldable pub extra_of : Text → Option (ℕ × Text)
 extra_of text =
     if list_any is_comma text
-    then numbered (number_within 0 65535 (before_first is_comma text)) (short_enough (option_bytes (after_first is_comma text)))
+    then numbered (number_within 0 65535 (before_first is_comma text))
+    (short_enough (option_bytes (after_first is_comma text)))
     else None
 
 -- The value of an option that may be absent.

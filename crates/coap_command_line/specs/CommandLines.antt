@@ -1,6 +1,7 @@
 -- Defined by this project: the parts of a command line that both programs share. The crate `clap` finds the options and
 -- their texts, and this file defines the values of the texts.
-use Rattle.std.specs.Prelude.{◌∷◌, [], ℕ, Bool, true, false, List, drop, map, ◌++◌, Option, Some, None, Result, Ok, Err, slice_get, codes, bytes_eq, ◌==◌, if◌then◌else◌}
+use Rattle.std.specs.Prelude.{◌∷◌, [], ℕ, Bool, true, false, List, drop, map, ◌++◌, Option, Some, None, Result, Ok, Err}
+use Rattle.std.specs.Prelude.{slice_get, codes, bytes_eq, ◌==◌, if◌then◌else◌}
 use Rattle.std.specs.Borrow.{Bor}
 use Rattle.std.specs.Option.{option_map_or}
 use Rattle.clap.specs.Simple.{new_shape}
@@ -63,7 +64,8 @@ abbrev pub with_form : Rule → Form → Rule
 with_form rule (form.Letter letter value) = record rule { short = Some letter; value_names = 1 }
 with_form rule (form.LetterFlag letter) = record rule { short = Some letter; action = Some SetTrue }
 with_form rule (form.Word word value) = record rule { long = Some word.now; value_names = 1 }
-with_form rule (form.RepeatedWord word value) = record rule { long = Some word.now; value_names = 1; action = Some Append }
+with_form rule (form.RepeatedWord word value) =
+    record rule { long = Some word.now; value_names = 1; action = Some Append }
 with_form rule (form.WordFlag word) = record rule { long = Some word.now; action = Some SetTrue }
 with_form rule form.Required = record rule { required = true }
 

@@ -1,11 +1,13 @@
 -- Defined by this project: the plan for the arguments of `coap-directory`, and the reason for refused arguments.
-use Rattle.std.specs.Prelude.{◌≡◌, ◌∷◌, [], ℕ, Bool, true, List, map, Option, Some, None, option_map, Result, Ok, Err, codes, string_bytes, if◌then◌else◌}
+use Rattle.std.specs.Prelude.{◌≡◌, ◌∷◌, [], ℕ, Bool, true, List, map, Option, Some, None, option_map, Result, Ok, Err}
+use Rattle.std.specs.Prelude.{codes, string_bytes, if◌then◌else◌}
 use Rattle.std.specs.declared.net.ip_addr.IpAddr.{IpAddr}
 use Rattle.clap.specs.Simple.{new_shape}
 use Rattle.clap.specs.Words.{App, Row, Text, fault_of, first_of, matches_of}
 use Rattle.coap_print.specs.declared.level.LogLevel.{LogLevel}
 use Rattle.coap_print.specs.declared.level.LogLevel.TheVariants.{Nothing}
-use Rattle.coap_command_line.specs.CommandLines.{◌>>=◌, WordsFaultValue, Clash, Value, letter_option, level_in, number_within, option_value, unless_refused, word_option}
+use Rattle.coap_command_line.specs.CommandLines.{◌>>=◌, WordsFaultValue, Clash, Value, letter_option, level_in}
+use Rattle.coap_command_line.specs.CommandLines.{number_within, option_value, unless_refused, word_option}
 use Rattle.coap_command_line.specs.ServerWords.{address_of, every_address, file_name, lacks_record}
 use Rattle.coap_command_line.specs.PlanViews.{IsRefused}
 use Rattle.coap_command_line.specs.Reasons.{ValueRow, given_for, limit_alone, row_in, row_text, unless_rejected}
@@ -82,7 +84,8 @@ directory_said rows = do
 
 -- The plan with the name of the record, or the error. `lacking` is true if the limit of a record is given without a
 -- record.
-abbrev pub planned_directory : Bool → Option Text → Result DirectoryValues Text → Result DirectoryPlanValue WordsFaultValue
+abbrev pub planned_directory : Bool → Option Text → Result DirectoryValues Text
+    → Result DirectoryPlanValue WordsFaultValue
 planned_directory lacking name (Err fault) = Err (Value fault)
 planned_directory lacking name (Ok values) =
     if lacking then Err Clash
@@ -101,10 +104,11 @@ planned_directory lacking name (Ok values) =
 unfoldable pub directory_plan_in : List Row → Result DirectoryPlanValue WordsFaultValue
 directory_plan_in rows = planned_directory (lacks_record rows) (first_of (codes "--record") rows) (directory_said rows)
 
--- The plan for the arguments, or the first error that applies. The order is: `clap`, the text of an option, the limit of
--- a record without a record.
+-- The plan for the arguments, or the first error that applies. The order is: `clap`, the text of an option, the limit
+-- of a record without a record.
 unfoldable pub directory_plan_of : List Text → Result DirectoryPlanValue WordsFaultValue
-directory_plan_of words = unless_refused (fault_of directory_app words) (directory_plan_in (matches_of directory_app words))
+directory_plan_of words =
+    unless_refused (fault_of directory_app words) (directory_plan_in (matches_of directory_app words))
 
 -- Says that a plan or an error of the code is the expected result `answer`.
 abbrev pub TellsDirectoryPlan : Result DirectoryPlanValue WordsFaultValue → Result DirectoryPlan WordsFault → Type 0
@@ -131,4 +135,5 @@ directory_reason_in rows faults.Memory = None
 
 -- The reason for an error of these arguments.
 unfoldable pub directory_reason : List Text → WordsFault → Option Text
-directory_reason words fault = unless_rejected (fault_of directory_app words) (directory_reason_in (matches_of directory_app words) fault)
+directory_reason words fault =
+    unless_rejected (fault_of directory_app words) (directory_reason_in (matches_of directory_app words) fault)

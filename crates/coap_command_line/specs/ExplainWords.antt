@@ -1,8 +1,10 @@
 -- Defined by this project: the plan for the arguments of `coap-explain`, and the reason for refused arguments.
-use Rattle.std.specs.Prelude.{◌≡◌, ◌∷◌, [], ℕ, true, List, map, Option, None, unwrap_or, Result, Ok, Err, codes, string_bytes}
+use Rattle.std.specs.Prelude.{◌≡◌, ◌∷◌, [], ℕ, true, List, map, Option, None, unwrap_or, Result, Ok, Err, codes}
+use Rattle.std.specs.Prelude.{string_bytes}
 use Rattle.clap.specs.Simple.{new_shape}
 use Rattle.clap.specs.Words.{App, Row, Rule, Text, fault_of, first_of, matches_of, new_rule}
-use Rattle.coap_command_line.specs.CommandLines.{◌>>=◌, WordsFaultValue, number_within, option_value, unless_refused, word_option}
+use Rattle.coap_command_line.specs.CommandLines.{◌>>=◌, WordsFaultValue, number_within, option_value, unless_refused}
+use Rattle.coap_command_line.specs.CommandLines.{word_option}
 use Rattle.coap_command_line.specs.ClientWords.{perhaps, spoken}
 use Rattle.coap_command_line.specs.PlanViews.{IsRefused}
 use Rattle.coap_command_line.specs.Reasons.{ValueRow, given_for, row_in, row_text, unless_rejected}
@@ -83,4 +85,5 @@ explain_reason_in rows faults.Memory = None
 
 -- The reason for an error of these arguments.
 unfoldable pub explain_reason : List Text → WordsFault → Option Text
-explain_reason words fault = unless_rejected (fault_of explain_app words) (explain_reason_in (matches_of explain_app words) fault)
+explain_reason words fault =
+    unless_rejected (fault_of explain_app words) (explain_reason_in (matches_of explain_app words) fault)

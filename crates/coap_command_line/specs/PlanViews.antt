@@ -1,5 +1,6 @@
 -- Defined by this project: the values of the plans and errors of the code.
-use Rattle.std.specs.Prelude.{◌≡◌, ⊤, ℕ, Bool, true, false, List, Vec, Option, option_map, Result, Ok, Err, string_bytes}
+use Rattle.std.specs.Prelude.{◌≡◌, ⊤, ℕ, Bool, true, false, List, Vec, Option, option_map, Result, Ok, Err}
+use Rattle.std.specs.Prelude.{string_bytes}
 use Rattle.std.specs.Borrow.{Bor}
 use Rattle.clap.specs.Words.{IsAmong, Kinds, Text, kind_of}
 use Rattle.clap.specs.declared.error.kind.ErrorKind.{ErrorKind}
@@ -89,7 +90,8 @@ is_help_or_version other = false
 -- Says that a result is this error. An error of `clap` is of one of the kinds in the result. Nothing is known if
 -- allocation failed.
 abbrev pub IsRefused : {A : Type 0} → Result A WordsFaultValue → WordsFault → Type 0
-IsRefused answer (faults.Usage error) = (kinds : Kinds) × (answer ≡ Err (fault.Usage kinds)) × IsAmong (kind_of error) kinds
+IsRefused answer (faults.Usage error) =
+    (kinds : Kinds) × (answer ≡ Err (fault.Usage kinds)) × IsAmong (kind_of error) kinds
 IsRefused answer (faults.Target refusal) = answer ≡ Err (fault.Target refusal)
 IsRefused answer (faults.Value name) = answer ≡ Err (fault.Value name.now)
 IsRefused answer faults.Clash = answer ≡ Err fault.Clash
@@ -106,8 +108,8 @@ abbrev pub TellsServerPlan : Result ServerPlanValue WordsFaultValue → Result S
 TellsServerPlan answer (Ok plan) = answer ≡ Ok (server_value plan)
 TellsServerPlan answer (Err refusal) = IsRefused answer refusal
 
--- Says that the entries of an application, or the first value that names none, are the expected result `answer`. Nothing is
--- known if allocation failed.
+-- Says that the entries of an application, or the first value that names none, are the expected result `answer`.
+-- Nothing is known if allocation failed.
 abbrev pub TellsEntries : {A : Type 0} → Result A Text → Result A EntryFault → Type 0
 TellsEntries answer (Ok found) = answer ≡ Ok found
 TellsEntries answer (Err (entries.Refused text)) = answer ≡ Err text.now

@@ -2,7 +2,8 @@
 
 -- ---- std and the kit's crates
 pub use Rattle.clap.specs.Words.{first_of, found_of, rows_of, app_of, fault_of, is_simple, is_simple_and_free}
-pub use Rattle.clap.specs.Words.{matches_of, new_rule, rule_of, with_rule, App, Kinds, Row, Rule, Text, all_of, first_value}
+pub use Rattle.clap.specs.Words.{matches_of, new_rule, rule_of, with_rule, App, Kinds, Row, Rule, Text, all_of}
+pub use Rattle.clap.specs.Words.{first_value}
 pub use Rattle.clap.specs.declared.parser.matches.Found.{Found}
 unfoldable pub use Rattle.hex.specs.Hex.{decode_pairs}
 unfoldable pub use Rattle.percent_encoding.specs.Percent.{percent_decode}

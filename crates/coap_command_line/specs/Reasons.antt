@@ -1,6 +1,7 @@
 -- Defined by this project: the reason for a refused command line, a second line after the text of the error. The reason
 -- says what was given and what is allowed.
-use Rattle.std.specs.Prelude.{ℕ, ◌==◌, ◌&&◌, Bool, List, [], ◌∷◌, ◌++◌, drop, length, map, nat_eq, Option, Some, None, is_some, option_map, unwrap_or, Result, Ok, Err, codes, bytes_eq, decimal, if◌then◌else◌}
+use Rattle.std.specs.Prelude.{ℕ, ◌==◌, ◌&&◌, Bool, List, [], ◌∷◌, ◌++◌, drop, length, map, nat_eq, Option, Some, None}
+use Rattle.std.specs.Prelude.{is_some, option_map, unwrap_or, Result, Ok, Err, codes, bytes_eq, decimal, if◌then◌else◌}
 use Rattle.std.specs.Borrow.{Bor}
 use Rattle.std.specs.List.{list_all, list_any, starts_with}
 use Rattle.clap.specs.Words.{Kinds, Row, Text, fault_of, first_of, matches_of}
@@ -75,7 +76,8 @@ number_or (Err name) other = other
 -- The minimum of `--queue`, which is the value of `--max-sent`.
 unfoldable pub least_queue : List Row → ℕ
 least_queue rows =
-    number_or (option_value (codes "--max-sent") (number_within BASE_MESSAGE_SIZE LARGEST_SENT_MESSAGE) LARGEST_SENT_MESSAGE rows) LARGEST_SENT_MESSAGE
+    number_or (option_value (codes "--max-sent") (number_within BASE_MESSAGE_SIZE LARGEST_SENT_MESSAGE)
+    LARGEST_SENT_MESSAGE rows) LARGEST_SENT_MESSAGE
 
 -- The text for `--queue`, with its minimum.
 unfoldable pub queue_text : ℕ → Text → Text
@@ -84,13 +86,15 @@ queue_text least given = value_text (codes "--queue") (decimal least ++ codes " 
 -- The text for a value of `--application`.
 unfoldable pub application_text : Text → Text
 application_text given =
-    value_text (codes "--application") (codes "PATH;METHODS;ATTRIBUTES of an entry (at most 16, with different paths)") given
+    value_text (codes "--application")
+    (codes "PATH;METHODS;ATTRIBUTES of an entry (at most 16, with different paths)") given
 
 -- The reason for the value of an option of the server. For `--application` it has the first value that is rejected.
 unfoldable pub server_value : List Row → Text → Option Text
 server_value rows name =
     if bytes_eq name (codes "--queue") then Some (queue_text (least_queue rows) (given_for name rows))
-    else (if bytes_eq name (codes "--application") then option_map application_text (refused_value (applications_said rows))
+    else (if bytes_eq name (codes "--application")
+    then option_map application_text (refused_value (applications_said rows))
     else row_text (row_in server_values name) (given_for name rows))
 
 -- The reason for the value of an option of the client.
@@ -129,7 +133,8 @@ stdio_clash rows =
 -- The first option that a server which listens excludes.
 unfoldable pub listener_clash : List Row → Text
 listener_clash rows =
-    if is_some (first_of (codes "--starts") rows) then codes "--starts can be used only with --stdio or --script" else alone_clash rows
+    if is_some (first_of (codes "--starts") rows) then codes "--starts can be used only with --stdio or --script"
+    else alone_clash rows
 
 -- The first two options of the server that exclude each other, or the first one that needs another option.
 unfoldable pub server_clash : List Row → Text
@@ -175,7 +180,8 @@ has_zone uri =
 unfoldable pub url_text : Text → Text
 url_text uri =
     if has_zone uri then codes "a zone such as %eth0 in an IPv6 address is not supported"
-    else (if starts_with nat_eq uri (codes "coap+tcp://") then codes "the host or the port is invalid in " ++ given_text uri
+    else (if starts_with nat_eq uri (codes "coap+tcp://")
+    then codes "the host or the port is invalid in " ++ given_text uri
     else codes "the target is a URI such as coap+tcp://127.0.0.1/time, not " ++ given_text uri)
 
 -- The end of the text for a scheme, with a remark for the scheme of CoAP over TLS.
@@ -230,8 +236,10 @@ client_reason_in rows faults.Memory = None
 
 -- The reason for an error of these arguments of the server.
 unfoldable pub server_reason : List Text → WordsFault → Option Text
-server_reason words fault = unless_rejected (fault_of server_app words) (server_reason_in (matches_of server_app words) fault)
+server_reason words fault =
+    unless_rejected (fault_of server_app words) (server_reason_in (matches_of server_app words) fault)
 
 -- The reason for an error of these arguments of the client.
 unfoldable pub client_reason : List Text → WordsFault → Option Text
-client_reason words fault = unless_rejected (fault_of client_app words) (client_reason_in (matches_of client_app words) fault)
+client_reason words fault =
+    unless_rejected (fault_of client_app words) (client_reason_in (matches_of client_app words) fault)

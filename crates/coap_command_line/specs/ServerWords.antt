@@ -1,5 +1,6 @@
 -- Defined by this project: the plan for the arguments of `coap-server`.
-use Rattle.std.specs.Prelude.{◌∷◌, [], ◌&&◌, ◌||◌, ⊤, ℕ, Bool, true, false, not, List, Option, Some, None, is_some, Result, Ok, Err, bytes_eq, codes, if◌then◌else◌}
+use Rattle.std.specs.Prelude.{◌∷◌, [], ◌&&◌, ◌||◌, ⊤, ℕ, Bool, true, false, not, List, Option, Some, None, is_some}
+use Rattle.std.specs.Prelude.{Result, Ok, Err, bytes_eq, codes, if◌then◌else◌}
 use Rattle.std.specs.Option.{option_map_or}
 use Rattle.std.specs.Net.Reader.{read_ipv4, read_ipv6, whole_value}
 use Rattle.std.specs.declared.net.ip_addr.IpAddr.{IpAddr}
@@ -11,7 +12,9 @@ use Rattle.coap_conn.specs.Limits.{LimitValues, limits_of}
 use Rattle.coap_text.specs.Words.{decimal_value, parts}
 use Rattle.coap_print.specs.declared.level.LogLevel.{LogLevel}
 use Rattle.coap_print.specs.declared.level.LogLevel.TheVariants.{Nothing}
-use Rattle.coap_command_line.specs.CommandLines.{◌>>=◌, WordsFaultValue, Clash, Value, comma, is_used, letter_option, level_in, number_within, option_value, repeated_option, unless_refused, word_flag, word_option}
+use Rattle.coap_command_line.specs.CommandLines.{◌>>=◌, WordsFaultValue, Clash, Value, comma, is_used, letter_option}
+use Rattle.coap_command_line.specs.CommandLines.{level_in, number_within, option_value, repeated_option, unless_refused}
+use Rattle.coap_command_line.specs.CommandLines.{word_flag, word_option}
 use Rattle.coap_command_line.specs.ApplicationWords.{applications_said}
 use Rattle.coap_request.specs.declared.plan.StartCounts.{StartCounts}
 use Rattle.coap_command_line.specs.declared.arguments.server.ServerValues.{ServerValues}
@@ -44,8 +47,9 @@ pub record ServerPlanValue : Type 0 where
 -- ---- the options
 
 -- The command as `clap` gets it: without subcommands, with options of one value or none, with a version, and without
--- the program's name. The last option may be given several times. `clap` adds `-h` and `--help`, and `-V` and `--version` for the version. If one of these is used,
--- `clap` rejects the arguments with the kind DisplayHelp or DisplayVersion.
+-- the program's name. The last option may be given several times. `clap` adds `-h` and `--help`, and `-V` and
+-- `--version` for the version. If one of these is used, `clap` rejects the arguments with the kind DisplayHelp or
+-- DisplayVersion.
 abbrev pub server_app : App
 server_app = record {
   top = record (new_shape (codes "coap-server")) {
@@ -84,8 +88,10 @@ every_address = ip.V4 (record { octets = 0 ∷ 0 ∷ 0 ∷ 0 ∷ [] })
 -- entries and observers.
 unfoldable pub limits_said : List Row → Result LimitValues Text
 limits_said rows = do
-  message ← option_value (codes "--max-message") (number_within BASE_MESSAGE_SIZE LARGEST_MESSAGE) LARGEST_SENT_MESSAGE rows
-  sent ← option_value (codes "--max-sent") (number_within BASE_MESSAGE_SIZE LARGEST_SENT_MESSAGE) LARGEST_SENT_MESSAGE rows
+  message ← option_value (codes "--max-message") (number_within BASE_MESSAGE_SIZE LARGEST_MESSAGE)
+      LARGEST_SENT_MESSAGE rows
+  sent ← option_value (codes "--max-sent") (number_within BASE_MESSAGE_SIZE LARGEST_SENT_MESSAGE)
+      LARGEST_SENT_MESSAGE rows
   queue ← option_value (codes "--queue") (number_within sent LARGEST_QUEUE) DEFAULT_QUEUE rows
   pending ← option_value (codes "--pending") (number_within 0 256) 16 rows
   observers ← option_value (codes "--observers") (number_within 0 256) 16 rows
@@ -140,7 +146,18 @@ values_said rows = do
   starts ← option_value (codes "--starts") starts_in from_zero rows
   named ← option_value (codes "--record") file_name tt rows
   record_limit ← option_value (codes "--record-limit") (number_within 1 18446744073709551615) 1073741824 rows
-  Ok (record { address = address; port = port; dynamic_max = dynamic_max; limits = limits; connections = connections; turns = turns; log = log; idle = idle; starts = starts; record_limit = record_limit })
+  Ok (record {
+    address = address;
+    port = port;
+    dynamic_max = dynamic_max;
+    limits = limits;
+    connections = connections;
+    turns = turns;
+    log = log;
+    idle = idle;
+    starts = starts;
+    record_limit = record_limit;
+  })
 
 -- ---- the plan for the arguments
 
@@ -172,8 +189,8 @@ records_to_output rows = option_map_or (λ name. bytes_eq name (codes "-")) (fir
 abbrev pub lacks_record : List Row → Bool
 lacks_record rows = is_some (first_of (codes "--record-limit") rows) && not (is_some (first_of (codes "--record") rows))
 
--- True if a record is given with a mode that excludes it, or its limit without a record. A script excludes every record,
--- and standard input and output exclude a record that is standard output.
+-- True if a record is given with a mode that excludes it, or its limit without a record. A script excludes every
+-- record, and standard input and output exclude a record that is standard output.
 unfoldable pub excludes_record : List Row → Bool
 excludes_record rows =
     (is_some (first_of (codes "--script") rows) && is_some (first_of (codes "--record") rows))
@@ -189,14 +206,28 @@ mode_of false None address port = Some (Listen address port)
 mode_of true (Some name) address port = None
 
 -- The plan with a mode, the name of the record and the entries of the application, or `Clash` if there is no mode.
-abbrev pub with_mode : ServerValues → Option Text → Option ApplicationsValue → Option ModeValue → Result ServerPlanValue WordsFaultValue
+abbrev pub with_mode : ServerValues → Option Text → Option ApplicationsValue → Option ModeValue
+    → Result ServerPlanValue WordsFaultValue
 with_mode values name applications None = Err Clash
 with_mode values name applications (Some mode) =
-    Ok (record { mode = mode; limits = values.limits; connections = values.connections; dynamic_max = values.dynamic_max; turns = values.turns; log = values.log; idle = values.idle; starts = values.starts; «record» = name; record_limit = values.record_limit; applications = applications })
+    Ok (record {
+      mode = mode;
+      limits = values.limits;
+      connections = values.connections;
+      dynamic_max = values.dynamic_max;
+      turns = values.turns;
+      log = values.log;
+      idle = values.idle;
+      starts = values.starts;
+      «record» = name;
+      record_limit = values.record_limit;
+      applications = applications;
+    })
 
--- The plan with a mode, the name of the record and the entries of the application, or the error of the values. `excluded` is true if options exclude
--- each other.
-abbrev pub planned : Bool → Bool → Option Text → Option Text → Result ServerValues Text → Result (Option ApplicationsValue) Text → Result ServerPlanValue WordsFaultValue
+-- The plan with a mode, the name of the record and the entries of the application, or the error of the values.
+-- `excluded` is true if options exclude each other.
+abbrev pub planned : Bool → Bool → Option Text → Option Text → Result ServerValues Text
+    → Result (Option ApplicationsValue) Text → Result ServerPlanValue WordsFaultValue
 planned excluded stdio script name (Err fault) applications = Err (Value fault)
 planned excluded stdio script name (Ok values) (Err refused) = Err (Value (codes "--application"))
 planned excluded stdio script name (Ok values) (Ok applications) =
@@ -205,7 +236,8 @@ planned excluded stdio script name (Ok values) (Ok applications) =
 -- The plan for the options that `clap` found, or the error.
 unfoldable pub server_plan_in : List Row → Result ServerPlanValue WordsFaultValue
 server_plan_in rows =
-    planned (excludes_mode rows || excludes_record rows || excludes_application rows) (is_used (codes "--stdio") rows) (first_of (codes "--script") rows)
+    planned (excludes_mode rows || excludes_record rows || excludes_application rows) (is_used (codes "--stdio") rows)
+    (first_of (codes "--script") rows)
     (first_of (codes "--record") rows) (values_said rows) (applications_said rows)
 
 -- The plan for the arguments, or the first error that applies. The order is: `clap`, the text of an option, two options

@@ -133,8 +133,8 @@ pub fn client_words<'a, S: AsStr>(alloc: Global, words: &'a [S]) -> Result<Clien
     client_plan(alloc, &matches)
 }
 
-/// Returns the reason for an error that `server_words` reported for these arguments: a line with what was given and what
-/// is allowed. There is no reason for arguments that `clap` rejects, and none for a failed allocation.
+/// Returns the reason for an error that `server_words` reported for these arguments: a line with what was given and
+/// what is allowed. There is no reason for arguments that `clap` rejects, and none for a failed allocation.
 ///
 /// # Errors
 ///
@@ -144,7 +144,8 @@ pub fn server_reason<'a, S: AsStr>(
     words: &'a [S],
     fault: &WordsFault,
 ) -> Result<Option<Line>, AllocError>
-    ensures { IfOk result (λ line. line ≡ option_map line_of (spec.server_reason (map S.text words.entry.now) fault.now)) }
+    ensures { IfOk result
+        (λ line. line ≡ option_map line_of (spec.server_reason (map S.text words.entry.now) fault.now)) }
 {
     match matches_in(alloc, "coap-server", help::SERVER, SERVER, words) {
         Ok(matches) => server_line(alloc, &matches, fault),
@@ -153,8 +154,8 @@ pub fn server_reason<'a, S: AsStr>(
     }
 }
 
-/// Returns the reason for an error that `client_words` reported for these arguments: a line with what was given and what
-/// is allowed. There is no reason for arguments that `clap` rejects, and none for a failed allocation.
+/// Returns the reason for an error that `client_words` reported for these arguments: a line with what was given and
+/// what is allowed. There is no reason for arguments that `clap` rejects, and none for a failed allocation.
 ///
 /// # Errors
 ///
@@ -164,7 +165,8 @@ pub fn client_reason<'a, S: AsStr>(
     words: &'a [S],
     fault: &WordsFault,
 ) -> Result<Option<Line>, AllocError>
-    ensures { IfOk result (λ line. line ≡ option_map line_of (spec.client_reason (map S.text words.entry.now) fault.now)) }
+    ensures { IfOk result
+        (λ line. line ≡ option_map line_of (spec.client_reason (map S.text words.entry.now) fault.now)) }
 {
     match matches_in(alloc, "coap-client", help::CLIENT, CLIENT, words) {
         Ok(matches) => Ok(client_line(&matches, fault)),

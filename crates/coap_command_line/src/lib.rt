@@ -1,11 +1,12 @@
 //! Command lines of `coap-server`, `coap-client`, `coap-explain` and `coap-directory`: from arguments to a plan.
 //!
-//! - `server_words`, `client_words`, `explain_words` and `directory_words` parse the arguments of a program and return its
-//!   plan. The crate `clap` finds the options in the arguments. This crate defines the options and parses their values.
+//! - `server_words`, `client_words`, `explain_words` and `directory_words` parse the arguments of a program and
+//!   return its plan. The crate `clap` finds the options in the arguments. This crate defines the options and
+//!   parses their values.
 //! - `WordsFault` is the error if there is no plan. A request for `--help` or `--version` is reported in this way too.
 //! - `VERSION` is the version of the programs.
-//! - `server_reason`, `client_reason`, `explain_reason` and `directory_reason` return the second line for such an error:
-//!   what was given, and what is allowed.
+//! - `server_reason`, `client_reason`, `explain_reason` and `directory_reason` return the second line for such an
+//!   error: what was given, and what is allowed.
 //!
 //! The contracts use the definitions of `specs/CommandLines.antt`, `specs/ServerWords.antt`, `specs/ClientWords.antt`,
 //! `specs/ExplainWords.antt`, `specs/DirectoryWords.antt` and `specs/Reasons.antt`.

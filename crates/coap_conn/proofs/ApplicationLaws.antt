@@ -1,5 +1,6 @@
 -- Requests that wait for a response of the application, and its responses.
-use Rattle.std.proofs.Common.{◌≡◌, ℕ, suc, ◌<◌, ◌≤◌, Bool, true, false, ◌&&◌, ◌||◌, cond, List, [], ◌∷◌, ◌++◌, length, get_or, take, drop, Option, Some, None, refl, sym, ap, subst, ◌∙◌}
+use Rattle.std.proofs.Common.{◌≡◌, ℕ, suc, ◌<◌, ◌≤◌, Bool, true, false, ◌&&◌, ◌||◌, cond, List, [], ◌∷◌, ◌++◌, length}
+use Rattle.std.proofs.Common.{get_or, take, drop, Option, Some, None, refl, sym, ap, subst, ◌∙◌}
 use Rattle.coap_conn.specs.Prelude.{slice_get, list_any, AllByRecursion, is_none, position, remove, Message, spelling}
 use Rattle.coap_conn.specs.Prelude.{Phase, Reason, Reply, Whole, Bare, Stopped, AllFit, fit, fitted, bare_response}
 use Rattle.coap_conn.specs.Prelude.{answers, PendingEntryValue, Responder, Engine, Application, Answer, Pong}
@@ -18,26 +19,32 @@ use lib.Pointwise.{bytes_decides}
 -- ---- the first request with a token
 
 -- An entry is a request with this token only if it has the token and waits for the application.
-request_with : (token : List ℕ) (e : PendingEntryValue) → is_request_for token e ≡ true → (moment : ℕ) × (e ≡ Answer Application token moment)
+request_with : (token : List ℕ) (e : PendingEntryValue) → is_request_for token e ≡ true
+    → (moment : ℕ) × (e ≡ Answer Application token moment)
 request_with token (Answer Engine other moment) is = absurd cc
-request_with token (Answer Application other moment) is = (moment, ap (λ (t : List ℕ). Answer Application t moment) ((bytes_decides other token).0 is))
+request_with token (Answer Application other moment) is =
+    (moment, ap (λ (t : List ℕ). Answer Application t moment) ((bytes_decides other token).0 is))
 request_with token (Pong other) is = absurd cc
 
-none_passes : (p : PendingEntryValue → Bool) (held : List PendingEntryValue) → AllByRecursion (λ e. p e ≡ false) held → list_any p held ≡ false
+none_passes : (p : PendingEntryValue → Bool) (held : List PendingEntryValue) → AllByRecursion (λ e. p e ≡ false) held
+    → list_any p held ≡ false
 none_passes p [] each = refl
 none_passes p (e ∷ held) each = ap (λ (b : Bool). b || list_any p held) each.0 ∙ none_passes p held each.1
 
-pub absent_request : (held : List PendingEntryValue) (token : List ℕ) → position (is_request_for token) held ≡ None → has_request token held ≡ false
+pub absent_request : (held : List PendingEntryValue) (token : List ℕ) → position (is_request_for token) held ≡ None
+    → has_request token held ≡ false
 absent_request held token none = none_passes (is_request_for token) held (no_position (is_request_for token) held none)
 
-pub there_request : (held : List PendingEntryValue) (token : List ℕ) (i : ℕ) → position (is_request_for token) held ≡ Some i → has_request token held ≡ true
+pub there_request : (held : List PendingEntryValue) (token : List ℕ) (i : ℕ)
+    → position (is_request_for token) held ≡ Some i → has_request token held ≡ true
 there_request held token i found =
     let d : PendingEntryValue = Pong [] in
     let at = position-Some (is_request_for token) held i d found in
     list_any_at (is_request_for token) held i d at.0 at.1
 
 -- If a request with the token waits, the entry at the first position of one is that request.
-request_at : (held : List PendingEntryValue) (token : List ℕ) (i : ℕ) → position (is_request_for token) held ≡ Some i → IsFirstRequest held token (remove held i)
+request_at : (held : List PendingEntryValue) (token : List ℕ) (i : ℕ) → position (is_request_for token) held ≡ Some i
+    → IsFirstRequest held token (remove held i)
 request_at held token i found =
     let d : PendingEntryValue = Pong [] in
     let at = position-Some (is_request_for token) held i d found in
@@ -46,32 +53,40 @@ request_at held token i found =
       before = take i held;
       after = drop (suc i) held;
       moment = is.0;
-      there = split_at held i (Answer Application token is.0) (slice_get-get_or held i d at.0 ∙ ap (λ (e : PendingEntryValue). Some e) is.1);
+      there =
+          split_at held i (Answer Application token is.0)
+          (slice_get-get_or held i d at.0 ∙ ap (λ (e : PendingEntryValue). Some e) is.1);
       without = refl;
       earliest = none_before (is_request_for token) held i d at.2;
     }
 
-found_request : (held : List PendingEntryValue) (token : List ℕ) (at : Option ℕ) → position (is_request_for token) held ≡ at → has_request token held ≡ true → IsFirstRequest held token (without_at held at)
+found_request : (held : List PendingEntryValue) (token : List ℕ) (at : Option ℕ)
+    → position (is_request_for token) held ≡ at → has_request token held ≡ true
+    → IsFirstRequest held token (without_at held at)
 found_request held token None none has =
     let bad : ◌≡◌ {A = Bool} false true = sym (absent_request held token none) ∙ has in absurd cc
 found_request held token (Some i) found has = request_at held token i found
 
-pub first_request : (held : List PendingEntryValue) (token : List ℕ) → has_request token held ≡ true → IsFirstRequest held token (without_request token held)
+pub first_request : (held : List PendingEntryValue) (token : List ℕ) → has_request token held ≡ true
+    → IsFirstRequest held token (without_request token held)
 unfolding without_request
 first_request held token = found_request held token (position (is_request_for token) held) refl
 
-no_request : (held : List PendingEntryValue) (token : List ℕ) (at : Option ℕ) → position (is_request_for token) held ≡ at → has_request token held ≡ false → without_at held at ≡ held
+no_request : (held : List PendingEntryValue) (token : List ℕ) (at : Option ℕ)
+    → position (is_request_for token) held ≡ at → has_request token held ≡ false → without_at held at ≡ held
 no_request held token None none has = refl
 no_request held token (Some i) found has =
     let bad : ◌≡◌ {A = Bool} false true = sym has ∙ there_request held token i found in absurd cc
 
-pub others_stay : (held : List PendingEntryValue) (token : List ℕ) → has_request token held ≡ false → without_request token held ≡ held
+pub others_stay : (held : List PendingEntryValue) (token : List ℕ) → has_request token held ≡ false
+    → without_request token held ≡ held
 unfolding without_request
 others_stay held token = no_request held token (position (is_request_for token) held) refl
 
 -- ---- the link after a response
 
-pub responded_fits : (h : History) (m : Message) → AllFit (limit_now h) (send (standing_without m.token (standing_now h)) m (bare_response m)).queued
+pub responded_fits : (h : History) (m : Message)
+    → AllFit (limit_now h) (send (standing_without m.token (standing_now h)) m (bare_response m)).queued
 responded_fits h m = send_fit (standing_without m.token (standing_now h)) m (bare_response m)
 
 sent_queued : (s : ConnectionState) (m less : Message) (r : Reply) → (send_as s m less r).queued ≡ fitted m less r
@@ -80,32 +95,41 @@ sent_queued s m less Bare = refl
 sent_queued s m less Stopped = refl
 
 -- The condition of the effect of `Respond` holds in a phase that sends responses, if there is no error.
-may_respond : (h : History) (m : Message) → answers h.phase ≡ true → response_refusal (link_of h) m ≡ None → (answers h.phase && is_none (response_refusal (link_of h) m)) ≡ true
-may_respond h m answering allowed = ap (λ (b : Bool). b && is_none (response_refusal (link_of h) m)) answering ∙ ap (λ (o : Option RespondFault). is_none o) allowed
+may_respond : (h : History) (m : Message) → answers h.phase ≡ true → response_refusal (link_of h) m ≡ None
+    → (answers h.phase && is_none (response_refusal (link_of h) m)) ≡ true
+may_respond h m answering allowed =
+    ap (λ (b : Bool). b && is_none (response_refusal (link_of h) m)) answering
+    ∙ ap (λ (o : Option RespondFault). is_none o) allowed
 
 respond_does : (h : History) (m : Message) → answers h.phase ≡ true → response_refusal (link_of h) m ≡ None
     → after h (call.Respond m) ≡ with_effect h (send (standing_without m.token (standing_now h)) m (bare_response m))
-respond_does h m answering allowed = ap (λ (b : Bool). cond b (with_effect h (send (standing_without m.token (standing_now h)) m (bare_response m))) h) (may_respond h m answering allowed)
+respond_does h m answering allowed =
+    ap (λ (b : Bool). cond b (with_effect h (send (standing_without m.token (standing_now h)) m (bare_response m))) h)
+    (may_respond h m answering allowed)
 
 pub responds_fitted : (h : History) (m : Message) → answers h.phase ≡ true → response_refusal (link_of h) m ≡ None
     → (after h (call.Respond m)).queued ≡ h.queued ++ fitted m (bare_response m) (fit (limit_now h) m (bare_response m))
 responds_fitted h m answering allowed =
     ap (λ (k : History). k.queued) (respond_does h m answering allowed)
-    ∙ ap (λ (ms : List Message). h.queued ++ ms) (sent_queued (standing_without m.token (standing_now h)) m (bare_response m) (fit (limit_now h) m (bare_response m)))
+    ∙ ap (λ (ms : List Message). h.queued ++ ms) (sent_queued (standing_without m.token (standing_now h)) m
+    (bare_response m) (fit (limit_now h) m (bare_response m)))
 
 held_as_sent : (s : ConnectionState) (m less : Message) (r : Reply) → r ≡ Whole → (send_as s m less r).held ≡ s.held
 held_as_sent s m less Whole is = refl
 held_as_sent s m less Bare is = absurd cc
 held_as_sent s m less Stopped is = absurd cc
 
-pub whole_answers : (h : History) (m : Message) → answers h.phase ≡ true → response_refusal (link_of h) m ≡ None → fit (limit_now h) m (bare_response m) ≡ Whole
+pub whole_answers : (h : History) (m : Message) → answers h.phase ≡ true → response_refusal (link_of h) m ≡ None
+    → fit (limit_now h) m (bare_response m) ≡ Whole
     → (after h (call.Respond m)).held ≡ without_request m.token h.held
 whole_answers h m answering allowed whole =
     ap (λ (k : History). k.held) (respond_does h m answering allowed)
-    ∙ held_as_sent (standing_without m.token (standing_now h)) m (bare_response m) (fit (limit_now h) m (bare_response m)) whole
+    ∙ held_as_sent (standing_without m.token (standing_now h)) m (bare_response m)
+    (fit (limit_now h) m (bare_response m)) whole
 
 -- Nothing happens without a request, and after a stop.
-not_allowed : (h : History) (m : Message) → has_request m.token h.held ≡ false → is_none (response_refusal (link_of h) m) ≡ false
+not_allowed : (h : History) (m : Message) → has_request m.token h.held ≡ false
+    → is_none (response_refusal (link_of h) m) ≡ false
 unfolding response_refusal
 not_allowed h m none = rw none refl
 
@@ -115,9 +139,12 @@ never false h k = refl
 
 pub absent_stays : (h : History) (m : Message) → has_request m.token h.held ≡ false → after h (call.Respond m) ≡ h
 absent_stays h m none =
-    ap (λ (b : Bool). cond (answers h.phase && b) (with_effect h (send (standing_without m.token (standing_now h)) m (bare_response m))) h) (not_allowed h m none)
+    ap (λ (b : Bool). cond (answers h.phase && b)
+    (with_effect h (send (standing_without m.token (standing_now h)) m (bare_response m))) h) (not_allowed h m none)
     ∙ never (answers h.phase) h _
 
-pub responds_never : (h : History) (m : Message) (why : Reason) → h.phase ≡ phase.Stopped why → after h (call.Respond m) ≡ h
+pub responds_never : (h : History) (m : Message) (why : Reason) → h.phase ≡ phase.Stopped why
+    → after h (call.Respond m) ≡ h
 responds_never h m why stopped =
-    ap (λ (p : Phase). cond (answers p && is_none (response_refusal (link_of h) m)) (with_effect h (send (standing_without m.token (standing_now h)) m (bare_response m))) h) stopped
+    ap (λ (p : Phase). cond (answers p && is_none (response_refusal (link_of h) m))
+    (with_effect h (send (standing_without m.token (standing_now h)) m (bare_response m))) h) stopped

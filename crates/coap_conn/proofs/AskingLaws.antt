@@ -1,6 +1,7 @@
 -- Conclusions from the fact that a request or a cancellation is allowed, or is not.
 use Rattle.std.proofs.Common.{◌≡◌, ℕ, ◌<◌, ◌≤◌, Bool, true, false, cond, List, length, Option, Some, None, refl, ap}
-use Rattle.coap_conn.specs.Prelude.{nat_lt, is_none, Message, spelling, is_open, RequestState, size_refusal, token_refusal}
+use Rattle.coap_conn.specs.Prelude.{nat_lt, is_none, Message, spelling, is_open, RequestState, size_refusal}
+use Rattle.coap_conn.specs.Prelude.{token_refusal}
 use Rattle.coap_conn.specs.Prelude.{else_refusal, new_refusal, asking_refusal, has_observation, cancel_refusal}
 use Rattle.coap_conn.specs.Prelude.{RequestFault, NotOpen, TooBig, NoRoom, NoSuchToken}
 use Rattle.std.proofs.lemmas.Bool.{cond_both, ltb-true, ltb-false}
@@ -37,13 +38,19 @@ has_token : (a : RequestState) → is_open a.phase ≡ true → token_refusal a 
 has_token a opened =
     cond_both (nat_lt (length a.outstanding) a.most) _ _ (λ r. r ≡ None → HasNew a)
     (λ e. cond_both (nat_lt a.tokens 18446744073709551615) _ _ (λ r. r ≡ None → HasNew a)
-    (λ f is. record { opened = opened; few = ltb-true (length a.outstanding) a.most e; left = ltb-true a.tokens 18446744073709551615 f })
+    (λ f is. record {
+      opened = opened;
+      few = ltb-true (length a.outstanding) a.most e;
+      left = ltb-true a.tokens 18446744073709551615 f;
+    })
     (λ f is. absurd cc))
     (λ e is. absurd cc)
 
 has_new : (a : RequestState) → new_refusal a ≡ None → HasNew a
 unfolding new_refusal
-has_new a = cond_both (is_open a.phase) (token_refusal a) (Some NotOpen) (λ r. r ≡ None → HasNew a) (λ opened. has_token a opened) (λ e is. absurd cc)
+has_new a =
+    cond_both (is_open a.phase) (token_refusal a) (Some NotOpen) (λ r. r ≡ None → HasNew a)
+    (λ opened. has_token a opened) (λ e is. absurd cc)
 
 -- An allowed request has a new token and is small enough.
 pub asked_new : (a : RequestState) (m : Message) → asking_refusal a m ≡ None → HasNew a
@@ -52,14 +59,17 @@ asked_new a m e = has_new a (both_none (new_refusal a) (size_refusal a (length (
 
 pub asked_size : (a : RequestState) (m : Message) → asking_refusal a m ≡ None → IsRightSize a (length (spelling m))
 unfolding asking_refusal
-asked_size a m e = right_size a (length (spelling m)) (both_none (new_refusal a) (size_refusal a (length (spelling m))) e).1
+asked_size a m e =
+    right_size a (length (spelling m)) (both_none (new_refusal a) (size_refusal a (length (spelling m))) e).1
 
 -- The message of an allowed cancellation is small enough.
-pub cancel_size : (a : RequestState) (token : List ℕ) (m : Message) → cancel_refusal a token m ≡ None → IsRightSize a (length (spelling m))
+pub cancel_size : (a : RequestState) (token : List ℕ) (m : Message) → cancel_refusal a token m ≡ None
+    → IsRightSize a (length (spelling m))
 unfolding cancel_refusal
 cancel_size a token m =
     cond_both (is_open a.phase) _ (Some NotOpen) (λ r. r ≡ None → IsRightSize a (length (spelling m)))
-    (λ e. cond_both (has_observation a token) (size_refusal a (length (spelling m))) (Some NoSuchToken) (λ r. r ≡ None → IsRightSize a (length (spelling m)))
+    (λ e. cond_both (has_observation a token) (size_refusal a (length (spelling m))) (Some NoSuchToken)
+    (λ r. r ≡ None → IsRightSize a (length (spelling m)))
     (λ f. right_size a (length (spelling m))) (λ f is. absurd cc))
     (λ e is. absurd cc)
 
@@ -68,9 +78,14 @@ cancel_size a token m =
 -- No request is allowed if the connection is not open.
 pub not_asked : (a : RequestState) (m : Message) → is_open a.phase ≡ false → is_none (asking_refusal a m) ≡ false
 unfolding asking_refusal new_refusal
-not_asked a m closed = ap (λ (b : Bool). is_none (else_refusal (cond b (token_refusal a) (Some NotOpen)) (size_refusal a (length (spelling m))))) closed
+not_asked a m closed =
+    ap (λ (b : Bool).
+    is_none (else_refusal (cond b (token_refusal a) (Some NotOpen)) (size_refusal a (length (spelling m))))) closed
 
-pub not_cancelled : (a : RequestState) (token : List ℕ) (m : Message) → is_open a.phase ≡ false → is_none (cancel_refusal a token m) ≡ false
+pub not_cancelled : (a : RequestState) (token : List ℕ) (m : Message) → is_open a.phase ≡ false
+    → is_none (cancel_refusal a token m) ≡ false
 unfolding cancel_refusal
 not_cancelled a token m closed =
-    ap (λ (b : Bool). is_none (cond b (cond (has_observation a token) (size_refusal a (length (spelling m))) (Some NoSuchToken)) (Some NotOpen))) closed
+    ap (λ (b : Bool). is_none
+    (cond b (cond (has_observation a token) (size_refusal a (length (spelling m))) (Some NoSuchToken)) (Some NotOpen)))
+    closed

@@ -1,11 +1,13 @@
 -- The last announcement counts, and queued messages fit the peer's limit.
-use Rattle.std.proofs.Common.{◌≡◌, ℕ, ◌≤◌, true, false, ◌&&◌, ◌==◌, List, [], ◌∷◌, ◌++◌, length, min, Option, Some, None, refl, ap, ◌∙◌, arith}
+use Rattle.std.proofs.Common.{◌≡◌, ℕ, ◌≤◌, true, false, ◌&&◌, ◌==◌, List, [], ◌∷◌, ◌++◌, length, min, Option, Some}
+use Rattle.std.proofs.Common.{None, refl, ap, ◌∙◌, arith}
 use Rattle.coap_conn.specs.Prelude.{nat_le, nat_lt, find, AllByRecursion, filter_map, list_any, Message, spelling}
 use Rattle.coap_conn.specs.Prelude.{Reason, Role, Server, Client, Reply, Whole, Bare, Stopped, stop_of, is_waiting}
 use Rattle.coap_conn.specs.Prelude.{abort_of, announcement, announced, token_announcement, announced_token, last_or}
 use Rattle.coap_conn.specs.Prelude.{last_told, has_critical_option, bad_csm_option, AllFit, fit, fitted}
 use Rattle.coap_conn.specs.Prelude.{abort_fitted, without_payload, without_options, bare_response, LimitValues}
-use Rattle.coap_conn.specs.Prelude.{AreInRange, PendingEntryValue, Answer, Pong, OutstandingValue, matches_response, is_last}
+use Rattle.coap_conn.specs.Prelude.{AreInRange, PendingEntryValue, Answer, Pong, OutstandingValue, matches_response}
+use Rattle.coap_conn.specs.Prelude.{is_last}
 use Rattle.coap_conn.specs.Prelude.{matches_pong, asking_refusal, cancel_refusal, ConnectionState, Reaction, react}
 use Rattle.coap_conn.specs.Prelude.{reaction_unless, live_reaction, open_reaction, csm_reaction, request_reaction}
 use Rattle.coap_conn.specs.Prelude.{send, send_as, abort, is_reserved, is_signal, is_method, checks_critical_options}
@@ -31,12 +33,15 @@ module _ (tells : Message → Option ℕ) where
   nothing_told n [] each = refl
   nothing_told n (m ∷ ms) each = rw each.0 (nothing_told n ms each.1)
 
-  told_first : (m : Message) (n : ℕ) (ms : List Message) → tells m ≡ Some n → filter_map tells (m ∷ ms) ≡ n ∷ filter_map tells ms
+  told_first : (m : Message) (n : ℕ) (ms : List Message) → tells m ≡ Some n
+      → filter_map tells (m ∷ ms) ≡ n ∷ filter_map tells ms
   told_first m n ms e = rw e refl
 
-  last_counts : (base : ℕ) (before after : List Message) (m : Message) (n : ℕ) → tells m ≡ Some n → AllByRecursion (λ m. tells m ≡ None) after → last_told tells base (before ++ m ∷ after) ≡ n
+  last_counts : (base : ℕ) (before after : List Message) (m : Message) (n : ℕ) → tells m ≡ Some n
+      → AllByRecursion (λ m. tells m ≡ None) after → last_told tells base (before ++ m ∷ after) ≡ n
   last_counts base before after m n e each =
-      ap (last_or base) (filter_map-append tells before (m ∷ after) ∙ ap (λ (xs : List ℕ). filter_map tells before ++ xs) (told_first m n after e))
+      ap (last_or base) (filter_map-append tells before (m ∷ after)
+      ∙ ap (λ (xs : List ℕ). filter_map tells before ++ xs) (told_first m n after e))
       ∙ last_behind base n (filter_map tells before) (filter_map tells after)
       ∙ nothing_told n after each
 
@@ -44,15 +49,18 @@ pub base_where_none : (ms : List Message) → AllByRecursion (λ m. announcement
 unfolding announced
 base_where_none ms each = nothing_told announcement 1152 ms each
 
-pub last_announced : (before after : List Message) (m : Message) (n : ℕ) → announcement m ≡ Some n → AllByRecursion (λ m. announcement m ≡ None) after → announced (before ++ m ∷ after) ≡ n
+pub last_announced : (before after : List Message) (m : Message) (n : ℕ) → announcement m ≡ Some n
+    → AllByRecursion (λ m. announcement m ≡ None) after → announced (before ++ m ∷ after) ≡ n
 unfolding announced
 last_announced before after m n e each = last_counts announcement 1152 before after m n e each
 
-pub base_token_where_none : (ms : List Message) → AllByRecursion (λ m. token_announcement m ≡ None) ms → announced_token ms ≡ 8
+pub base_token_where_none : (ms : List Message) → AllByRecursion (λ m. token_announcement m ≡ None) ms
+    → announced_token ms ≡ 8
 unfolding announced_token
 base_token_where_none ms each = nothing_told token_announcement 8 ms each
 
-pub last_token : (before after : List Message) (m : Message) (n : ℕ) → token_announcement m ≡ Some n → AllByRecursion (λ m. token_announcement m ≡ None) after → announced_token (before ++ m ∷ after) ≡ n
+pub last_token : (before after : List Message) (m : Message) (n : ℕ) → token_announcement m ≡ Some n
+    → AllByRecursion (λ m. token_announcement m ≡ None) after → announced_token (before ++ m ∷ after) ≡ n
 unfolding announced_token
 last_token before after m n e each = last_counts token_announcement 8 before after m n e each
 
@@ -60,8 +68,10 @@ last_token before after m n e each = last_counts token_announcement 8 before aft
 
 fitted_fit : (limit : ℕ) (m less : Message) → AllFit limit (fitted m less (fit limit m less))
 fitted_fit limit m less =
-    cond_both (nat_le (length (spelling m)) limit) Whole _ (λ r. AllFit limit (fitted m less r)) (λ e. (leb-true (length (spelling m)) limit e, tt))
-    (λ e. cond_both (nat_le (length (spelling less)) limit) Bare Stopped (λ r. AllFit limit (fitted m less r)) (λ f. (leb-true (length (spelling less)) limit f, tt)) (λ f. tt))
+    cond_both (nat_le (length (spelling m)) limit) Whole _ (λ r. AllFit limit (fitted m less r))
+    (λ e. (leb-true (length (spelling m)) limit e, tt))
+    (λ e. cond_both (nat_le (length (spelling less)) limit) Bare Stopped (λ r. AllFit limit (fitted m less r))
+    (λ f. (leb-true (length (spelling less)) limit f, tt)) (λ f. tt))
 
 abort_fit : (limit : ℕ) (abort : Option Message) → AllFit limit (abort_fitted limit abort)
 abort_fit limit None = tt
@@ -70,7 +80,8 @@ abort_fit limit (Some m) = fitted_fit limit m (without_payload m)
 aborted_fit : (s : ConnectionState) (why : Reason) → AllFit s.limit (abort s why).queued
 aborted_fit s why = abort_fit s.limit (abort_of why)
 
-sent_as : (s : ConnectionState) (m less : Message) (r : Reply) → AllFit s.limit (fitted m less r) → AllFit s.limit (send_as s m less r).queued
+sent_as : (s : ConnectionState) (m less : Message) (r : Reply) → AllFit s.limit (fitted m less r)
+    → AllFit s.limit (send_as s m less r).queued
 sent_as s m less Whole each = each
 sent_as s m less Bare each = each
 sent_as s m less Stopped each = tt
@@ -102,12 +113,14 @@ pong_fit s m = cond_both (list_any (matches_pong m.token) s.outstanding) _ _ (Fi
 ping_fit : (s : ConnectionState) (m : Message) → Fits s (ping_reaction s m)
 ping_fit s m =
     cond_both (asks_custody m && nat_lt 0 (length s.held)) _ _ (Fits s)
-    (λ e. cond_both (nat_lt (length s.held) s.most) _ _ (Fits s) (λ f. tt) (λ f. send_fit s (pong_with false m.token) (pong_with false m.token)))
+    (λ e. cond_both (nat_lt (length s.held) s.most) _ _ (Fits s) (λ f. tt)
+    (λ f. send_fit s (pong_with false m.token) (pong_with false m.token)))
     (λ e. send_fit s (pong_of m) (without_options (pong_of m)))
 
 open_fit : (s : ConnectionState) (m : Message) → Fits s (open_reaction s m)
 open_fit s m =
-    cond_both (checks_critical_options m.code && has_critical_option m) _ _ (Fits s) (λ e. aborted_fit s reason.BadSignalOption)
+    cond_both (checks_critical_options m.code && has_critical_option m) _ _ (Fits s)
+    (λ e. aborted_fit s reason.BadSignalOption)
     (λ e. cond_both (m.code == code.ping) _ _ (Fits s) (λ e. ping_fit s m)
     (λ e. cond_both (m.code == code.release) _ _ (Fits s) (λ e. tt)
     (λ e. cond_both (m.code == code.pong) _ _ (Fits s) (λ e. pong_fit s m)
@@ -131,7 +144,8 @@ react_fit : (s : ConnectionState) (m : Message) → Fits s (react s m)
 unfolding react
 react_fit s m = unless_fit s m (stop_of s.phase)
 
-pub new_fits : (role : Role) (limits : LimitValues) (tokens : ℕ) → AreInRange limits → AllFit (limit_now (new_history role limits tokens)) (new_history role limits tokens).queued
+pub new_fits : (role : Role) (limits : LimitValues) (tokens : ℕ) → AreInRange limits
+    → AllFit (limit_now (new_history role limits tokens)) (new_history role limits tokens).queued
 new_fits role limits tokens ranges =
     let low = ranges.sent_low in
     (omega (arith, low, first_csm_small limits.max_message, ap (λ (n : ℕ). min limits.max_sent n) announced_none), tt)
@@ -153,11 +167,13 @@ due_fit s None = tt
 due_fit s (Some (Answer by token moment)) = tt
 due_fit s (Some (Pong token)) = send_fit s (pong_with true token) (pong_with false token)
 
-pub due_fits : (h : History) (e : Option PendingEntryValue) → AllFit (limit_now h) (due_effect (standing_now h) e).queued
+pub due_fits : (h : History) (e : Option PendingEntryValue)
+    → AllFit (limit_now h) (due_effect (standing_now h) e).queued
 due_fits h e = due_fit (standing_now h) e
 
 pub asked_fits : (h : History) (m : Message) → asking_refusal (asking_now h) m ≡ None → AllFit (limit_now h) (m ∷ [])
 asked_fits h m may = ((asked_size (asking_now h) m may).within, tt)
 
-pub cancelled_fits : (h : History) (token : List ℕ) (m : Message) → cancel_refusal (asking_now h) token m ≡ None → AllFit (limit_now h) (m ∷ [])
+pub cancelled_fits : (h : History) (token : List ℕ) (m : Message) → cancel_refusal (asking_now h) token m ≡ None
+    → AllFit (limit_now h) (m ∷ [])
 cancelled_fits h token m may = ((cancel_size (asking_now h) token m may).within, tt)

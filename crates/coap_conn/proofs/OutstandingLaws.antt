@@ -1,19 +1,23 @@
 -- The number of outstanding entries is limited, responses end them, and each token is used once.
-use Rattle.std.proofs.Common.{◌≡◌, ℕ, ◌+◌, ◌<◌, ◌≤◌, Bool, true, false, ◌||◌, ◌&&◌, ◌==◌, cond, List, [], ◌∷◌, length, Option, Some, None, refl, sym, ap, subst, ◌∙◌, arith, inl, inr}
+use Rattle.std.proofs.Common.{◌≡◌, ℕ, ◌+◌, ◌<◌, ◌≤◌, Bool, true, false, ◌||◌, ◌&&◌, ◌==◌, cond, List, [], ◌∷◌, length}
+use Rattle.std.proofs.Common.{Option, Some, None, refl, sym, ap, subst, ◌∙◌, arith, inl, inr}
 use Rattle.coap_conn.specs.Prelude.{not, filter, find, is_none, nat_lt, list_any, Message, Reason, Phase, Role}
 use Rattle.coap_conn.specs.Prelude.{Server, Client, Reply, Whole, Bare, Stopped, stop_of, is_waiting}
 use Rattle.coap_conn.specs.Prelude.{has_critical_option, bad_csm_option, fit, bare_response, without_options}
 use Rattle.coap_conn.specs.Prelude.{VerdictValue, PendingEntryValue, first_due, OutstandingValue, Observation, Ping}
-use Rattle.coap_conn.specs.Prelude.{matches_response, is_last, is_notification, matches_pong, is_request_entry, cancelled_by}
+use Rattle.coap_conn.specs.Prelude.{matches_response, is_last, is_notification, matches_pong, is_request_entry}
+use Rattle.coap_conn.specs.Prelude.{cancelled_by}
 use Rattle.coap_conn.specs.Prelude.{without_asked, without_pinged, asking_refusal, next_token, with_token, entry_of}
 use Rattle.coap_conn.specs.Prelude.{ping_with, ConnectionState, ReactionResult, Reaction, stay, tells, leaves, told_of}
 use Rattle.coap_conn.specs.Prelude.{ping_reaction, pong_reaction, csm_reaction, request_reaction, answered}
 use Rattle.coap_conn.specs.Prelude.{response_reaction, open_reaction, live_reaction, reaction_unless, react}
 use Rattle.coap_conn.specs.Prelude.{is_reserved, is_signal, is_method, checks_critical_options, asks_custody}
-use Rattle.coap_conn.specs.Prelude.{pong_with, pong_of, not_implemented, send_as, due_effect, Call, standing_due, standing_without}
+use Rattle.coap_conn.specs.Prelude.{pong_with, pong_of, not_implemented, send_as, due_effect, Call, standing_due}
+use Rattle.coap_conn.specs.Prelude.{standing_without}
 use Rattle.coap_conn.specs.Prelude.{call_effect, gives_token, History, link_of, limit_now, standing_now, asking_now}
 use Rattle.coap_conn.specs.Prelude.{with_deed, after, after_asking}
-use Rattle.std.proofs.lemmas.Bool.{cond_both, cond-true, cond-false, eqb-true, not-true, not-false, and_from, and_left, and_right, or_cases, or_from, or_left, or_right, true≢false, false_from_ne_true}
+use Rattle.std.proofs.lemmas.Bool.{cond_both, cond-true, cond-false, eqb-true, not-true, not-false, and_from, and_left}
+use Rattle.std.proofs.lemmas.Bool.{and_right, or_cases, or_from, or_left, or_right, true≢false, false_from_ne_true}
 use Rattle.std.proofs.lemmas.List.{length-append, length-map}
 use Rattle.coap_wire.specs.Codes as code
 use Rattle.coap_wire.proofs.UintLaws.{bytes_are_one}
@@ -41,47 +45,66 @@ asked_no_more s = react_does s (λ e. length e.outstanding ≤ length s.outstand
 })
 
 -- A request adds an entry only if there is room.
-pub asked_few : (h : History) (m : Message) (e : OutstandingValue) → length h.outstanding ≤ h.limits.outstanding → length (after_asking h m e).outstanding ≤ h.limits.outstanding
+pub asked_few : (h : History) (m : Message) (e : OutstandingValue) → length h.outstanding ≤ h.limits.outstanding
+    → length (after_asking h m e).outstanding ≤ h.limits.outstanding
 asked_few h m e few =
-    cond_both (is_none (asking_refusal (asking_now h) m)) _ h (λ (after : History). length after.outstanding ≤ h.limits.outstanding)
-    (λ may. omega (arith, (asked_new (asking_now h) m (none_where (asking_refusal (asking_now h) m) may)).few, length-append h.outstanding (e ∷ [])))
+    cond_both (is_none (asking_refusal (asking_now h) m)) _ h
+    (λ (after : History). length after.outstanding ≤ h.limits.outstanding)
+    (λ may. omega (
+      arith,
+      (asked_new (asking_now h) m (none_where (asking_refusal (asking_now h) m) may)).few,
+      length-append h.outstanding (e ∷ []),
+    ))
     (λ f. few)
 
 -- A call keeps the limit if it adds no entry.
-few_if : (so : Bool) (h k : History) → length h.outstanding ≤ h.limits.outstanding → length k.outstanding ≤ length h.outstanding → length (cond so k h).outstanding ≤ h.limits.outstanding
+few_if : (so : Bool) (h k : History) → length h.outstanding ≤ h.limits.outstanding
+    → length k.outstanding ≤ length h.outstanding → length (cond so k h).outstanding ≤ h.limits.outstanding
 few_if true h k few fewer = omega (arith, few, fewer)
 few_if false h k few fewer = few
 
-few_by : (h : History) (c : Call) → length h.outstanding ≤ h.limits.outstanding → length (with_deed h (call_effect (link_of h) c).deed).outstanding ≤ length h.outstanding
+few_by : (h : History) (c : Call) → length h.outstanding ≤ h.limits.outstanding
+    → length (with_deed h (call_effect (link_of h) c).deed).outstanding ≤ length h.outstanding
     → length (after h c).outstanding ≤ h.limits.outstanding
 few_by h c few fewer = few_if (call_effect (link_of h) c).so h (with_deed h (call_effect (link_of h) c).deed) few fewer
 
-sent_fewer : (s : ConnectionState) (m less : Message) (r : Reply) → length (send_as s m less r).outstanding ≤ length s.outstanding
+sent_fewer : (s : ConnectionState) (m less : Message) (r : Reply)
+    → length (send_as s m less r).outstanding ≤ length s.outstanding
 sent_fewer s m less Whole = omega arith
 sent_fewer s m less Bare = omega arith
 sent_fewer s m less Stopped = omega arith
 
-due_leaves_fewer : (s : ConnectionState) (e : Option PendingEntryValue) → length (due_effect s e).outstanding ≤ length s.outstanding
+due_leaves_fewer : (s : ConnectionState) (e : Option PendingEntryValue)
+    → length (due_effect s e).outstanding ≤ length s.outstanding
 due_leaves_fewer s None = omega arith
 due_leaves_fewer s (Some (held.Answer by token moment)) = omega arith
-due_leaves_fewer s (Some (held.Pong token)) = sent_fewer s (pong_with true token) (pong_with false token) (fit s.limit (pong_with true token) (pong_with false token))
+due_leaves_fewer s (Some (held.Pong token)) =
+    sent_fewer s (pong_with true token) (pong_with false token)
+    (fit s.limit (pong_with true token) (pong_with false token))
 
 -- Every call keeps the limit.
-pub call_few : (h : History) (c : Call) → length h.outstanding ≤ h.limits.outstanding → length (after h c).outstanding ≤ h.limits.outstanding
+pub call_few : (h : History) (c : Call) → length h.outstanding ≤ h.limits.outstanding
+    → length (after h c).outstanding ≤ h.limits.outstanding
 call_few h (call.Handle m) few = few_by h (call.Handle m) few (asked_no_more (standing_now h) m)
 call_few h (call.Reject fault) few = few_by h (call.Reject fault) few (omega arith)
 call_few h (call.End cut) few = few_by h (call.End cut) few (omega arith)
 call_few h (call.Reply m) few =
-    few_by h (call.Reply m) few (sent_fewer (standing_now h) m (bare_response m) (fit (limit_now h) m (bare_response m)))
+    few_by h (call.Reply m) few
+    (sent_fewer (standing_now h) m (bare_response m) (fit (limit_now h) m (bare_response m)))
 call_few h (call.Hold token moment) few = few_by h (call.Hold token moment) few (omega arith)
 call_few h (call.HoldRequest token moment) few = few_by h (call.HoldRequest token moment) few (omega arith)
 call_few h (call.Respond m) few =
-    few_by h (call.Respond m) few (sent_fewer (standing_without m.token (standing_now h)) m (bare_response m) (fit (limit_now h) m (bare_response m)))
-call_few h (call.Due now) few = few_by h (call.Due now) few (due_leaves_fewer (standing_due now (standing_now h)) (first_due now h.held))
+    few_by h (call.Respond m) few
+    (sent_fewer (standing_without m.token (standing_now h)) m (bare_response m) (fit (limit_now h) m (bare_response m)))
+call_few h (call.Due now) few =
+    few_by h (call.Due now) few (due_leaves_fewer (standing_due now (standing_now h)) (first_due now h.held))
 call_few h call.Release few = few_by h call.Release few (omega arith)
-call_few h (call.Request m observe) few = asked_few h (with_token m (next_token h.tokens)) (entry_of observe (next_token h.tokens)) few
-call_few h (call.Cancel token m) few = few_by h (call.Cancel token m) few (omega (arith, length-map h.outstanding (cancelled_by token)))
-call_few h (call.Ping custody) few = asked_few h (ping_with custody (next_token h.tokens)) (Ping (next_token h.tokens)) few
+call_few h (call.Request m observe) few =
+    asked_few h (with_token m (next_token h.tokens)) (entry_of observe (next_token h.tokens)) few
+call_few h (call.Cancel token m) few =
+    few_by h (call.Cancel token m) few (omega (arith, length-map h.outstanding (cancelled_by token)))
+call_few h (call.Ping custody) few =
+    asked_few h (ping_with custody (next_token h.tokens)) (Ping (next_token h.tokens)) few
 call_few h (call.Announce size) few = few_by h (call.Announce size) few (omega arith)
 call_few h (call.Written n) few = few
 
@@ -89,7 +112,8 @@ live_no_stop : (p : Phase) (why : Reason) → stop_of p ≡ None → stop_of p �
 live_no_stop p why live over = let bad : ◌≡◌ {A = Option Reason} None (Some why) = sym live ∙ over in cc
 
 -- A stop and a Release drop all outstanding entries.
-pub asked_given_up : (s : ConnectionState) (m : Message) (why : Reason) → stop_of s.phase ≡ None → stop_of (react s m).effect.phase ≡ Some why → (react s m).effect.outstanding ≡ []
+pub asked_given_up : (s : ConnectionState) (m : Message) (why : Reason) → stop_of s.phase ≡ None
+    → stop_of (react s m).effect.phase ≡ Some why → (react s m).effect.outstanding ≡ []
 asked_given_up s m why live = react_does s (λ e. stop_of e.phase ≡ Some why → e.outstanding ≡ []) (record {
   stays = λ over. absurd (live_no_stop s.phase why live over);
   opens = λ over. absurd cc;
@@ -116,9 +140,12 @@ is_plain (verdict.Stopped why) = true
 record ToldCases (s : ConnectionState) (m : Message) (P : Reaction → Type 0) : Type 0 where
   plain : (r : Reaction) → is_plain r.verdict ≡ true → P r
   stranger : P (tells s verdict.Stranger)
-  last : (e : OutstandingValue) → find (matches_response m.token) s.outstanding ≡ Some e → is_last m e ≡ true → P (leaves s (without_asked m.token s.outstanding) (verdict.Answer m.token true))
-  notified : (e : OutstandingValue) → find (matches_response m.token) s.outstanding ≡ Some e → is_last m e ≡ false → P (tells s (verdict.Answer m.token false))
-  pong : list_any (matches_pong m.token) s.outstanding ≡ true → P (leaves s (without_pinged m.token s.outstanding) (verdict.Pong m.token (asks_custody m)))
+  last : (e : OutstandingValue) → find (matches_response m.token) s.outstanding ≡ Some e → is_last m e ≡ true
+      → P (leaves s (without_asked m.token s.outstanding) (verdict.Answer m.token true))
+  notified : (e : OutstandingValue) → find (matches_response m.token) s.outstanding ≡ Some e → is_last m e ≡ false
+      → P (tells s (verdict.Answer m.token false))
+  pong : list_any (matches_pong m.token) s.outstanding ≡ true
+      → P (leaves s (without_pinged m.token s.outstanding) (verdict.Pong m.token (asks_custody m)))
 
 -- The verdict on a message to which a reply is sent reports neither.
 told_plain : (r : Reply) → is_plain (told_of r) ≡ true
@@ -127,7 +154,8 @@ told_plain Bare = refl
 told_plain Stopped = refl
 
 csm_plain : (s : ConnectionState) (bad : Option ℕ) → is_plain (csm_reaction s bad).verdict ≡ true
-csm_plain s None = cond_both (is_waiting s.phase) verdict.Opened verdict.Done (λ v. is_plain v ≡ true) (λ e. refl) (λ e. refl)
+csm_plain s None =
+    cond_both (is_waiting s.phase) verdict.Opened verdict.Done (λ v. is_plain v ≡ true) (λ e. refl) (λ e. refl)
 csm_plain s (Some number) = refl
 
 request_plain : (s : ConnectionState) (m : Message) (role : Role) → is_plain (request_reaction s m role).verdict ≡ true
@@ -138,15 +166,19 @@ ping_plain : (s : ConnectionState) (m : Message) → is_plain (ping_reaction s m
 ping_plain s m =
     let late : Message = pong_with false m.token in
     cond_both (asks_custody m && nat_lt 0 (length s.held)) _ _ (λ (r : Reaction). is_plain r.verdict ≡ true)
-    (λ e. cond_both (nat_lt (length s.held) s.most) _ _ (λ (r : Reaction). is_plain r.verdict ≡ true) (λ f. refl) (λ f. told_plain (fit s.limit late late)))
+    (λ e. cond_both (nat_lt (length s.held) s.most) _ _ (λ (r : Reaction). is_plain r.verdict ≡ true) (λ f. refl)
+    (λ f. told_plain (fit s.limit late late)))
     (λ e. told_plain (fit s.limit (pong_of m) (without_options (pong_of m))))
 
-answered_told : (s : ConnectionState) (m : Message) (P : Reaction → Type 0) → ToldCases s m P → (found : Option OutstandingValue) → find (matches_response m.token) s.outstanding ≡ found → P (answered s m found)
+answered_told : (s : ConnectionState) (m : Message) (P : Reaction → Type 0) → ToldCases s m P
+    → (found : Option OutstandingValue) → find (matches_response m.token) s.outstanding ≡ found → P (answered s m found)
 answered_told s m P cases None is = cases.stranger
-answered_told s m P cases (Some e) is = cond_both (is_last m e) _ _ P (λ last. cases.last e is last) (λ more. cases.notified e is more)
+answered_told s m P cases (Some e) is =
+    cond_both (is_last m e) _ _ P (λ last. cases.last e is last) (λ more. cases.notified e is more)
 
 pong_told : (s : ConnectionState) (m : Message) (P : Reaction → Type 0) → ToldCases s m P → P (pong_reaction s m)
-pong_told s m P cases = cond_both (list_any (matches_pong m.token) s.outstanding) _ _ P (λ e. cases.pong e) (λ e. cases.stranger)
+pong_told s m P cases =
+    cond_both (list_any (matches_pong m.token) s.outstanding) _ _ P (λ e. cases.pong e) (λ e. cases.stranger)
 
 open_told : (s : ConnectionState) (m : Message) (P : Reaction → Type 0) → ToldCases s m P → P (open_reaction s m)
 open_told s m P cases =
@@ -167,7 +199,8 @@ live_told s m P cases =
     (λ e. cond_both (m.code == code.csm) _ _ P (λ e. cases.plain _ (csm_plain s (bad_csm_option m)))
     (λ e. cond_both (is_waiting s.phase) _ _ P (λ e. cases.plain _ refl) (λ e. open_told s m P cases)))))
 
-unless_told : (s : ConnectionState) (m : Message) (P : Reaction → Type 0) → ToldCases s m P → (over : Option Reason) → P (reaction_unless s m over)
+unless_told : (s : ConnectionState) (m : Message) (P : Reaction → Type 0) → ToldCases s m P → (over : Option Reason)
+    → P (reaction_unless s m over)
 unless_told s m P cases None = live_told s m P cases
 unless_told s m P cases (Some why) = cases.plain _ refl
 
@@ -183,11 +216,13 @@ not_plain v w plain other same = true≢false (sym plain ∙ ap is_plain same �
 -- ---- search in a list
 
 -- If the element found by one test passes another, some element passes the other.
-found_any : {X : Type 0} (p q : X → Bool) (xs : List X) (x : X) → find p xs ≡ Some x → (p x ≡ true → q x ≡ true) → list_any q xs ≡ true
+found_any : {X : Type 0} (p q : X → Bool) (xs : List X) (x : X) → find p xs ≡ Some x
+    → (p x ≡ true → q x ≡ true) → list_any q xs ≡ true
 found_any p q [] x e f = absurd cc
 found_any p q (y ∷ ys) x e f =
     cond_both (p y) (Some y) (find p ys) (λ o. o ≡ Some x → (q y || list_any q ys) ≡ true)
-    (λ passes is. let same : x ≡ y = cc in or_left (q y) (list_any q ys) (subst (λ z. p z ≡ true → q z ≡ true) same f passes))
+    (λ passes is. let same : x ≡ y = cc in
+    or_left (q y) (list_any q ys) (subst (λ z. p z ≡ true → q z ≡ true) same f passes))
     (λ other is. or_right (q y) (list_any q ys) (found_any p q ys x is f)) e
 
 -- No removed element is left.
@@ -198,9 +233,11 @@ none_left p (x ∷ xs) =
     (λ other. or_from (p x) _ (not-true (p x) other) (none_left p xs)) (λ passes. none_left p xs)
 
 -- A notification that is the last response matches a request.
-last_of_request : (m : Message) (token : List ℕ) (e : OutstandingValue) → is_notification m ≡ true → is_last m e ≡ true → matches_response token e ≡ true → (matches_response token e && is_request_entry e) ≡ true
+last_of_request : (m : Message) (token : List ℕ) (e : OutstandingValue) → is_notification m ≡ true → is_last m e ≡ true
+    → matches_response token e ≡ true → (matches_response token e && is_request_entry e) ≡ true
 last_of_request m token (Request asked) notifies last is = and_from _ true is refl
-last_of_request m token (Observation asked cancelled) notifies last is = absurd (true≢false (sym notifies ∙ not-true (is_notification m) last))
+last_of_request m token (Observation asked cancelled) notifies last is =
+    absurd (true≢false (sym notifies ∙ not-true (is_notification m) last))
 last_of_request m token (Ping asked) notifies last is = absurd (true≢false (sym is))
 
 -- A response that is not the last one is a notification.
@@ -211,62 +248,92 @@ more_notified m (Ping asked) more = absurd (true≢false more)
 
 -- ---- responses and Pongs match entries
 
-pub answers_asked : (s : ConnectionState) (m : Message) (token : List ℕ) (last : Bool) → (react s m).verdict ≡ verdict.Answer token last → (token ≡ m.token) × (list_any (matches_response token) s.outstanding ≡ true)
-answers_asked s m token last = react_told s m (λ r. r.verdict ≡ verdict.Answer token last → (token ≡ m.token) × (list_any (matches_response token) s.outstanding ≡ true)) (record {
-  plain = λ r plain is. absurd (not_plain r.verdict (verdict.Answer token last) plain refl is);
-  stranger = λ is. absurd cc;
-  last = λ e found ends is. let same : token ≡ m.token = cc in (same, rw same (found_any (matches_response m.token) (matches_response m.token) s.outstanding e found (λ p. p)));
-  notified = λ e found more is. let same : token ≡ m.token = cc in (same, rw same (found_any (matches_response m.token) (matches_response m.token) s.outstanding e found (λ p. p)));
-  pong = λ pinged is. absurd cc;
-})
+pub answers_asked : (s : ConnectionState) (m : Message) (token : List ℕ) (last : Bool)
+    → (react s m).verdict ≡ verdict.Answer token last
+    → (token ≡ m.token) × (list_any (matches_response token) s.outstanding ≡ true)
+answers_asked s m token last =
+    react_told s m (λ r. r.verdict ≡ verdict.Answer token last
+    → (token ≡ m.token) × (list_any (matches_response token) s.outstanding ≡ true)) (record {
+      plain = λ r plain is. absurd (not_plain r.verdict (verdict.Answer token last) plain refl is);
+      stranger = λ is. absurd cc;
+      last = λ e found ends is. let same : token ≡ m.token = cc in (
+        same,
+        rw same (found_any (matches_response m.token) (matches_response m.token) s.outstanding e found (λ p. p)),
+      );
+      notified = λ e found more is. let same : token ≡ m.token = cc in (
+        same,
+        rw same (found_any (matches_response m.token) (matches_response m.token) s.outstanding e found (λ p. p)),
+      );
+      pong = λ pinged is. absurd cc;
+    })
 
-pub last_ends : (s : ConnectionState) (m : Message) (token : List ℕ) → (react s m).verdict ≡ verdict.Answer token true → (react s m).effect ≡ record (stay s) { outstanding = without_asked token s.outstanding }
-last_ends s m token = react_told s m (λ r. r.verdict ≡ verdict.Answer token true → r.effect ≡ record (stay s) { outstanding = without_asked token s.outstanding }) (record {
-  plain = λ r plain is. absurd (not_plain r.verdict (verdict.Answer token true) plain refl is);
-  stranger = λ is. absurd cc;
-  last = λ e found ends is. let same : m.token ≡ token = cc in ap (λ (t : List ℕ). record (stay s) { outstanding = without_asked t s.outstanding }) same;
-  notified = λ e found more is. absurd cc;
-  pong = λ pinged is. absurd cc;
-})
+pub last_ends : (s : ConnectionState) (m : Message) (token : List ℕ) → (react s m).verdict ≡ verdict.Answer token true
+    → (react s m).effect ≡ record (stay s) { outstanding = without_asked token s.outstanding }
+last_ends s m token =
+    react_told s m (λ r. r.verdict ≡ verdict.Answer token true
+    → r.effect ≡ record (stay s) { outstanding = without_asked token s.outstanding }) (record {
+      plain = λ r plain is. absurd (not_plain r.verdict (verdict.Answer token true) plain refl is);
+      stranger = λ is. absurd cc;
+      last = λ e found ends is. let same : m.token ≡ token = cc in
+          ap (λ (t : List ℕ). record (stay s) { outstanding = without_asked t s.outstanding }) same;
+      notified = λ e found more is. absurd cc;
+      pong = λ pinged is. absurd cc;
+    })
 
-pub notified_stays : (s : ConnectionState) (m : Message) (token : List ℕ) → (react s m).verdict ≡ verdict.Answer token false → (is_notification m ≡ true) × ((react s m).effect ≡ stay s)
-notified_stays s m token = react_told s m (λ r. r.verdict ≡ verdict.Answer token false → (is_notification m ≡ true) × (r.effect ≡ stay s)) (record {
-  plain = λ r plain is. absurd (not_plain r.verdict (verdict.Answer token false) plain refl is);
-  stranger = λ is. absurd cc;
-  last = λ e found ends is. absurd cc;
-  notified = λ e found more is. (more_notified m e more, refl);
-  pong = λ pinged is. absurd cc;
-})
+pub notified_stays : (s : ConnectionState) (m : Message) (token : List ℕ)
+    → (react s m).verdict ≡ verdict.Answer token false → (is_notification m ≡ true) × ((react s m).effect ≡ stay s)
+notified_stays s m token =
+    react_told s m
+    (λ r. r.verdict ≡ verdict.Answer token false → (is_notification m ≡ true) × (r.effect ≡ stay s)) (record {
+      plain = λ r plain is. absurd (not_plain r.verdict (verdict.Answer token false) plain refl is);
+      stranger = λ is. absurd cc;
+      last = λ e found ends is. absurd cc;
+      notified = λ e found more is. (more_notified m e more, refl);
+      pong = λ pinged is. absurd cc;
+    })
 
-pub request_ended : (s : ConnectionState) (m : Message) (token : List ℕ) → (react s m).verdict ≡ verdict.Answer token true → is_notification m ≡ true → list_any (λ e. matches_response token e && is_request_entry e) s.outstanding ≡ true
-request_ended s m token = react_told s m (λ r. r.verdict ≡ verdict.Answer token true → is_notification m ≡ true → list_any (λ e. matches_response token e && is_request_entry e) s.outstanding ≡ true) (record {
-  plain = λ r plain is. absurd (not_plain r.verdict (verdict.Answer token true) plain refl is);
-  stranger = λ is. absurd cc;
-  last = λ e found ends is notifies. (
-      let same : token ≡ m.token = cc in
-      rw same (found_any (matches_response m.token) (λ e. matches_response m.token e && is_request_entry e) s.outstanding e found (last_of_request m m.token e notifies ends)));
-  notified = λ e found more is. absurd cc;
-  pong = λ pinged is. absurd cc;
-})
+pub request_ended : (s : ConnectionState) (m : Message) (token : List ℕ)
+    → (react s m).verdict ≡ verdict.Answer token true → is_notification m ≡ true
+    → list_any (λ e. matches_response token e && is_request_entry e) s.outstanding ≡ true
+request_ended s m token =
+    react_told s m (λ r. r.verdict ≡ verdict.Answer token true → is_notification m ≡ true
+    → list_any (λ e. matches_response token e && is_request_entry e) s.outstanding ≡ true) (record {
+      plain = λ r plain is. absurd (not_plain r.verdict (verdict.Answer token true) plain refl is);
+      stranger = λ is. absurd cc;
+      last = λ e found ends is notifies. (
+          let same : token ≡ m.token = cc in
+          rw same (found_any (matches_response m.token) (λ e. matches_response m.token e && is_request_entry e)
+          s.outstanding e found (last_of_request m m.token e notifies ends)));
+      notified = λ e found more is. absurd cc;
+      pong = λ pinged is. absurd cc;
+    })
 
 -- The effect of a Pong.
 abbrev PongDoes : ConnectionState → Message → List ℕ → Bool → ReactionResult → Type 0
 PongDoes s m token custody e =
-    (token ≡ m.token) × (custody ≡ asks_custody m) × (list_any (matches_pong token) s.outstanding ≡ true) × (e ≡ record (stay s) { outstanding = without_pinged token s.outstanding })
+    (token ≡ m.token) × (custody ≡ asks_custody m) × (list_any (matches_pong token) s.outstanding ≡ true)
+    × (e ≡ record (stay s) { outstanding = without_pinged token s.outstanding })
 
-pub pong_ends : (s : ConnectionState) (m : Message) (token : List ℕ) (custody : Bool) → (react s m).verdict ≡ verdict.Pong token custody → PongDoes s m token custody (react s m).effect
-pong_ends s m token custody = react_told s m (λ r. r.verdict ≡ verdict.Pong token custody → PongDoes s m token custody r.effect) (record {
-  plain = λ r plain is. absurd (not_plain r.verdict (verdict.Pong token custody) plain refl is);
-  stranger = λ is. absurd cc;
-  last = λ e found ends is. absurd cc;
-  notified = λ e found more is. absurd cc;
-  pong = λ pinged is. (
-      let same : token ≡ m.token = cc in
-      let told : custody ≡ asks_custody m = cc in
-      (same, told, rw same pinged, ap (λ (t : List ℕ). record (stay s) { outstanding = without_pinged t s.outstanding }) (sym same)));
-})
+pub pong_ends : (s : ConnectionState) (m : Message) (token : List ℕ) (custody : Bool)
+    → (react s m).verdict ≡ verdict.Pong token custody → PongDoes s m token custody (react s m).effect
+pong_ends s m token custody =
+    react_told s m (λ r. r.verdict ≡ verdict.Pong token custody → PongDoes s m token custody r.effect) (record {
+      plain = λ r plain is. absurd (not_plain r.verdict (verdict.Pong token custody) plain refl is);
+      stranger = λ is. absurd cc;
+      last = λ e found ends is. absurd cc;
+      notified = λ e found more is. absurd cc;
+      pong = λ pinged is. (
+          let same : token ≡ m.token = cc in
+          let told : custody ≡ asks_custody m = cc in (
+            same,
+            told,
+            rw same pinged,
+            ap (λ (t : List ℕ). record (stay s) { outstanding = without_pinged t s.outstanding }) (sym same),
+          ));
+    })
 
-pub stranger_stays : (s : ConnectionState) (m : Message) → (react s m).verdict ≡ verdict.Stranger → (react s m).effect ≡ stay s
+pub stranger_stays : (s : ConnectionState) (m : Message) → (react s m).verdict ≡ verdict.Stranger
+    → (react s m).effect ≡ stay s
 stranger_stays s m = react_told s m (λ r. r.verdict ≡ verdict.Stranger → r.effect ≡ stay s) (record {
   plain = λ r plain is. absurd (not_plain r.verdict verdict.Stranger plain refl is);
   stranger = λ is. refl;
@@ -278,17 +345,20 @@ stranger_stays s m = react_told s m (λ r. r.verdict ≡ verdict.Stranger → r.
 -- ---- responses and Pongs that match are reported
 
 other_code : (test : ℕ → Bool) (n k : ℕ) → test n ≡ false → test k ≡ true → (n == k) ≡ false
-other_code test n k here there = false_from_ne_true (n == k) (λ e. true≢false (sym there ∙ ap test (sym (eqb-true n k e)) ∙ here))
+other_code test n k here there =
+    false_from_ne_true (n == k) (λ e. true≢false (sym there ∙ ap test (sym (eqb-true n k e)) ∙ here))
 
 minds_none : (n : ℕ) → is_signal n ≡ false → checks_critical_options n ≡ false
 minds_none n other =
     or_from (n == code.ping || n == code.pong) (n == code.release)
-    (or_from (n == code.ping) (n == code.pong) (other_code is_signal n code.ping other refl) (other_code is_signal n code.pong other refl))
+    (or_from (n == code.ping) (n == code.pong) (other_code is_signal n code.ping other refl)
+    (other_code is_signal n code.pong other refl))
     (other_code is_signal n code.release other refl)
 
 -- On an open connection, a message is a response if its code is neither reserved nor that of a Signalling Message or a
 -- method.
-response_taken : (s : ConnectionState) (m : Message) → s.phase ≡ phase.Open → is_reserved m.code ≡ false → is_signal m.code ≡ false → is_method m.code ≡ false → live_reaction s m ≡ response_reaction s m
+response_taken : (s : ConnectionState) (m : Message) → s.phase ≡ phase.Open → is_reserved m.code ≡ false
+    → is_signal m.code ≡ false → is_method m.code ≡ false → live_reaction s m ≡ response_reaction s m
 unfolding live_reaction
 response_taken s m opened reserved signal method =
     cond-false (is_reserved m.code) _ _ reserved
@@ -296,14 +366,16 @@ response_taken s m opened reserved signal method =
     ∙ cond-false (m.code == code.abort) _ _ (other_code is_signal m.code code.abort signal refl)
     ∙ cond-false (m.code == code.csm) _ _ (other_code is_signal m.code code.csm signal refl)
     ∙ cond-false (is_waiting s.phase) _ _ (ap is_waiting opened)
-    ∙ cond-false (checks_critical_options m.code && has_critical_option m) _ _ (and_left (checks_critical_options m.code) (has_critical_option m) (minds_none m.code signal))
+    ∙ cond-false (checks_critical_options m.code && has_critical_option m) _ _
+    (and_left (checks_critical_options m.code) (has_critical_option m) (minds_none m.code signal))
     ∙ cond-false (m.code == code.ping) _ _ (other_code is_signal m.code code.ping signal refl)
     ∙ cond-false (m.code == code.release) _ _ (other_code is_signal m.code code.release signal refl)
     ∙ cond-false (m.code == code.pong) _ _ (other_code is_signal m.code code.pong signal refl)
     ∙ cond-false (is_signal m.code) _ _ signal
     ∙ cond-false (is_method m.code) _ _ method
 
-live_reaction_to_pong : (s : ConnectionState) (m : Message) → s.phase ≡ phase.Open → m.code ≡ code.pong → has_critical_option m ≡ false → live_reaction s m ≡ pong_reaction s m
+live_reaction_to_pong : (s : ConnectionState) (m : Message) → s.phase ≡ phase.Open → m.code ≡ code.pong
+    → has_critical_option m ≡ false → live_reaction s m ≡ pong_reaction s m
 unfolding live_reaction
 live_reaction_to_pong s m opened is plain =
     cond-false (is_reserved m.code) _ _ (ap is_reserved is)
@@ -311,7 +383,8 @@ live_reaction_to_pong s m opened is plain =
     ∙ cond-false (m.code == code.abort) _ _ (ap (λ (n : ℕ). n == code.abort) is)
     ∙ cond-false (m.code == code.csm) _ _ (ap (λ (n : ℕ). n == code.csm) is)
     ∙ cond-false (is_waiting s.phase) _ _ (ap is_waiting opened)
-    ∙ cond-false (checks_critical_options m.code && has_critical_option m) _ _ (and_right (checks_critical_options m.code) (has_critical_option m) plain)
+    ∙ cond-false (checks_critical_options m.code && has_critical_option m) _ _
+    (and_right (checks_critical_options m.code) (has_critical_option m) plain)
     ∙ cond-false (m.code == code.ping) _ _ (ap (λ (n : ℕ). n == code.ping) is)
     ∙ cond-false (m.code == code.release) _ _ (ap (λ (n : ℕ). n == code.release) is)
     ∙ cond-true (m.code == code.pong) _ _ (ap (λ (n : ℕ). n == code.pong) is)
@@ -320,30 +393,45 @@ any_found : {X : Type 0} (p : X → Bool) (xs : List X) → list_any p xs ≡ tr
 any_found p [] e = absurd (true≢false (sym e))
 any_found p (y ∷ ys) e =
     cond_both (p y) (Some y) (find p ys) (λ o. (x : _) × (o ≡ Some x)) (λ passes. (y, refl))
-    (λ other. any_found p ys (elim (or_cases (p y) (list_any p ys) e) [ inl passes ↦ absurd (true≢false (sym passes ∙ other)) | inr later ↦ later ]))
+    (λ other. any_found p ys (elim (or_cases (p y) (list_any p ys) e) [
+      | inl passes ↦ absurd (true≢false (sym passes ∙ other))
+      | inr later ↦ later
+    ]))
 
-answered_verdict : (s : ConnectionState) (m : Message) (found : Option OutstandingValue) (e : OutstandingValue) → found ≡ Some e → (last : Bool) × ((answered s m found).verdict ≡ verdict.Answer m.token last)
+answered_verdict : (s : ConnectionState) (m : Message) (found : Option OutstandingValue) (e : OutstandingValue)
+    → found ≡ Some e → (last : Bool) × ((answered s m found).verdict ≡ verdict.Answer m.token last)
 answered_verdict s m None e is = absurd cc
-answered_verdict s m (Some x) e is = cond_both (is_last m x) _ _ (λ (r : Reaction). (last : Bool) × (r.verdict ≡ verdict.Answer m.token last)) (λ f. (true, refl)) (λ f. (false, refl))
+answered_verdict s m (Some x) e is =
+    cond_both (is_last m x) _ _ (λ (r : Reaction). (last : Bool) × (r.verdict ≡ verdict.Answer m.token last))
+    (λ f. (true, refl)) (λ f. (false, refl))
 
 -- A response that matches an entry is reported as `Answer`.
-pub response_told : (s : ConnectionState) (m : Message) → s.phase ≡ phase.Open → is_reserved m.code ≡ false → is_signal m.code ≡ false → is_method m.code ≡ false → list_any (matches_response m.token) s.outstanding ≡ true
+pub response_told : (s : ConnectionState) (m : Message) → s.phase ≡ phase.Open → is_reserved m.code ≡ false
+    → is_signal m.code ≡ false → is_method m.code ≡ false → list_any (matches_response m.token) s.outstanding ≡ true
     → (last : Bool) × ((react s m).verdict ≡ verdict.Answer m.token last)
 response_told s m opened reserved signal method asked =
     let found = any_found (matches_response m.token) s.outstanding asked in
-    let told = answered_verdict s m (find (matches_response m.token) s.outstanding) found.0 found.1 in
-    (told.0, ap (λ (r : Reaction). r.verdict) (react_live s m (ap stop_of opened) ∙ response_taken s m opened reserved signal method) ∙ told.1)
+    let told = answered_verdict s m (find (matches_response m.token) s.outstanding) found.0 found.1 in (
+      told.0,
+      ap (λ (r : Reaction). r.verdict)
+          (react_live s m (ap stop_of opened) ∙ response_taken s m opened reserved signal method) ∙ told.1,
+    )
 
 -- A Pong that matches a Ping is reported as `Pong`.
-pub pong_told_of : (s : ConnectionState) (m : Message) → s.phase ≡ phase.Open → m.code ≡ code.pong → has_critical_option m ≡ false → list_any (matches_pong m.token) s.outstanding ≡ true → (react s m).verdict ≡ verdict.Pong m.token (asks_custody m)
+pub pong_told_of : (s : ConnectionState) (m : Message) → s.phase ≡ phase.Open → m.code ≡ code.pong
+    → has_critical_option m ≡ false → list_any (matches_pong m.token) s.outstanding ≡ true
+    → (react s m).verdict ≡ verdict.Pong m.token (asks_custody m)
 pong_told_of s m opened is plain pinged =
-    ap (λ (r : Reaction). r.verdict) (react_live s m (ap stop_of opened) ∙ live_reaction_to_pong s m opened is plain ∙ cond-true (list_any (matches_pong m.token) s.outstanding) _ _ pinged)
+    ap (λ (r : Reaction). r.verdict) (react_live s m (ap stop_of opened) ∙ live_reaction_to_pong s m opened is plain
+    ∙ cond-true (list_any (matches_pong m.token) s.outstanding) _ _ pinged)
 
 -- ---- tokens
 
 -- Different numbers give different tokens.
-pub tokens_differ : (one other : ℕ) → one < 18446744073709551615 → other < 18446744073709551615 → next_token one ≡ next_token other → one ≡ other
-tokens_differ one other small other_small same = omega (arith, bytes_are_one (one + 1) (other + 1) (omega (arith, small)) (omega (arith, other_small)) same)
+pub tokens_differ : (one other : ℕ) → one < 18446744073709551615 → other < 18446744073709551615
+    → next_token one ≡ next_token other → one ≡ other
+tokens_differ one other small other_small same =
+    omega (arith, bytes_are_one (one + 1) (other + 1) (omega (arith, small)) (omega (arith, other_small)) same)
 
 pub token_left : (h : History) (m : Message) → asking_refusal (asking_now h) m ≡ None → h.tokens < 18446744073709551615
 token_left h m may = (asked_new (asking_now h) m may).left

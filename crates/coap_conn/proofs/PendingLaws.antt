@@ -1,17 +1,23 @@
 -- The entry that is due first, and Pongs with Custody that wait for pending entries.
-use Rattle.std.proofs.Common.{◌≡◌, ℕ, zero, suc, ◌+◌, ◌<◌, ◌≤◌, Bool, true, false, cond, ◌&&◌, ◌==◌, List, [], ◌∷◌, ◌++◌, length, get_or, take, drop, min, Option, Some, None, refl, sym, ap, subst, ◌∙◌, arith, inl, inr}
-use Rattle.coap_conn.specs.Prelude.{Responder, slice_get, nat_le, nat_lt, option_map, not, find, AllByRecursion, list_any}
+use Rattle.std.proofs.Common.{◌≡◌, ℕ, zero, suc, ◌+◌, ◌<◌, ◌≤◌, Bool, true, false, cond, ◌&&◌, ◌==◌, List, [], ◌∷◌}
+use Rattle.std.proofs.Common.{◌++◌, length, get_or, take, drop, min, Option, Some, None, refl, sym, ap, subst, ◌∙◌}
+use Rattle.std.proofs.Common.{arith, inl, inr}
+use Rattle.coap_conn.specs.Prelude.{Responder, slice_get, nat_le, nat_lt, option_map, not, find, AllByRecursion}
+use Rattle.coap_conn.specs.Prelude.{list_any}
 use Rattle.coap_conn.specs.Prelude.{filter_map, cons_option, fold, reduce, position, position_from, remove}
 use Rattle.coap_conn.specs.Prelude.{CoapOption, Message, Reason, Phase, Role, Server, Client, Reply, Whole, Bare}
 use Rattle.coap_conn.specs.Prelude.{Stopped, stop_of, is_waiting, abort_text, number_told, abort_options, abort_with}
 use Rattle.coap_conn.specs.Prelude.{abort_of, has_critical_option, bad_csm_option, fit, fitted, abort_fitted}
 use Rattle.coap_conn.specs.Prelude.{bare_response, without_options, without_payload, OutstandingValue, matches_response}
-use Rattle.coap_conn.specs.Prelude.{is_last, matches_pong, without_asked, without_pinged, ConnectionState, ReactionResult, Reaction}
+use Rattle.coap_conn.specs.Prelude.{is_last, matches_pong, without_asked, without_pinged, ConnectionState}
+use Rattle.coap_conn.specs.Prelude.{ReactionResult, Reaction}
 use Rattle.coap_conn.specs.Prelude.{stay, stop, abort, send_as, holds, ping_reaction, pong_reaction, csm_reaction}
 use Rattle.coap_conn.specs.Prelude.{request_reaction, answered, open_reaction, live_reaction, reaction_unless, react}
 use Rattle.coap_conn.specs.Prelude.{is_reserved, is_signal, is_method, checks_critical_options, asks_custody}
-use Rattle.coap_conn.specs.Prelude.{pong_with, pong_of, is_custody_pong, not_implemented, PendingEntryValue, Answer, Pong}
-use Rattle.coap_conn.specs.Prelude.{due_moment, earliest_due, is_answer_at, answer_index, pong_index, else_index, due_index}
+use Rattle.coap_conn.specs.Prelude.{pong_with, pong_of, is_custody_pong, not_implemented, PendingEntryValue, Answer}
+use Rattle.coap_conn.specs.Prelude.{Pong}
+use Rattle.coap_conn.specs.Prelude.{due_moment, earliest_due, is_answer_at, answer_index, pong_index, else_index}
+use Rattle.coap_conn.specs.Prelude.{due_index}
 use Rattle.coap_conn.specs.Prelude.{held_at, without_at, first_due, without_due, NothingIsDue, IsDueFirst}
 use Rattle.std.proofs.lemmas.Bool.{cond_both, cases_lt, leb-true, ltb-true, ltb-false, eqb-true, eq-eqb, or_cases}
 use Rattle.std.proofs.lemmas.List.{append-nil, length-append}
@@ -26,7 +32,8 @@ use Rattle.coap_conn.proofs.OutstandingLemmas.{count_left}
 
 -- ---- the least number of a list
 
-cons_all : {X : Type 0} (P : X → Type 0) (o : Option X) (xs : List X) → ((x : X) → o ≡ Some x → P x) → AllByRecursion P xs → AllByRecursion P (cons_option o xs)
+cons_all : {X : Type 0} (P : X → Type 0) (o : Option X) (xs : List X) → ((x : X) → o ≡ Some x → P x)
+    → AllByRecursion P xs → AllByRecursion P (cons_option o xs)
 cons_all P None xs f each = each
 cons_all P (Some x) xs f each = (f x refl, each)
 
@@ -34,7 +41,8 @@ cons_none : {X : Type 0} (o : Option X) (xs : List X) → cons_option o xs ≡ [
 cons_none None xs e = (refl, e)
 cons_none (Some x) xs e = absurd cc
 
-pub cons_parts : {X : Type 0} (P : X → Type 0) (o : Option X) (xs : List X) → AllByRecursion P (cons_option o xs) → ((x : X) → o ≡ Some x → P x) × AllByRecursion P xs
+pub cons_parts : {X : Type 0} (P : X → Type 0) (o : Option X) (xs : List X) → AllByRecursion P (cons_option o xs)
+    → ((x : X) → o ≡ Some x → P x) × AllByRecursion P xs
 cons_parts P None xs each = (λ x e. absurd cc, each)
 cons_parts P (Some y) xs each = (λ x e. let same : y ≡ x = cc in subst P same each.0, each.1)
 
@@ -47,7 +55,10 @@ fold_apart : (a m : ℕ) (xs : List ℕ) → (a ≡ m → ⊥) → AllByRecursio
 fold_apart a m [] apart each e = apart e
 fold_apart a m (x ∷ xs) apart each e =
     fold_apart (min a x) m xs
-    (λ same. elim (cases_lt a x) [ inl less ↦ apart (omega (arith, less, same)) | inr more ↦ each.0 (omega (arith, more, same)) ])
+    (λ same. elim (cases_lt a x) [
+      | inl less ↦ apart (omega (arith, less, same))
+      | inr more ↦ each.0 (omega (arith, more, same))
+    ])
     each.1 e
 
 -- The same for `reduce`.
@@ -86,48 +97,65 @@ come_at now other (Answer by token moment) =
     (λ is e. let same : moment ≡ other = cc in eq-eqb moment other same) (λ is e. absurd cc)
 come_at now other (Pong token) = λ e. absurd cc
 
-all_within : (now : ℕ) (held : List PendingEntryValue) → AllByRecursion (λ x. x ≤ now) (filter_map (due_moment now) held)
+all_within : (now : ℕ) (held : List PendingEntryValue)
+    → AllByRecursion (λ x. x ≤ now) (filter_map (due_moment now) held)
 all_within now [] = tt
-all_within now (e ∷ held) = cons_all (λ x. x ≤ now) (due_moment now e) (filter_map (due_moment now) held) (λ x is. come_within now x e is) (all_within now held)
+all_within now (e ∷ held) =
+    cons_all (λ x. x ≤ now) (due_moment now e) (filter_map (due_moment now) held)
+    (λ x is. come_within now x e is) (all_within now held)
 
-all_least : (now m : ℕ) (held : List PendingEntryValue) → AllByRecursion (λ x. m ≤ x) (filter_map (due_moment now) held) → AllByRecursion (λ e. (other : ℕ) → due_moment now e ≡ Some other → m ≤ other) held
+all_least : (now m : ℕ) (held : List PendingEntryValue) → AllByRecursion (λ x. m ≤ x) (filter_map (due_moment now) held)
+    → AllByRecursion (λ e. (other : ℕ) → due_moment now e ≡ Some other → m ≤ other) held
 all_least now m [] each = tt
-all_least now m (e ∷ held) each = let parts = cons_parts (λ x. m ≤ x) (due_moment now e) (filter_map (due_moment now) held) each in (parts.0, all_least now m held parts.1)
+all_least now m (e ∷ held) each =
+    let parts = cons_parts (λ x. m ≤ x) (due_moment now e) (filter_map (due_moment now) held) each in
+    (parts.0, all_least now m held parts.1)
 
-all_apart : (now m : ℕ) (held : List PendingEntryValue) → AllByRecursion (λ e. is_answer_at m e ≡ false) held → AllByRecursion (λ x. x ≡ m → ⊥) (filter_map (due_moment now) held)
+all_apart : (now m : ℕ) (held : List PendingEntryValue) → AllByRecursion (λ e. is_answer_at m e ≡ false) held
+    → AllByRecursion (λ x. x ≡ m → ⊥) (filter_map (due_moment now) held)
 all_apart now m [] each = tt
 all_apart now m (e ∷ held) each =
     cons_all (λ x. x ≡ m → ⊥) (due_moment now e) (filter_map (due_moment now) held)
-    (λ x is same. let here : is_answer_at m e ≡ true = subst (λ (n : ℕ). is_answer_at n e ≡ true) same (come_at now x e is) in cc) (all_apart now m held each.1)
+    (λ x is same. let here : is_answer_at m e ≡ true =
+    subst (λ (n : ℕ). is_answer_at n e ≡ true) same (come_at now x e is) in cc) (all_apart now m held each.1)
 
-none_come : (now : ℕ) (held : List PendingEntryValue) → filter_map (due_moment now) held ≡ [] → AllByRecursion (λ e. due_moment now e ≡ None) held
+none_come : (now : ℕ) (held : List PendingEntryValue) → filter_map (due_moment now) held ≡ []
+    → AllByRecursion (λ e. due_moment now e ≡ None) held
 none_come now [] e = tt
-none_come now (x ∷ held) e = let parts = cons_none (due_moment now x) (filter_map (due_moment now) held) e in (parts.0, none_come now held parts.1)
+none_come now (x ∷ held) e =
+    let parts = cons_none (due_moment now x) (filter_map (due_moment now) held) e in
+    (parts.0, none_come now held parts.1)
 
 -- ---- positions
 
 -- A list is the part before an element, the element, and the part after it.
-pub split_at : {X : Type 0} (xs : List X) (i : ℕ) (x : X) → slice_get xs i ≡ Some x → xs ≡ take i xs ++ x ∷ drop (suc i) xs
+pub split_at : {X : Type 0} (xs : List X) (i : ℕ) (x : X) → slice_get xs i ≡ Some x
+    → xs ≡ take i xs ++ x ∷ drop (suc i) xs
 split_at [] i x e = absurd cc
 split_at (y ∷ xs) zero x e = let same : y ≡ x = cc in ap (λ z. z ∷ xs) same
 split_at (y ∷ xs) (suc i) x e = ap (λ ys. y ∷ ys) (split_at xs i x e)
 
 -- No element before the position found passes the test.
-pub none_before : {X : Type 0} (p : X → Bool) (xs : List X) (i : ℕ) (d : X) → ((k : ℕ) → k < i → p (get_or xs k d) ≡ false) → AllByRecursion (λ x. p x ≡ false) (take i xs)
+pub none_before : {X : Type 0} (p : X → Bool) (xs : List X) (i : ℕ) (d : X)
+    → ((k : ℕ) → k < i → p (get_or xs k d) ≡ false) → AllByRecursion (λ x. p x ≡ false) (take i xs)
 none_before p [] zero d none = tt
 none_before p [] (suc i) d none = tt
 none_before p (x ∷ xs) zero d none = tt
-none_before p (x ∷ xs) (suc i) d none = (none 0 (omega arith), none_before p xs i d (λ k within. none (suc k) (omega (arith, within))))
+none_before p (x ∷ xs) (suc i) d none =
+    (none 0 (omega arith), none_before p xs i d (λ k within. none (suc k) (omega (arith, within))))
 
 none_step : (b : Bool) (n : ℕ) (r : Option ℕ) → cond b (Some n) r ≡ None → (b ≡ false) × (r ≡ None)
 none_step true n r e = absurd cc
 none_step false n r e = (refl, e)
 
-none_from : {X : Type 0} (p : X → Bool) (n : ℕ) (xs : List X) → position_from p n xs ≡ None → AllByRecursion (λ x. p x ≡ false) xs
+none_from : {X : Type 0} (p : X → Bool) (n : ℕ) (xs : List X) → position_from p n xs ≡ None
+    → AllByRecursion (λ x. p x ≡ false) xs
 none_from p n [] e = tt
-none_from p n (x ∷ xs) e = let parts = none_step (p x) n (position_from p (n + 1) xs) e in (parts.0, none_from p (n + 1) xs parts.1)
+none_from p n (x ∷ xs) e =
+    let parts = none_step (p x) n (position_from p (n + 1) xs) e in (parts.0, none_from p (n + 1) xs parts.1)
 
-pub no_position : {X : Type 0} (p : X → Bool) (xs : List X) → position p xs ≡ None → AllByRecursion (λ x. p x ≡ false) xs
+pub no_position : {X : Type 0} (p : X → Bool) (xs : List X) → position p xs ≡ None
+    → AllByRecursion (λ x. p x ≡ false) xs
 no_position p xs e = none_from p 0 xs (sym (position_from-zero p xs) ∙ e)
 
 -- ---- the entry that is due first
@@ -135,50 +163,82 @@ no_position p xs e = none_from p 0 xs (sym (position_from-zero p xs) ∙ e)
 -- This index is that of the entry that is due first: a response of the earliest time, a Pong that no entry precedes, or
 -- none.
 pub record HasIndex (now : ℕ) (held : List PendingEntryValue) (index : Option ℕ) : Type 0 where
-  pub answer : (by : Responder) (token : List ℕ) (moment : ℕ) → held_at held index ≡ Some (Answer by token moment) → IsDueFirst now held by token moment (without_at held index)
+  pub answer : (by : Responder) (token : List ℕ) (moment : ℕ) → held_at held index ≡ Some (Answer by token moment)
+      → IsDueFirst now held by token moment (without_at held index)
   pub pong : (token : List ℕ) → held_at held index ≡ Some (Pong token) → held ≡ Pong token ∷ without_at held index
   pub nothing : held_at held index ≡ None → NothingIsDue now held × (without_at held index ≡ held)
-  pub alone : (token : List ℕ) → held_at held index ≡ Some (Pong token) → AllByRecursion (λ e. due_moment now e ≡ None) held
+  pub alone : (token : List ℕ) → held_at held index ≡ Some (Pong token)
+      → AllByRecursion (λ e. due_moment now e ≡ None) held
 
 -- The first response of the earliest time is due first.
-answer_found : (now least : ℕ) (held : List PendingEntryValue) (i : ℕ) (e : PendingEntryValue) → reduce min (filter_map (due_moment now) held) ≡ Some least → position (is_answer_at least) held ≡ Some i → slice_get held i ≡ Some e → is_answer_at least e ≡ true →
-    (by : Responder) (token : List ℕ) (moment : ℕ) → e ≡ Answer by token moment → IsDueFirst now held by token moment (remove held i)
+answer_found : (now least : ℕ) (held : List PendingEntryValue) (i : ℕ) (e : PendingEntryValue)
+    → reduce min (filter_map (due_moment now) held) ≡ Some least → position (is_answer_at least) held ≡ Some i
+    → slice_get held i ≡ Some e → is_answer_at least e ≡ true →
+    (by : Responder) (token : List ℕ) (moment : ℕ) → e ≡ Answer by token moment
+    → IsDueFirst now held by token moment (remove held i)
 answer_found now least held i e come_least found there passes by token moment is =
-    let at : is_answer_at least (Answer by token moment) ≡ true = subst (λ (x : PendingEntryValue). is_answer_at least x ≡ true) is passes in
+    let at : is_answer_at least (Answer by token moment) ≡ true =
+    subst (λ (x : PendingEntryValue). is_answer_at least x ≡ true) is passes in
     let same : moment ≡ least = eqb-true moment least at in
     record {
       before = take i held;
       after = drop (suc i) held;
       there = split_at held i (Answer by token moment) (there ∙ ap (λ (x : PendingEntryValue). Some x) is);
       without = refl;
-      has_come = omega (arith, same, reduce_within least now (filter_map (due_moment now) held) (all_within now held) come_least);
-      least = subst (λ (n : ℕ). AllByRecursion (λ x. (other : ℕ) → due_moment now x ≡ Some other → n ≤ other) held) (sym same) (all_least now least held (reduce_least least (filter_map (due_moment now) held) come_least));
-      earliest = subst (λ (n : ℕ). AllByRecursion (λ x. is_answer_at n x ≡ false) (take i held)) (sym same) (none_before (is_answer_at least) held i e (position-Some (is_answer_at least) held i e found).2);
+      has_come = omega (
+        arith,
+        same,
+        reduce_within least now (filter_map (due_moment now) held) (all_within now held) come_least,
+      );
+      least =
+          subst (λ (n : ℕ). AllByRecursion (λ x. (other : ℕ) → due_moment now x ≡ Some other → n ≤ other) held)
+          (sym same) (all_least now least held (reduce_least least (filter_map (due_moment now) held) come_least));
+      earliest =
+          subst (λ (n : ℕ). AllByRecursion (λ x. is_answer_at n x ≡ false) (take i held)) (sym same)
+          (none_before (is_answer_at least) held i e (position-Some (is_answer_at least) held i e found).2);
     }
 
 no_pong_passes : (least : ℕ) (e : PendingEntryValue) (token : List ℕ) → is_answer_at least e ≡ true → e ≡ Pong token → ⊥
-no_pong_passes least e token passes is = let bad : ◌≡◌ {A = Bool} false true = subst (λ (x : PendingEntryValue). is_answer_at least x ≡ true) is passes in cc
+no_pong_passes least e token passes is =
+    let bad : ◌≡◌ {A = Bool} false true = subst (λ (x : PendingEntryValue). is_answer_at least x ≡ true) is passes in
+    cc
 
-answer_index_has : (now least : ℕ) (held : List PendingEntryValue) (i : ℕ) (e : PendingEntryValue) → reduce min (filter_map (due_moment now) held) ≡ Some least → position (is_answer_at least) held ≡ Some i → slice_get held i ≡ Some e → is_answer_at least e ≡ true →
+answer_index_has : (now least : ℕ) (held : List PendingEntryValue) (i : ℕ) (e : PendingEntryValue)
+    → reduce min (filter_map (due_moment now) held) ≡ Some least → position (is_answer_at least) held ≡ Some i
+    → slice_get held i ≡ Some e → is_answer_at least e ≡ true →
     HasIndex now held (Some i)
 answer_index_has now least held i e come_least found there passes = record {
-  answer = λ by token moment is. let same : e ≡ Answer by token moment = cc in answer_found now least held i e come_least found there passes by token moment same;
+  answer = λ by token moment is. let same : e ≡ Answer by token moment = cc in
+      answer_found now least held i e come_least found there passes by token moment same;
   pong = λ token is. let same : e ≡ Pong token = cc in absurd (no_pong_passes least e token passes same);
   nothing = λ is. absurd cc;
   alone = λ token is. let same : e ≡ Pong token = cc in absurd (no_pong_passes least e token passes same);
 }
 
 -- A position that is found has the entry that is due first.
-found_has : (now least : ℕ) (held : List PendingEntryValue) (i : ℕ) → reduce min (filter_map (due_moment now) held) ≡ Some least → position (is_answer_at least) held ≡ Some i → HasIndex now held (Some i)
+found_has : (now least : ℕ) (held : List PendingEntryValue) (i : ℕ)
+    → reduce min (filter_map (due_moment now) held) ≡ Some least → position (is_answer_at least) held ≡ Some i
+    → HasIndex now held (Some i)
 found_has now least held i come_least found =
     let d : PendingEntryValue = Pong [] in
     let at = position-Some (is_answer_at least) held i d found in
     answer_index_has now least held i (get_or held i d) come_least found (slice_get-get_or held i d at.0) at.1
 
 -- The case in which no response is due.
-pong_index_has : (now : ℕ) (held : List PendingEntryValue) → AllByRecursion (λ e. due_moment now e ≡ None) held → HasIndex now held (pong_index held)
-pong_index_has now [] none = record { answer = λ by token moment is. absurd cc; pong = λ token is. absurd cc; nothing = λ is. ((none, refl), refl); alone = λ token is. none }
-pong_index_has now (Answer by token moment ∷ held) none = record { answer = λ other_by other at is. absurd cc; pong = λ other is. absurd cc; nothing = λ is. ((none, refl), refl); alone = λ other is. none }
+pong_index_has : (now : ℕ) (held : List PendingEntryValue) → AllByRecursion (λ e. due_moment now e ≡ None) held
+    → HasIndex now held (pong_index held)
+pong_index_has now [] none = record {
+  answer = λ by token moment is. absurd cc;
+  pong = λ token is. absurd cc;
+  nothing = λ is. ((none, refl), refl);
+  alone = λ token is. none;
+}
+pong_index_has now (Answer by token moment ∷ held) none = record {
+  answer = λ other_by other at is. absurd cc;
+  pong = λ other is. absurd cc;
+  nothing = λ is. ((none, refl), refl);
+  alone = λ other is. none;
+}
 pong_index_has now (Pong token ∷ held) none = record {
   answer = λ other_by other at is. absurd cc;
   pong = λ other is. let same : token ≡ other = cc in ap (λ (t : List ℕ). Pong t ∷ held) same;
@@ -187,37 +247,48 @@ pong_index_has now (Pong token ∷ held) none = record {
 }
 
 -- Both cases, by the earliest time and the position of its response.
-index_at : (now : ℕ) (held : List PendingEntryValue) (least : Option ℕ) (found : Option ℕ) → reduce min (filter_map (due_moment now) held) ≡ least → answer_index least held ≡ found → HasIndex now held (else_index found (pong_index held))
-index_at now held None None e f = pong_index_has now held (none_come now held (reduce_none (filter_map (due_moment now) held) e))
+index_at : (now : ℕ) (held : List PendingEntryValue) (least : Option ℕ) (found : Option ℕ)
+    → reduce min (filter_map (due_moment now) held) ≡ least → answer_index least held ≡ found
+    → HasIndex now held (else_index found (pong_index held))
+index_at now held None None e f =
+    pong_index_has now held (none_come now held (reduce_none (filter_map (due_moment now) held) e))
 index_at now held None (Some i) e f = absurd cc
-index_at now held (Some least) None e f = absurd (reduce_apart least (filter_map (due_moment now) held) (all_apart now least held (no_position (is_answer_at least) held f)) e)
+index_at now held (Some least) None e f =
+    absurd (reduce_apart least (filter_map (due_moment now) held)
+    (all_apart now least held (no_position (is_answer_at least) held f)) e)
 index_at now held (Some least) (Some i) e f = found_has now least held i e f
 
 has_index : (now : ℕ) (held : List PendingEntryValue) → HasIndex now held (due_index now held)
 unfolding due_index
 has_index now held = index_at now held (earliest_due now held) (answer_index (earliest_due now held) held) refl refl
 
-pub due_answer : (now : ℕ) (held : List PendingEntryValue) (by : Responder) (token : List ℕ) (moment : ℕ) → first_due now held ≡ Some (Answer by token moment) → IsDueFirst now held by token moment (without_due now held)
+pub due_answer : (now : ℕ) (held : List PendingEntryValue) (by : Responder) (token : List ℕ) (moment : ℕ)
+    → first_due now held ≡ Some (Answer by token moment) → IsDueFirst now held by token moment (without_due now held)
 unfolding first_due without_due
 due_answer now held = (has_index now held).answer
 
-pub due_pong : (now : ℕ) (held : List PendingEntryValue) (token : List ℕ) → first_due now held ≡ Some (Pong token) → held ≡ Pong token ∷ without_due now held
+pub due_pong : (now : ℕ) (held : List PendingEntryValue) (token : List ℕ) → first_due now held ≡ Some (Pong token)
+    → held ≡ Pong token ∷ without_due now held
 unfolding first_due without_due
 due_pong now held = (has_index now held).pong
 
-pub due_alone : (now : ℕ) (held : List PendingEntryValue) (token : List ℕ) → first_due now held ≡ Some (Pong token) → AllByRecursion (λ e. due_moment now e ≡ None) held
+pub due_alone : (now : ℕ) (held : List PendingEntryValue) (token : List ℕ) → first_due now held ≡ Some (Pong token)
+    → AllByRecursion (λ e. due_moment now e ≡ None) held
 unfolding first_due
 due_alone now held = (has_index now held).alone
 
-pub due_nothing : (now : ℕ) (held : List PendingEntryValue) → first_due now held ≡ None → NothingIsDue now held × (without_due now held ≡ held)
+pub due_nothing : (now : ℕ) (held : List PendingEntryValue) → first_due now held ≡ None
+    → NothingIsDue now held × (without_due now held ≡ held)
 unfolding first_due without_due
 due_nothing now held = (has_index now held).nothing
 
-fewer_at : (held : List PendingEntryValue) (index : Option ℕ) (e : PendingEntryValue) → held_at held index ≡ Some e → length held ≡ 1 + length (without_at held index)
+fewer_at : (held : List PendingEntryValue) (index : Option ℕ) (e : PendingEntryValue) → held_at held index ≡ Some e
+    → length held ≡ 1 + length (without_at held index)
 fewer_at held None e is = absurd cc
 fewer_at held (Some i) e is = omega (arith, length-remove held i (slice_get_within held i e is))
 
-pub due_fewer : (now : ℕ) (held : List PendingEntryValue) (e : PendingEntryValue) → first_due now held ≡ Some e → length held ≡ 1 + length (without_due now held)
+pub due_fewer : (now : ℕ) (held : List PendingEntryValue) (e : PendingEntryValue) → first_due now held ≡ Some e
+    → length held ≡ 1 + length (without_due now held)
 unfolding first_due without_due
 due_fewer now held e = fewer_at held (due_index now held) e
 
@@ -232,10 +303,12 @@ pub record EffectCases (s : ConnectionState) (P : ReactionResult → Type 0) : T
   pub stays : P (stay s)
   pub opens : P (record (stay s) { phase = phase.Open })
   pub releases : P (record (stay s) { phase = phase.Releasing reason.PeerRelease; outstanding = [] })
-  pub stops : (why : Reason) (farewell : List Message) → list_any is_custody_pong farewell ≡ false → P (stop s why farewell)
+  pub stops : (why : Reason) (farewell : List Message) → list_any is_custody_pong farewell ≡ false
+      → P (stop s why farewell)
   pub queues : (m : Message) → MayQueue s m → P (record (stay s) { queued = m ∷ [] })
   pub keeps : (token : List ℕ) → length s.held < s.most → P (holds s (Pong token)).effect
-  pub ends : (rest : List OutstandingValue) → length rest ≤ length s.outstanding → P (record (stay s) { outstanding = rest })
+  pub ends : (rest : List OutstandingValue) → length rest ≤ length s.outstanding
+      → P (record (stay s) { outstanding = rest })
 
 -- P holds for the effect of a reaction.
 abbrev Does : (ReactionResult → Type 0) → Reaction → Type 0
@@ -244,66 +317,84 @@ Does P r = P r.effect
 no_custody : (s : ConnectionState) (m : Message) → is_custody_pong m ≡ false → MayQueue s m
 no_custody s m other is = absurd cc
 
-sends_does : (s : ConnectionState) (P : ReactionResult → Type 0) → EffectCases s P → (m less : Message) (r : Reply) → MayQueue s m → MayQueue s less → P (send_as s m less r)
+sends_does : (s : ConnectionState) (P : ReactionResult → Type 0) → EffectCases s P → (m less : Message) (r : Reply)
+    → MayQueue s m → MayQueue s less → P (send_as s m less r)
 sends_does s P cases m less Whole may may_less = cases.queues m may
 sends_does s P cases m less Bare may may_less = cases.queues less may_less
 sends_does s P cases m less Stopped may may_less = cases.stops reason.PeerTooSmall [] refl
 
 -- An Abort is no Pong.
-fitted_abort : (m less : Message) (r : Reply) → is_custody_pong m ≡ false → is_custody_pong less ≡ false → list_any is_custody_pong (fitted m less r) ≡ false
+fitted_abort : (m less : Message) (r : Reply) → is_custody_pong m ≡ false → is_custody_pong less ≡ false
+    → list_any is_custody_pong (fitted m less r) ≡ false
 fitted_abort m less Whole other not_less = rw other refl
 fitted_abort m less Bare other not_less = rw not_less refl
 fitted_abort m less Stopped other not_less = refl
 
-abort_no_custody : (limit : ℕ) (options : List CoapOption) (text : Option (List ℕ)) → list_any is_custody_pong (abort_fitted limit (option_map (abort_with options) text)) ≡ false
+abort_no_custody : (limit : ℕ) (options : List CoapOption) (text : Option (List ℕ))
+    → list_any is_custody_pong (abort_fitted limit (option_map (abort_with options) text)) ≡ false
 abort_no_custody limit options None = refl
 abort_no_custody limit options (Some text) =
     let m : Message = abort_with options text in
     fitted_abort m (without_payload m) (fit limit m (without_payload m)) refl refl
 
 aborts_does : (s : ConnectionState) (P : ReactionResult → Type 0) → EffectCases s P → (why : Reason) → P (abort s why)
-aborts_does s P cases why = cases.stops why (abort_fitted s.limit (abort_of why)) (abort_no_custody s.limit (abort_options (number_told why)) (abort_text why))
+aborts_does s P cases why =
+    cases.stops why (abort_fitted s.limit (abort_of why))
+    (abort_no_custody s.limit (abort_options (number_told why)) (abort_text why))
 
-csm_does : (s : ConnectionState) (P : ReactionResult → Type 0) → EffectCases s P → (bad : Option ℕ) → Does P (csm_reaction s bad)
+csm_does : (s : ConnectionState) (P : ReactionResult → Type 0) → EffectCases s P → (bad : Option ℕ)
+    → Does P (csm_reaction s bad)
 csm_does s P cases None = cases.opens
 csm_does s P cases (Some number) = aborts_does s P cases (reason.BadCsm number)
 
-request_does : (s : ConnectionState) (P : ReactionResult → Type 0) → EffectCases s P → (m : Message) (role : Role) → Does P (request_reaction s m role)
+request_does : (s : ConnectionState) (P : ReactionResult → Type 0) → EffectCases s P → (m : Message) (role : Role)
+    → Does P (request_reaction s m role)
 request_does s P cases m Server = cases.stays
 request_does s P cases m Client =
     let answer : Message = not_implemented m in
-    sends_does s P cases answer (bare_response answer) (fit s.limit answer (bare_response answer)) (no_custody s answer refl) (no_custody s (bare_response answer) refl)
+    sends_does s P cases answer (bare_response answer) (fit s.limit answer (bare_response answer))
+    (no_custody s answer refl) (no_custody s (bare_response answer) refl)
 
 nothing_held : (held : List PendingEntryValue) → nat_lt 0 (length held) ≡ false → held ≡ []
 nothing_held [] e = refl
 nothing_held (x ∷ held) e = absurd (omega (arith, ltb-false 0 (length (x ∷ held)) e))
 
-pong_may : (s : ConnectionState) (custody : Bool) (token : List ℕ) → (custody && nat_lt 0 (length s.held)) ≡ false → MayQueue s (pong_with custody token)
+pong_may : (s : ConnectionState) (custody : Bool) (token : List ℕ) → (custody && nat_lt 0 (length s.held)) ≡ false
+    → MayQueue s (pong_with custody token)
 pong_may s true token e is = nothing_held s.held e
 pong_may s false token e is = absurd cc
 
-ping_does : (s : ConnectionState) (P : ReactionResult → Type 0) → EffectCases s P → (m : Message) → Does P (ping_reaction s m)
+ping_does : (s : ConnectionState) (P : ReactionResult → Type 0) → EffectCases s P → (m : Message)
+    → Does P (ping_reaction s m)
 ping_does s P cases m =
     let late : Message = pong_with false m.token in
     cond_both (asks_custody m && nat_lt 0 (length s.held)) _ _ (Does P)
     (λ e. cond_both (nat_lt (length s.held) s.most) _ _ (Does P)
     (λ f. cases.keeps m.token (ltb-true (length s.held) s.most f))
     (λ f. sends_does s P cases late late (fit s.limit late late) (no_custody s late refl) (no_custody s late refl)))
-    (λ e. sends_does s P cases (pong_of m) (without_options (pong_of m)) (fit s.limit (pong_of m) (without_options (pong_of m))) (pong_may s (asks_custody m) m.token e) (no_custody s (without_options (pong_of m)) refl))
+    (λ e. sends_does s P cases (pong_of m) (without_options (pong_of m))
+    (fit s.limit (pong_of m) (without_options (pong_of m))) (pong_may s (asks_custody m) m.token e)
+    (no_custody s (without_options (pong_of m)) refl))
 
-answered_does : (s : ConnectionState) (P : ReactionResult → Type 0) → EffectCases s P → (m : Message) (e : Option OutstandingValue) → Does P (answered s m e)
+answered_does : (s : ConnectionState) (P : ReactionResult → Type 0) → EffectCases s P
+    → (m : Message) (e : Option OutstandingValue) → Does P (answered s m e)
 answered_does s P cases m None = cases.stays
 answered_does s P cases m (Some e) =
-    cond_both (is_last m e) _ _ (Does P) (λ f. cases.ends (without_asked m.token s.outstanding) (count_left (λ e. not (matches_response m.token e)) s.outstanding)) (λ f. cases.stays)
+    cond_both (is_last m e) _ _ (Does P) (λ f. cases.ends (without_asked m.token s.outstanding)
+    (count_left (λ e. not (matches_response m.token e)) s.outstanding)) (λ f. cases.stays)
 
-pong_does : (s : ConnectionState) (P : ReactionResult → Type 0) → EffectCases s P → (m : Message) → Does P (pong_reaction s m)
+pong_does : (s : ConnectionState) (P : ReactionResult → Type 0) → EffectCases s P → (m : Message)
+    → Does P (pong_reaction s m)
 pong_does s P cases m =
     cond_both (list_any (matches_pong m.token) s.outstanding) _ _ (Does P)
-    (λ f. cases.ends (without_pinged m.token s.outstanding) (count_left (λ e. not (matches_pong m.token e)) s.outstanding)) (λ f. cases.stays)
+    (λ f. cases.ends (without_pinged m.token s.outstanding)
+    (count_left (λ e. not (matches_pong m.token e)) s.outstanding)) (λ f. cases.stays)
 
-open_does : (s : ConnectionState) (P : ReactionResult → Type 0) → EffectCases s P → (m : Message) → Does P (open_reaction s m)
+open_does : (s : ConnectionState) (P : ReactionResult → Type 0) → EffectCases s P → (m : Message)
+    → Does P (open_reaction s m)
 open_does s P cases m =
-    cond_both (checks_critical_options m.code && has_critical_option m) _ _ (Does P) (λ e. aborts_does s P cases reason.BadSignalOption)
+    cond_both (checks_critical_options m.code && has_critical_option m) _ _ (Does P)
+    (λ e. aborts_does s P cases reason.BadSignalOption)
     (λ e. cond_both (m.code == code.ping) _ _ (Does P) (λ e. ping_does s P cases m)
     (λ e. cond_both (m.code == code.release) _ _ (Does P) (λ e. cases.releases)
     (λ e. cond_both (m.code == code.pong) _ _ (Does P) (λ e. pong_does s P cases m)
@@ -311,21 +402,25 @@ open_does s P cases m =
     (λ e. cond_both (is_method m.code) _ _ (Does P) (λ e. request_does s P cases m s.role)
     (λ e. answered_does s P cases m (find (matches_response m.token) s.outstanding)))))))
 
-live_does : (s : ConnectionState) (P : ReactionResult → Type 0) → EffectCases s P → (m : Message) → Does P (live_reaction s m)
+live_does : (s : ConnectionState) (P : ReactionResult → Type 0) → EffectCases s P → (m : Message)
+    → Does P (live_reaction s m)
 unfolding live_reaction
 live_does s P cases m =
     cond_both (is_reserved m.code) _ _ (Does P) (λ e. aborts_does s P cases reason.ReservedCode)
     (λ e. cond_both (m.code == code.empty) _ _ (Does P) (λ e. cases.stays)
     (λ e. cond_both (m.code == code.abort) _ _ (Does P) (λ e. aborts_does s P cases reason.PeerAbort)
     (λ e. cond_both (m.code == code.csm) _ _ (Does P) (λ e. csm_does s P cases (bad_csm_option m))
-    (λ e. cond_both (is_waiting s.phase) _ _ (Does P) (λ e. aborts_does s P cases reason.CsmExpected) (λ e. open_does s P cases m)))))
+    (λ e. cond_both (is_waiting s.phase) _ _ (Does P) (λ e. aborts_does s P cases reason.CsmExpected)
+    (λ e. open_does s P cases m)))))
 
-unless_does : (s : ConnectionState) (P : ReactionResult → Type 0) → EffectCases s P → (m : Message) (over : Option Reason) → Does P (reaction_unless s m over)
+unless_does : (s : ConnectionState) (P : ReactionResult → Type 0) → EffectCases s P
+    → (m : Message) (over : Option Reason) → Does P (reaction_unless s m over)
 unless_does s P cases m None = live_does s P cases m
 unless_does s P cases m (Some why) = cases.stays
 
 -- P holds for the effect of a message if it holds in each case.
-pub react_does : (s : ConnectionState) (P : ReactionResult → Type 0) → EffectCases s P → (m : Message) → P (react s m).effect
+pub react_does : (s : ConnectionState) (P : ReactionResult → Type 0) → EffectCases s P
+    → (m : Message) → P (react s m).effect
 unfolding react
 react_does s P cases m = unless_does s P cases m (stop_of s.phase)
 
@@ -334,7 +429,8 @@ react_does s P cases m = unless_does s P cases m (stop_of s.phase)
 custody_only : (m : Message) → list_any is_custody_pong (m ∷ []) ≡ true → is_custody_pong m ≡ true
 custody_only m e = elim (or_cases (is_custody_pong m) false e) [ inl is ↦ is | inr other ↦ absurd cc ]
 
-pub custody_at_once : (s : ConnectionState) (m : Message) → list_any is_custody_pong (react s m).effect.queued ≡ true → s.held ≡ []
+pub custody_at_once : (s : ConnectionState) (m : Message)
+    → list_any is_custody_pong (react s m).effect.queued ≡ true → s.held ≡ []
 custody_at_once s = react_does s (λ e. list_any is_custody_pong e.queued ≡ true → s.held ≡ []) (record {
   stays = λ is. absurd cc;
   opens = λ is. absurd cc;
@@ -360,7 +456,8 @@ held_few s m few = react_does s (λ e. length e.held ≤ s.most) (record {
 abbrev HoldsMore : ConnectionState → ReactionResult → Type 0
 HoldsMore s e = (more : List PendingEntryValue) × (e.held ≡ s.held ++ more)
 
-pub held_more : (s : ConnectionState) (m : Message) → stop_of (react s m).effect.phase ≡ None → (more : List PendingEntryValue) × ((react s m).effect.held ≡ s.held ++ more)
+pub held_more : (s : ConnectionState) (m : Message) → stop_of (react s m).effect.phase ≡ None
+    → (more : List PendingEntryValue) × ((react s m).effect.held ≡ s.held ++ more)
 held_more s m = react_does s (λ e. stop_of e.phase ≡ None → HoldsMore s e) (record {
   stays = λ live. ([], sym (append-nil s.held));
   opens = λ live. ([], sym (append-nil s.held));
@@ -372,10 +469,13 @@ held_more s m = react_does s (λ e. stop_of e.phase ≡ None → HoldsMore s e) 
 }) m
 
 open_not_released : (p : Phase) (why : Reason) → p ≡ phase.Open → p ≡ phase.Releasing why → ⊥
-open_not_released p why opened releasing = let bad : ◌≡◌ {A = Phase} phase.Open (phase.Releasing why) = sym opened ∙ releasing in cc
+open_not_released p why opened releasing =
+    let bad : ◌≡◌ {A = Phase} phase.Open (phase.Releasing why) = sym opened ∙ releasing in
+    cc
 
 -- A Release keeps the pending entries.
-pub held_released : (s : ConnectionState) (m : Message) (why : Reason) → s.phase ≡ phase.Open → (react s m).effect.phase ≡ phase.Releasing why → (react s m).effect.held ≡ s.held
+pub held_released : (s : ConnectionState) (m : Message) (why : Reason) → s.phase ≡ phase.Open
+    → (react s m).effect.phase ≡ phase.Releasing why → (react s m).effect.held ≡ s.held
 held_released s m why opened = react_does s (λ e. e.phase ≡ phase.Releasing why → e.held ≡ s.held) (record {
   stays = λ is. refl;
   opens = λ is. refl;
@@ -387,10 +487,13 @@ held_released s m why opened = react_does s (λ e. e.phase ≡ phase.Releasing w
 }) m
 
 live_not_stopped : (p : Phase) (why : Reason) → stop_of p ≡ None → p ≡ phase.Stopped why → ⊥
-live_not_stopped p why live stopped = let bad : ◌≡◌ {A = Option Reason} None (Some why) = sym live ∙ ap stop_of stopped in cc
+live_not_stopped p why live stopped =
+    let bad : ◌≡◌ {A = Option Reason} None (Some why) = sym live ∙ ap stop_of stopped in
+    cc
 
 -- A stop drops the pending entries.
-pub held_given_up : (s : ConnectionState) (m : Message) (why : Reason) → stop_of s.phase ≡ None → (react s m).effect.phase ≡ phase.Stopped why → (react s m).effect.held ≡ []
+pub held_given_up : (s : ConnectionState) (m : Message) (why : Reason) → stop_of s.phase ≡ None
+    → (react s m).effect.phase ≡ phase.Stopped why → (react s m).effect.held ≡ []
 held_given_up s m why live = react_does s (λ e. e.phase ≡ phase.Stopped why → e.held ≡ []) (record {
   stays = λ is. absurd (live_not_stopped s.phase why live is);
   opens = λ is. absurd cc;

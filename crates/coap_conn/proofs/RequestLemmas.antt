@@ -1,11 +1,14 @@
 -- A request changes nothing, and the caller can respond at once.
-use Rattle.std.proofs.Common.{◌≡◌, ℕ, Bool, true, false, ◌&&◌, ◌==◌, cond, List, [], ◌++◌, Option, Some, None, refl, ap, ◌∙◌}
+use Rattle.std.proofs.Common.{◌≡◌, ℕ, Bool, true, false, ◌&&◌, ◌==◌, cond, List, [], ◌++◌, Option, Some, None, refl, ap}
+use Rattle.std.proofs.Common.{◌∙◌}
 use Rattle.coap_conn.specs.Prelude.{if◌then◌else◌, length, nat_lt, unwrap_or, is_none, find, list_any, Message}
 use Rattle.coap_conn.specs.Prelude.{Reason, Phase, Role, Server, Client, Reply, Whole, Bare, Stopped, stop_of}
 use Rattle.coap_conn.specs.Prelude.{takes_messages, IsLive, IsAnswering, is_waiting, has_critical_option}
 use Rattle.coap_conn.specs.Prelude.{bad_csm_option, csm_size, csm_token, announcement, token_announcement, fit}
-use Rattle.coap_conn.specs.Prelude.{bare_response, without_options, PendingEntryValue, OutstandingValue, matches_response, is_last}
-use Rattle.coap_conn.specs.Prelude.{matches_pong, ConnectionState, ReactionResult, Reaction, react, reaction_unless, live_reaction}
+use Rattle.coap_conn.specs.Prelude.{bare_response, without_options, PendingEntryValue, OutstandingValue}
+use Rattle.coap_conn.specs.Prelude.{matches_response, is_last}
+use Rattle.coap_conn.specs.Prelude.{matches_pong, ConnectionState, ReactionResult, Reaction, react, reaction_unless}
+use Rattle.coap_conn.specs.Prelude.{live_reaction}
 use Rattle.coap_conn.specs.Prelude.{open_reaction, csm_reaction, request_reaction, told_of, becomes, is_reserved}
 use Rattle.coap_conn.specs.Prelude.{is_signal, is_method, checks_critical_options, asks_custody, pong_with, pong_of}
 use Rattle.coap_conn.specs.Prelude.{late_pong, ping_reaction, not_implemented, answered, pong_reaction, bytes_of}
@@ -26,7 +29,9 @@ react_live s m live = ap (reaction_unless s m) live
 pub handled_is : (v : LinkValue) (m : Message) → IsLive v.phase → link_after v (call.Handle m) ≡ link_handled v m
 unfolding react
 handled_is v m live =
-    ap (λ (over : Option Reason). cond (is_none over) (link_heard v m (reaction_unless (standing_in v) m over).effect) v) live
+    ap
+    (λ (over : Option Reason). cond (is_none over) (link_heard v m (reaction_unless (standing_in v) m over).effect) v)
+    live
 
 -- ---- requests
 
@@ -49,7 +54,8 @@ told_no_request Whole e = cc
 told_no_request Bare e = cc
 told_no_request Stopped e = cc
 
-opened_no_request : (waiting : Bool) (s : ConnectionState) → (becomes s phase.Open (if waiting then verdict.Opened else verdict.Done)).verdict ≡ verdict.Request → ⊥
+opened_no_request : (waiting : Bool) (s : ConnectionState)
+    → (becomes s phase.Open (if waiting then verdict.Opened else verdict.Done)).verdict ≡ verdict.Request → ⊥
 opened_no_request true s e = cc
 opened_no_request false s e = cc
 
@@ -57,17 +63,29 @@ csm_no_request : (s : ConnectionState) (bad : Option ℕ) → (csm_reaction s ba
 csm_no_request s None e = opened_no_request (is_waiting s.phase) s e
 csm_no_request s (Some number) e = cc
 
-request_asks : (s : ConnectionState) (m : Message) (role : Role) → is_waiting s.phase ≡ false → (m.code == code.csm) ≡ false → Asks s m (request_reaction s m role)
-request_asks s m Server now other e = record { nothing = refl; same = refl; kept = refl; kept_asked = refl; not_waiting = now; announces = ap (λ (b : Bool). if b then csm_size m else None) other; tells_none = ap (λ (b : Bool). if b then csm_token m else None) other }
-request_asks s m Client now other e = absurd (told_no_request (fit s.limit (not_implemented m) (bare_response (not_implemented m))) e)
+request_asks : (s : ConnectionState) (m : Message) (role : Role) → is_waiting s.phase ≡ false
+    → (m.code == code.csm) ≡ false → Asks s m (request_reaction s m role)
+request_asks s m Server now other e = record {
+  nothing = refl;
+  same = refl;
+  kept = refl;
+  kept_asked = refl;
+  not_waiting = now;
+  announces = ap (λ (b : Bool). if b then csm_size m else None) other;
+  tells_none = ap (λ (b : Bool). if b then csm_token m else None) other;
+}
+request_asks s m Client now other e =
+    absurd (told_no_request (fit s.limit (not_implemented m) (bare_response (not_implemented m))) e)
 
 late_pong_asks : (s : ConnectionState) (m : Message) → Asks s m (late_pong s m)
 late_pong_asks s m =
-    cond_both (nat_lt (length s.held) s.most) _ _ (Asks s m) (λ e is. absurd cc) (λ e is. absurd (told_no_request (fit s.limit (pong_with false m.token) (pong_with false m.token)) is))
+    cond_both (nat_lt (length s.held) s.most) _ _ (Asks s m) (λ e is. absurd cc)
+    (λ e is. absurd (told_no_request (fit s.limit (pong_with false m.token) (pong_with false m.token)) is))
 
 ping_asks : (s : ConnectionState) (m : Message) → Asks s m (ping_reaction s m)
 ping_asks s m =
-    cond_both (asks_custody m && nat_lt 0 (length s.held)) _ _ (Asks s m) (λ e. late_pong_asks s m) (λ e is. absurd (told_no_request (fit s.limit (pong_of m) (without_options (pong_of m))) is))
+    cond_both (asks_custody m && nat_lt 0 (length s.held)) _ _ (Asks s m) (λ e. late_pong_asks s m)
+    (λ e is. absurd (told_no_request (fit s.limit (pong_of m) (without_options (pong_of m))) is))
 
 -- The verdict on a response is not `Request`.
 answered_asks : (s : ConnectionState) (m : Message) (e : Option OutstandingValue) → Asks s m (answered s m e)
@@ -76,16 +94,19 @@ answered_asks s m (Some e) = cond_both (is_last m e) _ _ (Asks s m) (λ e is. ab
 
 -- The verdict on a Pong is not `Request`.
 pong_asks : (s : ConnectionState) (m : Message) → Asks s m (pong_reaction s m)
-pong_asks s m = cond_both (list_any (matches_pong m.token) s.outstanding) _ _ (Asks s m) (λ e is. absurd cc) (λ e is. absurd cc)
+pong_asks s m =
+    cond_both (list_any (matches_pong m.token) s.outstanding) _ _ (Asks s m) (λ e is. absurd cc) (λ e is. absurd cc)
 
-open_asks : (s : ConnectionState) (m : Message) → is_waiting s.phase ≡ false → (m.code == code.csm) ≡ false → Asks s m (open_reaction s m)
+open_asks : (s : ConnectionState) (m : Message) → is_waiting s.phase ≡ false → (m.code == code.csm) ≡ false
+    → Asks s m (open_reaction s m)
 open_asks s m now other =
     cond_both (checks_critical_options m.code && has_critical_option m) _ _ (Asks s m) (λ e is. absurd cc)
     (λ e. cond_both (m.code == code.ping) _ _ (Asks s m) (λ e. ping_asks s m)
     (λ e. cond_both (m.code == code.release) _ _ (Asks s m) (λ e is. absurd cc)
     (λ e. cond_both (m.code == code.pong) _ _ (Asks s m) (λ e. pong_asks s m)
     (λ e. cond_both (is_signal m.code) _ _ (Asks s m) (λ e is. absurd cc)
-    (λ e. cond_both (is_method m.code) _ _ (Asks s m) (λ e. request_asks s m s.role now other) (λ e. answered_asks s m (find (matches_response m.token) s.outstanding)))))))
+    (λ e. cond_both (is_method m.code) _ _ (Asks s m) (λ e. request_asks s m s.role now other)
+    (λ e. answered_asks s m (find (matches_response m.token) s.outstanding)))))))
 
 live_asks : (s : ConnectionState) (m : Message) → Asks s m (live_reaction s m)
 unfolding live_reaction
@@ -104,21 +125,46 @@ pub react_asks : (s : ConnectionState) (m : Message) → Asks s m (react s m)
 unfolding react
 react_asks s m = unless_asks s m (stop_of s.phase)
 
-stays_by : (v : LinkValue) (m : Message) (e : ReactionResult) (takes : Bool) → IsQuiet (standing_in v) m e → cond takes (link_heard v m e) v ≡ v
+stays_by : (v : LinkValue) (m : Message) (e : ReactionResult) (takes : Bool) → IsQuiet (standing_in v) m e
+    → cond takes (link_heard v m e) v ≡ v
 stays_by v m e true quiet =
     let max : ℕ = unwrap_or (announcement m) v.peer_max in
     let token : ℕ = unwrap_or (token_announcement m) v.peer_token in
-    ap (λ (w : List ℕ). record v { waiting = w; phase = e.phase; held = e.held; outstanding = e.outstanding; peer_max = max; peer_token = token }) (ap (λ (ms : List Message). v.waiting ++ bytes_of ms) quiet.nothing ∙ append-nil v.waiting)
-    ∙ ap (λ (p : Phase). record v { phase = p; held = e.held; outstanding = e.outstanding; peer_max = max; peer_token = token }) quiet.same
-    ∙ ap (λ (held : List PendingEntryValue). record v { held = held; outstanding = e.outstanding; peer_max = max; peer_token = token }) quiet.kept
-    ∙ ap (λ (outstanding : List OutstandingValue). record v { outstanding = outstanding; peer_max = max; peer_token = token }) quiet.kept_asked
+    ap (λ (w : List ℕ). record v {
+      waiting = w;
+      phase = e.phase;
+      held = e.held;
+      outstanding = e.outstanding;
+      peer_max = max;
+      peer_token = token;
+    }) (ap (λ (ms : List Message). v.waiting ++ bytes_of ms) quiet.nothing ∙ append-nil v.waiting)
+    ∙ ap (λ (p : Phase). record v {
+      phase = p;
+      held = e.held;
+      outstanding = e.outstanding;
+      peer_max = max;
+      peer_token = token;
+    }) quiet.same
+    ∙ ap (λ (held : List PendingEntryValue). record v {
+      held = held;
+      outstanding = e.outstanding;
+      peer_max = max;
+      peer_token = token;
+    }) quiet.kept
+    ∙ ap (λ (outstanding : List OutstandingValue). record v {
+      outstanding = outstanding;
+      peer_max = max;
+      peer_token = token;
+    }) quiet.kept_asked
     ∙ ap (λ (n : Option ℕ). record v { peer_max = unwrap_or n v.peer_max; peer_token = token }) quiet.announces
     ∙ ap (λ (n : Option ℕ). record v { peer_token = unwrap_or n v.peer_token }) quiet.tells_none
 stays_by v m e false quiet = refl
 
 -- A request leaves the link unchanged.
-pub request_stays : (v : LinkValue) (m : Message) → (react (standing_in v) m).verdict ≡ verdict.Request → link_after v (call.Handle m) ≡ v
-request_stays v m asked = stays_by v m (react (standing_in v) m).effect (takes_messages v.phase) (react_asks (standing_in v) m asked)
+pub request_stays : (v : LinkValue) (m : Message) → (react (standing_in v) m).verdict ≡ verdict.Request
+    → link_after v (call.Handle m) ≡ v
+request_stays v m asked =
+    stays_by v m (react (standing_in v) m).effect (takes_messages v.phase) (react_asks (standing_in v) m asked)
 
 answering_at : (p : Phase) → IsLive p → is_waiting p ≡ false → IsAnswering p
 answering_at phase.Waiting live e = absurd cc
@@ -127,5 +173,6 @@ answering_at (phase.Releasing why) live e = absurd cc
 answering_at (phase.Stopped why) live e = absurd cc
 
 -- The link may then send a response.
-pub request_answering : (v : LinkValue) (m : Message) → IsLive v.phase → (react (standing_in v) m).verdict ≡ verdict.Request → IsAnswering v.phase
+pub request_answering : (v : LinkValue) (m : Message) → IsLive v.phase
+    → (react (standing_in v) m).verdict ≡ verdict.Request → IsAnswering v.phase
 request_answering v m live asked = answering_at v.phase live (react_asks (standing_in v) m asked).not_waiting

@@ -13,25 +13,50 @@ HasShortForm most form = length form.1 ≤ most
 
 length_extension : (n : ℕ) → HasShortForm 4 (length_form n)
 length_extension n =
-    cond_both (ltb n 13) (n, []) _ (HasShortForm 4) (λ e. omega arith) (λ e. cond_both (ltb n 269) (13, (n - 13) ∷ []) _ (HasShortForm 4) (λ e. omega arith) (λ e. cond_both (ltb n 65805) _ _ (HasShortForm 4) (λ e. omega arith) (λ e. omega arith)))
+    cond_both (ltb n 13) (n, []) _ (HasShortForm 4) (λ e. omega arith)
+    (λ e. cond_both (ltb n 269) (13, (n - 13) ∷ []) _ (HasShortForm 4) (λ e. omega arith)
+    (λ e. cond_both (ltb n 65805) _ _ (HasShortForm 4) (λ e. omega arith) (λ e. omega arith)))
 
 option_extension : (n : ℕ) → HasShortForm 2 (option_form n)
-option_extension n = cond_both (ltb n 13) (n, []) _ (HasShortForm 2) (λ e. omega arith) (λ e. cond_both (ltb n 269) (13, (n - 13) ∷ []) _ (HasShortForm 2) (λ e. omega arith) (λ e. omega arith))
+option_extension n =
+    cond_both (ltb n 13) (n, []) _ (HasShortForm 2) (λ e. omega arith)
+    (λ e. cond_both (ltb n 269) (13, (n - 13) ∷ []) _ (HasShortForm 2) (λ e. omega arith) (λ e. omega arith))
 
 option_size : (base : ℕ) (o : CoapOption) → length (option_spelling base o) ≤ 5 + length o.value
 option_size base o =
-    omega (arith, option_extension (o.number - base), option_extension (length o.value), length-append (option_form (o.number - base)).1 ((option_form (length o.value)).1 ++ o.value), length-append (option_form (length o.value)).1 o.value)
+    omega (
+      arith,
+      option_extension (o.number - base),
+      option_extension (length o.value),
+      length-append (option_form (o.number - base)).1 ((option_form (length o.value)).1 ++ o.value),
+      length-append (option_form (length o.value)).1 o.value,
+    )
 
 head_size : (code : ℕ) (token : List ℕ) (n : ℕ) → length (head_spelling code token n) ≤ 8 + length token
 head_size code token n =
     let extension = (token_form (length token)).1 in
-    omega (arith, length_extension n, option_extension (length token), length-append (length_form n).1 (code ∷ (extension ++ token)), length-append extension token)
+    omega (
+      arith,
+      length_extension n,
+      option_extension (length token),
+      length-append (length_form n).1 (code ∷ (extension ++ token)),
+      length-append extension token,
+    )
 
-one_option : (code : ℕ) (token : List ℕ) (o : CoapOption) → length (spelling (record { code = code; token = token; options = o ∷ []; payload = [] })) ≤ 13 + (length token + length o.value)
+one_option : (code : ℕ) (token : List ℕ) (o : CoapOption)
+    → length (spelling (record { code = code; token = token; options = o ∷ []; payload = [] }))
+    ≤ 13 + (length token + length o.value)
 unfolding spelling
 one_option code token o =
     let m : Message = record { code = code; token = token; options = o ∷ []; payload = [] } in
-    omega (arith, head_size code token (length (body_spelling m)), option_size 0 o, length-append (head_spelling code token (length (body_spelling m))) (body_spelling m), length-append (option_spelling 0 o ++ []) [], length-append (option_spelling 0 o) [])
+    omega (
+      arith,
+      head_size code token (length (body_spelling m)),
+      option_size 0 o,
+      length-append (head_spelling code token (length (body_spelling m))) (body_spelling m),
+      length-append (option_spelling 0 o ++ []) [],
+      length-append (option_spelling 0 o) [],
+    )
 
 few_zeros : (s : List ℕ) → length (without_leading_zeros s) ≤ length s
 few_zeros [] = omega arith
@@ -40,7 +65,11 @@ few_zeros (suc b ∷ s) = omega arith
 
 pub csm_small : (M : ℕ) → length (spelling (own_csm M)) ≤ 24
 unfolding bytes_of_uint
-csm_small M = omega (arith, one_option code.csm [] (record { number = option.max_message_size; value = bytes_of_uint M }), few_zeros (to_be_bytes w64 M))
+csm_small M = omega (
+  arith,
+  one_option code.csm [] (record { number = option.max_message_size; value = bytes_of_uint M }),
+  few_zeros (to_be_bytes w64 M),
+)
 
 pub first_csm_small : (M : ℕ) → length (spelling (first_csm M)) ≤ 32
 unfolding spelling bytes_of_uint
@@ -48,7 +77,17 @@ first_csm_small M =
     let size : CoapOption = record { number = option.max_message_size; value = bytes_of_uint M } in
     let body = body_spelling (first_csm M) in
     let last = option_spelling option.max_message_size own_token_length ++ [] in
-    omega (arith, head_size code.csm [] (length body), option_size 0 size, option_size option.max_message_size own_token_length, few_zeros (to_be_bytes w64 M), length-append (head_spelling code.csm [] (length body)) body, length-append (option_spelling 0 size ++ last) [], length-append (option_spelling 0 size) last, length-append (option_spelling option.max_message_size own_token_length) [])
+    omega (
+      arith,
+      head_size code.csm [] (length body),
+      option_size 0 size,
+      option_size option.max_message_size own_token_length,
+      few_zeros (to_be_bytes w64 M),
+      length-append (head_spelling code.csm [] (length body)) body,
+      length-append (option_spelling 0 size ++ last) [],
+      length-append (option_spelling 0 size) last,
+      length-append (option_spelling option.max_message_size own_token_length) [],
+    )
 
 pub release_small : length (spelling release) ≡ 2
 unfolding spelling
@@ -58,7 +97,8 @@ pub csm_bytes_small : (M : ℕ) → length (spelling (own_csm M) ++ []) ≤ 24
 csm_bytes_small M = omega (arith, csm_small M, ap (λ (t : List ℕ). length t) (append-nil (spelling (own_csm M))))
 
 pub first_csm_bytes_small : (M : ℕ) → length (spelling (first_csm M) ++ []) ≤ 32
-first_csm_bytes_small M = omega (arith, first_csm_small M, ap (λ (t : List ℕ). length t) (append-nil (spelling (first_csm M))))
+first_csm_bytes_small M =
+    omega (arith, first_csm_small M, ap (λ (t : List ℕ). length t) (append-nil (spelling (first_csm M))))
 
 pub release_bytes_small : length (spelling release ++ []) ≡ 2
 release_bytes_small = ap (λ (t : List ℕ). length t) (append-nil (spelling release)) ∙ release_small

@@ -10,10 +10,12 @@ use Rattle.coap_conn.specs.Calls as call
 use Rattle.coap_conn.proofs.AskingLaws.{not_asked, not_cancelled}
 
 -- Messages, malformed bytes and the end of input have no effect if no message is accepted.
-stays_over : (h after : History) (why : Reason) → stop_of h.phase ≡ Some why → cond (is_none (stop_of h.phase)) after h ≡ h
+stays_over : (h after : History) (why : Reason) → stop_of h.phase ≡ Some why
+    → cond (is_none (stop_of h.phase)) after h ≡ h
 stays_over h after why over = ap (λ (o : Option Reason). cond (is_none o) after h) over
 
-pub told_over : (s : ConnectionState) (m : Message) (why : Reason) → stop_of s.phase ≡ Some why → (react s m).verdict ≡ verdict.Stopped why
+pub told_over : (s : ConnectionState) (m : Message) (why : Reason) → stop_of s.phase ≡ Some why
+    → (react s m).verdict ≡ verdict.Stopped why
 unfolding react
 told_over s m why over = ap (λ (o : Option Reason). (reaction_unless s m o).verdict) over
 
@@ -27,21 +29,28 @@ stays_released : (h after : History) (why : Reason) → stop_of h.phase ≡ Some
 stays_released h after why over = ap (λ (b : Bool). cond b after h) (not_open h.phase why over)
 
 -- The same with one more condition.
-stays_unheld : (h after : History) (may : Bool) (why : Reason) → stop_of h.phase ≡ Some why → cond (is_open h.phase && may) after h ≡ h
+stays_unheld : (h after : History) (may : Bool) (why : Reason) → stop_of h.phase ≡ Some why
+    → cond (is_open h.phase && may) after h ≡ h
 stays_unheld h after may why over = ap (λ (b : Bool). cond (b && may) after h) (not_open h.phase why over)
 
-pub stays_stopped : (h after : History) (why : Reason) → h.phase ≡ phase.Stopped why → cond (answers h.phase) after h ≡ h
+pub stays_stopped : (h after : History) (why : Reason) → h.phase ≡ phase.Stopped why
+    → cond (answers h.phase) after h ≡ h
 stays_stopped h after why stopped = ap (λ (p : Phase). cond (answers p) after h) stopped
 
 -- The same for requests, Pings and cancellations.
-stays_unasked : (h after : History) (m : Message) (why : Reason) → stop_of h.phase ≡ Some why → cond (is_none (asking_refusal (asking_now h) m)) after h ≡ h
-stays_unasked h after m why over = ap (λ (b : Bool). cond b after h) (not_asked (asking_now h) m (not_open h.phase why over))
+stays_unasked : (h after : History) (m : Message) (why : Reason) → stop_of h.phase ≡ Some why
+    → cond (is_none (asking_refusal (asking_now h) m)) after h ≡ h
+stays_unasked h after m why over =
+    ap (λ (b : Bool). cond b after h) (not_asked (asking_now h) m (not_open h.phase why over))
 
-stays_uncancelled : (h after : History) (token : List ℕ) (m : Message) (why : Reason) → stop_of h.phase ≡ Some why → cond (is_none (cancel_refusal (asking_now h) token m)) after h ≡ h
-stays_uncancelled h after token m why over = ap (λ (b : Bool). cond b after h) (not_cancelled (asking_now h) token m (not_open h.phase why over))
+stays_uncancelled : (h after : History) (token : List ℕ) (m : Message) (why : Reason) → stop_of h.phase ≡ Some why
+    → cond (is_none (cancel_refusal (asking_now h) token m)) after h ≡ h
+stays_uncancelled h after token m why over =
+    ap (λ (b : Bool). cond b after h) (not_cancelled (asking_now h) token m (not_open h.phase why over))
 
 -- The same for every call that needs a connection that accepts messages.
-pub call_over : (h : History) (c : Call) (why : Reason) → needs_live c ≡ true → stop_of h.phase ≡ Some why → after h c ≡ h
+pub call_over : (h : History) (c : Call) (why : Reason) → needs_live c ≡ true
+    → stop_of h.phase ≡ Some why → after h c ≡ h
 call_over h (call.Handle m) why needs over = stays_over h _ why over
 call_over h (call.Reject fault) why needs over = stays_over h _ why over
 call_over h (call.End cut) why needs over = stays_over h _ why over

@@ -1,6 +1,7 @@
 -- RFC 8323 section 5.3 and RFC 8974 section 2.2.1: the largest message and the longest token that the peer accepts, as
 -- its CSMs announce them.
-use Rattle.std.specs.Prelude.{ℕ, Bool, false, ◌&&◌, ◌||◌, List, [], ◌∷◌, length, Option, Some, None, option_map, nat_le, nat_lt, ◌==◌, if◌then◌else◌, find, min}
+use Rattle.std.specs.Prelude.{ℕ, Bool, false, ◌&&◌, ◌||◌, List, [], ◌∷◌, length, Option, Some, None, option_map, nat_le}
+use Rattle.std.specs.Prelude.{nat_lt, ◌==◌, if◌then◌else◌, find, min}
 use Rattle.std.specs.List.{list_any, filter_map}
 use Rattle.coap_wire.specs.Message.{CoapOption, Message}
 use Rattle.coap_wire.specs.Recognition.{is_critical}
@@ -80,7 +81,9 @@ base_token = 8
 -- The length that a value of Extended-Token-Length announces, at most `MAX_EXTENDED_LENGTH`. A value of more than 3
 -- bytes or below `base_token` announces none.
 abbrev pub token_length : List ℕ → Option ℕ
-token_length value = if nat_le (length value) 3 && nat_le base_token (uint_of value) then Some (min (uint_of value) MAX_EXTENDED_LENGTH) else None
+token_length value =
+    if nat_le (length value) 3 && nat_le base_token (uint_of value)
+    then Some (min (uint_of value) MAX_EXTENDED_LENGTH) else None
 
 -- The length that an Extended-Token-Length announces, if the option is present and its value announces one.
 abbrev pub token_told : Option CoapOption → Option ℕ

@@ -1,5 +1,6 @@
 -- RFC 8323 sections 3.3 and 5: the calls on a connection, the effect of each, and the link after it.
-use Rattle.std.specs.Prelude.{ℕ, ◌+◌, ◌≤◌, Bool, true, false, ◌&&◌, List, [], ◌∷◌, ◌++◌, length, drop, is_none, if◌then◌else◌}
+use Rattle.std.specs.Prelude.{ℕ, ◌+◌, ◌≤◌, Bool, true, false, ◌&&◌, List, [], ◌∷◌, ◌++◌, length, drop, is_none}
+use Rattle.std.specs.Prelude.{if◌then◌else◌}
 use Rattle.coap_wire.specs.Message.{Message}
 use Rattle.coap_wire.specs.Codes as code
 use Rattle.coap_conn.specs.declared.reason.Reason.{Reason}
@@ -15,7 +16,8 @@ use Rattle.coap_conn.specs.Outstanding.{OutstandingValue, with_cancelled}
 use Rattle.coap_conn.specs.Outstanding as outstanding
 use Rattle.coap_conn.specs.RequestState.{asking_refusal, cancel_refusal, next_token, with_token, entry_of, ping_with}
 use Rattle.coap_conn.specs.Reaction.{ConnectionState, ReactionResult, stop, abort, send, react, due_effect}
-use Rattle.coap_conn.specs.LinkValue.{LinkValue, can_hold, standing_in, asking_in, bytes_of, own_csm, limit_in, link_with, link_heard}
+use Rattle.coap_conn.specs.LinkValue.{LinkValue, can_hold, standing_in, asking_in, bytes_of, own_csm, limit_in}
+use Rattle.coap_conn.specs.LinkValue.{link_with, link_heard}
 
 -- A call with its arguments:
 -- - `Handle`: a message was received.
@@ -115,15 +117,20 @@ call_effect v (Reject fault) = where_so (takes_messages v.phase) (Does (abort (s
 call_effect v (End cut) = where_so (takes_messages v.phase) (Does (stop (standing_in v) (end_reason cut) []))
 call_effect v (Reply m) = sends_one v m (bare_response m)
 call_effect v (Hold token moment) = where_so (is_open v.phase && can_hold v) (Holds (Answer Engine token moment))
-call_effect v (HoldRequest token moment) = where_so (is_open v.phase && can_hold v) (Holds (Answer Application token moment))
+call_effect v (HoldRequest token moment) =
+    where_so (is_open v.phase && can_hold v) (Holds (Answer Application token moment))
 call_effect v (Respond m) =
-    where_so (answers v.phase && is_none (response_refusal v m)) (Does (send (standing_without m.token (standing_in v)) m (bare_response m)))
+    where_so (answers v.phase && is_none (response_refusal v m))
+    (Does (send (standing_without m.token (standing_in v)) m (bare_response m)))
 call_effect v (Due now) = where_so true (Does (due_effect (standing_due now (standing_in v)) (first_due now v.held)))
 call_effect v Release = where_so (is_open v.phase) (Does (stop (standing_in v) ReleasedHere (release ∷ [])))
-call_effect v (Request m observe) = asks_one v (with_token m (next_token v.tokens)) (entry_of observe (next_token v.tokens))
+call_effect v (Request m observe) =
+    asks_one v (with_token m (next_token v.tokens)) (entry_of observe (next_token v.tokens))
 call_effect v (Cancel token m) =
-    where_so (is_none (cancel_refusal (asking_in v) token (with_token m token))) (Asks (with_token m token) (with_cancelled token v.outstanding) v.tokens)
-call_effect v (Ping custody) = asks_one v (ping_with custody (next_token v.tokens)) (outstanding.Ping (next_token v.tokens))
+    where_so (is_none (cancel_refusal (asking_in v) token (with_token m token)))
+    (Asks (with_token m token) (with_cancelled token v.outstanding) v.tokens)
+call_effect v (Ping custody) =
+    asks_one v (ping_with custody (next_token v.tokens)) (outstanding.Ping (next_token v.tokens))
 call_effect v (Announce size) = where_so (may_announce v size) (Announces size)
 call_effect v (Written n) = where_so true (Writes n)
 
@@ -134,7 +141,8 @@ abbrev pub link_with_deed : LinkValue → CallEffect → LinkValue
 link_with_deed v (Handles m e) = link_heard v m e
 link_with_deed v (Does e) = link_with v e
 link_with_deed v (Holds e) = record v { held = v.held ++ e ∷ [] }
-link_with_deed v (Asks m outstanding tokens) = record v { waiting = v.waiting ++ bytes_of (m ∷ []); outstanding = outstanding; tokens = tokens }
+link_with_deed v (Asks m outstanding tokens) =
+    record v { waiting = v.waiting ++ bytes_of (m ∷ []); outstanding = outstanding; tokens = tokens }
 link_with_deed v (Announces size) = record v { waiting = v.waiting ++ bytes_of (own_csm size ∷ []); own_max = size }
 link_with_deed v (Writes n) = record v { waiting = drop n v.waiting }
 

@@ -11,8 +11,10 @@ use Rattle.coap_conn.specs.PendingEntries.{PendingEntryValue}
 use Rattle.coap_conn.specs.Outstanding.{OutstandingValue}
 use Rattle.coap_conn.specs.RequestState.{RequestState}
 use Rattle.coap_conn.specs.Reaction.{ConnectionState, ReactionResult}
-use Rattle.coap_conn.specs.LinkValue.{LinkValue, bytes_of, own_csm, first_csm, limit_in, standing_in, asking_in, can_hold}
-use Rattle.coap_conn.specs.Calls.{Call, CallEffect, Handles, Does, Holds, Asks, Announces, Writes, Doing, call_effect, sends_one, asks_one}
+use Rattle.coap_conn.specs.LinkValue.{LinkValue, bytes_of, own_csm, first_csm, limit_in, standing_in, asking_in}
+use Rattle.coap_conn.specs.LinkValue.{can_hold}
+use Rattle.coap_conn.specs.Calls.{Call, CallEffect, Handles, Does, Holds, Asks, Announces, Writes, Doing, call_effect}
+use Rattle.coap_conn.specs.Calls.{sends_one, asks_one}
 
 -- The history of one end of a connection. `handled` and `queued` are the messages handled and queued, in order, and
 -- `written` is the number of queued bytes that were written. The other fields are the state: `own_max` is the size of
@@ -33,7 +35,18 @@ pub record History : Type 0 where
 -- The history of a new connection, which has queued its first CSM.
 abbrev pub new_history : Role → LimitValues → ℕ → History
 new_history role limits tokens =
-    record { role = role; limits = limits; handled = []; queued = first_csm limits.max_message ∷ []; written = 0; phase = Waiting; own_max = limits.max_message; held = []; outstanding = []; tokens = tokens }
+    record {
+      role = role;
+      limits = limits;
+      handled = [];
+      queued = first_csm limits.max_message ∷ [];
+      written = 0;
+      phase = Waiting;
+      own_max = limits.max_message;
+      held = [];
+      outstanding = [];
+      tokens = tokens;
+    }
 
 -- Holds if the first message queued is the first CSM.
 abbrev pub AnnouncedFirst : History → Type 0
@@ -52,7 +65,18 @@ waiting_of h = drop h.written (bytes_of h.queued)
 -- The link that represents a history. The peer's Max-Message-Size and token length are those announced last.
 abbrev pub link_of : History → LinkValue
 link_of h =
-    record { role = h.role; limits = h.limits; waiting = waiting_of h; phase = h.phase; own_max = h.own_max; peer_max = announced h.handled; peer_token = announced_token h.handled; held = h.held; outstanding = h.outstanding; tokens = h.tokens }
+    record {
+      role = h.role;
+      limits = h.limits;
+      waiting = waiting_of h;
+      phase = h.phase;
+      own_max = h.own_max;
+      peer_max = announced h.handled;
+      peer_token = announced_token h.handled;
+      held = h.held;
+      outstanding = h.outstanding;
+      tokens = h.tokens;
+    }
 
 -- Holds if the link represents the history.
 pub record LinkShows (v : LinkValue) (h : History) : Type 0 where
@@ -79,14 +103,16 @@ may_hold h = can_hold (link_of h)
 
 -- The history after an effect.
 abbrev pub with_effect : History → ReactionResult → History
-with_effect h e = record h { queued = h.queued ++ e.queued; phase = e.phase; held = e.held; outstanding = e.outstanding }
+with_effect h e =
+    record h { queued = h.queued ++ e.queued; phase = e.phase; held = e.held; outstanding = e.outstanding }
 
 -- The history after the effect of a call.
 abbrev pub with_deed : History → CallEffect → History
 with_deed h (Handles m e) = record (with_effect h e) { handled = h.handled ++ m ∷ [] }
 with_deed h (Does e) = with_effect h e
 with_deed h (Holds e) = record h { held = h.held ++ e ∷ [] }
-with_deed h (Asks m outstanding tokens) = record h { queued = h.queued ++ m ∷ []; outstanding = outstanding; tokens = tokens }
+with_deed h (Asks m outstanding tokens) =
+    record h { queued = h.queued ++ m ∷ []; outstanding = outstanding; tokens = tokens }
 with_deed h (Announces size) = record h { queued = h.queued ++ own_csm size ∷ []; own_max = size }
 with_deed h (Writes n) = record h { written = h.written + n }
 

@@ -18,7 +18,14 @@ pub record LimitValues : Type 0 where
 -- The limits with these values.
 abbrev pub limits_of : (max_message max_sent queue pending observers outstanding : ℕ) → LimitValues
 limits_of max_message max_sent queue pending observers outstanding =
-    record { max_message = max_message; max_sent = max_sent; queue = queue; pending = pending; observers = observers; outstanding = outstanding }
+    record {
+      max_message = max_message;
+      max_sent = max_sent;
+      queue = queue;
+      pending = pending;
+      observers = observers;
+      outstanding = outstanding;
+    }
 
 -- The limits that both programs have by default.
 abbrev pub default_limits : LimitValues

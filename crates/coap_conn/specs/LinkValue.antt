@@ -1,5 +1,6 @@
 -- Defined by this project: the value of a `Link`, its invariant, and the terms in which contracts refer to it.
-use Rattle.std.specs.Prelude.{◌≡◌, ◌⊎◌, ℕ, ◌-◌, ◌<◌, ◌≤◌, ◌^◌, Bool, true, ◌&&◌, List, [], ◌∷◌, ◌++◌, length, unwrap_or, nat_lt, ◌==◌}
+use Rattle.std.specs.Prelude.{◌≡◌, ◌⊎◌, ℕ, ◌-◌, ◌<◌, ◌≤◌, ◌^◌, Bool, true, ◌&&◌, List, [], ◌∷◌, ◌++◌, length, unwrap_or}
+use Rattle.std.specs.Prelude.{nat_lt, ◌==◌}
 use Rattle.std.specs.List.{flat_map}
 use Rattle.coap_wire.specs.Message.{CoapOption, Message}
 use Rattle.coap_wire.specs.Forms.{greatest_token}
@@ -12,7 +13,8 @@ use Rattle.coap_conn.specs.declared.phase.Phase.TheVariants.{Waiting}
 use Rattle.coap_conn.specs.declared.phase.Role.{Role}
 use Rattle.coap_conn.specs.Phases.{is_over, answers}
 use Rattle.coap_conn.specs.Limits.{LimitValues}
-use Rattle.coap_conn.specs.Announced.{base_token, bad_csm_option, csm_size, csm_token, announcement, token_announcement, size_limit}
+use Rattle.coap_conn.specs.Announced.{base_token, bad_csm_option, csm_size, csm_token, announcement, token_announcement}
+use Rattle.coap_conn.specs.Announced.{size_limit}
 use Rattle.coap_conn.specs.PendingEntries.{PendingEntryValue}
 use Rattle.coap_conn.specs.Outstanding.{OutstandingValue}
 use Rattle.coap_conn.specs.RequestState.{RequestState}
@@ -73,11 +75,25 @@ sizes_of l = (l.limits, l.own_max)
 
 -- The state that decides the reaction to a message.
 abbrev pub standing_in : LinkValue → ConnectionState
-standing_in v = record { role = v.role; phase = v.phase; limit = limit_in v; held = v.held; most = v.limits.pending; outstanding = v.outstanding }
+standing_in v = record {
+  role = v.role;
+  phase = v.phase;
+  limit = limit_in v;
+  held = v.held;
+  most = v.limits.pending;
+  outstanding = v.outstanding;
+}
 
 -- The state that decides whether a request may be sent.
 abbrev pub asking_in : LinkValue → RequestState
-asking_in v = record { phase = v.phase; outstanding = v.outstanding; most = v.limits.outstanding; tokens = v.tokens; limit = limit_in v; free = free_in v }
+asking_in v = record {
+  phase = v.phase;
+  outstanding = v.outstanding;
+  most = v.limits.outstanding;
+  tokens = v.tokens;
+  limit = limit_in v;
+  free = free_in v;
+}
 
 -- ---- queued messages
 
@@ -87,7 +103,12 @@ bytes_of ms = flat_map spelling ms
 
 -- The CSM with Max-Message-Size alone, whose value is these bytes (RFC 8323 section 5.3.1).
 abbrev pub csm_with : List ℕ → Message
-csm_with size = record { code = code.csm; token = []; options = record { number = option.max_message_size; value = size } ∷ []; payload = [] }
+csm_with size = record {
+  code = code.csm;
+  token = [];
+  options = record { number = option.max_message_size; value = size } ∷ [];
+  payload = [];
+}
 
 -- The CSM that announces this size.
 abbrev pub own_csm : ℕ → Message
@@ -108,16 +129,31 @@ first_csm M = first_csm_with (bytes_of_uint M)
 -- A new link, with the first CSM queued.
 abbrev pub new_link : Role → LimitValues → ℕ → LinkValue
 new_link role limits tokens =
-    record { role = role; limits = limits; waiting = bytes_of (first_csm limits.max_message ∷ []); phase = Waiting; own_max = limits.max_message; peer_max = BASE_MESSAGE_SIZE; peer_token = base_token; held = []; outstanding = []; tokens = tokens }
+    record {
+      role = role;
+      limits = limits;
+      waiting = bytes_of (first_csm limits.max_message ∷ []);
+      phase = Waiting;
+      own_max = limits.max_message;
+      peer_max = BASE_MESSAGE_SIZE;
+      peer_token = base_token;
+      held = [];
+      outstanding = [];
+      tokens = tokens;
+    }
 
 -- The link after an effect.
 abbrev pub link_with : LinkValue → ReactionResult → LinkValue
-link_with v e = record v { waiting = v.waiting ++ bytes_of e.queued; phase = e.phase; held = e.held; outstanding = e.outstanding }
+link_with v e =
+    record v { waiting = v.waiting ++ bytes_of e.queued; phase = e.phase; held = e.held; outstanding = e.outstanding }
 
 -- The link after a message with this effect. The sizes that the message announces become those of the peer.
 abbrev pub link_heard : LinkValue → Message → ReactionResult → LinkValue
 link_heard v m e =
-    record (link_with v e) { peer_max = unwrap_or (announcement m) v.peer_max; peer_token = unwrap_or (token_announcement m) v.peer_token }
+    record (link_with v e) {
+      peer_max = unwrap_or (announcement m) v.peer_max;
+      peer_token = unwrap_or (token_announcement m) v.peer_token;
+    }
 
 -- ---- messages in phases that accept them
 
@@ -128,4 +164,5 @@ link_handled v m = link_heard v m (live_reaction (standing_in v) m).effect
 -- The link after a CSM, in a phase that accepts messages.
 abbrev pub link_after_csm : LinkValue → Message → LinkValue
 link_after_csm v m =
-    record (link_with v (csm_reaction (standing_in v) (bad_csm_option m)).effect) { peer_max = unwrap_or (csm_size m) v.peer_max; peer_token = unwrap_or (csm_token m) v.peer_token }
+    record (link_with v (csm_reaction (standing_in v) (bad_csm_option m)).effect)
+    { peer_max = unwrap_or (csm_size m) v.peer_max; peer_token = unwrap_or (csm_token m) v.peer_token }

@@ -13,13 +13,25 @@ use Rattle.coap_conn.specs.declared.link.Link.TheInside.{Inside}
 -- The value of a `Link`.
 abbrev pub link_value : Inside → LinkValue
 link_value l =
-    record { role = l.role; limits = l.limits; waiting = l.queue.waiting; phase = l.phase; own_max = l.own_max; peer_max = l.peer_max; peer_token = l.peer_token; held = map held_value l.pending.items; outstanding = map outstanding_value l.asked.items; tokens = l.tokens }
+    record {
+      role = l.role;
+      limits = l.limits;
+      waiting = l.queue.waiting;
+      phase = l.phase;
+      own_max = l.own_max;
+      peer_max = l.peer_max;
+      peer_token = l.peer_token;
+      held = map held_value l.pending.items;
+      outstanding = map outstanding_value l.asked.items;
+      tokens = l.tokens;
+    }
 
 -- The invariant of the fields of a `Link`. Memory is reserved for the queue, the pending entries and the outstanding
 -- entries, as the limits say.
 abbrev pub is_link : Inside → Type 0
 is_link l =
-    IsLink (link_value l) × (l.queue.bytes ≡ l.limits.queue) × (l.limits.pending ≤ vec_capacity l.pending) × (l.limits.outstanding ≤ vec_capacity l.asked)
+    IsLink (link_value l) × (l.queue.bytes ≡ l.limits.queue) × (l.limits.pending ≤ vec_capacity l.pending)
+    × (l.limits.outstanding ≤ vec_capacity l.asked)
 
 -- The value of a `Verdict`, with the token as a list of bytes.
 abbrev pub verdict_value : Verdict → VerdictValue

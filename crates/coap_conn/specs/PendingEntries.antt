@@ -1,15 +1,16 @@
 -- RFC 8323 section 5.4.1: Pongs with Custody, which are sent after everything that precedes them in the pending list.
--- Defined by this project: delayed responses, which are sent when they are due, and requests that wait for a response of
--- the application. The list is in the order of arrival.
-use Rattle.std.specs.Prelude.{◌≡◌, ℕ, ◌≤◌, ◌++◌, Bool, false, List, [], ◌∷◌, Option, Some, None, min, slice_get, nat_le, nat_lt, ◌==◌, if◌then◌else◌}
+-- Defined by this project: delayed responses, which are sent when they are due, and requests that wait for a response
+-- of the application. The list is in the order of arrival.
+use Rattle.std.specs.Prelude.{◌≡◌, ℕ, ◌≤◌, ◌++◌, Bool, false, List, [], ◌∷◌, Option, Some, None, min, slice_get, nat_le}
+use Rattle.std.specs.Prelude.{nat_lt, ◌==◌, if◌then◌else◌}
 use Rattle.std.specs.List.{AllByRecursion, filter_map, reduce, list_any, position, remove}
 use Rattle.coap_conn.specs.Outstanding.{same_token}
 use Rattle.coap_conn.specs.declared.pending.Responder.{Responder}
 use Rattle.coap_conn.specs.declared.pending.Responder.TheVariants.{Engine, Application}
 
 -- An entry of the pending list: a response, due at `moment`, or a Pong. The token is that of the request or of the
--- Ping. A response of the engine is sent at its time. The application may give its response until then; an error is sent
--- at that time, its deadline.
+-- Ping. A response of the engine is sent at its time. The application may give its response until then; an error is
+-- sent at that time, its deadline.
 pub data PendingEntryValue : Type 0 where
   Answer : (by : Responder) (token : List ℕ) (moment : ℕ) → PendingEntryValue
   Pong : (token : List ℕ) → PendingEntryValue
@@ -88,7 +89,8 @@ NothingIsDue now held = AllByRecursion (λ e. due_moment now e ≡ None) held ×
 
 -- Holds if this response is due first at `now`, and `rest` are the entries without it. Its time has come, no time that
 -- has come is earlier, and all responses before it have other times.
-pub record IsDueFirst (now : ℕ) (held : List PendingEntryValue) (by : Responder) (token : List ℕ) (moment : ℕ) (rest : List PendingEntryValue) : Type 0 where
+pub record IsDueFirst (now : ℕ) (held : List PendingEntryValue) (by : Responder) (token : List ℕ) (moment : ℕ)
+    (rest : List PendingEntryValue) : Type 0 where
   pub before : List PendingEntryValue
   pub after : List PendingEntryValue
   pub there : held ≡ before ++ Answer by token moment ∷ after
@@ -115,7 +117,8 @@ without_request token held = without_at held (position (is_request_for token) he
 
 -- Holds if a request with this token waits for a response of the application, and `rest` are the entries without it. No
 -- entry before it is another request with the token.
-pub record IsFirstRequest (held : List PendingEntryValue) (token : List ℕ) (rest : List PendingEntryValue) : Type 0 where
+pub record IsFirstRequest (held : List PendingEntryValue) (token : List ℕ)
+    (rest : List PendingEntryValue) : Type 0 where
   pub before : List PendingEntryValue
   pub after : List PendingEntryValue
   pub moment : ℕ

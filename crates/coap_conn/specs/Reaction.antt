@@ -1,12 +1,14 @@
 -- RFC 8323 sections 3.3, 3.4 and 5, RFC 7252 section 12.1: the reaction of a connection to a received message.
-use Rattle.std.specs.Prelude.{ℕ, ◌/◌, Bool, true, false, not, ◌&&◌, ◌||◌, List, [], ◌∷◌, ◌++◌, length, Option, Some, None, nat_lt, find, ◌==◌, if◌then◌else◌}
+use Rattle.std.specs.Prelude.{ℕ, ◌/◌, Bool, true, false, not, ◌&&◌, ◌||◌, List, [], ◌∷◌, ◌++◌, length, Option, Some}
+use Rattle.std.specs.Prelude.{None, nat_lt, find, ◌==◌, if◌then◌else◌}
 use Rattle.std.specs.List.{list_any}
 use Rattle.coap_wire.specs.Message.{CoapOption, Message}
 use Rattle.coap_wire.specs.Codes as code
 use Rattle.coap_conn.specs.SignalOptions as option
 use Rattle.coap_conn.specs.Phases.{stop_of, is_waiting}
 use Rattle.coap_conn.specs.declared.reason.Reason.{Reason}
-use Rattle.coap_conn.specs.declared.reason.Reason.TheVariants.{ReservedCode, CsmExpected, BadCsm, BadSignalOption, PeerAbort, PeerRelease, PeerTooSmall}
+use Rattle.coap_conn.specs.declared.reason.Reason.TheVariants.{ReservedCode, CsmExpected, BadCsm, BadSignalOption}
+use Rattle.coap_conn.specs.declared.reason.Reason.TheVariants.{PeerAbort, PeerRelease, PeerTooSmall}
 use Rattle.coap_conn.specs.declared.phase.Phase.{Phase}
 use Rattle.coap_conn.specs.declared.phase.Phase.TheVariants as phase
 use Rattle.coap_conn.specs.declared.phase.Role.{Role}
@@ -17,7 +19,8 @@ use Rattle.coap_conn.specs.Reasons.{abort_of}
 use Rattle.coap_conn.specs.Announced.{has_critical_option, bad_csm_option}
 use Rattle.coap_conn.specs.Fit.{fit, bare_response, without_options, abort_fitted}
 use Rattle.coap_conn.specs.PendingEntries.{PendingEntryValue, Answer, Pong}
-use Rattle.coap_conn.specs.Outstanding.{OutstandingValue, matches_response, is_last, matches_pong, without_asked, without_pinged}
+use Rattle.coap_conn.specs.Outstanding.{OutstandingValue, matches_response, is_last, matches_pong, without_asked}
+use Rattle.coap_conn.specs.Outstanding.{without_pinged}
 use Rattle.coap_conn.specs.Verdicts.{VerdictValue}
 use Rattle.coap_conn.specs.Verdicts as verdict
 
@@ -154,12 +157,16 @@ holds s e = record { effect = record (stay s) { held = s.held ++ e ∷ [] }; ver
 -- The reaction to a Ping with Custody if entries are pending: the Pong is appended to the pending list. If the list is
 -- full, the Pong is sent at once without Custody.
 abbrev pub late_pong : ConnectionState → Message → Reaction
-late_pong s m = if nat_lt (length s.held) s.most then holds s (Pong m.token) else sends s (pong_with false m.token) (pong_with false m.token)
+late_pong s m =
+    if nat_lt (length s.held) s.most then holds s (Pong m.token)
+    else sends s (pong_with false m.token) (pong_with false m.token)
 
 -- The reaction to a Ping. A Pong with Custody says that all requests before the Ping were answered, so it waits for the
 -- pending entries (RFC 8323 section 5.4.1).
 abbrev pub ping_reaction : ConnectionState → Message → Reaction
-ping_reaction s m = if asks_custody m && nat_lt 0 (length s.held) then late_pong s m else sends s (pong_of m) (without_options (pong_of m))
+ping_reaction s m =
+    if asks_custody m && nat_lt 0 (length s.held) then late_pong s m
+    else sends s (pong_of m) (without_options (pong_of m))
 
 -- The response 5.01 (Not Implemented) to a request.
 abbrev pub not_implemented : Message → Message
@@ -173,7 +180,10 @@ request_reaction s m Client = sends s (not_implemented m) (bare_response (not_im
 -- The reaction to a Release. No more messages are accepted, and outstanding entries are dropped. Pending entries are
 -- still sent (RFC 8323 section 5.5).
 abbrev pub release_reaction : ConnectionState → Reaction
-release_reaction s = record { effect = record (stay s) { phase = phase.Releasing PeerRelease; outstanding = [] }; verdict = verdict.Stopped PeerRelease }
+release_reaction s = record {
+  effect = record (stay s) { phase = phase.Releasing PeerRelease; outstanding = [] };
+  verdict = verdict.Stopped PeerRelease;
+}
 
 -- ---- responses and Pongs
 

@@ -6,7 +6,9 @@ use Rattle.coap_wire.specs.Uint.{bytes_of_uint}
 use Rattle.coap_wire.specs.Codes as code
 use Rattle.coap_conn.specs.SignalOptions as option
 use Rattle.coap_conn.specs.declared.reason.Reason.{Reason}
-use Rattle.coap_conn.specs.declared.reason.Reason.TheVariants.{Format, TooLarge, TokenLength, ReservedCode, CsmExpected, BadCsm, BadSignalOption, PeerAbort, PeerRelease, PeerTooSmall, Ended, Cut, ReleasedHere}
+use Rattle.coap_conn.specs.declared.reason.Reason.TheVariants.{Format, TooLarge, TokenLength, ReservedCode, CsmExpected}
+use Rattle.coap_conn.specs.declared.reason.Reason.TheVariants.{BadCsm, BadSignalOption, PeerAbort, PeerRelease}
+use Rattle.coap_conn.specs.declared.reason.Reason.TheVariants.{PeerTooSmall, Ended, Cut, ReleasedHere}
 
 -- The number of a reason.
 abbrev pub reason_number : Reason → ℕ

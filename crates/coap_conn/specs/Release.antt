@@ -7,7 +7,8 @@ use Rattle.coap_conn.specs.LinkValue.{LinkValue, free_in, limit_in}
 
 -- The error if the queue has no room for the 2 bytes of a Release, or the peer accepts no message of 2 bytes.
 abbrev pub room_refusal : LinkValue → Option SendFault
-room_refusal v = if nat_lt (free_in v) 2 then Some NoRoom else (if nat_lt (limit_in v) 2 then Some PeerTooSmall else None)
+room_refusal v =
+    if nat_lt (free_in v) 2 then Some NoRoom else (if nat_lt (limit_in v) 2 then Some PeerTooSmall else None)
 
 -- The error of `Link::release`, if it fails.
 abbrev pub release_refusal : LinkValue → Option SendFault

@@ -11,7 +11,8 @@ use Rattle.coap_conn.specs.Outstanding.{OutstandingValue, Request, Observation, 
 use Rattle.coap_conn.specs.Reaction.{custody_options}
 use Rattle.coap_conn.specs.declared.phase.Phase.{Phase}
 use Rattle.coap_conn.specs.declared.phase.RequestFault.{RequestFault}
-use Rattle.coap_conn.specs.declared.phase.RequestFault.TheVariants.{NotOpen, TooMany, TooBig, NoRoom, TokensSpent, NoSuchToken}
+use Rattle.coap_conn.specs.declared.phase.RequestFault.TheVariants.{NotOpen, TooMany, TooBig, NoRoom, TokensSpent}
+use Rattle.coap_conn.specs.declared.phase.RequestFault.TheVariants.{NoSuchToken}
 
 -- The state that decides whether a request may be sent. `most` is the limit of outstanding entries, and `tokens` the
 -- number of the last token. `limit` is the size of the largest message that may be sent, and `free` the free bytes of
@@ -78,7 +79,8 @@ has_observation a token = list_any (may_cancel token) a.outstanding
 
 -- The error with which every cancellation of the observation with this token fails, whatever the message.
 unfoldable pub observation_refusal : RequestState → List ℕ → Option RequestFault
-observation_refusal a token = if is_open a.phase then (if has_observation a token then None else Some NoSuchToken) else Some NotOpen
+observation_refusal a token =
+    if is_open a.phase then (if has_observation a token then None else Some NoSuchToken) else Some NotOpen
 
 -- The error with which a cancellation fails. Either the connection is not open, or there is no observation with this
 -- token to cancel, or the message is too large.

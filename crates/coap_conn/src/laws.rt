@@ -26,7 +26,8 @@ ghost use Rattle.coap_conn.specs.declared.phase.Phase.TheVariants.{Waiting, Open
 /// if there is none (RFC 8323 section 5.3.1). Its longest token is the last one announced, or 8 bytes if there is none
 /// (RFC 8974 section 2.2.1).
 pub fn last_announcement_counts()
-    ensures none { (ms : List Message) → AllByRecursion (λ m. announcement m ≡ None) ms → announced ms ≡ BASE_MESSAGE_SIZE }
+    ensures none { (ms : List Message) → AllByRecursion (λ m. announcement m ≡ None) ms
+        → announced ms ≡ BASE_MESSAGE_SIZE }
     ensures last { (before after : List Message) (m : Message) (n : ℕ) → announcement m ≡ Some n →
         AllByRecursion (λ m. announcement m ≡ None) after → announced (before ++ m ∷ after) ≡ n }
     ensures no_token { (ms : List Message) → AllByRecursion (λ m. token_announcement m ≡ None) ms →
@@ -45,7 +46,8 @@ pub fn queued_messages_fit_limit()
     ensures released { (h : History) → 2 ≤ limit_now h → AllFit (limit_now h) (release ∷ []) }
     ensures responded { (h : History) (m : Message) →
         AllFit (limit_now h) (send (standing_without m.token (standing_now h)) m (bare_response m)).queued }
-    ensures due { (h : History) (e : Option PendingEntryValue) → AllFit (limit_now h) (due_effect (standing_now h) e).queued }
+    ensures due { (h : History) (e : Option PendingEntryValue)
+        → AllFit (limit_now h) (due_effect (standing_now h) e).queued }
     ensures asked { (h : History) (m : Message) → asking_refusal (asking_now h) m ≡ None →
         AllFit (limit_now h) (m ∷ []) }
     ensures announced { (h : History) (size : ℕ) → may_announce (link_of h) size ≡ true
@@ -98,10 +100,12 @@ pub fn nothing_follows_a_stop()
 /// entry is returned only if none is due.
 pub fn due_entry_is_first()
     ensures answer { (now : ℕ) (held : List PendingEntryValue) (by : Responder) (token : List ℕ) (moment : ℕ) →
-        first_due now held ≡ Some (Answer by token moment) → IsDueFirst now held by token moment (without_due now held) }
+        first_due now held ≡ Some (Answer by token moment)
+        → IsDueFirst now held by token moment (without_due now held) }
     ensures pong { (now : ℕ) (held : List PendingEntryValue) (token : List ℕ) → first_due now held ≡ Some (Pong token) →
         held ≡ Pong token ∷ without_due now held }
-    ensures alone { (now : ℕ) (held : List PendingEntryValue) (token : List ℕ) → first_due now held ≡ Some (Pong token) →
+    ensures alone { (now : ℕ) (held : List PendingEntryValue) (token : List ℕ)
+        → first_due now held ≡ Some (Pong token) →
         AllByRecursion (λ e. due_moment now e ≡ None) held }
     ensures nothing { (now : ℕ) (held : List PendingEntryValue) → first_due now held ≡ None →
         NothingIsDue now held × (without_due now held ≡ held) }
@@ -118,11 +122,14 @@ pub fn application_answers_first_request()
     ensures others { (held : List PendingEntryValue) (token : List ℕ) → has_request token held ≡ false →
         without_request token held ≡ held }
     ensures sent { (h : History) (m : Message) → answers h.phase ≡ true → response_refusal (link_of h) m ≡ None →
-        (after h (call.Respond m)).queued ≡ h.queued ++ fitted m (bare_response m) (fit (limit_now h) m (bare_response m)) }
+        (after h (call.Respond m)).queued
+        ≡ h.queued ++ fitted m (bare_response m) (fit (limit_now h) m (bare_response m)) }
     ensures answered { (h : History) (m : Message) → answers h.phase ≡ true → response_refusal (link_of h) m ≡ None →
-        fit (limit_now h) m (bare_response m) ≡ Whole → (after h (call.Respond m)).held ≡ without_request m.token h.held }
+        fit (limit_now h) m (bare_response m) ≡ Whole
+        → (after h (call.Respond m)).held ≡ without_request m.token h.held }
     ensures absent { (h : History) (m : Message) → has_request m.token h.held ≡ false → after h (call.Respond m) ≡ h }
-    ensures stopped { (h : History) (m : Message) (why : Reason) → h.phase ≡ Stopped why → after h (call.Respond m) ≡ h }
+    ensures stopped { (h : History) (m : Message) (why : Reason) → h.phase ≡ Stopped why
+        → after h (call.Respond m) ≡ h }
 {}
 
 /// States that a Pong with Custody is queued at once only if no entry is pending (RFC 8323 section 5.4.1). The number
@@ -131,7 +138,8 @@ pub fn application_answers_first_request()
 pub fn custody_waits_for_what_is_held()
     ensures at_once { (s : ConnectionState) (m : Message) → list_any is_custody_pong (react s m).effect.queued ≡ true →
         s.held ≡ [] }
-    ensures few { (s : ConnectionState) (m : Message) → length s.held ≤ s.most → length (react s m).effect.held ≤ s.most }
+    ensures few { (s : ConnectionState) (m : Message) → length s.held ≤ s.most
+        → length (react s m).effect.held ≤ s.most }
     ensures kept { (s : ConnectionState) (m : Message) → stop_of (react s m).effect.phase ≡ None →
         (more : List PendingEntryValue) × ((react s m).effect.held ≡ s.held ++ more) }
     ensures released { (s : ConnectionState) (m : Message) (why : Reason) → s.phase ≡ Open →
@@ -143,7 +151,8 @@ pub fn custody_waits_for_what_is_held()
 /// States that the number of outstanding entries stays within its limit. A message adds none, and a cancellation leaves
 /// their number unchanged. A stop and the peer's Release empty the list.
 pub fn outstanding_is_limited()
-    ensures message { (s : ConnectionState) (m : Message) → length (react s m).effect.outstanding ≤ length s.outstanding }
+    ensures message { (s : ConnectionState) (m : Message)
+        → length (react s m).effect.outstanding ≤ length s.outstanding }
     ensures call { (h : History) (c : Call) → length h.outstanding ≤ h.limits.outstanding →
         length (after h c).outstanding ≤ h.limits.outstanding }
     ensures cancelled { (h : History) (token : List ℕ) (m : Message) →
@@ -159,13 +168,15 @@ pub fn responses_end_requests()
     ensures answer { (s : ConnectionState) (m : Message) (token : List ℕ) (last : Bool) →
         (react s m).verdict ≡ verdict.Answer token last →
         (token ≡ m.token) × (list_any (matches_response token) s.outstanding ≡ true) }
-    ensures last { (s : ConnectionState) (m : Message) (token : List ℕ) → (react s m).verdict ≡ verdict.Answer token true →
+    ensures last { (s : ConnectionState) (m : Message) (token : List ℕ)
+        → (react s m).verdict ≡ verdict.Answer token true →
         (react s m).effect ≡ record (stay s) { outstanding = without_asked token s.outstanding } }
     ensures gone { (token : List ℕ) (outstanding : List OutstandingValue) →
         list_any (matches_response token) (without_asked token outstanding) ≡ false }
     ensures notified { (s : ConnectionState) (m : Message) (token : List ℕ) →
         (react s m).verdict ≡ verdict.Answer token false → (is_notification m ≡ true) × ((react s m).effect ≡ stay s) }
-    ensures ended { (s : ConnectionState) (m : Message) (token : List ℕ) → (react s m).verdict ≡ verdict.Answer token true →
+    ensures ended { (s : ConnectionState) (m : Message) (token : List ℕ)
+        → (react s m).verdict ≡ verdict.Answer token true →
         is_notification m ≡ true → list_any (λ e. matches_response token e && is_request_entry e) s.outstanding ≡ true }
     ensures pong { (s : ConnectionState) (m : Message) (token : List ℕ) (custody : Bool) →
         (react s m).verdict ≡ verdict.Pong token custody →

@@ -1,7 +1,8 @@
 //! The program `coap-directory`: a CoRE resource directory (RFC 9176) for CoAP over TCP (RFC 8323).
 //!
-//! The function `coap_command_line::directory_words` defines its arguments. The program listens at an address. The server
-//! hands the requests below `/rd` and `/rd-lookup` to a `Directory` (`application.rt`), which answers each at once.
+//! The function `coap_command_line::directory_words` defines its arguments. The program listens at an address.
+//! The server hands the requests below `/rd` and `/rd-lookup` to a `Directory` (`application.rt`), which
+//! answers each at once.
 #![tactic(auto)]
 
 ghost use Rattle.std.specs.Prelude.{[], IfOk, IsErr};
@@ -77,8 +78,8 @@ fn config_of(alloc: Global, plan: &DirectoryPlan, now: u64) -> Option<ServiceCon
 }
 
 /// Listens at the address of a plan, writes one line that says so to standard error, and serves the connections that
-/// clients open. Returns an exit status only after an error. The file of a record is created before the server listens, and
-/// its header is written afterwards.
+/// clients open. Returns an exit status only after an error. The file of a record is created before the server listens,
+/// and its header is written afterwards.
 fn run<'a>(
     rt: &'a (impl Print + Eprint + Files + Net + time::Clock + AllocGlobal),
     plan: &'a DirectoryPlan,
@@ -110,8 +111,8 @@ fn run<'a>(
     }
 }
 
-/// Serves the connections of a listener, with a record, and with a log of this level. With a log, the listener wakes up each
-/// second.
+/// Serves the connections of a listener, with a record, and with a log of this level. With a log, the listener wakes
+/// up each second.
 fn serve<'a, R: Net + time::Clock + AllocGlobal, O: Outlet + Drop>(
     rt: &'a R,
     door: &mut SocketDoor<'a, R>,

@@ -118,8 +118,8 @@ renewed_base (Some b) = if is_base b then Ok (Some b) else Err refusal.Base
 abbrev pub at_location : RegistryValue → ℕ → Result (Unit {0}) Refusal
 at_location v number = if has_location v number then Ok tt else Err refusal.Path
 
--- RFC 9176 section 5.3.1: the lifetime and the base URI that an update gives, or the first refusal. The key of an endpoint
--- stays as it is.
+-- RFC 9176 section 5.3.1: the lifetime and the base URI that an update gives, or the first refusal. The key of an
+-- endpoint stays as it is.
 unfoldable pub renewing : List CoapOption → Result (Option ℕ × Option (List ℕ)) Refusal
 renewing os =
     if is_repeated (codes "lt") os || is_repeated (codes "base") os then Err refusal.Repeated
@@ -174,8 +174,8 @@ abbrev pub fits_text : Option (List ℕ) → Result (Unit {0}) Refusal
 fits_text None = Err refusal.TooLarge
 fits_text (Some text) = Ok tt
 
--- The result of a lookup with these criteria of this part, and the listing after it. The request accepts link format, or
--- not.
+-- The result of a lookup with these criteria of this part, and the listing after it. The request accepts link
+-- format, or not.
 abbrev pub looking_up_with : RegistryValue → ListingValue → Bool → ℕ → Bool → Option (List CriterionValue)
     → Option PageValue → Result (Unit {0}) Refusal × ListingValue
 looking_up_with v l endpoints limit accepted None page = (Err refusal.Query, l)

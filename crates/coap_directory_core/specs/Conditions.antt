@@ -1,5 +1,5 @@
--- RFC 7252 sections 5.10.3, 5.10.4 and 5.10.8: the formats that a request names, and its conditions. Only recognised options
--- count. A resource of a directory has no ETag.
+-- RFC 7252 sections 5.10.3, 5.10.4 and 5.10.8: the formats that a request names, and its conditions. Only recognised
+-- options count. A resource of a directory has no ETag.
 use Rattle.std.specs.Prelude.{ℕ, Bool, not, ◌&&◌, ◌||◌, List, length, nat_le, ◌==◌}
 use Rattle.std.specs.List.{list_all, list_any}
 use Rattle.coap_wire.specs.Message.{CoapOption}
@@ -7,8 +7,8 @@ use Rattle.coap_wire.specs.OptionNumbers as numbers
 use Rattle.coap_wire.specs.Recognition.{known_options}
 use Rattle.coap_wire.specs.Uint.{uint_of}
 
--- The bytes are the number of `application/link-format` (RFC 7252 section 12.3). They are at most two, and can have leading
--- zeros (RFC 7252 section 3.2).
+-- The bytes are the number of `application/link-format` (RFC 7252 section 12.3). They are at most two, and can have
+-- leading zeros (RFC 7252 section 3.2).
 abbrev pub means_link_format : List ℕ → Bool
 means_link_format value = nat_le (length value) 2 && uint_of value == 40
 

@@ -20,8 +20,8 @@ attributes_named name attributes = filter (λ a. is_same_name a.name name) attri
 abbrev pub quoted : List ℕ → List ℕ → Attribute
 quoted name text = record { name = name; value = QuotedValue text }
 
--- The attributes name the endpoint with this key. They have exactly one `ep`, which is the name. They have one `d`, which
--- is the sector, or none if the sector is empty.
+-- The attributes name the endpoint with this key. They have exactly one `ep`, which is the name. They have one `d`,
+-- which is the sector, or none if the sector is empty.
 pub record IsNamed (key : List ℕ) (attributes : List Attribute) : Type 0 where
   pub sector : List ℕ
   pub name : List ℕ

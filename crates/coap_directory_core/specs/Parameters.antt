@@ -9,8 +9,8 @@ use Rattle.coap_links.specs.Links.{QuotedValue, Attribute, Link, is_parmname}
 use Rattle.coap_wire.specs.Message.{CoapOption}
 use Rattle.coap_directory_core.specs.Requests.{split_query}
 
--- The key of an endpoint with this sector and name: a byte with the length of the sector, the sector, and the name. `None`
--- if a name has more than 63 bytes, or if that of the endpoint is empty.
+-- The key of an endpoint with this sector and name: a byte with the length of the sector, the sector, and the name.
+-- `None` if a name has more than 63 bytes, or if that of the endpoint is empty.
 abbrev pub key_in : List ℕ → List ℕ → Option (List ℕ)
 key_in sector name =
     if nat_lt 63 (length sector) then None

@@ -49,7 +49,8 @@ repeats_parameter os =
 abbrev pub is_part_name : List ℕ → Bool
 is_part_name name = pointwise nat_eq name (codes "page") || pointwise nat_eq name (codes "count")
 
--- The criteria with that of these parts of a query. `None` if the query has no `=`, or if there are 16 criteria already.
+-- The criteria with that of these parts of a query. `None` if the query has no `=`, or if there are 16
+-- criteria already.
 abbrev pub with_parts : List CriterionValue → Option (List ℕ × List ℕ) → Option (List CriterionValue)
 with_parts criteria None = None
 with_parts criteria (Some x) =
@@ -80,8 +81,8 @@ page_with page None = None
 page_with None (Some n) = None
 page_with (Some p) (Some n) = Some (record { skip = p * n; count = n })
 
--- The part of the results that the parameters `page` and `count` ask for. It is all without them, and `None` if they are
--- malformed or `count` is missing.
+-- The part of the results that the parameters `page` and `count` ask for. It is all without them, and `None` if they
+-- are malformed or `count` is missing.
 abbrev pub page_in : Option (List ℕ) → Option (List ℕ) → Option PageValue
 page_in None None = Some (record { skip = 0; count = 2 ^ 64 - 1 })
 page_in (Some p) None = None

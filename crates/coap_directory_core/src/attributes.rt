@@ -100,7 +100,8 @@ pub(crate) fn given_attributes<'a>(request: &MessageRef<'a>) -> Result<Attribute
 /// - `Refusal::Many` if there are more than 64 attributes then.
 pub(crate) fn with_type<'a>(given: AttributeList<'a>) -> Result<AttributeList<'a>, Refusal>
     requires { list_all is_attribute (attributes_of given.items) ≡ true }
-    ensures value { Gives (λ l. attributes_of l.items) result (limited (attributes_of given.entry.items ++ endpoint_type ∷ [])) }
+    ensures value { Gives (λ l. attributes_of l.items) result
+        (limited (attributes_of given.entry.items ++ endpoint_type ∷ [])) }
     ensures each { IfOk result (λ l. list_all is_attribute (attributes_of l.items) ≡ true) }
 {
     let mut list = given;

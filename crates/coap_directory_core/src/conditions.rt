@@ -54,7 +54,8 @@ fn has_option(request: &MessageRef, number: u16) -> bool
 
 /// Returns `true` if a value of If-Match is empty.
 fn matches_any(request: &MessageRef) -> bool
-    ensures { result ≡ list_any (λ o. o.number == numbers.if_match && length o.value == 0) (known_options request.now.options) }
+    ensures { result
+        ≡ list_any (λ o. o.number == numbers.if_match && length o.value == 0) (known_options request.now.options) }
 {
     request.known().any(|option| option.number == IF_MATCH && option.value.is_empty())
 }

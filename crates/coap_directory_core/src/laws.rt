@@ -12,14 +12,14 @@ pub fn directories_have_reached_registries()
     ensures { (d : DirectoryValue) → ReachedDirectory d → Reached d.registry }
 {}
 
-/// States that the attributes of each registered endpoint have exactly one `ep`, the name of its key. They have one `d`,
-/// the sector of its key, or none if that is empty (RFC 9176 section 5).
+/// States that the attributes of each registered endpoint have exactly one `ep`, the name of its key. They have one
+/// `d`, the sector of its key, or none if that is empty (RFC 9176 section 5).
 pub fn endpoints_have_their_own_names()
     ensures { (d : DirectoryValue) → ReachedDirectory d → AreNamed d }
 {}
 
-/// States that the text of a lookup is in link format. It writes the links that the criteria select, or a page of them. So
-/// `coap_links::parse` reads these links from it (RFC 9176 section 6, RFC 6690 section 2).
+/// States that the text of a lookup is in link format. It writes the links that the criteria select, or a page of them.
+/// So `coap_links::parse` reads these links from it (RFC 9176 section 6, RFC 6690 section 2).
 pub fn lookups_are_in_link_format()
     ensures endpoints { (d : DirectoryValue) → ReachedDirectory d → (criteria : List CriterionValue)
         (l : ListingValue) (page : PageValue) (limit : ℕ) (text : List ℕ) →

@@ -4,8 +4,8 @@
 //!   `/rd-lookup/res`.
 //! - `Reply` is the response to a request before it is written.
 //!
-//! The contracts name the definitions of `specs/Requests.antt` (the parts of a request) and `specs/Replies.antt` (the reply
-//! to a request and the registrations after it).
+//! The contracts name the definitions of `specs/Requests.antt` (the parts of a request) and `specs/Replies.antt` (the
+//! reply to a request and the registrations after it).
 //!
 //! Simple registration, observed lookups, block-wise transfer and multicast are not supported. This crate keeps no
 //! connection and reads no clock. Continue with `directory.rt`, then `query.rt`.

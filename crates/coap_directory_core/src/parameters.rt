@@ -185,8 +185,8 @@ fn means_parameter(name: &[u8]) -> bool
         || is_same_name(name, b"base")
 }
 
-/// Returns `true` if the name is that of an attribute that the link of an endpoint has of its own. The same holds for one
-/// that would make it another link.
+/// Returns `true` if the name is that of an attribute that the link of an endpoint has of its own. The same holds for
+/// one that would make it another link.
 fn means_own(name: &[u8]) -> bool
     ensures { result ≡ list_any (is_same name.now) own_names }
 {

@@ -106,7 +106,8 @@ fn add_criterion<'a>(
     criteria: &mut ArrayVec<Criterion<'a>, MAX_CRITERIA>,
     option: &OptionRef<'a>,
 ) -> bool
-    ensures { (if result then Some (criteria_of criteria.new.items) else None) ≡ with_criterion (criteria_of criteria.old.items) (coap_option option.now) }
+    ensures { (if result then Some (criteria_of criteria.new.items) else None)
+        ≡ with_criterion (criteria_of criteria.old.items) (coap_option option.now) }
 {
     if option.number != URI_QUERY {
         return true;
@@ -147,7 +148,8 @@ pub(crate) fn small_number(word: &[u8]) -> Option<u32>
 
 /// Returns the part of the results that a lookup asks for, or `None` if it is malformed.
 pub(crate) fn page_of_request(request: &MessageRef) -> Option<Page>
-    ensures { option_map page_of result ≡ page_in (named (codes "page") request.now.options) (named (codes "count") request.now.options) }
+    ensures { option_map page_of result
+        ≡ page_in (named (codes "page") request.now.options) (named (codes "count") request.now.options) }
 {
     part_of(
         value_named(request, b"page"),
@@ -157,7 +159,8 @@ pub(crate) fn page_of_request(request: &MessageRef) -> Option<Page>
 
 /// Returns the part with these parameters.
 fn part_of(page: Option<&[u8]>, count: Option<&[u8]>) -> Option<Page>
-    ensures { option_map page_of result ≡ page_in (option_map (λ p. p.now) page.entry) (option_map (λ c. c.now) count.entry) }
+    ensures { option_map page_of result
+        ≡ page_in (option_map (λ p. p.now) page.entry) (option_map (λ c. c.now) count.entry) }
 {
     let Some(count) = count else {
         if page.is_some() {

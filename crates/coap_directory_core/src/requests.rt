@@ -25,7 +25,8 @@ use std::alloc::{AllocError, Global};
 
 /// Returns the key of the endpoint that a request names.
 fn requested_key(request: &MessageRef) -> Option<EndpointKey>
-    ensures { option_map (λ k. k.items) result ≡ key_with (named (codes "d") request.now.options) (named (codes "ep") request.now.options) }
+    ensures { option_map (λ k. k.items) result
+        ≡ key_with (named (codes "d") request.now.options) (named (codes "ep") request.now.options) }
 {
     let sector = value_named(request, b"d");
     let Some(name) = value_named(request, b"ep") else {
@@ -152,7 +153,8 @@ pub(crate) fn register(
     request: &MessageRef,
 ) -> Result<Result<u64, Refusal>, AllocError>
     requires { now < 2 ^ 63 }
-    ensures ok { IfOk result (λ r. Changes (λ n. n) r registry.old registry.new (registering registry.old now request.now)) }
+    ensures ok { IfOk result
+        (λ r. Changes (λ n. n) r registry.old registry.new (registering registry.old now request.now)) }
     ensures err { OnErr result (registry.new ≡ registry.old) }
 {
     let (key, registration) = match prepare(alloc, now, request)? {
@@ -203,7 +205,8 @@ fn copy_of(alloc: Global, bytes: Option<&[u8]>) -> Result<Option<Vec<u8>>, Alloc
 
 /// Returns `true` if the request gives no part of the key of an endpoint.
 fn gives_no_key(request: &MessageRef) -> bool
-    ensures { result ≡ (is_none (named (codes "ep") request.now.options) && is_none (named (codes "d") request.now.options)) }
+    ensures { result
+        ≡ (is_none (named (codes "ep") request.now.options) && is_none (named (codes "d") request.now.options)) }
 {
     value_named(request, b"ep").is_none() && value_named(request, b"d").is_none()
 }
@@ -232,7 +235,8 @@ fn new_attributes(
     given: &AttributeList,
 ) -> Result<Result<Option<AttributeText>, Refusal>, AllocError>
     requires { list_all is_attribute (attributes_of given.now.items) ≡ true }
-    ensures { IfOk result (λ r. Gives (λ x. x) r (attributes_after (attributes_at_location registry.now number) (attributes_of given.now.items))) }
+    ensures { IfOk result (λ r. Gives (λ x. x) r
+        (attributes_after (attributes_at_location registry.now number) (attributes_of given.now.items))) }
 {
     if given.is_empty() {
         return Ok(Ok(None));
@@ -250,7 +254,8 @@ fn new_attributes(
 fn update_parts<'a>(
     request: &MessageRef<'a>,
 ) -> Result<(Option<u32>, Option<&'a [u8]>, AttributeList<'a>), Refusal>
-    ensures value { Gives (λ x. ((x.0, option_map (λ b. b.now) x.1), attributes_of x.2.items)) result (parts_of request.now.options) }
+    ensures value { Gives (λ x. ((x.0, option_map (λ b. b.now) x.1), attributes_of x.2.items)) result
+        (parts_of request.now.options) }
     ensures each { IfOk result (λ x. list_all is_attribute (attributes_of x.2.items) ≡ true) }
 {
     let (lifetime, base) = renewal(request)?;

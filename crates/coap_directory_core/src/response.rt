@@ -29,8 +29,10 @@ fn append(message: &Response, out: &mut Vec<u8>) -> bool
 /// Appends the response to a registration, at the location with this decimal number.
 fn write_location<'a>(digits: &'a [u8], token: &'a Token, out: &mut Vec<u8>) -> bool
     requires { length digits.now ≤ 20 }
-    ensures written { OnTrue result (out.new.items ≡ out.old.items ++ spelling (location_message token.now.items digits.now)) }
-    ensures answer { result ≡ fits (vec_capacity out.old - vec_len out.old) (location_message token.now.items digits.now) }
+    ensures written { OnTrue result
+        (out.new.items ≡ out.old.items ++ spelling (location_message token.now.items digits.now)) }
+    ensures answer { result
+        ≡ fits (vec_capacity out.old - vec_len out.old) (location_message token.now.items digits.now) }
     ensures unchanged { OnFalse result (out.new ≡ out.old) }
 {
     let mut message = Response::new(Code::CREATED, token);
@@ -45,8 +47,10 @@ fn write_location<'a>(digits: &'a [u8], token: &'a Token, out: &mut Vec<u8>) -> 
 
 /// Appends the response to a registration.
 fn write_created(number: u64, token: &TokenRef, out: &mut Vec<u8>) -> bool
-    ensures written { OnTrue result (out.new.items ≡ out.old.items ++ spelling (location_message token.now (decimal number))) }
-    ensures answer { result ≡ fits (vec_capacity out.old - vec_len out.old) (location_message token.now (decimal number)) }
+    ensures written { OnTrue result
+        (out.new.items ≡ out.old.items ++ spelling (location_message token.now (decimal number))) }
+    ensures answer { result
+        ≡ fits (vec_capacity out.old - vec_len out.old) (location_message token.now (decimal number)) }
     ensures unchanged { OnFalse result (out.new ≡ out.old) }
 {
     let digits = decimal_digits(number);
@@ -72,7 +76,8 @@ fn write_content<'a>(text: &'a [u8], token: &TokenRef<'a>, out: &mut Vec<u8>) ->
 
 /// Appends a response without options.
 fn write_short<'a>(code: Code, text: &'a [u8], token: &TokenRef<'a>, out: &mut Vec<u8>) -> bool
-    ensures written { OnTrue result (out.new.items ≡ out.old.items ++ spelling (short_message token.now code text.now)) }
+    ensures written { OnTrue result
+        (out.new.items ≡ out.old.items ++ spelling (short_message token.now code text.now)) }
     ensures answer { result ≡ fits (vec_capacity out.old - vec_len out.old) (short_message token.now code text.now) }
     ensures unchanged { OnFalse result (out.new ≡ out.old) }
 {
@@ -83,16 +88,18 @@ fn write_short<'a>(code: Code, text: &'a [u8], token: &TokenRef<'a>, out: &mut V
     append(&message, out)
 }
 
-/// Appends the response of a reply, where `content` is the result of the last lookup. Returns `false`, and appends nothing,
-/// if there is no room for it, or if `content` has more than 1,048,576 bytes.
+/// Appends the response of a reply, where `content` is the result of the last lookup. Returns `false`, and appends
+/// nothing, if there is no room for it, or if `content` has more than 1,048,576 bytes.
 pub fn write_response<'a>(
     reply: Reply,
     content: Option<&'a [u8]>,
     token: &TokenRef<'a>,
     out: &mut Vec<u8>,
 ) -> bool
-    ensures written { OnTrue result (out.new.items ≡ out.old.items ++ spelling (message_of token.now (option_map (λ c. c.now) content.entry) reply)) }
-    ensures answer { result ≡ fits (vec_capacity out.old - vec_len out.old) (message_of token.now (option_map (λ c. c.now) content.entry) reply) }
+    ensures written { OnTrue result (out.new.items
+        ≡ out.old.items ++ spelling (message_of token.now (option_map (λ c. c.now) content.entry) reply)) }
+    ensures answer { result ≡ fits (vec_capacity out.old - vec_len out.old)
+        (message_of token.now (option_map (λ c. c.now) content.entry) reply) }
     ensures unchanged { OnFalse result (out.new ≡ out.old) }
 {
     match reply {

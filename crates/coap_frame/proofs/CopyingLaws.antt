@@ -1,7 +1,8 @@
 -- The changes of the count of copied bytes by the calls of a framer.
 use Rattle.std.proofs.Common.{◌≡◌, ◌≢◌, ℕ, ◌+◌, ◌-◌, ◌≤◌, List, [], ◌∷◌, ◌++◌, length, refl, ap, arith}
 use Rattle.std.proofs.lemmas.List.{length-append, length-take}
-use Rattle.coap_frame.specs.Prelude.{StreamPrefix, Unfinished, Whole, Faulty, prefix_kind, FramerValue, IsFramer, FrameEventValue}
+use Rattle.coap_frame.specs.Prelude.{StreamPrefix, Unfinished, Whole, Faulty, prefix_kind, FramerValue, IsFramer}
+use Rattle.coap_frame.specs.Prelude.{FrameEventValue}
 use Rattle.coap_frame.specs.Prelude.{Nothing, AFrame, AFault, Framing, framing_at, framing, framing_of, count_after}
 use Rattle.coap_frame.specs.Prelude.{copied_alone, copied_of, framer_after, without_last, frame_back, copied_back}
 use Rattle.coap_frame.specs.Prelude.{with_frame_back, FramerCall, Next, Unread, Clear, Raise, MayCall, after_call}
@@ -28,7 +29,9 @@ none_copied [] frame f none found = ap (copied_alone f.taken) found
 none_copied (b ∷ kept) frame f none found = absurd cc
 
 -- The bytes in the buffer were kept or are copied.
-lies_at : (max : ℕ) (kept piece : List ℕ) (b : StreamPrefix) → prefix_kind max (kept ++ piece) ≡ b → length (framing_at kept piece b).kept + length (framing_at kept piece b).spent ≤ length kept + copied_of kept (framing_at kept piece b)
+lies_at : (max : ℕ) (kept piece : List ℕ) (b : StreamPrefix) → prefix_kind max (kept ++ piece) ≡ b
+    → length (framing_at kept piece b).kept + length (framing_at kept piece b).spent
+    ≤ length kept + copied_of kept (framing_at kept piece b)
 lies_at max [] piece Unfinished e = omega arith
 lies_at max (b ∷ kept) piece Unfinished e = omega (arith, length-append (b ∷ kept) piece)
 lies_at max [] piece (Whole frame rest) e = omega arith
@@ -37,7 +40,9 @@ lies_at max (b ∷ kept) piece (Whole frame rest) e =
     omega (arith, length-append (b ∷ kept) piece, ap (λ (s : List ℕ). length s) bytes, length-append frame rest)
 lies_at max kept piece (Faulty fault) e = omega arith
 
-lies_within : (max : ℕ) (kept piece : List ℕ) → length (framing max kept piece).kept + length (framing max kept piece).spent ≤ length kept + copied_of kept (framing max kept piece)
+lies_within : (max : ℕ) (kept piece : List ℕ)
+    → length (framing max kept piece).kept + length (framing max kept piece).spent
+    ≤ length kept + copied_of kept (framing max kept piece)
 unfolding framing
 lies_within max kept piece = lies_at max kept piece (prefix_kind max (kept ++ piece)) refl
 
@@ -58,7 +63,8 @@ none_back : (spent piece : List ℕ) → spent ≢ [] → copied_back spent piec
 none_back [] piece some = absurd (some refl)
 none_back (b ∷ spent) piece some = refl
 
-lies_back : (spent piece : List ℕ) → length (without_last (frame_back spent piece)) ≤ length spent + copied_back spent piece
+lies_back : (spent piece : List ℕ)
+    → length (without_last (frame_back spent piece)) ≤ length spent + copied_back spent piece
 lies_back [] piece = omega (arith, length-take (length piece - 1) piece)
 lies_back (b ∷ spent) piece = omega (arith, length-take (length (b ∷ spent) - 1) (b ∷ spent))
 
@@ -86,4 +92,5 @@ call_is_framer v (Raise new) is may = asked_is_framer v new is
 pub are_counted : (v : FramerValue) (calls : List FramerCall) → IsFramer v → AreCounted v calls
 unfolding AreCounted
 are_counted v [] is = tt
-are_counted v (call ∷ calls) is = λ may. (call_counted v call is, are_counted (after_call v call) calls (call_is_framer v call is may))
+are_counted v (call ∷ calls) is =
+    λ may. (call_counted v call is, are_counted (after_call v call) calls (call_is_framer v call is may))

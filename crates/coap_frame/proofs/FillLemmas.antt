@@ -1,11 +1,15 @@
 -- The status of a chunk by itself, and the filling of a buffer with the bytes of a frame.
-use Rattle.std.proofs.Common.{◌≡◌, ℕ, ◌+◌, ◌-◌, ◌<◌, ◌≤◌, List, [], ◌∷◌, ◌++◌, length, get_or, take, drop, refl, sym, ap, ◌∙◌, append_assoc, arith, inl, inr}
+use Rattle.std.proofs.Common.{◌≡◌, ℕ, ◌+◌, ◌-◌, ◌<◌, ◌≤◌, List, [], ◌∷◌, ◌++◌, length, get_or, take, drop, refl, sym}
+use Rattle.std.proofs.Common.{ap, ◌∙◌, append_assoc, arith, inl, inr}
 use Rattle.std.proofs.lemmas.Bool.{cases_lt}
-use Rattle.std.proofs.lemmas.List.{append-nil, take-append-drop, take_more, take_all, length-append, length-take, length-drop}
+use Rattle.std.proofs.lemmas.List.{append-nil, take-append-drop, take_more, take_all, length-append, length-take}
+use Rattle.std.proofs.lemmas.List.{length-drop}
 use Rattle.coap_frame.specs.Prelude.{declared_of, Declared, Unknown, Size, BadToken, FrameFault, TokenLength}
 use Rattle.coap_frame.specs.Prelude.{TooLarge, StreamPrefix, Unfinished, Whole, Faulty, prefix_kind, fault_bytes}
 use Rattle.coap_frame.specs.Prelude.{size_bytes, IsTakenTo, IsFilled}
-use Rattle.coap_wire.proofs.StreamSteps.{begin_unknown, begin_bad_token, begin_too_large, begin_short, begin_whole, size_has_bytes, size_at_last, declared_more, faulty_more, fault_bytes_more, fault_at_last, fault_has_bytes}
+use Rattle.coap_wire.proofs.StreamSteps.{begin_unknown, begin_bad_token, begin_too_large, begin_short, begin_whole}
+use Rattle.coap_wire.proofs.StreamSteps.{size_has_bytes, size_at_last, declared_more, faulty_more, fault_bytes_more}
+use Rattle.coap_wire.proofs.StreamSteps.{fault_at_last, fault_has_bytes}
 use Rattle.coap_frame.specs.Prelude.{FrameLayout, outline_of}
 use Rattle.coap_wire.specs.declared.layout.Outline.TheVariants.{Known}
 use Rattle.coap_wire.proofs.LayoutLaws.{outline_more, outline_front}
@@ -13,24 +17,34 @@ use Rattle.coap_frame.specs.declared.filling.FrameStatus.TheVariants as standing
 use Rattle.std.proofs.Math.Seq.{take-append-add}
 
 -- An unfinished frame with a known size has fewer bytes than that, and the size is not too large.
-pub told_unfinished : (M : ℕ) (s : List ℕ) (n : ℕ) → prefix_kind M s ≡ Unfinished → declared_of s ≡ Size n → (n ≤ M) × (length s < n)
+pub told_unfinished : (M : ℕ) (s : List ℕ) (n : ℕ) → prefix_kind M s ≡ Unfinished → declared_of s ≡ Size n
+    → (n ≤ M) × (length s < n)
 told_unfinished M s n unfinished told =
     elim (cases_lt M n) [
-      | inl large ↦ let bad : ◌≡◌ {A = StreamPrefix} Unfinished (Faulty TooLarge) = sym unfinished ∙ begin_too_large M s n told large in absurd cc
+      | inl large ↦
+          let bad : ◌≡◌ {A = StreamPrefix} Unfinished (Faulty TooLarge) =
+          sym unfinished ∙ begin_too_large M s n told large in
+          absurd cc
       | inr fits ↦ elim (cases_lt (length s) n) [
         | inl short ↦ (fits, short)
-        | inr long ↦ let bad : ◌≡◌ {A = StreamPrefix} Unfinished (Whole (take n s) (drop n s)) = sym unfinished ∙ begin_whole M s n told fits long in absurd cc
+        | inr long ↦
+            let bad : ◌≡◌ {A = StreamPrefix} Unfinished (Whole (take n s) (drop n s)) =
+            sym unfinished ∙ begin_whole M s n told fits long in
+            absurd cc
       ]
     ]
 
 -- The first `taken` bytes of a chunk are appended to an unfinished frame.
-module _ (M : ℕ) (old piece new : List ℕ) (taken : ℕ) (size : Declared) (unfinished : prefix_kind M old ≡ Unfinished) (h : IsTakenTo old piece new taken size) where
+module _ (M : ℕ) (old piece new : List ℕ) (taken : ℕ) (size : Declared) (unfinished : prefix_kind M old ≡ Unfinished)
+    (h : IsTakenTo old piece new taken size) where
   -- The bytes of the chunk that are not taken.
   abbrev behind : List ℕ
   behind = drop taken piece
 
   pub all_bytes : old ++ piece ≡ new ++ behind
-  all_bytes = ap (λ (p : List ℕ). old ++ p) (sym (take-append-drop taken piece)) ∙ sym (append_assoc old (take taken piece) behind) ∙ ap (λ (n : List ℕ). n ++ behind) (sym h.bytes)
+  all_bytes =
+      ap (λ (p : List ℕ). old ++ p) (sym (take-append-drop taken piece))
+      ∙ sym (append_assoc old (take taken piece) behind) ∙ ap (λ (n : List ℕ). n ++ behind) (sym h.bytes)
 
   pub length_new : length new ≡ length old + taken
   length_new = omega (arith, ap length h.bytes, length-append old (take taken piece), length-take taken piece, h.within)
@@ -42,16 +56,20 @@ module _ (M : ℕ) (old piece new : List ℕ) (taken : ℕ) (size : Declared) (u
   last_byte_taken : (before : ℕ) → taken ≡ before + 1 → new ≡ (old ++ take before piece) ++ get_or piece before 0 ∷ []
   last_byte_taken before e =
       let lt : before < length piece = let w = h.within in omega arith in
-      h.bytes ∙ ap (λ (n : ℕ). old ++ take n piece) e ∙ ap (λ (p : List ℕ). old ++ p) (take_more piece before 0 lt) ∙ sym (append_assoc old (take before piece) (get_or piece before 0 ∷ []))
+      h.bytes ∙ ap (λ (n : ℕ). old ++ take n piece) e ∙ ap (λ (p : List ℕ). old ++ p) (take_more piece before 0 lt)
+      ∙ sym (append_assoc old (take before piece) (get_or piece before 0 ∷ []))
 
   -- A declared size is above the number of bytes in the buffer.
   pub size_above_filled : (n : ℕ) → size ≡ Size n → length new < n
   size_above_filled n is =
       let now : declared_of new ≡ Size n = sym h.size_is ∙ is in
       elim h.first [
-        | inl none ↦ (let same = none_taken none in rw same (told_unfinished M old n unfinished (ap declared_of (sym same) ∙ now)).1)
+        | inl none ↦
+            (let same = none_taken none in
+            rw same (told_unfinished M old n unfinished (ap declared_of (sym same) ∙ now)).1)
         | inr more ↦ (let e = last_byte_taken more.0 more.1 in
-            let last = size_at_last (old ++ take more.0 piece) (get_or piece more.0 0) n more.2 (ap declared_of (sym e) ∙ now) in
+            let last =
+            size_at_last (old ++ take more.0 piece) (get_or piece more.0 0) n more.2 (ap declared_of (sym e) ∙ now) in
             let few = (size_has_bytes new n now).0 in
             omega (arith, ap (λ (s : List ℕ). length s) e, ap size_bytes e, last, few))
       ]
@@ -59,18 +77,26 @@ module _ (M : ℕ) (old piece new : List ℕ) (taken : ℕ) (size : Declared) (u
   fault_is_new : (fault : FrameFault) → prefix_kind M new ≡ Faulty fault → fault_bytes new ≡ new
   fault_is_new fault faulty =
       elim h.first [
-        | inl none ↦ (let bad : ◌≡◌ {A = StreamPrefix} Unfinished (Faulty fault) = sym unfinished ∙ ap (prefix_kind M) (sym (none_taken none)) ∙ faulty in absurd cc)
+        | inl none ↦
+            (let bad : ◌≡◌ {A = StreamPrefix} Unfinished (Faulty fault) =
+            sym unfinished ∙ ap (prefix_kind M) (sym (none_taken none)) ∙ faulty in absurd cc)
         | inr more ↦ (let e = last_byte_taken more.0 more.1 in
-            let last = fault_at_last M (old ++ take more.0 piece) (get_or piece more.0 0) fault (begin_unknown M (old ++ take more.0 piece) more.2) (ap (prefix_kind M) (sym e) ∙ faulty) in
+            let last = fault_at_last M (old ++ take more.0 piece) (get_or piece more.0 0) fault
+            (begin_unknown M (old ++ take more.0 piece) more.2) (ap (prefix_kind M) (sym e) ∙ faulty) in
             ap fault_bytes e ∙ last ∙ sym e)
       ]
 
-  fault_stands : (fault : FrameFault) → prefix_kind M new ≡ Faulty fault → IsFilled M old piece new taken (standing.Fault fault)
+  fault_stands : (fault : FrameFault) → prefix_kind M new ≡ Faulty fault
+      → IsFilled M old piece new taken (standing.Fault fault)
   fault_stands fault faulty =
-      let bytes : fault_bytes (old ++ piece) ≡ new = ap fault_bytes all_bytes ∙ fault_bytes_more M new behind fault faulty ∙ fault_is_new fault faulty in
+      let bytes : fault_bytes (old ++ piece) ≡ new =
+      ap fault_bytes all_bytes ∙ fault_bytes_more M new behind fault faulty ∙ fault_is_new fault faulty in
       record {
         within = h.within;
-        stands = (ap (prefix_kind M) all_bytes ∙ faulty_more M new behind fault faulty, sym length_new ∙ sym (ap (λ (s : List ℕ). length s) bytes));
+        stands = (
+          ap (prefix_kind M) all_bytes ∙ faulty_more M new behind fault faulty,
+          sym length_new ∙ sym (ap (λ (s : List ℕ). length s) bytes),
+        );
       }
 
   pub filled_bad_token : size ≡ BadToken → IsFilled M old piece new taken (standing.Fault TokenLength)
@@ -81,7 +107,8 @@ module _ (M : ℕ) (old piece new : List ℕ) (taken : ℕ) (size : Declared) (u
 
   pub filled_unknown : size ≡ Unknown → taken ≡ length piece → IsFilled M old piece new taken standing.Unfinished
   filled_unknown is all =
-      let bytes : new ≡ old ++ piece = h.bytes ∙ ap (λ (p : List ℕ). old ++ p) (take_all taken piece (omega (arith, all))) in
+      let bytes : new ≡ old ++ piece =
+      h.bytes ∙ ap (λ (p : List ℕ). old ++ p) (take_all taken piece (omega (arith, all))) in
       record {
         within = h.within;
         stands = (ap (prefix_kind M) (sym bytes) ∙ begin_unknown M new (sym h.size_is ∙ is), all, bytes);
@@ -94,30 +121,46 @@ module _ (M : ℕ) (old piece new : List ℕ) (taken : ℕ) (size : Declared) (u
   length_all : length (old ++ piece) ≡ length new + length behind
   length_all = ap (λ (s : List ℕ). length s) all_bytes ∙ length-append new behind
 
-  pub filled_short : (n : ℕ) (after : List ℕ) → size ≡ Size n → n ≤ M → length behind < n - length new → after ≡ new ++ behind → IsFilled M old piece after (length piece) standing.Unfinished
+  pub filled_short : (n : ℕ) (after : List ℕ) → size ≡ Size n → n ≤ M → length behind < n - length new
+      → after ≡ new ++ behind → IsFilled M old piece after (length piece) standing.Unfinished
   filled_short n after is fits short e =
       record {
         within = omega arith;
-        stands = (begin_short M (old ++ piece) n (size_of_all n is) fits (omega (arith, length_all)), refl, e ∙ sym all_bytes);
+        stands = (
+          begin_short M (old ++ piece) n (size_of_all n is) fits (omega (arith, length_all)),
+          refl,
+          e ∙ sym all_bytes,
+        );
       }
 
-  pub filled_whole : (n : ℕ) (layout : FrameLayout) (after : List ℕ) → size ≡ Size n → outline_of new ≡ Known n layout → n ≤ M → n - length new ≤ length behind → after ≡ new ++ take (n - length new) behind → IsFilled M old piece after (taken + (n - length new)) (standing.Whole layout)
+  pub filled_whole : (n : ℕ) (layout : FrameLayout) (after : List ℕ) → size ≡ Size n → outline_of new ≡ Known n layout
+      → n ≤ M → n - length new ≤ length behind → after ≡ new ++ take (n - length new) behind
+      → IsFilled M old piece after (taken + (n - length new)) (standing.Whole layout)
   filled_whole n layout after is laid fits long e =
       let more : length new < n = size_above_filled n is in
       let size_now : length new + (n - length new) ≡ n = omega arith in
       let enough : n ≤ length (old ++ piece) = omega (arith, length_all) in
       let frame : take n (old ++ piece) ≡ after =
-      ap (take n) all_bytes ∙ ap (λ (k : ℕ). take k (new ++ behind)) (sym size_now) ∙ take-append-add new behind (n - length new) ∙ sym e in
+      ap (take n) all_bytes ∙ ap (λ (k : ℕ). take k (new ++ behind)) (sym size_now)
+      ∙ take-append-add new behind (n - length new) ∙ sym e in
       let rest = drop n (old ++ piece) in
       let left : length rest ≡ length (old ++ piece) - n = length-drop n (old ++ piece) in
-      let size_is : n ≡ length after = omega (arith, ap (λ (s : List ℕ). length s) e, length-append new (take (n - length new) behind), length-take (n - length new) behind, long, size_now) in
+      let size_is : n ≡ length after = omega (
+        arith,
+        ap (λ (s : List ℕ). length s) e,
+        length-append new (take (n - length new) behind),
+        length-take (n - length new) behind,
+        long,
+        size_now,
+      ) in
       record {
         within = omega (arith, length_all, length_new, length-append old piece);
         stands = (
           rest,
           begin_whole M (old ++ piece) n (size_of_all n is) fits enough ∙ ap (λ (f : List ℕ). Whole f rest) frame,
           omega (arith, length_all, length_new, length-append old piece),
-          ap outline_of e ∙ outline_more new (take (n - length new) behind) n layout laid ∙ ap (λ (k : ℕ). Known k layout) size_is,
+          ap outline_of e ∙ outline_more new (take (n - length new) behind) n layout laid
+              ∙ ap (λ (k : ℕ). Known k layout) size_is,
         );
       }
 
@@ -125,14 +168,16 @@ module _ (M : ℕ) (old piece new : List ℕ) (taken : ℕ) (size : Declared) (u
 
 module _ (M : ℕ) (piece : List ℕ) where
   -- All of an unfinished chunk is taken.
-  pub stands_more : prefix_kind M piece ≡ Unfinished → IsFilled M [] piece (take (length piece) piece) (length piece) standing.Unfinished
+  pub stands_more : prefix_kind M piece ≡ Unfinished
+      → IsFilled M [] piece (take (length piece) piece) (length piece) standing.Unfinished
   stands_more unfinished = record {
     within = omega arith;
     stands = (unfinished, refl, take_all (length piece) piece (omega arith));
   }
 
   -- An error is known at the last byte that states the size.
-  stands_fault : (fault : FrameFault) → prefix_kind M piece ≡ Faulty fault → IsFilled M [] piece (take (size_bytes piece) piece) (size_bytes piece) (standing.Fault fault)
+  stands_fault : (fault : FrameFault) → prefix_kind M piece ≡ Faulty fault
+      → IsFilled M [] piece (take (size_bytes piece) piece) (size_bytes piece) (standing.Fault fault)
   stands_fault fault faulty =
       let there = fault_has_bytes M piece fault faulty in
       record {
@@ -140,14 +185,22 @@ module _ (M : ℕ) (piece : List ℕ) where
         stands = (faulty, omega (arith, length-take (size_bytes piece) piece, there));
       }
 
-  pub stands_bad_token : declared_of piece ≡ BadToken → IsFilled M [] piece (take (size_bytes piece) piece) (size_bytes piece) (standing.Fault TokenLength)
+  pub stands_bad_token : declared_of piece ≡ BadToken
+      → IsFilled M [] piece (take (size_bytes piece) piece) (size_bytes piece) (standing.Fault TokenLength)
   stands_bad_token is = stands_fault TokenLength (begin_bad_token M piece is)
 
-  pub stands_too_large : (n : ℕ) → declared_of piece ≡ Size n → M < n → IsFilled M [] piece (take (size_bytes piece) piece) (size_bytes piece) (standing.Fault TooLarge)
+  pub stands_too_large : (n : ℕ) → declared_of piece ≡ Size n → M < n
+      → IsFilled M [] piece (take (size_bytes piece) piece) (size_bytes piece) (standing.Fault TooLarge)
   stands_too_large n is large = stands_fault TooLarge (begin_too_large M piece n is large)
 
-  pub stands_whole : (n : ℕ) (layout : FrameLayout) → declared_of piece ≡ Size n → outline_of piece ≡ Known n layout → n ≤ M → n ≤ length piece → IsFilled M [] piece (take n piece) n (standing.Whole layout)
+  pub stands_whole : (n : ℕ) (layout : FrameLayout) → declared_of piece ≡ Size n → outline_of piece ≡ Known n layout
+      → n ≤ M → n ≤ length piece → IsFilled M [] piece (take n piece) n (standing.Whole layout)
   stands_whole n layout is laid fits long = record {
     within = long;
-    stands = (drop n piece, begin_whole M piece n is fits long, omega (arith, length-drop n piece, long), outline_front piece n layout laid long);
+    stands = (
+      drop n piece,
+      begin_whole M piece n is fits long,
+      omega (arith, length-drop n piece, long),
+      outline_front piece n layout laid long,
+    );
   }

@@ -1,12 +1,16 @@
 -- The effect of a chunk on a framer, by the status of the chunk or of the buffer.
-use Rattle.std.proofs.Common.{◌≡◌, ◌≢◌, ℕ, ◌-◌, ◌<◌, ◌≤◌, List, [], ◌∷◌, ◌++◌, length, take, drop, refl, sym, ap, ◌∙◌, arith, inl, inr, ◌⊎◌}
+use Rattle.std.proofs.Common.{◌≡◌, ◌≢◌, ℕ, ◌-◌, ◌<◌, ◌≤◌, List, [], ◌∷◌, ◌++◌, length, take, drop, refl, sym, ap, ◌∙◌}
+use Rattle.std.proofs.Common.{arith, inl, inr, ◌⊎◌}
 use Rattle.std.proofs.lemmas.Bool.{cases_lt}
 use Rattle.std.proofs.lemmas.List.{length-append, length-drop, take-append-drop}
 use Rattle.coap_frame.specs.Prelude.{StreamPrefix, Unfinished, Whole, Faulty, prefix_kind, fault_bytes, FramerValue}
-use Rattle.coap_frame.specs.Prelude.{IsFramer, FrameEventValue, Nothing, AFrame, AFault, Framing, split_frame, framing_at}
+use Rattle.coap_frame.specs.Prelude.{IsFramer, FrameEventValue, Nothing, AFrame, AFault, Framing, split_frame}
+use Rattle.coap_frame.specs.Prelude.{framing_at}
 use Rattle.coap_frame.specs.Prelude.{framing, count_after, copied_of, framed, framer_after, without_last, frame_back}
-use Rattle.coap_frame.specs.Prelude.{with_frame_back, MayUnread, framer_of, spent_in, IsFilled, FrameFault, BufferContent, FrameLayout}
-use Rattle.coap_wire.proofs.StreamSteps.{unfinished_empty, unfinished_below, whole_parts, whole_itself, whole_more, faulty_more}
+use Rattle.coap_frame.specs.Prelude.{with_frame_back, MayUnread, framer_of, spent_in, IsFilled, FrameFault}
+use Rattle.coap_frame.specs.Prelude.{BufferContent, FrameLayout}
+use Rattle.coap_wire.proofs.StreamSteps.{unfinished_empty, unfinished_below, whole_parts, whole_itself, whole_more}
+use Rattle.coap_wire.proofs.StreamSteps.{faulty_more}
 use Rattle.coap_frame.specs.declared.framer.BufferContent.TheVariants as held
 use Rattle.coap_frame.specs.declared.filling.FrameStatus.TheVariants as standing
 
@@ -46,26 +50,34 @@ module _ (max c taken : ℕ) (piece : List ℕ) where
   bare = framer_of max held.Prefix [] c
 
   -- The chunk begins a frame that it does not end.
-  pub alone_more : (buffer : List ℕ) (copied : ℕ) → IsFilled max [] piece (take taken piece) taken standing.Unfinished → buffer ≡ piece → copied ≡ count_after c taken → framer_of max held.Prefix buffer copied ≡ framer_after bare piece
+  pub alone_more : (buffer : List ℕ) (copied : ℕ) → IsFilled max [] piece (take taken piece) taken standing.Unfinished
+      → buffer ≡ piece → copied ≡ count_after c taken
+      → framer_of max held.Prefix buffer copied ≡ framer_after bare piece
   alone_more buffer copied filled lies count =
       ap (λ (b : List ℕ). framer_of max held.Prefix b copied) (lies ∙ sym (filled.stands.2))
       ∙ ap (λ (n : ℕ). framer_of max held.Prefix (take taken piece) n) count
       ∙ sym (ap (framed bare) (framing_unfinished max [] piece (take taken piece) taken filled))
 
   -- The chunk alone has the frame or the error.
-  alone_found : (f : Framing) → c ≤ 18446744073709551615 → framing max [] piece ≡ f → f.kept ≡ [] → f.spent ≡ [] → copied_of [] f ≡ 0 → bare ≡ framer_after bare piece
+  alone_found : (f : Framing) → c ≤ 18446744073709551615 → framing max [] piece ≡ f → f.kept ≡ [] → f.spent ≡ []
+      → copied_of [] f ≡ 0 → bare ≡ framer_after bare piece
   alone_found f count is kept spent none =
       let same : c ≡ count_after c (copied_of [] f) = omega (arith, count, none) in
       ap (λ (n : ℕ). framer_of max held.Prefix [] n) same
       ∙ ap (λ (k : List ℕ). framer_of max held.Prefix k (count_after c (copied_of [] f))) (sym kept)
-      ∙ ap (λ (s : List ℕ). record { max = max; kept = f.kept; spent = s; copied = count_after c (copied_of [] f) }) (sym spent)
+      ∙ ap (λ (s : List ℕ). record { max = max; kept = f.kept; spent = s; copied = count_after c (copied_of [] f) })
+      (sym spent)
       ∙ sym (ap (framed bare) is)
 
-  pub alone_frame : (layout : FrameLayout) → c ≤ 18446744073709551615 → IsFilled max [] piece (take taken piece) taken (standing.Whole layout) → bare ≡ framer_after bare piece
-  alone_frame layout count filled = alone_found _ count (framing_whole max [] piece (take taken piece) taken layout filled) refl refl refl
+  pub alone_frame : (layout : FrameLayout) → c ≤ 18446744073709551615
+      → IsFilled max [] piece (take taken piece) taken (standing.Whole layout) → bare ≡ framer_after bare piece
+  alone_frame layout count filled =
+      alone_found _ count (framing_whole max [] piece (take taken piece) taken layout filled) refl refl refl
 
-  pub alone_fault : (fault : FrameFault) → c ≤ 18446744073709551615 → IsFilled max [] piece (take taken piece) taken (standing.Fault fault) → bare ≡ framer_after bare piece
-  alone_fault fault count filled = alone_found _ count (framing_fault max [] piece (take taken piece) taken fault filled) refl refl refl
+  pub alone_fault : (fault : FrameFault) → c ≤ 18446744073709551615
+      → IsFilled max [] piece (take taken piece) taken (standing.Fault fault) → bare ≡ framer_after bare piece
+  alone_fault fault count filled =
+      alone_found _ count (framing_fault max [] piece (take taken piece) taken fault filled) refl refl refl
 
 -- ---- bytes were kept
 
@@ -77,26 +89,33 @@ split_behind : (kept frame : List ℕ) → 0 < length kept → split_frame kept 
 split_behind [] frame some = absurd (omega arith)
 split_behind (b ∷ kept) frame some = refl
 
-module _ (max c : ℕ) (kept piece new : List ℕ) (taken copied : ℕ) (some : 0 < length kept) (count : copied ≡ count_after c taken) where
+module _ (max c : ℕ) (kept piece new : List ℕ) (taken copied : ℕ) (some : 0 < length kept)
+    (count : copied ≡ count_after c taken) where
   -- A framer that keeps these bytes.
   abbrev keeping : FramerValue
   keeping = framer_of max held.Prefix kept c
 
-  behind_found : (f : Framing) → framing max kept piece ≡ f → f.taken ≡ taken → record { max = max; kept = f.kept; spent = f.spent; copied = copied } ≡ framer_after keeping piece
+  behind_found : (f : Framing) → framing max kept piece ≡ f → f.taken ≡ taken
+      → record { max = max; kept = f.kept; spent = f.spent; copied = copied } ≡ framer_after keeping piece
   behind_found f is all =
-      let more : copied ≡ count_after c (copied_of kept f) = count ∙ ap (count_after c) (sym all ∙ sym (copied_behind kept f some)) in
+      let more : copied ≡ count_after c (copied_of kept f) =
+      count ∙ ap (count_after c) (sym all ∙ sym (copied_behind kept f some)) in
       ap (λ (n : ℕ). record { max = max; kept = f.kept; spent = f.spent; copied = n }) more
       ∙ sym (ap (framed keeping) is)
 
-  pub behind_more : IsFilled max kept piece new taken standing.Unfinished → framer_of max held.Prefix new copied ≡ framer_after keeping piece
+  pub behind_more : IsFilled max kept piece new taken standing.Unfinished
+      → framer_of max held.Prefix new copied ≡ framer_after keeping piece
   behind_more filled = behind_found _ (framing_unfinished max kept piece new taken filled) refl
 
-  pub behind_frame : (layout : FrameLayout) → IsFilled max kept piece new taken (standing.Whole layout) → framer_of max held.Split new copied ≡ framer_after keeping piece
+  pub behind_frame : (layout : FrameLayout) → IsFilled max kept piece new taken (standing.Whole layout)
+      → framer_of max held.Split new copied ≡ framer_after keeping piece
   behind_frame layout filled =
-      ap (λ (s : List ℕ). record { max = max; kept = []; spent = s; copied = copied }) (sym (split_behind kept new some))
+      ap (λ (s : List ℕ). record { max = max; kept = []; spent = s; copied = copied })
+      (sym (split_behind kept new some))
       ∙ behind_found _ (framing_whole max kept piece new taken layout filled) refl
 
-  pub behind_fault : (fault : FrameFault) → IsFilled max kept piece new taken (standing.Fault fault) → framer_of max held.Prefix [] copied ≡ framer_after keeping piece
+  pub behind_fault : (fault : FrameFault) → IsFilled max kept piece new taken (standing.Fault fault)
+      → framer_of max held.Prefix [] copied ≡ framer_after keeping piece
   behind_fault fault filled = behind_found _ (framing_fault max kept piece new taken fault filled) refl
 
 -- No frame was found.
@@ -106,20 +125,23 @@ HasNoFrame (AFrame frame) = ⊥
 HasNoFrame (AFault fault) = Unit {0}
 
 -- Without a frame, there is no split frame.
-spent_at : (kept piece : List ℕ) (b : StreamPrefix) (finding : FrameEventValue) → (framing_at kept piece b).finding ≡ finding → HasNoFrame finding → (framing_at kept piece b).spent ≡ []
+spent_at : (kept piece : List ℕ) (b : StreamPrefix) (finding : FrameEventValue)
+    → (framing_at kept piece b).finding ≡ finding → HasNoFrame finding → (framing_at kept piece b).spent ≡ []
 spent_at kept piece Unfinished finding e none = refl
 spent_at kept piece (Whole frame rest) Nothing e none = absurd cc
 spent_at kept piece (Whole frame rest) (AFrame found) e none = absurd none
 spent_at kept piece (Whole frame rest) (AFault fault) e none = absurd cc
 spent_at kept piece (Faulty fault) finding e none = refl
 
-pub none_spent : (max : ℕ) (kept piece : List ℕ) (finding : FrameEventValue) → (framing max kept piece).finding ≡ finding → HasNoFrame finding → (framing max kept piece).spent ≡ []
+pub none_spent : (max : ℕ) (kept piece : List ℕ) (finding : FrameEventValue)
+    → (framing max kept piece).finding ≡ finding → HasNoFrame finding → (framing max kept piece).spent ≡ []
 unfolding framing
 none_spent max kept piece finding e none = spent_at kept piece (prefix_kind max (kept ++ piece)) finding e none
 
 -- ---- the invariant of a framer
 
-pub empty_framer : (max : ℕ) (kept : List ℕ) (copied : ℕ) → 1152 ≤ max → max ≤ 1048576 → copied ≤ 18446744073709551615 → kept ≡ [] → IsFramer (record { max = max; kept = kept; spent = []; copied = copied })
+pub empty_framer : (max : ℕ) (kept : List ℕ) (copied : ℕ) → 1152 ≤ max → max ≤ 1048576 → copied ≤ 18446744073709551615
+    → kept ≡ [] → IsFramer (record { max = max; kept = kept; spent = []; copied = copied })
 empty_framer max kept copied low high countable e = record {
   low = low;
   high = high;
@@ -128,12 +150,16 @@ empty_framer max kept copied low high countable e = record {
   whole = inl refl;
 }
 
-split_is_whole : (max : ℕ) (kept frame : List ℕ) → prefix_kind max frame ≡ Whole frame [] → (split_frame kept frame ≡ []) ⊎ ((prefix_kind max (split_frame kept frame) ≡ Whole (split_frame kept frame) []) × (◌≡◌ {A = List ℕ} [] []))
+split_is_whole : (max : ℕ) (kept frame : List ℕ) → prefix_kind max frame ≡ Whole frame []
+    → (split_frame kept frame ≡ [])
+    ⊎ ((prefix_kind max (split_frame kept frame) ≡ Whole (split_frame kept frame) []) × (◌≡◌ {A = List ℕ} [] []))
 split_is_whole max [] frame e = inl refl
 split_is_whole max (b ∷ kept) frame e = inr (e, refl)
 
-framed_by : (v : FramerValue) (piece : List ℕ) (b : StreamPrefix) → IsFramer v → prefix_kind v.max (v.kept ++ piece) ≡ b → IsFramer (framed v (framing_at v.kept piece b))
-framed_by v piece Unfinished is e = record { low = is.low; high = is.high; countable = omega arith; unfinished = e; whole = inl refl }
+framed_by : (v : FramerValue) (piece : List ℕ) (b : StreamPrefix) → IsFramer v → prefix_kind v.max (v.kept ++ piece) ≡ b
+    → IsFramer (framed v (framing_at v.kept piece b))
+framed_by v piece Unfinished is e =
+    record { low = is.low; high = is.high; countable = omega arith; unfinished = e; whole = inl refl }
 framed_by v piece (Whole frame rest) is e = record {
   low = is.low;
   high = is.high;
@@ -162,23 +188,29 @@ last_is_some : (frame : List ℕ) → 1 ≤ length frame → length (drop (lengt
 last_is_some frame some = omega (arith, length-drop (length frame - 1) frame)
 
 -- Without its last byte, a frame is unfinished.
-front_stands : (M : ℕ) (front last : List ℕ) (b : StreamPrefix) → length last ≡ 1 → prefix_kind M (front ++ last) ≡ Whole (front ++ last) [] → prefix_kind M front ≡ b → prefix_kind M front ≡ Unfinished
+front_stands : (M : ℕ) (front last : List ℕ) (b : StreamPrefix) → length last ≡ 1
+    → prefix_kind M (front ++ last) ≡ Whole (front ++ last) [] → prefix_kind M front ≡ b
+    → prefix_kind M front ≡ Unfinished
 front_stands M front last Unfinished one e is = is
 front_stands M front last (Whole frame rest) one e is =
     let same : Whole (front ++ last) [] ≡ Whole frame (rest ++ last) = sym e ∙ whole_more M front last frame rest is in
     let none : ◌≡◌ {A = List ℕ} [] (rest ++ last) = cc in
     absurd (omega (arith, one, ap (λ (s : List ℕ). length s) none, length-append rest last))
 front_stands M front last (Faulty fault) one e is =
-    let bad : ◌≡◌ {A = StreamPrefix} (Whole (front ++ last) []) (Faulty fault) = sym e ∙ faulty_more M front last fault is in
+    let bad : ◌≡◌ {A = StreamPrefix} (Whole (front ++ last) []) (Faulty fault) =
+    sym e ∙ faulty_more M front last fault is in
     absurd cc
 
-pub front_unfinished : (M : ℕ) (frame : List ℕ) → prefix_kind M frame ≡ Whole frame [] → prefix_kind M (without_last frame) ≡ Unfinished
+pub front_unfinished : (M : ℕ) (frame : List ℕ) → prefix_kind M frame ≡ Whole frame []
+    → prefix_kind M (without_last frame) ≡ Unfinished
 front_unfinished M frame e =
     let some = (whole_parts M frame frame [] e).some in
     let parts = without_last_then frame (omega arith) in
-    front_stands M (without_last frame) (drop (length frame - 1) frame) _ (last_is_some frame (omega arith)) (ap (prefix_kind M) (sym parts) ∙ e ∙ ap (λ (f : List ℕ). Whole f []) parts) refl
+    front_stands M (without_last frame) (drop (length frame - 1) frame) _ (last_is_some frame (omega arith))
+    (ap (prefix_kind M) (sym parts) ∙ e ∙ ap (λ (f : List ℕ). Whole f []) parts) refl
 
-pub frame_is_small : (M : ℕ) (frame : List ℕ) → prefix_kind M frame ≡ Whole frame [] → (2 ≤ length frame) × (length frame ≤ M)
+pub frame_is_small : (M : ℕ) (frame : List ℕ) → prefix_kind M frame ≡ Whole frame []
+    → (2 ≤ length frame) × (length frame ≤ M)
 frame_is_small M frame e = let c = whole_parts M frame frame [] e in (c.some, c.small)
 
 -- The frame that is taken back.
@@ -186,30 +218,40 @@ pub record IsBack (v : FramerValue) (piece frame : List ℕ) : Type 0 where
   pub is : frame_back v.spent piece ≡ frame
   pub whole : prefix_kind v.max frame ≡ Whole frame []
 
-spent_back : (v : FramerValue) (piece spent : List ℕ) → v.spent ≡ spent → (spent ≡ []) ⊎ ((prefix_kind v.max spent ≡ Whole spent []) × (v.kept ≡ [])) → 0 < length spent → IsBack v piece spent
+spent_back : (v : FramerValue) (piece spent : List ℕ) → v.spent ≡ spent
+    → (spent ≡ []) ⊎ ((prefix_kind v.max spent ≡ Whole spent []) × (v.kept ≡ []))
+    → 0 < length spent → IsBack v piece spent
 spent_back v piece [] e whole some = absurd (omega arith)
 spent_back v piece (b ∷ s) e (inl none) some = let bad : ◌≡◌ {A = List ℕ} (b ∷ s) [] = none in absurd cc
-spent_back v piece (b ∷ s) e (inr whole) some = record { is = ap (λ (x : List ℕ). frame_back x piece) e; whole = whole.0 }
+spent_back v piece (b ∷ s) e (inr whole) some =
+    record { is = ap (λ (x : List ℕ). frame_back x piece) e; whole = whole.0 }
 
 pub back_spent : (v : FramerValue) (piece : List ℕ) → IsFramer v → 0 < length v.spent → IsBack v piece v.spent
 back_spent v piece is some = spent_back v piece v.spent refl is.whole some
 
-piece_back : (v : FramerValue) (piece spent : List ℕ) → v.spent ≡ spent → (spent ≢ []) ⊎ ((prefix_kind v.max piece ≡ Whole piece []) × (v.kept ≡ [])) → length spent ≤ 0 → IsBack v piece piece
+piece_back : (v : FramerValue) (piece spent : List ℕ) → v.spent ≡ spent
+    → (spent ≢ []) ⊎ ((prefix_kind v.max piece ≡ Whole piece []) × (v.kept ≡ []))
+    → length spent ≤ 0 → IsBack v piece piece
 piece_back v piece [] e (inl some) none = absurd (some refl)
 piece_back v piece [] e (inr whole) none = record { is = ap (λ (x : List ℕ). frame_back x piece) e; whole = whole.0 }
 piece_back v piece (b ∷ s) e back none = absurd (omega arith)
 
 -- If there is no split frame, the chunk is the frame.
-pub back_piece : (v : FramerValue) (piece : List ℕ) → (v.spent ≢ []) ⊎ ((prefix_kind v.max piece ≡ Whole piece []) × (v.kept ≡ [])) → length v.spent ≤ 0 → IsBack v piece piece
+pub back_piece : (v : FramerValue) (piece : List ℕ)
+    → (v.spent ≢ []) ⊎ ((prefix_kind v.max piece ≡ Whole piece []) × (v.kept ≡ []))
+    → length v.spent ≤ 0 → IsBack v piece piece
 back_piece v piece back none = piece_back v piece v.spent refl back none
 
 -- The bytes of a split frame are those of the buffer.
-pub spent_lies : (held : BufferContent) (bytes : List ℕ) → 0 < length (spent_in held bytes) → spent_in held bytes ≡ bytes
+pub spent_lies : (held : BufferContent) (bytes : List ℕ) → 0 < length (spent_in held bytes)
+    → spent_in held bytes ≡ bytes
 spent_lies held.Prefix bytes some = absurd (omega arith)
 spent_lies held.Split bytes some = refl
 
 -- A framer that keeps a frame without its last byte.
-pub front_framer : (max : ℕ) (bytes frame : List ℕ) (copied : ℕ) → 1152 ≤ max → max ≤ 1048576 → copied ≤ 18446744073709551615 → prefix_kind max frame ≡ Whole frame [] → bytes ≡ without_last frame → IsFramer (record { max = max; kept = bytes; spent = []; copied = copied })
+pub front_framer : (max : ℕ) (bytes frame : List ℕ) (copied : ℕ) → 1152 ≤ max → max ≤ 1048576
+    → copied ≤ 18446744073709551615 → prefix_kind max frame ≡ Whole frame [] → bytes ≡ without_last frame
+    → IsFramer (record { max = max; kept = bytes; spent = []; copied = copied })
 front_framer max bytes frame copied low high countable whole is = record {
   low = low;
   high = high;
@@ -219,10 +261,13 @@ front_framer max bytes frame copied low high countable whole is = record {
 }
 
 -- Taking back a frame keeps the invariant of a framer.
-back_is_framer : (v : FramerValue) (piece frame : List ℕ) → IsFramer v → IsBack v piece frame → IsFramer (with_frame_back v piece)
-back_is_framer v piece frame is back = front_framer v.max _ frame _ is.low is.high (omega arith) back.whole (ap without_last back.is)
+back_is_framer : (v : FramerValue) (piece frame : List ℕ) → IsFramer v → IsBack v piece frame
+    → IsFramer (with_frame_back v piece)
+back_is_framer v piece frame is back =
+    front_framer v.max _ frame _ is.low is.high (omega arith) back.whole (ap without_last back.is)
 
-pub unread_is_framer : (v : FramerValue) (piece : List ℕ) → IsFramer v → MayUnread v piece → IsFramer (with_frame_back v piece)
+pub unread_is_framer : (v : FramerValue) (piece : List ℕ) → IsFramer v → MayUnread v piece
+    → IsFramer (with_frame_back v piece)
 unread_is_framer v piece is may =
     elim (cases_lt 0 (length v.spent)) [
       | inl some ↦ back_is_framer v piece v.spent is (back_spent v piece is some)

@@ -1,16 +1,21 @@
 -- The theorems on framers: the output agrees with the stream, the number of bytes taken of a chunk, and `unread`.
-use Rattle.std.proofs.Common.{◌≡◌, ℕ, ◌+◌, ◌-◌, ◌≤◌, Bool, true, false, List, [], ◌∷◌, ◌++◌, length, take, drop, refl, sym, ap, subst, ◌∙◌, append_assoc, arith, inl, inr, is_none, if◌then◌else◌}
+use Rattle.std.proofs.Common.{◌≡◌, ℕ, ◌+◌, ◌-◌, ◌≤◌, Bool, true, false, List, [], ◌∷◌, ◌++◌, length, take, drop, refl}
+use Rattle.std.proofs.Common.{sym, ap, subst, ◌∙◌, append_assoc, arith, inl, inr, is_none, if◌then◌else◌}
 use Rattle.std.proofs.lemmas.Bool.{cases_lt}
-use Rattle.std.proofs.lemmas.List.{append-nil, take-append-drop, take-append-le, take_all, take_at, length-append, length-drop}
+use Rattle.std.proofs.lemmas.List.{append-nil, take-append-drop, take-append-le, take_all, take_at, length-append}
+use Rattle.std.proofs.lemmas.List.{length-drop}
 use Rattle.std.proofs.Math.Seq.{take-append-add}
 use Rattle.coap_frame.specs.Prelude.{FrameFault, StreamPrefix, Unfinished, Whole, Faulty, prefix_kind, size_bytes}
 use Rattle.coap_frame.specs.Prelude.{fault_bytes, Frames, Sizes, constant_size, sizes_first, size_for, sizes_behind}
 use Rattle.coap_frame.specs.Prelude.{with_frame, sized_frames, FramerValue, IsFramer, FrameEventValue, Nothing, AFrame}
 use Rattle.coap_frame.specs.Prelude.{AFault, Framing, split_frame, framing_at, framing, framing_of, framer_after}
 use Rattle.coap_frame.specs.Prelude.{without_last, frame_back, MayUnread, raise_refusal, with_size, asked_for}
-use Rattle.coap_frame.specs.Prelude.{FramerInput, Piece, FramerOutput, given_then, output_of, stream_given, IsGiven, taken_of}
+use Rattle.coap_frame.specs.Prelude.{FramerInput, Piece, FramerOutput, given_then, output_of, stream_given, IsGiven}
+use Rattle.coap_frame.specs.Prelude.{taken_of}
 use Rattle.coap_frame.specs.Prelude.{unread_after, last_byte}
-use Rattle.coap_wire.proofs.StreamSteps.{whole_parts, whole_itself, whole_more, faulty_more, fault_bytes_more, fault_at_last, size_has_bytes, size_bytes_more, AreAlikeBehind, frames_unfinished, frames_faulty, frames_whole, frames_alike}
+use Rattle.coap_wire.proofs.StreamSteps.{whole_parts, whole_itself, whole_more, faulty_more, fault_bytes_more}
+use Rattle.coap_wire.proofs.StreamSteps.{fault_at_last, size_has_bytes, size_bytes_more, AreAlikeBehind}
+use Rattle.coap_wire.proofs.StreamSteps.{frames_unfinished, frames_faulty, frames_whole, frames_alike}
 use Rattle.coap_wire.proofs.SizesLaws.{first_in, first_past, behind_first, first_none, first_always}
 use Rattle.coap_frame.specs.FramerOutput.{Size}
 use Rattle.coap_frame.proofs.FramingLemmas.{framing_is_framer, frame_is_small, front_unfinished}
@@ -26,7 +31,10 @@ record IsKnownAtFront (M : ℕ) (kept piece : List ℕ) (fault : FrameFault) : T
   faulty : prefix_kind M (kept ++ front) ≡ Faulty fault
   is : fault_bytes (kept ++ front) ≡ kept ++ front
 
-known_step : (M : ℕ) (kept : List ℕ) (b : ℕ) (piece : List ℕ) (fault : FrameFault) (at : StreamPrefix) → prefix_kind M kept ≡ Unfinished → prefix_kind M ((kept ++ b ∷ []) ++ piece) ≡ Faulty fault → (prefix_kind M (kept ++ b ∷ []) ≡ Unfinished → IsKnownAtFront M (kept ++ b ∷ []) piece fault) → prefix_kind M (kept ++ b ∷ []) ≡ at → IsKnownAtFront M kept (b ∷ piece) fault
+known_step : (M : ℕ) (kept : List ℕ) (b : ℕ) (piece : List ℕ) (fault : FrameFault) (at : StreamPrefix)
+    → prefix_kind M kept ≡ Unfinished → prefix_kind M ((kept ++ b ∷ []) ++ piece) ≡ Faulty fault
+    → (prefix_kind M (kept ++ b ∷ []) ≡ Unfinished → IsKnownAtFront M (kept ++ b ∷ []) piece fault)
+    → prefix_kind M (kept ++ b ∷ []) ≡ at → IsKnownAtFront M kept (b ∷ piece) fault
 known_step M kept b piece fault Unfinished u e again is =
     let next = again is in
     let same : (kept ++ b ∷ []) ++ next.front ≡ kept ++ b ∷ next.front = append_assoc kept (b ∷ []) next.front in
@@ -38,32 +46,42 @@ known_step M kept b piece fault Unfinished u e again is =
       is = ap fault_bytes (sym same) ∙ next.is ∙ same;
     }
 known_step M kept b piece fault (Whole frame rest) u e again is =
-    let bad : ◌≡◌ {A = StreamPrefix} (Whole frame (rest ++ piece)) (Faulty fault) = sym (whole_more M (kept ++ b ∷ []) piece frame rest is) ∙ e in
+    let bad : ◌≡◌ {A = StreamPrefix} (Whole frame (rest ++ piece)) (Faulty fault) =
+    sym (whole_more M (kept ++ b ∷ []) piece frame rest is) ∙ e in
     absurd cc
 known_step M kept b piece fault (Faulty first) u e again is =
-    let now : prefix_kind M (kept ++ b ∷ []) ≡ Faulty fault = is ∙ sym (faulty_more M (kept ++ b ∷ []) piece first is) ∙ e in
+    let now : prefix_kind M (kept ++ b ∷ []) ≡ Faulty fault =
+    is ∙ sym (faulty_more M (kept ++ b ∷ []) piece first is) ∙ e in
     record { front = b ∷ []; more = piece; bytes = refl; faulty = now; is = fault_at_last M kept b fault u now }
 
 -- If the kept bytes are unfinished, the error is known within the chunk.
-known : (M : ℕ) (kept piece : List ℕ) (fault : FrameFault) → prefix_kind M kept ≡ Unfinished → prefix_kind M (kept ++ piece) ≡ Faulty fault → IsKnownAtFront M kept piece fault
+known : (M : ℕ) (kept piece : List ℕ) (fault : FrameFault) → prefix_kind M kept ≡ Unfinished
+    → prefix_kind M (kept ++ piece) ≡ Faulty fault → IsKnownAtFront M kept piece fault
 known M kept [] fault u e =
-    let bad : ◌≡◌ {A = StreamPrefix} Unfinished (Faulty fault) = sym u ∙ ap (prefix_kind M) (sym (append-nil kept)) ∙ e in
+    let bad : ◌≡◌ {A = StreamPrefix} Unfinished (Faulty fault) =
+    sym u ∙ ap (prefix_kind M) (sym (append-nil kept)) ∙ e in
     absurd cc
 known M kept (b ∷ piece) fault u e =
-    let cut : prefix_kind M ((kept ++ b ∷ []) ++ piece) ≡ Faulty fault = ap (prefix_kind M) (append_assoc kept (b ∷ []) piece) ∙ e in
-    known_step M kept b piece fault (prefix_kind M (kept ++ b ∷ [])) u cut (λ is. known M (kept ++ b ∷ []) piece fault is cut) refl
+    let cut : prefix_kind M ((kept ++ b ∷ []) ++ piece) ≡ Faulty fault =
+    ap (prefix_kind M) (append_assoc kept (b ∷ []) piece) ∙ e in
+    known_step M kept b piece fault (prefix_kind M (kept ++ b ∷ [])) u cut
+    (λ is. known M (kept ++ b ∷ []) piece fault is cut) refl
 
 -- ---- one call
 
 -- If the kept bytes are unfinished, a frame contains all of them.
-kept_within_frame : (M : ℕ) (kept piece frame rest : List ℕ) → prefix_kind M kept ≡ Unfinished → prefix_kind M (kept ++ piece) ≡ Whole frame rest → length kept ≤ length frame
+kept_within_frame : (M : ℕ) (kept piece frame rest : List ℕ) → prefix_kind M kept ≡ Unfinished
+    → prefix_kind M (kept ++ piece) ≡ Whole frame rest → length kept ≤ length frame
 kept_within_frame M kept piece frame rest u e =
     let n = length frame in
     elim (cases_lt n (length kept)) [
       | inl small ↦ (
-          let front : take n kept ≡ frame = sym (take-append-le n kept piece (omega arith)) ∙ ap (take n) (whole_parts M (kept ++ piece) frame rest e).bytes ∙ take_at frame rest n refl in
-          let cut : kept ≡ frame ++ drop n kept = sym (take-append-drop n kept) ∙ ap (λ (s : List ℕ). s ++ drop n kept) front in
-          let bad : ◌≡◌ {A = StreamPrefix} Unfinished (Whole frame (drop n kept)) = sym u ∙ ap (prefix_kind M) cut ∙ whole_more M frame (drop n kept) frame [] (whole_itself M (kept ++ piece) frame rest e) in
+          let front : take n kept ≡ frame = sym (take-append-le n kept piece (omega arith))
+          ∙ ap (take n) (whole_parts M (kept ++ piece) frame rest e).bytes ∙ take_at frame rest n refl in
+          let cut : kept ≡ frame ++ drop n kept =
+          sym (take-append-drop n kept) ∙ ap (λ (s : List ℕ). s ++ drop n kept) front in
+          let bad : ◌≡◌ {A = StreamPrefix} Unfinished (Whole frame (drop n kept)) = sym u ∙ ap (prefix_kind M) cut
+          ∙ whole_more M frame (drop n kept) frame [] (whole_itself M (kept ++ piece) frame rest e) in
           absurd cc)
       | inr fits ↦ fits
     ]
@@ -71,15 +89,18 @@ kept_within_frame M kept piece frame rest u e =
 -- The content of the kept bytes and the bytes taken, by the finding, and the bytes kept afterwards.
 abbrev IsFoundAt : ℕ → List ℕ → List ℕ → ℕ → List ℕ → FrameEventValue → Type 0
 IsFoundAt max kept piece taken after Nothing = (taken ≡ length piece) × (after ≡ kept ++ take taken piece)
-IsFoundAt max kept piece taken after (AFrame frame) = (frame ≡ kept ++ take taken piece) × (prefix_kind max frame ≡ Whole frame []) × (after ≡ [])
+IsFoundAt max kept piece taken after (AFrame frame) =
+    (frame ≡ kept ++ take taken piece) × (prefix_kind max frame ≡ Whole frame []) × (after ≡ [])
 IsFoundAt max kept piece taken after (AFault fault) =
-    (prefix_kind max (kept ++ piece) ≡ Faulty fault) × (kept ++ take taken piece ≡ fault_bytes (kept ++ piece)) × (prefix_kind max (kept ++ take taken piece) ≡ Faulty fault) × (after ≡ [])
+    (prefix_kind max (kept ++ piece) ≡ Faulty fault) × (kept ++ take taken piece ≡ fault_bytes (kept ++ piece))
+    × (prefix_kind max (kept ++ take taken piece) ≡ Faulty fault) × (after ≡ [])
 
 record IsCall (max : ℕ) (kept piece : List ℕ) (f : Framing) : Type 0 where
   within : f.taken ≤ length piece
   found : IsFoundAt max kept piece f.taken f.kept f.finding
 
-call_at : (max : ℕ) (kept piece : List ℕ) (b : StreamPrefix) → prefix_kind max kept ≡ Unfinished → prefix_kind max (kept ++ piece) ≡ b → IsCall max kept piece (framing_at kept piece b)
+call_at : (max : ℕ) (kept piece : List ℕ) (b : StreamPrefix) → prefix_kind max kept ≡ Unfinished
+    → prefix_kind max (kept ++ piece) ≡ b → IsCall max kept piece (framing_at kept piece b)
 call_at max kept piece Unfinished u e = record {
   within = omega arith;
   found = (refl, sym (ap (λ (p : List ℕ). kept ++ p) (take_all (length piece) piece (omega arith))));
@@ -88,28 +109,46 @@ call_at max kept piece (Whole frame rest) u e =
     let c = whole_parts max (kept ++ piece) frame rest e in
     let n = length piece - length rest in
     let long = kept_within_frame max kept piece frame rest u e in
-    let all : length kept + length piece ≡ length frame + length rest = sym (length-append kept piece) ∙ ap (λ (s : List ℕ). length s) c.bytes ∙ length-append frame rest in
+    let all : length kept + length piece ≡ length frame + length rest =
+    sym (length-append kept piece) ∙ ap (λ (s : List ℕ). length s) c.bytes ∙ length-append frame rest in
     let size : length frame ≡ length kept + n = omega (arith, long, all) in
-    let bytes : frame ≡ kept ++ take n piece = sym (take_at frame rest (length kept + n) size) ∙ ap (take (length kept + n)) (sym c.bytes) ∙ take-append-add kept piece n in
+    let bytes : frame ≡ kept ++ take n piece = sym (take_at frame rest (length kept + n) size)
+    ∙ ap (take (length kept + n)) (sym c.bytes) ∙ take-append-add kept piece n in
     record { within = omega arith; found = (bytes, whole_itself max (kept ++ piece) frame rest e, refl) }
 call_at max kept piece (Faulty fault) u e =
     let k = known max kept piece fault u e in
-    let cut : kept ++ piece ≡ (kept ++ k.front) ++ k.more = ap (λ (p : List ℕ). kept ++ p) k.bytes ∙ sym (append_assoc kept k.front k.more) in
-    let bytes : fault_bytes (kept ++ piece) ≡ kept ++ k.front = ap fault_bytes cut ∙ fault_bytes_more max (kept ++ k.front) k.more fault k.faulty ∙ k.is in
-    let count : length (fault_bytes (kept ++ piece)) - length kept ≡ length k.front = omega (arith, ap (λ (s : List ℕ). length s) bytes, length-append kept k.front) in
-    let taken : take (length (fault_bytes (kept ++ piece)) - length kept) piece ≡ k.front = ap (λ (n : ℕ). take n piece) count ∙ ap (take (length k.front)) k.bytes ∙ take_at k.front k.more (length k.front) refl in
+    let cut : kept ++ piece ≡ (kept ++ k.front) ++ k.more =
+    ap (λ (p : List ℕ). kept ++ p) k.bytes ∙ sym (append_assoc kept k.front k.more) in
+    let bytes : fault_bytes (kept ++ piece) ≡ kept ++ k.front =
+    ap fault_bytes cut ∙ fault_bytes_more max (kept ++ k.front) k.more fault k.faulty ∙ k.is in
+    let count : length (fault_bytes (kept ++ piece)) - length kept ≡ length k.front =
+    omega (arith, ap (λ (s : List ℕ). length s) bytes, length-append kept k.front) in
+    let taken : take (length (fault_bytes (kept ++ piece)) - length kept) piece ≡ k.front =
+    ap (λ (n : ℕ). take n piece) count ∙ ap (take (length k.front)) k.bytes
+    ∙ take_at k.front k.more (length k.front) refl in
     record {
       within = omega (arith, count, ap (λ (s : List ℕ). length s) k.bytes, length-append k.front k.more);
-      found = (e, ap (λ (p : List ℕ). kept ++ p) taken ∙ sym bytes, ap (λ (p : List ℕ). prefix_kind max (kept ++ p)) taken ∙ k.faulty, refl);
+      found = (
+        e,
+        ap (λ (p : List ℕ). kept ++ p) taken ∙ sym bytes,
+        ap (λ (p : List ℕ). prefix_kind max (kept ++ p)) taken ∙ k.faulty,
+        refl,
+      );
     }
 
-call_is : (max : ℕ) (kept piece : List ℕ) → prefix_kind max kept ≡ Unfinished → IsCall max kept piece (framing max kept piece)
+call_is : (max : ℕ) (kept piece : List ℕ) → prefix_kind max kept ≡ Unfinished
+    → IsCall max kept piece (framing max kept piece)
 unfolding framing
 call_is max kept piece u = call_at max kept piece (prefix_kind max (kept ++ piece)) u refl
 
 -- The same, for the finding of a call.
-found_is : (max : ℕ) (kept piece : List ℕ) (finding : FrameEventValue) → prefix_kind max kept ≡ Unfinished → (framing max kept piece).finding ≡ finding → IsFoundAt max kept piece (framing max kept piece).taken (framing max kept piece).kept finding
-found_is max kept piece finding u e = subst (λ (f : FrameEventValue). IsFoundAt max kept piece (framing max kept piece).taken (framing max kept piece).kept f) e (call_is max kept piece u).found
+found_is : (max : ℕ) (kept piece : List ℕ) (finding : FrameEventValue) → prefix_kind max kept ≡ Unfinished
+    → (framing max kept piece).finding ≡ finding
+    → IsFoundAt max kept piece (framing max kept piece).taken (framing max kept piece).kept finding
+found_is max kept piece finding u e =
+    subst
+    (λ (f : FrameEventValue). IsFoundAt max kept piece (framing max kept piece).taken (framing max kept piece).kept f) e
+    (call_is max kept piece u).found
 
 -- ---- the sizes of the bytes taken
 
@@ -118,10 +157,13 @@ first_point m n M S at =
     elim (cases_lt at m) [
       | inl lt ↦ first_in m M (sizes_first n M S) at lt ∙ sym (first_in (m + n) M S at (omega (arith, lt)))
       | inr ge ↦ elim (cases_lt (at - m) n) [
-        | inl lt ↦ first_past m M (sizes_first n M S) at ge ∙ first_in n M S (at - m) lt ∙ sym (first_in (m + n) M S at (omega (arith, lt, ge)))
+        | inl lt ↦
+            first_past m M (sizes_first n M S) at ge ∙ first_in n M S (at - m) lt
+            ∙ sym (first_in (m + n) M S at (omega (arith, lt, ge)))
         | inr past ↦ (
             let same : (at - m) - n ≡ at - (m + n) = omega arith in
-            first_past m M (sizes_first n M S) at ge ∙ first_past n M S (at - m) past ∙ ap S same ∙ sym (first_past (m + n) M S at (omega (arith, past, ge))))
+            first_past m M (sizes_first n M S) at ge ∙ first_past n M S (at - m) past ∙ ap S same
+            ∙ sym (first_past (m + n) M S at (omega (arith, past, ge))))
       ]
     ]
 
@@ -130,16 +172,20 @@ first_first m n M S = λ i at. first_point m n M S at i
 
 -- Bytes with one maximum, after others with the same maximum.
 first_bytes : (M : ℕ) (kept taken more all : List ℕ) (S : Sizes) → all ≡ kept ++ taken
-    → sized_frames (sizes_first (length kept) M (sizes_first (length taken) M S)) (kept ++ (taken ++ more)) ≡ sized_frames (sizes_first (length all) M S) (all ++ more)
+    → sized_frames (sizes_first (length kept) M (sizes_first (length taken) M S)) (kept ++ (taken ++ more))
+    ≡ sized_frames (sizes_first (length all) M S) (all ++ more)
 first_bytes M kept taken more all S is =
-    let count : length kept + length taken ≡ length all = omega (arith, ap (λ (s : List ℕ). length s) is, length-append kept taken) in
-    let bytes : kept ++ (taken ++ more) ≡ all ++ more = sym (append_assoc kept taken more) ∙ ap (λ (s : List ℕ). s ++ more) (sym is) in
+    let count : length kept + length taken ≡ length all =
+    omega (arith, ap (λ (s : List ℕ). length s) is, length-append kept taken) in
+    let bytes : kept ++ (taken ++ more) ≡ all ++ more =
+    sym (append_assoc kept taken more) ∙ ap (λ (s : List ℕ). s ++ more) (sym is) in
     ap (λ (f : Sizes). sized_frames f (kept ++ (taken ++ more))) (first_first (length kept) (length taken) M S)
     ∙ ap (sized_frames (sizes_first (length kept + length taken) M S)) bytes
     ∙ ap (λ (n : ℕ). sized_frames (sizes_first n M S) (all ++ more)) count
 
 -- The maximum that applies to a whole frame that was taken with this maximum.
-size_at_frame : (M : ℕ) (frame more : List ℕ) (S : Sizes) → prefix_kind M frame ≡ Whole frame [] → size_for (sizes_first (length frame) M S) (frame ++ more) ≡ M
+size_at_frame : (M : ℕ) (frame more : List ℕ) (S : Sizes) → prefix_kind M frame ≡ Whole frame []
+    → size_for (sizes_first (length frame) M S) (frame ++ more) ≡ M
 size_at_frame M frame more S whole =
     let c = whole_parts M frame frame [] whole in
     let few = size_has_bytes frame (length frame) c.declared in
@@ -148,7 +194,9 @@ size_at_frame M frame more S whole =
 
 -- ---- a list of calls
 
-given_step : (v after : FramerValue) (piece : List ℕ) (taken : ℕ) (go : FramerValue → FramerOutput) (finding : FrameEventValue) → after.max ≡ v.max → IsFoundAt v.max v.kept piece taken after.kept finding → IsGiven after (go after) → IsGiven v (given_then go (take taken piece) v.max after finding)
+given_step : (v after : FramerValue) (piece : List ℕ) (taken : ℕ) (go : FramerValue → FramerOutput)
+    (finding : FrameEventValue) → after.max ≡ v.max → IsFoundAt v.max v.kept piece taken after.kept finding
+    → IsGiven after (go after) → IsGiven v (given_then go (take taken piece) v.max after finding)
 given_step v after piece taken go Nothing max found again =
     let more = (go after).taken in
     let S = (go after).sizes in
@@ -164,14 +212,19 @@ given_step v after piece taken go Nothing max found again =
 given_step v after piece taken go (AFrame frame) max found again =
     let more = (go after).taken in
     let S = (go after).sizes in
-    let whole : prefix_kind (size_for (sizes_first (length frame) v.max S) (frame ++ more)) (frame ++ more) ≡ Whole frame more =
-    ap (λ (m : ℕ). prefix_kind m (frame ++ more)) (size_at_frame v.max frame more S found.1) ∙ whole_more v.max frame more frame [] found.1 in
-    let behind : sized_frames (sizes_behind (length frame) (sizes_first (length frame) v.max S)) more ≡ stream_given after (go after) =
+    let whole : prefix_kind (size_for (sizes_first (length frame) v.max S) (frame ++ more)) (frame ++ more)
+    ≡ Whole frame more =
+    ap (λ (m : ℕ). prefix_kind m (frame ++ more)) (size_at_frame v.max frame more S found.1)
+    ∙ whole_more v.max frame more frame [] found.1 in
+    let behind : sized_frames (sizes_behind (length frame) (sizes_first (length frame) v.max S)) more
+    ≡ stream_given after (go after) =
     ap (λ (f : Sizes). sized_frames f more) (behind_first (length frame) v.max S ∙ sym (first_none after.max S))
     ∙ ap (λ (k : List ℕ). sized_frames (sizes_first (length k) after.max S) (k ++ more)) (sym found.2) in
-    let same : stream_given v (given_then go (take taken piece) v.max after (AFrame frame)) ≡ with_frame frame (stream_given after (go after)) =
+    let same : stream_given v (given_then go (take taken piece) v.max after (AFrame frame))
+    ≡ with_frame frame (stream_given after (go after)) =
     first_bytes v.max v.kept (take taken piece) more frame S found.0
-    ∙ frames_whole (sizes_first (length frame) v.max S) (frame ++ more) frame more whole ∙ ap (with_frame frame) behind in
+    ∙ frames_whole (sizes_first (length frame) v.max S) (frame ++ more) frame more whole
+    ∙ ap (with_frame frame) behind in
     record {
       frames = ap (λ (f : Frames). f.frames) same ∙ ap (λ (fs : List (List ℕ)). frame ∷ fs) again.frames;
       rest = λ none. ap (λ (f : Frames). f.rest) same ∙ again.rest none;
@@ -190,12 +243,14 @@ given_step v after piece taken go (AFault fault) max found again =
     }
 
 -- The result is the same if the kept bytes were taken with a larger maximum.
-raised_alike : (max new : ℕ) (kept : List ℕ) (S : Sizes) → prefix_kind max kept ≡ Unfinished → max ≤ new → AreAlikeBehind (sizes_first (length kept) max S) (sizes_first (length kept) new S) kept
+raised_alike : (max new : ℕ) (kept : List ℕ) (S : Sizes) → prefix_kind max kept ≡ Unfinished → max ≤ new
+    → AreAlikeBehind (sizes_first (length kept) max S) (sizes_first (length kept) new S) kept
 raised_alike max new kept S u le =
     let at : ℕ = size_bytes kept - 1 in
     let n : ℕ = length kept in
     record {
-      unfinished = unfinished_with max (sizes_first n max S at) kept u (λ there. omega (arith, first_in n max S at there));
+      unfinished =
+          unfinished_with max (sizes_first n max S at) kept u (λ there. omega (arith, first_in n max S at there));
       larger = elim (cases_lt at n) [
         | inl there ↦ omega (arith, le, first_in n max S at there, first_in n new S at there)
         | inr past ↦ omega (arith, first_past n max S at past, first_past n new S at past)
@@ -203,10 +258,12 @@ raised_alike max new kept S u le =
       same = λ place past. first_past n max S place past ∙ sym (first_past n new S place past);
     }
 
-given_raised : (v : FramerValue) (new : ℕ) (given : FramerOutput) → IsFramer v → v.max ≤ new → IsGiven (with_size v new) given → IsGiven v given
+given_raised : (v : FramerValue) (new : ℕ) (given : FramerOutput) → IsFramer v → v.max ≤ new
+    → IsGiven (with_size v new) given → IsGiven v given
 given_raised v new given is le again =
     let same : stream_given v given ≡ stream_given (with_size v new) given =
-    frames_alike (sizes_first (length v.kept) v.max given.sizes) (sizes_first (length v.kept) new given.sizes) v.kept given.taken (raised_alike v.max new v.kept given.sizes is.unfinished le) in
+    frames_alike (sizes_first (length v.kept) v.max given.sizes) (sizes_first (length v.kept) new given.sizes) v.kept
+    given.taken (raised_alike v.max new v.kept given.sizes is.unfinished le) in
     record {
       frames = ap (λ (f : Frames). f.frames) same ∙ again.frames;
       rest = λ none. ap (λ (f : Frames). f.rest) same ∙ again.rest none;
@@ -214,7 +271,9 @@ given_raised v new given is le again =
       nothing_kept = again.nothing_kept;
     }
 
-given_asked : (v : FramerValue) (new : ℕ) (given : FramerOutput) (allowed : Bool) → is_none (raise_refusal v.max new) ≡ allowed → IsFramer v → IsGiven (if allowed then with_size v new else v) given → IsGiven v given
+given_asked : (v : FramerValue) (new : ℕ) (given : FramerOutput) (allowed : Bool)
+    → is_none (raise_refusal v.max new) ≡ allowed → IsFramer v
+    → IsGiven (if allowed then with_size v new else v) given → IsGiven v given
 given_asked v new given true e is again = given_raised v new given is (allowed_by v.max new e).0 again
 given_asked v new given false e is again = again
 
@@ -224,7 +283,8 @@ unfolding output_of
 given_is v [] is =
     let same =
     ap (λ (f : Sizes). sized_frames f (v.kept ++ [])) (first_always (length v.kept) v.max)
-    ∙ ap (sized_frames (constant_size v.max)) (append-nil v.kept) ∙ frames_unfinished (constant_size v.max) v.kept is.unfinished in
+    ∙ ap (sized_frames (constant_size v.max)) (append-nil v.kept)
+    ∙ frames_unfinished (constant_size v.max) v.kept is.unfinished in
     record {
       frames = ap (λ (f : Frames). f.frames) same;
       rest = λ none. ap (λ (f : Frames). f.rest) same;
@@ -232,9 +292,11 @@ given_is v [] is =
       nothing_kept = λ fault some. absurd cc;
     }
 given_is v (Size new ∷ more) is =
-    given_asked v new (output_of (asked_for v new) more) (is_none (raise_refusal v.max new)) refl is (given_is (asked_for v new) more (asked_is_framer v new is))
+    given_asked v new (output_of (asked_for v new) more) (is_none (raise_refusal v.max new)) refl is
+    (given_is (asked_for v new) more (asked_is_framer v new is))
 given_is v (Piece p ∷ more) is =
-    given_step v (framer_after v p) p (framing_of v p).taken (λ now. output_of now more) (framing_of v p).finding refl (call_is v.max v.kept p is.unfinished).found (given_is (framer_after v p) more (framing_is_framer v p is))
+    given_step v (framer_after v p) p (framing_of v p).taken (λ now. output_of now more) (framing_of v p).finding refl
+    (call_is v.max v.kept p is.unfinished).found (given_is (framer_after v p) more (framing_is_framer v p is))
 
 -- ---- the number of bytes taken of a chunk
 
@@ -242,18 +304,23 @@ module _ (max : ℕ) (kept piece : List ℕ) where
   pub taken_within : prefix_kind max kept ≡ Unfinished → (framing max kept piece).taken ≤ length piece
   taken_within u = (call_is max kept piece u).within
 
-  pub nothing_taken : prefix_kind max kept ≡ Unfinished → (framing max kept piece).finding ≡ Nothing → (framing max kept piece).taken ≡ length piece
+  pub nothing_taken : prefix_kind max kept ≡ Unfinished → (framing max kept piece).finding ≡ Nothing
+      → (framing max kept piece).taken ≡ length piece
   nothing_taken u e = (found_is max kept piece Nothing u e).0
 
-  pub frame_taken : (frame : List ℕ) → prefix_kind max kept ≡ Unfinished → (framing max kept piece).finding ≡ AFrame frame → frame ≡ kept ++ take (framing max kept piece).taken piece
+  pub frame_taken : (frame : List ℕ) → prefix_kind max kept ≡ Unfinished
+      → (framing max kept piece).finding ≡ AFrame frame → frame ≡ kept ++ take (framing max kept piece).taken piece
   frame_taken frame u e = (found_is max kept piece (AFrame frame) u e).0
 
-  pub fault_taken : (fault : FrameFault) → prefix_kind max kept ≡ Unfinished → (framing max kept piece).finding ≡ AFault fault → (prefix_kind max (kept ++ piece) ≡ Faulty fault) × (kept ++ take (framing max kept piece).taken piece ≡ fault_bytes (kept ++ piece))
+  pub fault_taken : (fault : FrameFault) → prefix_kind max kept ≡ Unfinished
+      → (framing max kept piece).finding ≡ AFault fault → (prefix_kind max (kept ++ piece) ≡ Faulty fault)
+      × (kept ++ take (framing max kept piece).taken piece ≡ fault_bytes (kept ++ piece))
   fault_taken fault u e = let found = found_is max kept piece (AFault fault) u e in (found.0, found.1)
 
 -- ---- a frame that is taken back
 
-left_at : (kept piece frame : List ℕ) (b : StreamPrefix) → (framing_at kept piece b).finding ≡ AFrame frame → ((framing_at kept piece b).kept ≡ []) × ((framing_at kept piece b).spent ≡ split_frame kept frame)
+left_at : (kept piece frame : List ℕ) (b : StreamPrefix) → (framing_at kept piece b).finding ≡ AFrame frame
+    → ((framing_at kept piece b).kept ≡ []) × ((framing_at kept piece b).spent ≡ split_frame kept frame)
 left_at kept piece frame Unfinished e = absurd cc
 left_at kept piece frame (Whole found rest) e =
     let same : found ≡ frame = cc in
@@ -261,11 +328,13 @@ left_at kept piece frame (Whole found rest) e =
 left_at kept piece frame (Faulty fault) e = absurd cc
 
 -- The kept bytes and the split frame after a frame was found.
-frame_leaves : (max : ℕ) (kept piece frame : List ℕ) → (framing max kept piece).finding ≡ AFrame frame → ((framing max kept piece).kept ≡ []) × ((framing max kept piece).spent ≡ split_frame kept frame)
+frame_leaves : (max : ℕ) (kept piece frame : List ℕ) → (framing max kept piece).finding ≡ AFrame frame
+    → ((framing max kept piece).kept ≡ []) × ((framing max kept piece).spent ≡ split_frame kept frame)
 unfolding framing
 frame_leaves max kept piece frame e = left_at kept piece frame (prefix_kind max (kept ++ piece)) e
 
-after_frame : (v : FramerValue) (piece frame : List ℕ) → (framing_of v piece).finding ≡ AFrame frame → framer_after v piece ≡ record (framer_after v piece) { kept = []; spent = split_frame v.kept frame }
+after_frame : (v : FramerValue) (piece frame : List ℕ) → (framing_of v piece).finding ≡ AFrame frame
+    → framer_after v piece ≡ record (framer_after v piece) { kept = []; spent = split_frame v.kept frame }
 after_frame v piece frame e =
     let left = frame_leaves v.max v.kept piece frame e in
     ap (λ (k : List ℕ). record (framer_after v piece) { kept = k }) left.0
@@ -276,35 +345,45 @@ back_is : (kept bytes frame : List ℕ) → frame ≡ kept ++ bytes → frame_ba
 back_is [] bytes frame e = sym e
 back_is (b ∷ kept) bytes frame e = ap (λ (f : List ℕ). frame_back f bytes) e ∙ sym e
 
-allowed_at : (v : FramerValue) (bytes frame : List ℕ) (kept : List ℕ) → prefix_kind v.max frame ≡ Whole frame [] → frame ≡ kept ++ bytes → MayUnread (record v { kept = []; spent = split_frame kept frame }) bytes
-allowed_at v bytes frame [] whole e = inr (ap (prefix_kind v.max) (sym e) ∙ whole ∙ ap (λ (f : List ℕ). Whole f []) e, refl)
+allowed_at : (v : FramerValue) (bytes frame : List ℕ) (kept : List ℕ) → prefix_kind v.max frame ≡ Whole frame []
+    → frame ≡ kept ++ bytes → MayUnread (record v { kept = []; spent = split_frame kept frame }) bytes
+allowed_at v bytes frame [] whole e =
+    inr (ap (prefix_kind v.max) (sym e) ∙ whole ∙ ap (λ (f : List ℕ). Whole f []) e, refl)
 allowed_at v bytes frame (b ∷ kept) whole e =
-    inl (λ (none : frame ≡ []). let some = (frame_is_small v.max frame whole).0 in absurd (omega (arith, some, ap (λ (f : List ℕ). length f) none)))
+    inl (λ (none : frame ≡ []). let some = (frame_is_small v.max frame whole).0 in
+    absurd (omega (arith, some, ap (λ (f : List ℕ). length f) none)))
 
 -- All bytes but the last of two lists, if the second has a byte.
-pub last_of_second : (front bytes : List ℕ) → 1 ≤ length bytes → without_last (front ++ bytes) ≡ front ++ without_last bytes
+pub last_of_second : (front bytes : List ℕ) → 1 ≤ length bytes
+    → without_last (front ++ bytes) ≡ front ++ without_last bytes
 last_of_second front bytes some =
-    let count : length (front ++ bytes) - 1 ≡ length front + (length bytes - 1) = omega (arith, length-append front bytes) in
+    let count : length (front ++ bytes) - 1 ≡ length front + (length bytes - 1) =
+    omega (arith, length-append front bytes) in
     ap (λ (n : ℕ). take n (front ++ bytes)) count ∙ take-append-add front bytes (length bytes - 1)
 
 -- If the kept bytes are unfinished, at least one byte of the chunk is taken for a frame.
-pub takes_a_byte : (max : ℕ) (kept bytes frame : List ℕ) → prefix_kind max kept ≡ Unfinished → prefix_kind max frame ≡ Whole frame [] → frame ≡ kept ++ bytes → 1 ≤ length bytes
+pub takes_a_byte : (max : ℕ) (kept bytes frame : List ℕ) → prefix_kind max kept ≡ Unfinished
+    → prefix_kind max frame ≡ Whole frame [] → frame ≡ kept ++ bytes → 1 ≤ length bytes
 takes_a_byte max kept [] frame u whole e =
-    let bad : ◌≡◌ {A = StreamPrefix} Unfinished (Whole frame []) = sym u ∙ ap (prefix_kind max) (sym (append-nil kept) ∙ sym e) ∙ whole in
+    let bad : ◌≡◌ {A = StreamPrefix} Unfinished (Whole frame []) =
+    sym u ∙ ap (prefix_kind max) (sym (append-nil kept) ∙ sym e) ∙ whole in
     absurd cc
 takes_a_byte max kept (b ∷ bytes) frame u whole e = omega arith
 
 -- A chunk that completes nothing.
-framing_more : (max : ℕ) (kept piece : List ℕ) → prefix_kind max (kept ++ piece) ≡ Unfinished → framing max kept piece ≡ framing_at kept piece Unfinished
+framing_more : (max : ℕ) (kept piece : List ℕ) → prefix_kind max (kept ++ piece) ≡ Unfinished
+    → framing max kept piece ≡ framing_at kept piece Unfinished
 unfolding framing
 framing_more max kept piece e = ap (framing_at kept piece) e
 
-framing_frame : (max : ℕ) (kept piece frame : List ℕ) → prefix_kind max (kept ++ piece) ≡ Whole frame [] → framing max kept piece ≡ framing_at kept piece (Whole frame [])
+framing_frame : (max : ℕ) (kept piece frame : List ℕ) → prefix_kind max (kept ++ piece) ≡ Whole frame []
+    → framing max kept piece ≡ framing_at kept piece (Whole frame [])
 unfolding framing
 framing_frame max kept piece frame e = ap (framing_at kept piece) e
 
 -- A chunk in which a frame was found.
-module _ (v : FramerValue) (piece frame : List ℕ) (is : IsFramer v) (found : (framing_of v piece).finding ≡ AFrame frame) where
+module _ (v : FramerValue) (piece frame : List ℕ) (is : IsFramer v)
+    (found : (framing_of v piece).finding ≡ AFrame frame) where
   frame_is_whole : prefix_kind v.max frame ≡ Whole frame []
   frame_is_whole = (found_is v.max v.kept piece (AFrame frame) is.unfinished found).1
 
@@ -321,23 +400,32 @@ module _ (v : FramerValue) (piece frame : List ℕ) (is : IsFramer v) (found : (
 
   unread_is : unread_after v piece ≡ back
   unread_is =
-      let split = ap (λ (s : List ℕ). frame_back s (taken_of v piece)) (frame_leaves v.max v.kept piece frame found).1 in
-      ap (λ (f : List ℕ). record v { kept = without_last f; spent = []; copied = copied_before }) (split ∙ back_is v.kept (taken_of v piece) frame frame_is_kept_and_taken)
+      let split =
+      ap (λ (s : List ℕ). frame_back s (taken_of v piece)) (frame_leaves v.max v.kept piece frame found).1 in
+      ap (λ (f : List ℕ). record v { kept = without_last f; spent = []; copied = copied_before })
+      (split ∙ back_is v.kept (taken_of v piece) frame frame_is_kept_and_taken)
 
   -- The bytes taken without the last one complete nothing.
   frame_but_last : without_last frame ≡ v.kept ++ without_last (taken_of v piece)
-  frame_but_last = ap without_last frame_is_kept_and_taken ∙ last_of_second v.kept (taken_of v piece) (takes_a_byte v.max v.kept (taken_of v piece) frame is.unfinished frame_is_whole frame_is_kept_and_taken)
+  frame_but_last =
+      ap without_last frame_is_kept_and_taken ∙ last_of_second v.kept (taken_of v piece)
+      (takes_a_byte v.max v.kept (taken_of v piece) frame is.unfinished frame_is_whole frame_is_kept_and_taken)
 
-  but_last : framing_of v (without_last (taken_of v piece)) ≡ framing_at v.kept (without_last (taken_of v piece)) Unfinished
-  but_last = framing_more v.max v.kept (without_last (taken_of v piece)) (ap (prefix_kind v.max) (sym frame_but_last) ∙ front_unfinished v.max frame frame_is_whole)
+  but_last : framing_of v (without_last (taken_of v piece))
+      ≡ framing_at v.kept (without_last (taken_of v piece)) Unfinished
+  but_last =
+      framing_more v.max v.kept (without_last (taken_of v piece))
+      (ap (prefix_kind v.max) (sym frame_but_last) ∙ front_unfinished v.max frame frame_is_whole)
 
   -- `unread` is allowed after a frame.
   pub unread_allowed : MayUnread (framer_after v piece) (taken_of v piece)
   unread_allowed =
-      subst (λ (after : FramerValue). MayUnread after (taken_of v piece)) (sym (after_frame v piece frame found)) (allowed_at v (taken_of v piece) frame v.kept frame_is_whole frame_is_kept_and_taken)
+      subst (λ (after : FramerValue). MayUnread after (taken_of v piece)) (sym (after_frame v piece frame found))
+      (allowed_at v (taken_of v piece) frame v.kept frame_is_whole frame_is_kept_and_taken)
 
   -- Except for the count of copied bytes, the framer is as if the last byte had not arrived.
-  pub unread_one_less : unread_after v piece ≡ record (framer_after v (without_last (taken_of v piece))) { copied = (unread_after v piece).copied }
+  pub unread_one_less : unread_after v piece
+      ≡ record (framer_after v (without_last (taken_of v piece))) { copied = (unread_after v piece).copied }
   unread_one_less =
       unread_is
       ∙ ap (λ (k : List ℕ). record v { kept = k; spent = []; copied = copied_before }) frame_but_last
@@ -347,10 +435,12 @@ module _ (v : FramerValue) (piece frame : List ℕ) (is : IsFramer v) (found : (
   unread_nothing = ap (λ (f : Framing). f.finding) but_last
 
   -- With the last byte, the frame is found again.
-  frame_comes_again : framing_of (unread_after v piece) (last_byte frame) ≡ framing_at (without_last frame) (last_byte frame) (Whole frame [])
+  frame_comes_again : framing_of (unread_after v piece) (last_byte frame)
+      ≡ framing_at (without_last frame) (last_byte frame) (Whole frame [])
   frame_comes_again =
       ap (λ (b : FramerValue). framing_of b (last_byte frame)) unread_is
-      ∙ framing_frame v.max (without_last frame) (last_byte frame) frame (ap (prefix_kind v.max) (take-append-drop (length frame - 1) frame) ∙ frame_is_whole)
+      ∙ framing_frame v.max (without_last frame) (last_byte frame) frame
+      (ap (prefix_kind v.max) (take-append-drop (length frame - 1) frame) ∙ frame_is_whole)
 
   pub unread_again : (framing_of (unread_after v piece) (last_byte frame)).finding ≡ AFrame frame
   unread_again = ap (λ (f : Framing). f.finding) frame_comes_again

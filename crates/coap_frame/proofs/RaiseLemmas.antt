@@ -1,15 +1,18 @@
 -- A framer whose maximum size is raised.
-use Rattle.std.proofs.Common.{◌≡◌, ℕ, ◌-◌, ◌<◌, ◌≤◌, Bool, true, false, List, length, Option, Some, None, refl, sym, subst, ◌∙◌, arith, inl, inr, is_none, if◌then◌else◌}
+use Rattle.std.proofs.Common.{◌≡◌, ℕ, ◌-◌, ◌<◌, ◌≤◌, Bool, true, false, List, length, Option, Some, None, refl, sym}
+use Rattle.std.proofs.Common.{subst, ◌∙◌, arith, inl, inr, is_none, if◌then◌else◌}
 use Rattle.std.proofs.lemmas.Bool.{cases_lt, lt-ltb, le-ltb}
 use Rattle.coap_frame.specs.Prelude.{declared_of, StreamPrefix, Unfinished, Faulty, prefix_kind, size_bytes, Declared}
 use Rattle.coap_frame.specs.Prelude.{Unknown, Size, BadToken, TokenLength, FramerValue, IsFramer, raise_refusal}
 use Rattle.coap_frame.specs.Prelude.{with_size, asked_for, framer_of, kept_in, BufferContent, RaiseFault, Lower}
-use Rattle.coap_wire.proofs.StreamSteps.{begin_unknown, begin_bad_token, begin_short, size_has_bytes, declared_some, unfinished_larger, unknown_not_size}
+use Rattle.coap_wire.proofs.StreamSteps.{begin_unknown, begin_bad_token, begin_short, size_has_bytes, declared_some}
+use Rattle.coap_wire.proofs.StreamSteps.{unfinished_larger, unknown_not_size}
 use Rattle.coap_frame.specs.declared.framer.BufferContent.TheVariants as held
 use Rattle.coap_frame.specs.declared.fault.RaiseFault.TheVariants.{TooLarge}
 use Rattle.coap_frame.proofs.FillLemmas.{told_unfinished}
 
-still_unfinished : (M N : ℕ) (s : List ℕ) (d : Declared) → prefix_kind M s ≡ Unfinished → (size_bytes s - 1 < length s → M ≤ N) → declared_of s ≡ d → prefix_kind N s ≡ Unfinished
+still_unfinished : (M N : ℕ) (s : List ℕ) (d : Declared) → prefix_kind M s ≡ Unfinished
+    → (size_bytes s - 1 < length s → M ≤ N) → declared_of s ≡ d → prefix_kind N s ≡ Unfinished
 still_unfinished M N s Unknown u larger e = begin_unknown N s e
 still_unfinished M N s (Size n) u larger e =
     let told = told_unfinished M s n u e in
@@ -22,7 +25,8 @@ still_unfinished M N s BadToken u larger e =
 
 -- An unfinished frame stays unfinished under another maximum. If its size is known, the other maximum must not be
 -- lower.
-pub unfinished_with : (M N : ℕ) (s : List ℕ) → prefix_kind M s ≡ Unfinished → (size_bytes s - 1 < length s → M ≤ N) → prefix_kind N s ≡ Unfinished
+pub unfinished_with : (M N : ℕ) (s : List ℕ) → prefix_kind M s ≡ Unfinished → (size_bytes s - 1 < length s → M ≤ N)
+    → prefix_kind N s ≡ Unfinished
 unfinished_with M N s u larger = still_unfinished M N s (declared_of s) u larger refl
 
 -- A size that is not rejected is at least the current maximum, and at most 1,048,576 bytes.
@@ -50,7 +54,8 @@ pub allowed_by : (max new : ℕ) → is_none (raise_refusal max new) ≡ true �
 allowed_by max new e = raise_allowed max new (none_by (raise_refusal max new) e)
 
 -- A raised maximum keeps the invariant of a framer.
-pub raised_is_framer : (v : FramerValue) (new : ℕ) → IsFramer v → v.max ≤ new → new ≤ 1048576 → IsFramer (with_size v new)
+pub raised_is_framer : (v : FramerValue) (new : ℕ) → IsFramer v → v.max ≤ new → new ≤ 1048576
+    → IsFramer (with_size v new)
 raised_is_framer v new is larger small = record {
   low = omega (arith, is.low, larger);
   high = small;
@@ -60,14 +65,17 @@ raised_is_framer v new is larger small = record {
 }
 
 -- The same for a framer given by its buffer, in which only the kept bytes stay.
-pub raised_holds : (max new copied : ℕ) (was now : BufferContent) (bytes left : List ℕ) → IsFramer (framer_of max was bytes copied) → max ≤ new → new ≤ 1048576
+pub raised_holds : (max new copied : ℕ) (was now : BufferContent) (bytes left : List ℕ)
+    → IsFramer (framer_of max was bytes copied) → max ≤ new → new ≤ 1048576
     → now ≡ held.Prefix → left ≡ kept_in was bytes → IsFramer (framer_of new now left copied)
 raised_holds max new copied was now bytes left is larger small begins keeps =
-    let begun : IsFramer (framer_of new held.Prefix (kept_in was bytes) copied) = raised_is_framer (framer_of max was bytes copied) new is larger small in
+    let begun : IsFramer (framer_of new held.Prefix (kept_in was bytes) copied) =
+    raised_is_framer (framer_of max was bytes copied) new is larger small in
     subst (λ (h : BufferContent). IsFramer (framer_of new h left copied)) (sym begins)
     (subst (λ (b : List ℕ). IsFramer (framer_of new held.Prefix b copied)) (sym keeps) begun)
 
-framer_where_allowed : (v : FramerValue) (new : ℕ) (allowed : Bool) → is_none (raise_refusal v.max new) ≡ allowed → IsFramer v → IsFramer (if allowed then with_size v new else v)
+framer_where_allowed : (v : FramerValue) (new : ℕ) (allowed : Bool) → is_none (raise_refusal v.max new) ≡ allowed
+    → IsFramer v → IsFramer (if allowed then with_size v new else v)
 framer_where_allowed v new true e is = let fits = allowed_by v.max new e in raised_is_framer v new is fits.0 fits.1
 framer_where_allowed v new false e is = is
 

@@ -19,7 +19,8 @@ spent_in Split bytes = bytes
 
 -- The model value of a framer with this maximum, these bytes in its buffer, and this count of copied bytes.
 abbrev pub framer_of : ℕ → BufferContent → List ℕ → ℕ → FramerValue
-framer_of max held bytes copied = record { max = max; kept = kept_in held bytes; spent = spent_in held bytes; copied = copied }
+framer_of max held bytes copied =
+    record { max = max; kept = kept_in held bytes; spent = spent_in held bytes; copied = copied }
 
 -- The frame that was found: the split frame in the buffer, or otherwise the bytes taken of the chunk.
 abbrev pub frame_in : BufferContent → List ℕ → List ℕ → List ℕ

@@ -1,6 +1,7 @@
 -- Defined by this project: the number of bytes that the calls of a framer copy into its buffer.
 use Rattle.std.specs.Prelude.{◌≡◌, ◌≢◌, ℕ, ◌+◌, ◌-◌, ◌≤◌, ◌<◌, List, [], ◌∷◌, length}
-use Rattle.coap_frame.specs.Framing.{FramerValue, AFrame, framing_of, count_after, framer_after, with_frame_back, MayUnread}
+use Rattle.coap_frame.specs.Framing.{FramerValue, AFrame, framing_of, count_after, framer_after, with_frame_back}
+use Rattle.coap_frame.specs.Framing.{MayUnread}
 use Rattle.coap_frame.specs.Raising.{asked_for}
 
 -- A call that changes a framer.
@@ -31,7 +32,8 @@ buffered_length v = length v.kept + length v.spent
 -- The number of bytes in the buffer exceeds `before` by at most the increase of the count, unless the count has
 -- saturated.
 abbrev pub CountsBufferedBytes : ℕ → FramerValue → FramerValue → Type 0
-CountsBufferedBytes before v after = after.copied < 18446744073709551615 → buffered_length after + v.copied ≤ before + after.copied
+CountsBufferedBytes before v after =
+    after.copied < 18446744073709551615 → buffered_length after + v.copied ≤ before + after.copied
 
 -- The change by a chunk. The count grows by at most the bytes taken, and not at all for a frame that is whole in the
 -- chunk. `honest` compares with the kept bytes alone, since a split frame is discarded.
@@ -58,4 +60,5 @@ IsCounted v (Raise new) after = after.copied ≡ v.copied
 -- Each of these calls, one after the other, changes the count as stated, if the preconditions hold.
 unfoldable pub AreCounted : FramerValue → List FramerCall → Type 0
 AreCounted v [] = Unit {0}
-AreCounted v (call ∷ calls) = MayCall v call → IsCounted v call (after_call v call) × AreCounted (after_call v call) calls
+AreCounted v (call ∷ calls) =
+    MayCall v call → IsCounted v call (after_call v call) × AreCounted (after_call v call) calls

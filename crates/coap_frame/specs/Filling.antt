@@ -22,9 +22,11 @@ pub record IsHead (old piece new : List ℕ) (taken : ℕ) (size : Declared) : T
 
 -- The status describes the old bytes followed by the chunk, as one stream of frames of at most `M` bytes.
 abbrev pub HasStatus : ℕ → List ℕ → List ℕ → List ℕ → ℕ → FrameStatus → Type 0
-HasStatus M old piece new taken standing.Unfinished = (prefix_kind M (old ++ piece) ≡ Unfinished) × (taken ≡ length piece) × (new ≡ old ++ piece)
+HasStatus M old piece new taken standing.Unfinished =
+    (prefix_kind M (old ++ piece) ≡ Unfinished) × (taken ≡ length piece) × (new ≡ old ++ piece)
 HasStatus M old piece new taken (standing.Whole layout) =
-    (rest : List ℕ) × (prefix_kind M (old ++ piece) ≡ Whole new rest) × (taken + length rest ≡ length piece) × IsLaidOut new layout
+    (rest : List ℕ) × (prefix_kind M (old ++ piece) ≡ Whole new rest) × (taken + length rest ≡ length piece)
+    × IsLaidOut new layout
 HasStatus M old piece new taken (standing.Fault fault) =
     (prefix_kind M (old ++ piece) ≡ Faulty fault) × (length old + taken ≡ length (fault_bytes (old ++ piece)))
 

@@ -2,7 +2,8 @@
 use Rattle.std.specs.Prelude.{◌≡◌, ℕ, ◌-◌, List, [], ◌∷◌, ◌++◌, Option, Some, None, length, take, drop}
 use Rattle.coap_wire.specs.Frames.{Frames, Sizes, constant_size, sizes_first, sized_frames}
 use Rattle.coap_frame.specs.Raising.{asked_for}
-use Rattle.coap_frame.specs.Framing.{FramerValue, FrameEventValue, Nothing, AFrame, AFault, framing_of, framer_after, with_frame_back}
+use Rattle.coap_frame.specs.Framing.{FramerValue, FrameEventValue, Nothing, AFrame, AFault, framing_of, framer_after}
+use Rattle.coap_frame.specs.Framing.{with_frame_back}
 use Rattle.coap_wire.specs.declared.fault.FrameFault.{FrameFault}
 
 -- An input of a framer: the next chunk of the stream, or a new maximum size of a frame.
@@ -21,7 +22,8 @@ pub record FramerOutput : Type 0 where
 
 -- The output, if first these bytes are taken with this maximum and without a finding.
 abbrev pub taken_first : List ℕ → ℕ → FramerOutput → FramerOutput
-taken_first bytes max given = record given { taken = bytes ++ given.taken; sizes = sizes_first (length bytes) max given.sizes }
+taken_first bytes max given =
+    record given { taken = bytes ++ given.taken; sizes = sizes_first (length bytes) max given.sizes }
 
 -- The output, if first these bytes are taken with this maximum, and a frame is found.
 abbrev pub frame_first : List ℕ → ℕ → List ℕ → FramerOutput → FramerOutput
@@ -31,7 +33,8 @@ frame_first bytes max frame given = record (taken_first bytes max given) { frame
 abbrev pub given_then : (FramerValue → FramerOutput) → List ℕ → ℕ → FramerValue → FrameEventValue → FramerOutput
 given_then go bytes max after Nothing = taken_first bytes max (go after)
 given_then go bytes max after (AFrame frame) = frame_first bytes max frame (go after)
-given_then go bytes max after (AFault fault) = record { taken = bytes; sizes = constant_size max; frames = []; fault = Some fault; after = after }
+given_then go bytes max after (AFault fault) =
+    record { taken = bytes; sizes = constant_size max; frames = []; fault = Some fault; after = after }
 
 -- The output of a framer for these inputs. Each chunk is passed to one call, up to the first error. Each size is passed
 -- to one call of `raise`, whose allocation does not fail. The bytes of a chunk that are not taken may be the next
@@ -40,7 +43,8 @@ unfoldable pub output_of : FramerValue → List FramerInput → FramerOutput
 output_of v [] = record { taken = []; sizes = constant_size v.max; frames = []; fault = None; after = v }
 output_of v (Size new ∷ more) = output_of (asked_for v new) more
 output_of v (Piece p ∷ more) =
-    given_then (λ now. output_of now more) (take (framing_of v p).taken p) v.max (framer_after v p) (framing_of v p).finding
+    given_then (λ now. output_of now more) (take (framing_of v p).taken p) v.max
+    (framer_after v p) (framing_of v p).finding
 
 -- The frames, the rest and the error of the stream, which is the kept bytes followed by the bytes taken. The size of a
 -- frame is compared with the current maximum when the last byte that states the size is taken. This is the last byte of

@@ -103,7 +103,11 @@ copied_back (b ∷ spent) piece = 0
 -- The framer after the last byte of the frame was taken back.
 abbrev pub with_frame_back : FramerValue → List ℕ → FramerValue
 with_frame_back v piece =
-    record v { kept = without_last (frame_back v.spent piece); spent = []; copied = count_after v.copied (copied_back v.spent piece) }
+    record v {
+      kept = without_last (frame_back v.spent piece);
+      spent = [];
+      copied = count_after v.copied (copied_back v.spent piece);
+    }
 
 -- The precondition of `unread`: the buffer has a split frame, or the chunk is exactly one frame and no byte is kept.
 abbrev pub MayUnread : FramerValue → List ℕ → Type 0

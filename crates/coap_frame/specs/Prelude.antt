@@ -5,7 +5,8 @@ pub use Rattle.std.specs.Borrow.{sem, follows_so}
 pub use Rattle.std.specs.Vec.{vec_capacity}
 pub use mathlib.Core.Option.{none}
 -- ---- coap_wire
-pub use Rattle.coap_wire.specs.StreamPrefix.{Unfinished, token_bytes, size_bytes, Faulty, fault_bytes, StreamPrefix, Whole}
+pub use Rattle.coap_wire.specs.StreamPrefix.{Unfinished, token_bytes, size_bytes, Faulty, fault_bytes, StreamPrefix}
+pub use Rattle.coap_wire.specs.StreamPrefix.{Whole}
 unfoldable pub use Rattle.coap_wire.specs.StreamPrefix.{prefix_kind}
 pub use Rattle.coap_wire.specs.Forms.{extension_of}
 pub use Rattle.coap_wire.specs.Frames.{Frames, Sizes, constant_size, size_for, sizes_behind, sizes_first, with_frame}
@@ -35,9 +36,11 @@ pub use Rattle.coap_frame.specs.FramedViews.{finding_of_ref, finding_laid_out, I
 pub use Rattle.coap_frame.specs.FramerViews.{framer_value, is_framer}
 pub use Rattle.coap_frame.specs.Framing.{framing_of, framer_after, IsFramer, MayUnread, with_frame_back, FramerValue}
 pub use Rattle.coap_frame.specs.Framing.{Nothing, AFrame, AFault, without_last, FrameEventValue, Framing, copied_alone}
-pub use Rattle.coap_frame.specs.Framing.{copied_back, copied_of, count_after, frame_back, framed, framing_at, split_frame}
+pub use Rattle.coap_frame.specs.Framing.{copied_back, copied_of, count_after, frame_back, framed, framing_at}
+pub use Rattle.coap_frame.specs.Framing.{split_frame}
 unfoldable pub use Rattle.coap_frame.specs.Framing.{framing}
-pub use Rattle.coap_frame.specs.FramerOutput.{FramerInput, IsGiven, taken_of, unread_after, last_byte, FramerOutput, Piece, given_then}
+pub use Rattle.coap_frame.specs.FramerOutput.{FramerInput, IsGiven, taken_of, unread_after, last_byte, FramerOutput}
+pub use Rattle.coap_frame.specs.FramerOutput.{Piece, given_then}
 pub use Rattle.coap_frame.specs.FramerOutput.{stream_given}
 unfoldable pub use Rattle.coap_frame.specs.FramerOutput.{output_of}
 pub use Rattle.coap_frame.specs.Raising.{raised, IsRaiseAnswer, asked_for, raise_refusal, with_size}

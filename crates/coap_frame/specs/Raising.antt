@@ -7,7 +7,8 @@ use Rattle.coap_frame.specs.declared.fault.RaiseFault.TheVariants.{Lower, TooLar
 
 -- The reason not to change the maximum from `max` to `new` bytes, if there is one. Allocation is not considered.
 abbrev pub raise_refusal : ℕ → ℕ → Option RaiseFault
-raise_refusal max new = if nat_lt new max then Some Lower else (if nat_lt LARGEST_MESSAGE new then Some TooLarge else None)
+raise_refusal max new =
+    if nat_lt new max then Some Lower else (if nat_lt LARGEST_MESSAGE new then Some TooLarge else None)
 
 -- The framer with a new maximum. The kept bytes and the count of copied bytes stay, and a split frame is discarded.
 abbrev pub with_size : FramerValue → ℕ → FramerValue

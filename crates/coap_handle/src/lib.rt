@@ -1,7 +1,7 @@
 //! A box taken apart into its address and its allocator, and put together again.
 //!
-//! A program in another language keeps such an address between two calls (`coap_c`). `BoxParts` owns what the box owned,
-//! and contracts see its value.
+//! A program in another language keeps such an address between two calls (`coap_c`). `BoxParts` owns what the box
+//! owned, and contracts see its value.
 #![tactic(auto)]
 
 ghost use Rattle.std.specs.Prelude.{◌≡◌};

@@ -67,8 +67,8 @@ pub trait Ready {
     fn may_write(&self) -> bool
         ensures { MatchesTrace (writable self.now) result };
 
-    /// Returns the place of the wire, by which `Door::woken` names it. No two wires of a door have the same place at the
-    /// same time. The default is `None`: no call names the wire.
+    /// Returns the place of the wire, by which `Door::woken` names it. No two wires of a door have the same place at
+    /// the same time. The default is `None`: no call names the wire.
     fn place(&self) -> Option<usize> {
         None
     }
@@ -140,7 +140,8 @@ impl<C: Clock> Clock for Option<C> {
     ghost moments = { λ clock. option_and_then C.moments clock };
 
     fn now(&mut self) -> u64
-        ensures told { TellsMore (option_and_then C.moments self.old) (option_and_then C.moments self.new) (result ∷ []) }
+        ensures told { TellsMore (option_and_then C.moments self.old)
+            (option_and_then C.moments self.new) (result ∷ []) }
         ensures absent { self.old ≡ None → result ≡ 0 }
         ensures stays { self.old ≡ None → self.new ≡ None }
     {

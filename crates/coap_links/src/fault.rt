@@ -2,8 +2,8 @@
 
 use thiserror::Error;
 
-/// Text that is not in link format. The first `offset` bytes are the start of such a text, as far as this is read from left
-/// to right.
+/// Text that is not in link format. The first `offset` bytes are the start of such a text, as far as this is read from
+/// left to right.
 #[derive(Clone, Copy, Debug, PartialEq, Eq, Error)]
 #[error("no link format at byte {offset}")]
 pub struct LinkFault {

@@ -6,8 +6,8 @@
 //! - `LinkText` keeps a text that was checked, and `AttributeText` keeps attributes as a text.
 //! - `is_parmname` and `is_same_name` judge names of attributes.
 //!
-//! Only `AttributeText::with` allocates. The contracts name the definitions of `specs/Links.antt` (which text writes a list of links) and
-//! `specs/Reading.antt` (what a text is read as).
+//! Only `AttributeText::with` allocates. The contracts name the definitions of `specs/Links.antt` (which text writes a
+//! list of links) and `specs/Reading.antt` (what a text is read as).
 //!
 //! This crate does not check the structure of a URI, nor the form of single attributes such as `sz`. Continue with
 //! `links.rt`, then `read.rt`.

@@ -88,7 +88,8 @@ impl<'a> Model for LinkRef<'a> {
 
     ghost Value = { Link };
 
-    ghost view = { λ l. record { target = l.target.now; attributes = attributes_read (attributes_at l.attributes.now) } };
+    ghost view = { λ l.
+        record { target = l.target.now; attributes = attributes_read (attributes_at l.attributes.now) } };
 
     ghost invariant = { λ l. IsOk (attributes_at l.attributes.now) };
 }

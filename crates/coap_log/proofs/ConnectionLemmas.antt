@@ -1,5 +1,6 @@
 -- Bytes are passed to a tap, call by call.
-use Rattle.std.proofs.Common.{◌≡◌, ℕ, zero, suc, ◌-◌, ◌≤◌, ◌<◌, ◌==◌, Bool, true, false, List, [], ◌∷◌, length, take, drop, sym, ap, subst, ◌∙◌, arith, refl, length-drop}
+use Rattle.std.proofs.Common.{◌≡◌, ℕ, zero, suc, ◌-◌, ◌≤◌, ◌<◌, ◌==◌, Bool, true, false, List, [], ◌∷◌, length, take}
+use Rattle.std.proofs.Common.{drop, sym, ap, subst, ◌∙◌, arith, refl, length-drop}
 use Rattle.std.proofs.lemmas.Bool.{eq-eqb, ne_eqb}
 use Rattle.coap_io.proofs.streams.WriteLemmas.{rest_of}
 use Rattle.coap_log.specs.Taps.{TapValue, taken, tap_after}
@@ -7,65 +8,82 @@ use Rattle.coap_log.specs.Logs.{LogTrace}
 use Rattle.coap_log.specs.Connections.{LogsWhole, LogsTaken, LogsBytes}
 
 -- The calls so far are the first ones of those for all bytes: what the others do, all of them do.
-abbrev pub Continues : (nanos : ℕ) (front all : List ℕ) (first : TapValue) (before : LogTrace) (left : List ℕ) (tap : TapValue) (log : LogTrace) → Type 0
+abbrev pub Continues : (nanos : ℕ) (front all : List ℕ) (first : TapValue) (before : LogTrace) (left : List ℕ)
+    (tap : TapValue) (log : LogTrace) → Type 0
 Continues nanos front all first before left tap log =
     (turns : ℕ) × (length left ≤ turns)
-    × ((end : TapValue) (after : LogTrace) → LogsBytes turns nanos front left tap end log after → LogsBytes (length all) nanos front all first end before after)
+    × ((end : TapValue) (after : LogTrace) → LogsBytes turns nanos front left tap end log after
+    → LogsBytes (length all) nanos front all first end before after)
 
 module _ (nanos : ℕ) (front : List ℕ) where
-  nothing : (turns : ℕ) (left : List ℕ) (tap : TapValue) (log : LogTrace) → left ≡ [] → LogsBytes turns nanos front left tap tap log log
+  nothing : (turns : ℕ) (left : List ℕ) (tap : TapValue) (log : LogTrace) → left ≡ []
+      → LogsBytes turns nanos front left tap tap log log
   unfolding LogsBytes
   nothing zero left tap log none = (refl, refl)
   nothing (suc turns) [] tap log none = (refl, refl)
   nothing (suc turns) (b ∷ left) tap log none = absurd cc
 
-  stuck : (turns : ℕ) (left : List ℕ) (tap : TapValue) (log : LogTrace) → length left ≤ turns → 0 < length left → taken tap left ≡ 0 → LogsBytes turns nanos front left tap (tap_after tap left) log log
+  stuck : (turns : ℕ) (left : List ℕ) (tap : TapValue) (log : LogTrace) → length left ≤ turns → 0 < length left
+      → taken tap left ≡ 0 → LogsBytes turns nanos front left tap (tap_after tap left) log log
   unfolding LogsBytes
   stuck zero left tap log fits some none = absurd (omega arith)
   stuck (suc turns) [] tap log fits some none = absurd (omega arith)
   stuck (suc turns) (b ∷ left) tap log fits some none =
-      subst (LogsTaken (λ rest now middle. LogsBytes turns nanos front rest now (tap_after tap (b ∷ left)) middle log) nanos front (b ∷ left) tap (tap_after tap (b ∷ left)) log log)
+      subst (LogsTaken (λ rest now middle. LogsBytes turns nanos front rest now (tap_after tap (b ∷ left)) middle log)
+      nanos front (b ∷ left) tap (tap_after tap (b ∷ left)) log log)
       (sym (eq-eqb (taken tap (b ∷ left)) 0 none)) (refl, refl)
 
-  one : (turns : ℕ) (left : List ℕ) (tap end : TapValue) (log middle after : LogTrace) → 0 < length left → (taken tap left ≡ 0 → ⊥)
+  one : (turns : ℕ) (left : List ℕ) (tap end : TapValue) (log middle after : LogTrace) → 0 < length left
+      → (taken tap left ≡ 0 → ⊥)
       → LogsWhole nanos front (tap_after tap left) log middle (tap_after tap left).is_whole
       → LogsBytes turns nanos front (drop (taken tap left) left) (tap_after tap left) end middle after
       → LogsBytes (suc turns) nanos front left tap end log after
   unfolding LogsBytes
   one turns [] tap end log middle after some more whole others = absurd (omega arith)
   one turns (b ∷ left) tap end log middle after some more whole others =
-      subst (LogsTaken (λ rest now middle. LogsBytes turns nanos front rest now end middle after) nanos front (b ∷ left) tap end log after)
+      subst (LogsTaken (λ rest now middle. LogsBytes turns nanos front rest now end middle after) nanos front
+      (b ∷ left) tap end log after)
       (sym (ne_eqb (taken tap (b ∷ left)) 0 more)) (middle, whole, others)
 
   module _ (all : List ℕ) (first : TapValue) (before : LogTrace) where
     pub starts : Continues nanos front all first before all first before
     starts = (length all, omega arith, λ end after rest. rest)
 
-    pub ends : (left : List ℕ) (tap : TapValue) (log : LogTrace) → Continues nanos front all first before left tap log → left ≡ [] → LogsBytes (length all) nanos front all first tap before log
+    pub ends : (left : List ℕ) (tap : TapValue) (log : LogTrace) → Continues nanos front all first before left tap log
+        → left ≡ [] → LogsBytes (length all) nanos front all first tap before log
     ends left tap log so none = so.2 tap log (nothing so.0 left tap log none)
 
-    pub ends_stuck : (left : List ℕ) (tap now : TapValue) (log : LogTrace) (count : ℕ) → Continues nanos front all first before left tap log → 0 < length left
-        → now ≡ tap_after tap left → count ≡ taken tap left → count ≡ 0 → LogsBytes (length all) nanos front all first now before log
+    pub ends_stuck : (left : List ℕ) (tap now : TapValue) (log : LogTrace) (count : ℕ)
+        → Continues nanos front all first before left tap log → 0 < length left
+        → now ≡ tap_after tap left → count ≡ taken tap left → count ≡ 0
+        → LogsBytes (length all) nanos front all first now before log
     ends_stuck left tap now log count so some is counts none =
         subst (λ (t : TapValue). LogsBytes (length all) nanos front all first t before log) (sym is)
         (so.2 (tap_after tap left) log (stuck so.0 left tap log so.1 some (sym counts ∙ none)))
 
     goes_at : (turns : ℕ) (left : List ℕ) (tap : TapValue) (log middle : LogTrace) → length left ≤ turns
-        → ((end : TapValue) (after : LogTrace) → LogsBytes turns nanos front left tap end log after → LogsBytes (length all) nanos front all first end before after)
+        → ((end : TapValue) (after : LogTrace) → LogsBytes turns nanos front left tap end log after
+        → LogsBytes (length all) nanos front all first end before after)
         → 0 < length left → (taken tap left ≡ 0 → ⊥) → taken tap left ≤ length left
         → LogsWhole nanos front (tap_after tap left) log middle (tap_after tap left).is_whole
         → Continues nanos front all first before (drop (taken tap left) left) (tap_after tap left) middle
     goes_at zero left tap log middle fits so some more within whole = absurd (omega arith)
-    goes_at (suc turns) left tap log middle fits so some more within whole =
-        (turns, omega (arith, fits, within, more, length-drop (taken tap left) left), λ end after rest. so end after (one turns left tap end log middle after some more whole rest))
+    goes_at (suc turns) left tap log middle fits so some more within whole = (
+      turns,
+      omega (arith, fits, within, more, length-drop (taken tap left) left),
+      λ end after rest. so end after (one turns left tap end log middle after some more whole rest),
+    )
 
-    pub goes : (left : List ℕ) (tap now : TapValue) (log middle : LogTrace) (count : ℕ) → Continues nanos front all first before left tap log → 0 < length left
+    pub goes : (left : List ℕ) (tap now : TapValue) (log middle : LogTrace) (count : ℕ)
+        → Continues nanos front all first before left tap log → 0 < length left
         → now ≡ tap_after tap left → count ≡ taken tap left → (count ≡ 0 → ⊥) → count ≤ length left
         → LogsWhole nanos front now log middle now.is_whole
         → Continues nanos front all first before (take (length left - count) (drop count left)) now middle
     goes left tap now log middle count so some is counts more within whole =
-        subst (λ (t : TapValue). Continues nanos front all first before (take (length left - count) (drop count left)) t middle) (sym is)
-        (subst (λ (l : List ℕ). Continues nanos front all first before l (tap_after tap left) middle) (ap (λ (n : ℕ). drop n left) (sym counts) ∙ sym (rest_of count left))
+        subst (λ (t : TapValue). Continues nanos front all first before
+        (take (length left - count) (drop count left)) t middle) (sym is)
+        (subst (λ (l : List ℕ). Continues nanos front all first before l (tap_after tap left) middle)
+        (ap (λ (n : ℕ). drop n left) (sym counts) ∙ sym (rest_of count left))
         (goes_at so.0 left tap log middle so.1 so.2 some (λ none. more (counts ∙ none)) (omega (arith, counts, within))
         (subst (λ (t : TapValue). LogsWhole nanos front t log middle t.is_whole) is whole)))
 

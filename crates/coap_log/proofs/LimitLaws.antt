@@ -1,11 +1,15 @@
 -- The number of lines in a second, and at the end of a log.
-use Rattle.std.proofs.Common.{◌≡◌, ℕ, ◌+◌, ◌-◌, ◌<◌, ◌≤◌, ◌^◌, ◌==◌, true, false, List, [], ◌∷◌, arith, refl, ◌⊎◌, inl, inr, if◌then◌else◌}
+use Rattle.std.proofs.Common.{◌≡◌, ℕ, ◌+◌, ◌-◌, ◌<◌, ◌≤◌, ◌^◌, ◌==◌, true, false, List, [], ◌∷◌, arith, refl, ◌⊎◌, inl}
+use Rattle.std.proofs.Common.{inr, if◌then◌else◌}
 use Rattle.std.specs.List.{list_all}
 use Rattle.std.proofs.lemmas.Bool.{and_parts}
 use Rattle.std.proofs.lemmas.Bool.Decides.{nat_tests}
-use Rattle.coap_log.specs.Limits.{fresh, report, after_report, missed, admission, after_admission, last_report, after_end, LimitCall, Admit, Report, End, Miss}
-use Rattle.coap_log.specs.Limits.{after_call, lines_of_admission, lines_of_report, lines_of_call, lines_of, lines_in, IsAt, AreAt, GoesForward, is_before_end}
-use Rattle.coap_log.specs.Limits.{lost_by_admission, lost_by_call, reported_by_admission, reported_in, reported_by_call, lost, reported, after_calls}
+use Rattle.coap_log.specs.Limits.{fresh, report, after_report, missed, admission, after_admission, last_report}
+use Rattle.coap_log.specs.Limits.{after_end, LimitCall, Admit, Report, End, Miss}
+use Rattle.coap_log.specs.Limits.{after_call, lines_of_admission, lines_of_report, lines_of_call, lines_of, lines_in}
+use Rattle.coap_log.specs.Limits.{IsAt, AreAt, GoesForward, is_before_end}
+use Rattle.coap_log.specs.Limits.{lost_by_admission, lost_by_call, reported_by_admission, reported_in, reported_by_call}
+use Rattle.coap_log.specs.Limits.{lost, reported, after_calls}
 use Rattle.coap_log.specs.declared.limit.LineLimit.{LineLimit}
 use Rattle.coap_log.specs.declared.limit.Admission.TheVariants.{Line}
 
@@ -25,7 +29,8 @@ of_report l second = record {
   most = grind (arith, nat_tests);
 }
 
-of_admission : (l : LineLimit) (second : ℕ) → Step l (lines_of_admission (admission l second)) (after_admission l second)
+of_admission : (l : LineLimit) (second : ℕ)
+    → Step l (lines_of_admission (admission l second)) (after_admission l second)
 unfolding report after_report missed admission after_admission
 of_admission l second = record {
   same = grind (arith, nat_tests);
@@ -45,7 +50,8 @@ of_end l second = record {
 
 of_miss : (l : LineLimit) (count : ℕ) → Step l 0 (missed count l)
 unfolding missed
-of_miss l count = record { same = λ e. omega arith; later = λ e. omega arith; earlier = λ e. omega arith; most = λ e. omega arith }
+of_miss l count =
+    record { same = λ e. omega arith; later = λ e. omega arith; earlier = λ e. omega arith; most = λ e. omega arith }
 
 of_call : (l : LineLimit) (call : LimitCall) → Step l (lines_of_call l call) (after_call l call)
 of_call l (Admit second) = of_admission l second
@@ -61,14 +67,17 @@ record BoundAt (second n : ℕ) (l : LineLimit) : Type 0 where
   pub during : l.second ≡ second → n ≤ 100 - l.written
 
 -- The present second after a call is that of the call, or that of before if it has no time.
-seen : (second : ℕ) (l : LineLimit) (call : LimitCall) → IsAt second call → ((after_call l call).second ≡ second) ⊎ ((lines_of_call l call ≡ 0) × ((after_call l call).second ≡ l.second))
+seen : (second : ℕ) (l : LineLimit) (call : LimitCall) → IsAt second call
+    → ((after_call l call).second ≡ second) ⊎ ((lines_of_call l call ≡ 0) × ((after_call l call).second ≡ l.second))
 unfolding report after_report missed admission after_admission last_report after_end
 seen second l (Admit at) is = inl (grind (arith, nat_tests, is))
 seen second l (Report at) is = inl (grind (arith, nat_tests, is))
 seen second l (End at) is = inl (grind (arith, nat_tests, is))
 seen second l (Miss count) is = inr (refl, refl)
 
-at_step : (second more n : ℕ) (l after : LineLimit) → Step l n after → (after.second ≡ second) ⊎ ((n ≡ 0) × (after.second ≡ l.second)) → BoundAt second more after → BoundAt second (n + more) l
+at_step : (second more n : ℕ) (l after : LineLimit) → Step l n after
+    → (after.second ≡ second) ⊎ ((n ≡ 0) × (after.second ≡ l.second)) → BoundAt second more after
+    → BoundAt second (n + more) l
 at_step second more n l after step (inl is) bound = record {
   all = grind (arith, nat_tests, step.most, bound.all, bound.during, is);
   during = grind (arith, nat_tests, step.same, step.most, bound.all, bound.during, is);
@@ -78,11 +87,13 @@ at_step second more n l after step (inr (none, is)) bound = record {
   during = grind (arith, nat_tests, step.same, bound.during, none, is);
 }
 
-bounded_at : (second : ℕ) (l : LineLimit) (calls : List LimitCall) → AreAt second calls → BoundAt second (lines_of l calls) l
+bounded_at : (second : ℕ) (l : LineLimit) (calls : List LimitCall) → AreAt second calls
+    → BoundAt second (lines_of l calls) l
 unfolding lines_of
 bounded_at second l [] at = record { all = omega arith; during = λ e. omega arith }
 bounded_at second l (call ∷ calls) at =
-    at_step second (lines_of (after_call l call) calls) (lines_of_call l call) l (after_call l call) (of_call l call) (seen second l call at.0) (bounded_at second (after_call l call) calls at.1)
+    at_step second (lines_of (after_call l call) calls) (lines_of_call l call) l (after_call l call) (of_call l call)
+    (seen second l call at.0) (bounded_at second (after_call l call) calls at.1)
 
 pub limited_at : (second : ℕ) (l : LineLimit) (calls : List LimitCall) → AreAt second calls → lines_of l calls ≤ 100
 limited_at second l calls at = (bounded_at second l calls at).all
@@ -96,20 +107,24 @@ record Bound (second n : ℕ) (l : LineLimit) : Type 0 where
   pub during : l.second ≡ second → n ≤ 100 - l.written
   pub after : second < l.second → n ≡ 0
 
-of_step : (second more n : ℕ) (l after : LineLimit) → Step l n after → l.second ≤ after.second → Bound second more after → Bound second ((if after.second == second then n else 0) + more) l
+of_step : (second more n : ℕ) (l after : LineLimit) → Step l n after → l.second ≤ after.second → Bound second more after
+    → Bound second ((if after.second == second then n else 0) + more) l
 of_step second more n l after step grows bound = record {
   before = grind (arith, nat_tests, grows, step.same, step.later, step.most, bound.before, bound.during, bound.after);
   during = grind (arith, nat_tests, grows, step.same, step.later, step.most, bound.before, bound.during, bound.after);
   after = grind (arith, nat_tests, grows, step.same, step.later, step.most, bound.before, bound.during, bound.after);
 }
 
-bounded : (second : ℕ) (l : LineLimit) (calls : List LimitCall) → GoesForward l calls → Bound second (lines_in second l calls) l
+bounded : (second : ℕ) (l : LineLimit) (calls : List LimitCall) → GoesForward l calls
+    → Bound second (lines_in second l calls) l
 unfolding lines_in GoesForward
 bounded second l [] forward = record { before = omega arith; during = λ e. omega arith; after = λ e. omega arith }
 bounded second l (call ∷ calls) forward =
-    of_step second (lines_in second (after_call l call) calls) (lines_of_call l call) l (after_call l call) (of_call l call) forward.0 (bounded second (after_call l call) calls forward.1)
+    of_step second (lines_in second (after_call l call) calls) (lines_of_call l call) l (after_call l call)
+    (of_call l call) forward.0 (bounded second (after_call l call) calls forward.1)
 
-pub limited : (second : ℕ) (l : LineLimit) (calls : List LimitCall) → GoesForward l calls → lines_in second l calls ≤ 100
+pub limited : (second : ℕ) (l : LineLimit) (calls : List LimitCall) → GoesForward l calls
+    → lines_in second l calls ≤ 100
 limited second l calls forward = (bounded second l calls forward).before
 
 -- ---- the end of a log
@@ -121,12 +136,15 @@ record IsOpen (l : LineLimit) : Type 0 where
 
 stays_open : (l : LineLimit) (call : LimitCall) → is_before_end call ≡ true → IsOpen l → IsOpen (after_call l call)
 unfolding report after_report missed admission after_admission
-stays_open l (Admit second) is so = record { ending = grind (arith, nat_tests, so.ending); written = grind (arith, nat_tests, so.ending, so.written) }
-stays_open l (Report second) is so = record { ending = grind (arith, nat_tests, so.ending); written = grind (arith, nat_tests, so.ending, so.written) }
+stays_open l (Admit second) is so =
+    record { ending = grind (arith, nat_tests, so.ending); written = grind (arith, nat_tests, so.ending, so.written) }
+stays_open l (Report second) is so =
+    record { ending = grind (arith, nat_tests, so.ending); written = grind (arith, nat_tests, so.ending, so.written) }
 stays_open l (End second) is so = absurd cc
 stays_open l (Miss count) is so = record { ending = so.ending; written = so.written }
 
-open_after : (l : LineLimit) (calls : List LimitCall) → list_all is_before_end calls ≡ true → IsOpen l → IsOpen (after_calls l calls)
+open_after : (l : LineLimit) (calls : List LimitCall) → list_all is_before_end calls ≡ true → IsOpen l
+    → IsOpen (after_calls l calls)
 unfolding after_calls
 open_after l [] all so = so
 open_after l (call ∷ calls) all so =
@@ -142,7 +160,8 @@ unfolding report after_report admission after_admission last_report after_end
 room_left l end now so = grind (arith, nat_tests, so.written)
 
 pub last_line : (calls : List LimitCall) (end now : ℕ) → list_all is_before_end calls ≡ true
-    → ((after_end (after_calls fresh calls) end).left_out ≡ 0) × (admission (after_end (after_calls fresh calls) end) now ≡ Line)
+    → ((after_end (after_calls fresh calls) end).left_out ≡ 0)
+    × (admission (after_end (after_calls fresh calls) end) now ≡ Line)
 last_line calls end now before =
     let so = open_after fresh calls before (record { ending = refl; written = omega arith }) in
     (all_reported (after_calls fresh calls) end so, room_left (after_calls fresh calls) end now so)
@@ -150,15 +169,18 @@ last_line calls end now before =
 -- ---- the lines left out
 
 admission_counts : (l : LineLimit) (second : ℕ) → l.left_out + lost_by_admission (admission l second) < 2 ^ 64
-    → reported_by_admission (admission l second) + (after_admission l second).left_out ≡ l.left_out + lost_by_admission (admission l second)
+    → reported_by_admission (admission l second) + (after_admission l second).left_out
+    ≡ l.left_out + lost_by_admission (admission l second)
 unfolding report after_report missed admission after_admission
 admission_counts l second few = grind (arith, nat_tests)
 
-report_counts : (l : LineLimit) (second : ℕ) → reported_in (report l second) + (after_report l second).left_out ≡ l.left_out
+report_counts : (l : LineLimit) (second : ℕ)
+    → reported_in (report l second) + (after_report l second).left_out ≡ l.left_out
 unfolding report after_report
 report_counts l second = grind (arith, nat_tests)
 
-end_counts : (l : LineLimit) (second : ℕ) → reported_in (last_report l second) + (after_end l second).left_out ≡ l.left_out
+end_counts : (l : LineLimit) (second : ℕ)
+    → reported_in (last_report l second) + (after_end l second).left_out ≡ l.left_out
 unfolding last_report after_end
 end_counts l second = grind (arith, nat_tests)
 
@@ -166,13 +188,15 @@ miss_counts : (l : LineLimit) (count : ℕ) → l.left_out + count < 2 ^ 64 → 
 unfolding missed
 miss_counts l count few = omega arith
 
-call_counts : (l : LineLimit) (call : LimitCall) → l.left_out + lost_by_call l call < 2 ^ 64 → reported_by_call l call + (after_call l call).left_out ≡ l.left_out + lost_by_call l call
+call_counts : (l : LineLimit) (call : LimitCall) → l.left_out + lost_by_call l call < 2 ^ 64
+    → reported_by_call l call + (after_call l call).left_out ≡ l.left_out + lost_by_call l call
 call_counts l (Admit second) few = admission_counts l second few
 call_counts l (Report second) few = omega (arith, report_counts l second)
 call_counts l (End second) few = omega (arith, end_counts l second)
 call_counts l (Miss count) few = omega (arith, miss_counts l count few)
 
-pub counted : (l : LineLimit) (calls : List LimitCall) → l.left_out + lost l calls < 2 ^ 64 → reported l calls + (after_calls l calls).left_out ≡ l.left_out + lost l calls
+pub counted : (l : LineLimit) (calls : List LimitCall) → l.left_out + lost l calls < 2 ^ 64
+    → reported l calls + (after_calls l calls).left_out ≡ l.left_out + lost l calls
 unfolding lost reported after_calls
 counted l [] few = omega arith
 counted l (call ∷ calls) few =

@@ -11,20 +11,29 @@ use Rattle.coap_log.specs.declared.limit.Admission.{Admission}
 use Rattle.coap_log.specs.declared.limit.Admission.TheVariants.{AfterReport}
 
 -- Lines are offered, followed by others.
-pub offers_then : (a b c : Option (List Offer)) (x y z : Option (List ℕ)) (ps qs : List Offer) → AddsOffers a b x y ps → AddsOffers b c y z qs → AddsOffers a c x z (ps ++ qs)
-offers_then a b c x y z ps qs first second =
-    (told_then a b c ps qs first.0 second.0, subst (AddsBytes x z) (sym (flat_map-append bytes_of ps qs)) (bytes_then x y z (flat_map bytes_of ps) (flat_map bytes_of qs) first.1 second.1))
+pub offers_then : (a b c : Option (List Offer)) (x y z : Option (List ℕ)) (ps qs : List Offer) → AddsOffers a b x y ps
+    → AddsOffers b c y z qs → AddsOffers a c x z (ps ++ qs)
+offers_then a b c x y z ps qs first second = (
+  told_then a b c ps qs first.0 second.0,
+  subst (AddsBytes x z) (sym (flat_map-append bytes_of ps qs))
+      (bytes_then x y z (flat_map bytes_of ps) (flat_map bytes_of qs) first.1 second.1),
+)
 
 -- A report, followed by a line.
-pub report_and_line : (program : List ℕ) (nanos : ℕ) (text : List ℕ) (a : Admission) (count : ℕ) (before middle after : LineLimit) (report line : Offer) → a ≡ AfterReport count
-    → IsDated program nanos (report_text count) report.line → IsDated program nanos text line.line → middle ≡ limit_after count report.accepted before
+pub report_and_line : (program : List ℕ) (nanos : ℕ) (text : List ℕ) (a : Admission) (count : ℕ)
+    (before middle after : LineLimit) (report line : Offer) → a ≡ AfterReport count
+    → IsDated program nanos (report_text count) report.line → IsDated program nanos text line.line
+    → middle ≡ limit_after count report.accepted before
     → after ≡ limit_after 1 line.accepted middle → IsOffered program nanos text a before after (report ∷ line ∷ [])
 report_and_line program nanos text a count before middle after report line is first second middle_is after_is =
     subst (λ (a : Admission). IsOffered program nanos text a before after (report ∷ line ∷ [])) (sym is)
     (report, line, first, second, refl, after_is ∙ ap (limit_after 1 line.accepted) middle_is)
 
 -- A report alone.
-pub report_alone : (program : List ℕ) (nanos : ℕ) (due : Option ℕ) (count : ℕ) (before after : LineLimit) (report : Offer) → due ≡ Some count
-    → IsDated program nanos (report_text count) report.line → after ≡ limit_after count report.accepted before → IsReported program nanos due before after (report ∷ [])
+pub report_alone : (program : List ℕ) (nanos : ℕ) (due : Option ℕ) (count : ℕ) (before after : LineLimit)
+    (report : Offer) → due ≡ Some count
+    → IsDated program nanos (report_text count) report.line → after ≡ limit_after count report.accepted before
+    → IsReported program nanos due before after (report ∷ [])
 report_alone program nanos due count before after report is dated after_is =
-    subst (λ (d : Option ℕ). IsReported program nanos d before after (report ∷ [])) (sym is) (report, dated, refl, after_is)
+    subst (λ (d : Option ℕ). IsReported program nanos d before after (report ∷ [])) (sym is)
+    (report, dated, refl, after_is)

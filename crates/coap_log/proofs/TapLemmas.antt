@@ -1,5 +1,6 @@
 -- The first bytes of a frame.
-use Rattle.std.proofs.Common.{◌≡◌, ℕ, ◌+◌, ◌-◌, ◌≤◌, ◌<◌, min, List, ◌++◌, length, take, drop, sym, ap, ◌∙◌, arith, inl, inr, refl}
+use Rattle.std.proofs.Common.{◌≡◌, ℕ, ◌+◌, ◌-◌, ◌≤◌, ◌<◌, min, List, ◌++◌, length, take, drop, sym, ap, ◌∙◌, arith, inl}
+use Rattle.std.proofs.Common.{inr, refl}
 use Rattle.std.proofs.lemmas.Bool.{cases_lt}
 use Rattle.std.proofs.lemmas.List.{take-append-drop, take_all, take-take, take-append-le, length-take, length-append}
 use Rattle.std.proofs.Math.Seq.{take-append-add}
@@ -22,8 +23,10 @@ take_count k count ys e =
       | inr all ↦ take_all count ys (omega (arith, e)) ∙ sym (take_all k ys all)
     ]
 
-pub filled_count : (n count : ℕ) (xs ys : List ℕ) → length xs ≤ n → count ≡ min (length ys) (n - length xs) → xs ++ take count ys ≡ take n (xs ++ ys)
-filled_count n count xs ys fits e = ap (λ (l : List ℕ). xs ++ l) (take_count (n - length xs) count ys e) ∙ sym (filled n xs ys fits)
+pub filled_count : (n count : ℕ) (xs ys : List ℕ) → length xs ≤ n → count ≡ min (length ys) (n - length xs)
+    → xs ++ take count ys ≡ take n (xs ++ ys)
+filled_count n count xs ys fits e =
+    ap (λ (l : List ℕ). xs ++ l) (take_count (n - length xs) count ys e) ∙ sym (filled n xs ys fits)
 
 -- Bytes are cut before and after others are appended.
 pub cut_twice : (n : ℕ) (xs ys : List ℕ) → take n (take n xs ++ ys) ≡ take n (xs ++ ys)
@@ -31,12 +34,14 @@ cut_twice n xs ys =
     elim (cases_lt n (length xs)) [
       | inl more ↦
           let all : length (take n xs) ≡ n = omega (arith, length-take n xs) in
-          take-append-le n (take n xs) ys (omega arith) ∙ take-take n n xs (omega arith) ∙ sym (take-append-le n xs ys (omega arith))
+          take-append-le n (take n xs) ys (omega arith) ∙ take-take n n xs (omega arith)
+          ∙ sym (take-append-le n xs ys (omega arith))
       | inr fits ↦ ap (λ (l : List ℕ). take n (l ++ ys)) (take_all n xs fits)
     ]
 
 -- The first eight bytes declare the size of a frame.
-by_head : (n : ℕ) (s : List ℕ) (d : Declared) → 8 ≤ n → declared_of (take n s) ≡ d → declared_of (take n s) ≡ declared_of s
+by_head : (n : ℕ) (s : List ℕ) (d : Declared) → 8 ≤ n → declared_of (take n s) ≡ d
+    → declared_of (take n s) ≡ declared_of s
 by_head n s Unknown long e =
     let few = unknown_small (take n s) e in
     ap declared_of (take_all n s (omega (arith, few, length-take n s)))
@@ -54,5 +59,7 @@ declared_kept n r s long =
     sym (declared_by_head n (take n r ++ s) long) ∙ ap declared_of (cut_twice n r s) ∙ declared_by_head n (r ++ s) long
 
 -- If no size is declared yet, all bytes of the frame are kept, and there are fewer than eight.
-pub unknown_few : (room seen : ℕ) (kept piece : List ℕ) → 8 ≤ room → length kept ≡ min room seen → declared_of (kept ++ piece) ≡ Unknown → seen + length piece < 8
-unknown_few room seen kept piece long len e = omega (arith, unknown_small (kept ++ piece) e, length-append kept piece, len)
+pub unknown_few : (room seen : ℕ) (kept piece : List ℕ) → 8 ≤ room → length kept ≡ min room seen
+    → declared_of (kept ++ piece) ≡ Unknown → seen + length piece < 8
+unknown_few room seen kept piece long len e =
+    omega (arith, unknown_small (kept ++ piece) e, length-append kept piece, len)

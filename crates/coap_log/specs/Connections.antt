@@ -1,5 +1,6 @@
 -- Defined by this project: the lines of a connection.
-use Rattle.std.specs.Prelude.{◌≡◌, ℕ, zero, suc, Bool, true, false, List, [], ◌∷◌, ◌++◌, length, take, drop, ◌==◌, codes, decimal, if◌then◌else◌}
+use Rattle.std.specs.Prelude.{◌≡◌, ℕ, zero, suc, Bool, true, false, List, [], ◌∷◌, ◌++◌, length, take, drop, ◌==◌}
+use Rattle.std.specs.Prelude.{codes, decimal, if◌then◌else◌}
 use Rattle.coap_io.specs.declared.wire.Got.{Got}
 use Rattle.coap_io.specs.declared.wire.Got.TheVariants.{Bytes, Later, End, Failed}
 use Rattle.coap_print.specs.Lines.{appended}
@@ -35,9 +36,11 @@ number_text number = codes "connection " ++ decimal number
 abbrev pub connection_line : ℕ → List ℕ → List ℕ
 connection_line number text = appended LINE_LENGTH [] (number_text number ++ text)
 
--- The last line of a connection, as in connection 1 ended: last response; 12 messages, 345 bytes in; 1 message, 45 bytes out.
+-- The last line of a connection, as in connection 1 ended: last response; 12 messages, 345 bytes in; 1
+-- message, 45 bytes out.
 abbrev pub end_line : ℕ → List ℕ → TapValue → TapValue → List ℕ
-end_line number reason incoming outgoing = connection_line number (codes " ended: " ++ reason ++ codes "; " ++ counts_text incoming outgoing)
+end_line number reason incoming outgoing =
+    connection_line number (codes " ended: " ++ reason ++ codes "; " ++ counts_text incoming outgoing)
 
 -- A text is logged as a line of a level, at some time.
 abbrev pub LogsAtATime : LogLevel → List ℕ → LogTrace → LogTrace → Type 0
@@ -45,7 +48,8 @@ LogsAtATime level text before after = (nanos : ℕ) × LogsLine level nanos text
 
 -- The end of a log begins at some time, and a text is its last line.
 abbrev pub LogsLast : List ℕ → LogTrace → LogTrace → Type 0
-LogsLast text before after = (nanos : ℕ) × (middle : LogTrace) × LogsEnd nanos before middle × LogsLine Connections nanos text middle after
+LogsLast text before after =
+    (nanos : ℕ) × (middle : LogTrace) × LogsEnd nanos before middle × LogsLine Connections nanos text middle after
 
 -- ---- messages
 
@@ -64,7 +68,8 @@ LogsWhole nanos front tap before after false = after ≡ before
 
 -- The effect of one call of a tap on these bytes, which takes no byte if the last argument is true. Otherwise a whole
 -- message is logged, and `go` gives the effect of the other bytes.
-abbrev pub LogsTaken : (List ℕ → TapValue → LogTrace → Type 0) → ℕ → List ℕ → List ℕ → TapValue → TapValue → LogTrace → LogTrace → Bool → Type 0
+abbrev pub LogsTaken : (List ℕ → TapValue → LogTrace → Type 0) → ℕ → List ℕ → List ℕ → TapValue → TapValue
+    → LogTrace → LogTrace → Bool → Type 0
 LogsTaken go nanos front bytes tap end before after true = (end ≡ tap_after tap bytes) × (after ≡ before)
 LogsTaken go nanos front bytes tap end before after false =
     (middle : LogTrace) × LogsWhole nanos front (tap_after tap bytes) before middle (tap_after tap bytes).is_whole
@@ -76,17 +81,20 @@ unfoldable pub LogsBytes : ℕ → ℕ → List ℕ → List ℕ → TapValue �
 LogsBytes zero nanos front bytes tap end before after = (end ≡ tap) × (after ≡ before)
 LogsBytes (suc turns) nanos front [] tap end before after = (end ≡ tap) × (after ≡ before)
 LogsBytes (suc turns) nanos front (b ∷ bytes) tap end before after =
-    LogsTaken (λ rest now middle. LogsBytes turns nanos front rest now end middle after) nanos front (b ∷ bytes) tap end before after
+    LogsTaken (λ rest now middle. LogsBytes turns nanos front rest now end middle after) nanos front
+    (b ∷ bytes) tap end before after
     (taken tap (b ∷ bytes) == 0)
 
 -- Bytes are passed to a tap, and each message that ends with them is logged, at some time.
 abbrev pub LogsPassed : List ℕ → List ℕ → TapValue → TapValue → LogTrace → LogTrace → Type 0
-LogsPassed front bytes tap end before after = (nanos : ℕ) × LogsBytes (length bytes) nanos front bytes tap end before after
+LogsPassed front bytes tap end before after =
+    (nanos : ℕ) × LogsBytes (length bytes) nanos front bytes tap end before after
 
--- The result of a read or a write on a connection is logged. A failure is a warning. Otherwise each message is logged that
--- ends with the bytes passed on. The direction is the text between the number of the connection and the message.
+-- The result of a read or a write on a connection is logged. A failure is a warning. Otherwise each message is logged
+-- that ends with the bytes passed on. The direction is the text between the number of the connection and the message.
 abbrev pub LogsResult : ℕ → List ℕ → Got → List ℕ → TapValue → TapValue → LogTrace → LogTrace → Type 0
-LogsResult number direction (Bytes n) bytes tap end before after = LogsPassed (connection_line number direction) (take n bytes) tap end before after
+LogsResult number direction (Bytes n) bytes tap end before after =
+    LogsPassed (connection_line number direction) (take n bytes) tap end before after
 LogsResult number direction Later bytes tap end before after = (end ≡ tap) × (after ≡ before)
 LogsResult number direction End bytes tap end before after = (end ≡ tap) × (after ≡ before)
 LogsResult number direction Failed bytes tap end before after =

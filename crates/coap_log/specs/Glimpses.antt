@@ -1,5 +1,6 @@
 -- Defined by this project: a message as text, if only its first bytes are known.
-use Rattle.std.specs.Prelude.{ℕ, ◌+◌, ◌-◌, ◌/◌, ◌%◌, List, [], ◌∷◌, ◌++◌, length, take, drop, slice_get, Option, None, Result, Ok, Err, nat_le, codes, decimal, if◌then◌else◌}
+use Rattle.std.specs.Prelude.{ℕ, ◌+◌, ◌-◌, ◌/◌, ◌%◌, List, [], ◌∷◌, ◌++◌, length, take, drop, slice_get, Option, None}
+use Rattle.std.specs.Prelude.{Result, Ok, Err, nat_le, codes, decimal, if◌then◌else◌}
 use Rattle.coap_wire.specs.Forms.{extension_of}
 use Rattle.coap_wire.specs.Message.{Message}
 use Rattle.coap_wire.specs.Reading.{declared_of, message_of}

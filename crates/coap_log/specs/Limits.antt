@@ -1,5 +1,6 @@
 -- Defined by this project: a limit on the number of lines a second.
-use Rattle.std.specs.Prelude.{◌≡◌, ℕ, ◌+◌, ◌-◌, ◌≤◌, ◌^◌, Bool, true, false, ◌&&◌, ◌==◌, nat_lt, min, List, [], ◌∷◌, Option, Some, None, if◌then◌else◌}
+use Rattle.std.specs.Prelude.{◌≡◌, ℕ, ◌+◌, ◌-◌, ◌≤◌, ◌^◌, Bool, true, false, ◌&&◌, ◌==◌, nat_lt, min, List, [], ◌∷◌}
+use Rattle.std.specs.Prelude.{Option, Some, None, if◌then◌else◌}
 use Rattle.std.specs.List.{AllByRecursion}
 use Rattle.coap_log.specs.declared.limit.LineLimit.{LineLimit}
 use Rattle.coap_log.specs.declared.limit.Admission.{Admission}
@@ -78,12 +79,13 @@ last_report l second = if is_last_report_due (ending l second) then Some l.left_
 -- The limit after that line, if there is one.
 unfoldable pub after_end : LineLimit → ℕ → LineLimit
 after_end l second =
-    if is_last_report_due (ending l second) then record (ending l second) { written = (ending l second).written + 1; left_out = 0 } else ending l second
+    if is_last_report_due (ending l second)
+    then record (ending l second) { written = (ending l second).written + 1; left_out = 0 } else ending l second
 
 -- ---- lists of calls
 
--- A call of a limit at a time: a decision on a line, a report, or the end of the log. A call without a time counts lines
--- that could not be written.
+-- A call of a limit at a time: a decision on a line, a report, or the end of the log. A call without a time counts
+-- lines that could not be written.
 pub data LimitCall : Type 0 where
   Admit : (second : ℕ) → LimitCall
   Report : (second : ℕ) → LimitCall
@@ -135,7 +137,8 @@ AreAt now calls = AllByRecursion (IsAt now) calls
 unfoldable pub lines_in : ℕ → LineLimit → List LimitCall → ℕ
 lines_in second l [] = 0
 lines_in second l (call ∷ calls) =
-    (if (after_call l call).second == second then lines_of_call l call else 0) + lines_in second (after_call l call) calls
+    (if (after_call l call).second == second then lines_of_call l call else 0)
+    + lines_in second (after_call l call) calls
 
 -- The clock does not go back at these calls.
 unfoldable pub GoesForward : LineLimit → List LimitCall → Type 0

@@ -1,5 +1,6 @@
 -- Defined by this project: the lines that a log writes.
-use Rattle.std.specs.Prelude.{◌≡◌, ℕ, ◌/◌, Bool, true, false, nat_le, List, [], ◌∷◌, ◌++◌, Option, Some, None, codes, decimal, if◌then◌else◌}
+use Rattle.std.specs.Prelude.{◌≡◌, ℕ, ◌/◌, Bool, true, false, nat_le, List, [], ◌∷◌, ◌++◌, Option, Some, None, codes}
+use Rattle.std.specs.Prelude.{decimal, if◌then◌else◌}
 use Rattle.coap_print.specs.Lines.{appended}
 use Rattle.coap_print.specs.declared.line.TheConstants.{LINE_LENGTH}
 use Rattle.coap_print.specs.Levels.{level_number}
@@ -68,14 +69,17 @@ trace_of offers accepted log = record {
 pub record LogsLine (line_level : LogLevel) (nanos : ℕ) (text : List ℕ) (before after : LogTrace) : Type 0 where
   pub off : nat_le (level_number line_level) (level_number before.level) ≡ false → after ≡ before
   pub on : nat_le (level_number line_level) (level_number before.level) ≡ true
-      → (offers : List Offer) × IsOffered before.program nanos text (admission before.limit (nanos / 1_000_000_000)) (after_admission before.limit (nanos / 1_000_000_000)) after.limit offers
+      → (offers : List Offer) × IsOffered before.program nanos text (admission before.limit (nanos / 1_000_000_000))
+      (after_admission before.limit (nanos / 1_000_000_000)) after.limit offers
       × AddsOffers before.offers after.offers before.accepted after.accepted offers
   pub level : after.level ≡ before.level
   pub program : after.program ≡ before.program
 
 -- The end of a log begins at a time in nanoseconds: the lines left out are reported.
 pub record LogsEnd (nanos : ℕ) (before after : LogTrace) : Type 0 where
-  pub reported : (offers : List Offer) × IsReported before.program nanos (last_report before.limit (nanos / 1_000_000_000)) (after_end before.limit (nanos / 1_000_000_000)) after.limit offers
+  pub reported : (offers : List Offer)
+      × IsReported before.program nanos (last_report before.limit (nanos / 1_000_000_000))
+      (after_end before.limit (nanos / 1_000_000_000)) after.limit offers
       × AddsOffers before.offers after.offers before.accepted after.accepted offers
   pub level : after.level ≡ before.level
   pub program : after.program ≡ before.program

@@ -1,6 +1,7 @@
 -- Defined by this project: the messages of one direction of a connection, followed from outside. Frames are those of
 -- RFC 8323 section 3.2.
-use Rattle.std.specs.Prelude.{◌≡◌, ℕ, ◌+◌, ◌-◌, ◌≤◌, ◌^◌, Bool, true, false, ◌==◌, nat_lt, min, List, [], ◌∷◌, ◌++◌, length, take, if◌then◌else◌}
+use Rattle.std.specs.Prelude.{◌≡◌, ℕ, ◌+◌, ◌-◌, ◌≤◌, ◌^◌, Bool, true, false, ◌==◌, nat_lt, min, List, [], ◌∷◌, ◌++◌}
+use Rattle.std.specs.Prelude.{length, take, if◌then◌else◌}
 use Rattle.coap_wire.specs.Reading.{declared_of}
 use Rattle.coap_wire.specs.declared.sizes.TheConstants.{LARGEST_MESSAGE}
 use Rattle.coap_wire.specs.declared.declaration.Declared.{Declared}
@@ -115,7 +116,8 @@ output_then bytes now others = record {
 -- The output of a tap for these pieces.
 unfoldable pub output_of : TapValue → List (List ℕ) → TapOutput
 output_of v [] = record { taken = []; frames = [] }
-output_of v (piece ∷ pieces) = output_then (take (taken v piece) piece) (tap_after v piece) (output_of (tap_after v piece) pieces)
+output_of v (piece ∷ pieces) =
+    output_then (take (taken v piece) piece) (tap_after v piece) (output_of (tap_after v piece) pieces)
 
 -- A tap after a list of pieces, each passed to one call.
 unfoldable pub after_pieces : TapValue → List (List ℕ) → TapValue

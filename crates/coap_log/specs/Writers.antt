@@ -16,9 +16,10 @@ ended line = line ++ 0x0a ∷ []
 abbrev pub bytes_of : Offer → List ℕ
 bytes_of offer = if offer.accepted then ended offer.line else []
 
--- Holds if these lines were offered to a writer, and those that it accepted are added to its bytes, as far as it records
--- them. The first two records are of the lines offered, before and after, the others of the bytes.
-abbrev pub AddsOffers : Option (List Offer) → Option (List Offer) → Option (List ℕ) → Option (List ℕ) → List Offer → Type 0
+-- Holds if these lines were offered to a writer, and those that it accepted are added to its bytes, as far as it
+-- records them. The first two records are of the lines offered, before and after, the others of the bytes.
+abbrev pub AddsOffers : Option (List Offer) → Option (List Offer) → Option (List ℕ)
+    → Option (List ℕ) → List Offer → Type 0
 AddsOffers offered now_offered accepted now_accepted offers =
     TellsMore offered now_offered offers × AddsBytes accepted now_accepted (flat_map bytes_of offers)
 

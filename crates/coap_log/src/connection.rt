@@ -80,7 +80,8 @@ fn described(head: &[u8]) -> &[u8]
     }
 }
 
-/// Appends the numbers of messages and bytes of a connection, as in `12 messages, 345 bytes in; 1 message, 45 bytes out`.
+/// Appends the numbers of messages and bytes of a connection, as in
+/// `12 messages, 345 bytes in; 1 message, 45 bytes out`.
 #[tactic(auto, using(coap_print::proofs::LineLaws::pieces))]
 pub fn append_counts(line: &mut Line, incoming: &Tap, outgoing: &Tap)
     ensures { line.new ≡ appended LINE_LENGTH line.old (spec.counts_text incoming.now outgoing.now) }

@@ -11,8 +11,8 @@ ghost use Rattle.coap_log.specs.declared.limit.LineLimit.{LineLimit as Limit};
 ghost use Rattle.coap_log.specs.declared.limit.Admission.TheVariants.{Line};
 
 /// States that at most 100 lines are written while the clock shows one second, whatever the calls before. If the clock
-/// does not go back, these are all lines of that second, whatever the calls in between. The reports of lines left out are
-/// lines too.
+/// does not go back, these are all lines of that second, whatever the calls in between. The reports of lines left out
+/// are lines too.
 pub fn lines_of_a_second_are_limited()
     ensures during { (second : ℕ) (l : Limit) (calls : List LimitCall) → AreAt second calls → lines_of l calls ≤ 100 }
     ensures forward { (second : ℕ) (l : Limit) (calls : List LimitCall) → GoesForward l calls →
@@ -38,11 +38,12 @@ pub fn lines_left_out_are_reported()
 /// most 1,048,576 bytes, and a malformed one is the end of the stream.
 pub fn tap_shows_frames_of_stream()
     ensures { (room : ℕ) (pieces : List (List ℕ)) → 8 ≤ room → (output_of (new_tap room) pieces).frames
-        ≡ map (glimpse room) (sized_frames (constant_size LARGEST_MESSAGE) (output_of (new_tap room) pieces).taken).frames }
+        ≡ map (glimpse room)
+        (sized_frames (constant_size LARGEST_MESSAGE) (output_of (new_tap room) pieces).taken).frames }
 {}
 
-/// States that a tap takes at least one byte of a piece that has one, whatever it took before. So a caller that passes the
-/// other bytes again comes to the end of the piece.
+/// States that a tap takes at least one byte of a piece that has one, whatever it took before. So a caller that passes
+/// the other bytes again comes to the end of the piece.
 pub fn tap_takes_a_byte()
     ensures { (room : ℕ) (pieces : List (List ℕ)) (piece : List ℕ) → 8 ≤ room → 1 ≤ length piece →
         1 ≤ taken (after_pieces (new_tap room) pieces) piece }

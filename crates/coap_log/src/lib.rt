@@ -1,11 +1,12 @@
 //! The log of a program: lines of printable text with the time, at most 100 a second. Standard error may block or fail.
 //!
-//! - `Log` writes a line of a level, as in `2026-11-27T05:18:31.042Z coap-server: connection 3 opened by 127.0.0.1:50022`.
+//! - `Log` writes a line of a level, as in
+//!   `2026-11-27T05:18:31.042Z coap-server: connection 3 opened by 127.0.0.1:50022`.
 //! - `LineLimit` limits the number of lines a second, and counts those left out.
-//! - `LogWriter` is a writer of whole lines that never blocks. `LineWriter` makes one of an outlet that may accept a part
-//!   of a line, and `Stderr` is the outlet for standard error.
-//! - `Tap` follows the messages of one direction of a connection. `log_messages` passes bytes to a tap, and writes a line
-//!   for each message that ends with them. `describe_head` and `head_code` read the first bytes of a message.
+//! - `LogWriter` is a writer of whole lines that never blocks. `LineWriter` makes one of an outlet that may accept a
+//!   part of a line, and `Stderr` is the outlet for standard error.
+//! - `Tap` follows the messages of one direction of a connection. `log_messages` passes bytes to a tap, and writes a
+//!   line for each message that ends with them. `describe_head` and `head_code` read the first bytes of a message.
 //! - `LoggedWire` is a wire whose messages are logged.
 //! - `laws` has the theorems on logs and taps.
 //!
@@ -18,8 +19,8 @@
 //! No contract states what the system does with the bytes given to it, so a `Stderr` that writes nothing would meet its
 //! contract.
 //!
-//! This crate opens no file. Its callers pass the time; only `LoggedWire` reads a clock. Continue with `log.rt` for lines,
-//! and with `tap.rt` for messages.
+//! This crate opens no file. Its callers pass the time; only `LoggedWire` reads a clock. Continue with `log.rt` for
+//! lines, and with `tap.rt` for messages.
 #![tactic(auto)]
 
 mod connection;

@@ -22,9 +22,9 @@ pub enum Admission {
 
 /// Limit on the number of lines a second, and count of the lines left out.
 ///
-/// In one second of the clock, at most 100 lines are written, two of them only at the end of the log. If lines were left
-/// out, the first line of the next second reports their number, and that line counts as one of the 100. A clock that goes
-/// back begins a new second too.
+/// In one second of the clock, at most 100 lines are written, two of them only at the end of the log. If lines were
+/// left out, the first line of the next second reports their number, and that line counts as one of the 100. A clock
+/// that goes back begins a new second too.
 #[derive(Clone, Copy, Debug, PartialEq, Eq)]
 pub struct LineLimit {
     /// Present second: that of the last call.
@@ -85,9 +85,9 @@ impl LineLimit {
         Some(count)
     }
 
-    /// Begins the end of the log at a time, in seconds since 1970. Returns the number of lines left out, if there are any:
-    /// the line that reports it is due at once. The report counts as a line, and its lines as reported. A line is admitted
-    /// after it, even if the second had no more lines.
+    /// Begins the end of the log at a time, in seconds since 1970. Returns the number of lines left out, if there are
+    /// any: the line that reports it is due at once. The report counts as a line, and its lines as reported. A line is
+    /// admitted after it, even if the second had no more lines.
     #[tactic(auto, unfolding(crate::specs::Limits::last_report, crate::specs::Limits::after_end))]
     pub fn end(&mut self, second: u64) -> Option<u64>
         ensures answer { result ≡ spec.last_report self.old second }

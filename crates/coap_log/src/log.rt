@@ -50,8 +50,8 @@ impl<W: LogWriter> Log<W> {
         self.level.includes(level)
     }
 
-    /// Writes a text as a line of a level at a time, which counts from the start of 1970. Nothing changes if the log has
-    /// no lines of this level.
+    /// Writes a text as a line of a level at a time, which counts from the start of 1970. Nothing changes if the log
+    /// has no lines of this level.
     pub fn line(&mut self, level: LogLevel, now: Duration, text: &Line)
         ensures off { nat_le (level_number level) (level_number self.old.level) ≡ false → self.new ≡ self.old }
         ensures on { nat_le (level_number level) (level_number self.old.level) ≡ true →
@@ -93,8 +93,8 @@ impl<W: LogWriter> Log<W> {
         }
     }
 
-    /// Begins the end of the log: writes what was accepted and is not written yet, and the report of lines left out. The
-    /// next line is offered too, even if the second had no more lines, so that a caller can write a last one.
+    /// Begins the end of the log: writes what was accepted and is not written yet, and the report of lines left out.
+    /// The next line is offered too, even if the second had no more lines, so that a caller can write a last one.
     pub fn end(&mut self, now: Duration)
         ensures reported { (offers : List Offer) × IsReported self.old.program (as_nanos now)
             (last_report self.old.limit (as_nanos now / 1_000_000_000))

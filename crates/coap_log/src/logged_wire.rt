@@ -24,9 +24,10 @@ use std::time::Duration;
 
 /// Wire over another wire, which passes every call on and writes the messages that it passes to a log.
 ///
-/// Each line begins with the number of the connection. With the level `Warnings`, the log has a line for a read or a write
-/// that failed, and the lines of `warn`. With the level `Connections`, it has a line for the start and one for the end.
-/// With the level `Messages`, it has a line for each message too. A `LoggedWire` records the same as the inner wire.
+/// Each line begins with the number of the connection. With the level `Warnings`, the log has a line for a read or
+/// a write that failed, and the lines of `warn`. With the level `Connections`, it has a line for the start and one
+/// for the end. With the level `Messages`, it has a line for each message too. A `LoggedWire` records the same as
+/// the inner wire.
 #[derive(Drop)]
 pub struct LoggedWire<'a, W, L, C> {
     wire: W,
@@ -89,8 +90,8 @@ impl<'a, W: Wire + Drop, L: LogWriter + Drop, C: time::Clock> LoggedWire<'a, W, 
         log_now(&mut self.log, self.clock, LogLevel::Warnings, &line);
     }
 
-    /// Ends the log: writes the report of lines left out, if there are any, and the last line of the connection. This line
-    /// has the reason for the end, and the numbers of messages and bytes.
+    /// Ends the log: writes the report of lines left out, if there are any, and the last line of the connection. This
+    /// line has the reason for the end, and the numbers of messages and bytes.
     pub fn end(&mut self, reason: &Line)
         ensures kept { self.new ≡ record self.old { log = self.new.log } }
         ensures log { LogsLast (end_line self.old.number reason.now self.old.incoming self.old.outgoing)
@@ -174,8 +175,8 @@ fn write_outcome(got: Got) -> Got
     }
 }
 
-/// Logs the result of a read or a write: a failure as a warning, and each message that ends with the bytes passed on. The
-/// direction is the text between the number of the connection and the message.
+/// Logs the result of a read or a write: a failure as a warning, and each message that ends with the bytes passed on.
+/// The direction is the text between the number of the connection and the message.
 fn log_result<L: LogWriter>(
     log: &mut Log<L>,
     clock: &impl time::Clock,

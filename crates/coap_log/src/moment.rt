@@ -16,8 +16,8 @@ use std::time::Duration;
 /// Last nanosecond of the year 9999, after the start of 1970.
 const LAST_TIME: u128 = 253_402_300_799_999_999_999;
 
-/// Appends a time to a line, in UTC with milliseconds, as in `2026-11-27T05:18:31.042Z` (RFC 3339). The time counts from
-/// the start of 1970. A time after the year 9999 is written as the last one of that year.
+/// Appends a time to a line, in UTC with milliseconds, as in `2026-11-27T05:18:31.042Z` (RFC 3339). The time counts
+/// from the start of 1970. A time after the year 9999 is written as the last one of that year.
 pub fn append_time(line: &mut Line, time: Duration)
     ensures { (text : List ℕ) × IsTimeText (as_nanos time) text × (line.new ≡ appended LINE_LENGTH line.old text) }
 {

@@ -6,8 +6,8 @@ use coap_io::Outlet;
 use libc::STDERR_FILENO;
 use libc::types::pollfd;
 
-/// Maximum number of bytes of one write to a terminal. A terminal that is ready accepts this number of bytes at once, or
-/// one newline. A newline after other bytes can block, because the terminal writes it as two bytes.
+/// Maximum number of bytes of one write to a terminal. A terminal that is ready accepts this number of bytes at once,
+/// or one newline. A newline after other bytes can block, because the terminal writes it as two bytes.
 const TERMINAL_WRITE: usize = 128;
 
 /// Maximum number of bytes of one write otherwise. A pipe that is ready accepts this number of bytes at once.

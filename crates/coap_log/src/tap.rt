@@ -21,8 +21,8 @@ const HEAD: usize = 8;
 /// Observer of one direction of a connection: it finds the end of each message, and counts messages and bytes.
 ///
 /// Its caller passes the bytes of the stream, in any pieces. The tap keeps only the first bytes of a message, so its
-/// memory does not depend on the peer. After malformed input or a message of more than 1,048,576 bytes, the tap shows no
-/// message any more.
+/// memory does not depend on the peer. After malformed input or a message of more than 1,048,576 bytes, the tap shows
+/// no message any more.
 #[derive(Drop)]
 pub struct Tap {
     room: usize,

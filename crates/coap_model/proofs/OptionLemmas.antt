@@ -1,5 +1,6 @@
 -- Lemmas on optional values.
-use Rattle.std.proofs.Common.{◌≡◌, ℕ, zero, suc, ◌<◌, Bool, true, false, List, [], ◌∷◌, length, Option, Some, None, refl, arith, option_map, is_some, slice_get, if◌then◌else◌}
+use Rattle.std.proofs.Common.{◌≡◌, ℕ, zero, suc, ◌<◌, Bool, true, false, List, [], ◌∷◌, length, Option, Some, None}
+use Rattle.std.proofs.Common.{refl, arith, option_map, is_some, slice_get, if◌then◌else◌}
 
 pub there_is : {A : Type 0} (o : Option A) → is_some o ≡ true → (x : A) × (o ≡ Some x)
 there_is None e = absurd cc
@@ -26,7 +27,8 @@ pub none_made : {A B : Type 0} (f : A → B) (o : Option A) → option_map f o �
 none_made f None e = refl
 none_made f (Some x) e = absurd cc
 
-pub one_made : {A B : Type 0} (f : A → B) (o : Option A) (y : B) → option_map f o ≡ Some y → (x : A) × (o ≡ Some x) × (f x ≡ y)
+pub one_made : {A B : Type 0} (f : A → B) (o : Option A) (y : B) → option_map f o ≡ Some y
+    → (x : A) × (o ≡ Some x) × (f x ≡ y)
 one_made f None y e = absurd cc
 one_made f (Some x) y e = (x, refl, cc)
 

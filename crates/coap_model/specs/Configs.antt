@@ -32,14 +32,24 @@ pub record ConfigValues : Type 0 where
   pub applications : Option ApplicationsValue
 
 -- The configuration with these values, and without applications.
-abbrev pub config_of : (limits : LimitValues) (connections dynamic_max rep_max turns : ℕ) (starts : StartValues) → ConfigValues
+abbrev pub config_of : (limits : LimitValues) (connections dynamic_max rep_max turns : ℕ)
+    (starts : StartValues) → ConfigValues
 config_of limits connections dynamic_max rep_max turns starts =
-    record { limits = limits; connections = connections; dynamic_max = dynamic_max; rep_max = rep_max; turns = turns; starts = starts; applications = None }
+    record {
+      limits = limits;
+      connections = connections;
+      dynamic_max = dynamic_max;
+      rep_max = rep_max;
+      turns = turns;
+      starts = starts;
+      applications = None;
+    }
 
 -- The default configuration. It has default limits, 16 connections, no dynamic resource, representations of at most
 -- 65,536 bytes, 10^12 turns, and counts that begin at 0.
 abbrev pub default_config : ConfigValues
-default_config = config_of default_limits 16 0 LARGEST_SENT_MESSAGE 1000000000000 (record { moment = 0; versions = 0; ids = 0 })
+default_config =
+    config_of default_limits 16 0 LARGEST_SENT_MESSAGE 1000000000000 (record { moment = 0; versions = 0; ids = 0 })
 
 -- Each value is in its range. The limits have a condition of their own (`AreInRange`).
 pub record IsConfigInRange (c : ConfigValues) : Type 0 where

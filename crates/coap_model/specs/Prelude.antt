@@ -5,7 +5,8 @@ pub use Rattle.std.specs.Fmt.{decimal}
 unfoldable pub use Rattle.std.specs.Fmt.{digits}
 pub use Rattle.std.specs.List.{AllByRecursion, list_any, filter_map, reduce, remove}
 pub use Rattle.std.specs.Option.{option_eq}
-pub use Rattle.std.specs.Prelude.{List, None, Option, Some, [], drop, filter, length, map, not, slice_get, suc, take, unwrap_or, zero, ℕ}
+pub use Rattle.std.specs.Prelude.{List, None, Option, Some, [], drop, filter, length, map, not, slice_get, suc, take}
+pub use Rattle.std.specs.Prelude.{unwrap_or, zero, ℕ}
 pub use Rattle.std.specs.Prelude.{◌++◌, ◌∷◌, ◌≡◌}
 -- ---- coap_wire
 pub use Rattle.coap_wire.specs.StreamPrefix.{Unfinished, fault_bytes}
@@ -108,21 +109,25 @@ pub use Rattle.coap_model.specs.world.Custody.{QueuesCustody, IsFirstHeld, Keeps
 pub use Rattle.coap_model.specs.world.Custody.{asks_pending, asks_pong, asks_delayed, KeepsBut}
 unfoldable pub use Rattle.coap_model.specs.world.Custody.{CorrespondTo}
 pub use Rattle.coap_model.specs.world.Events.{AcceptedCall, Ticked, Stored, Removed, Opened, Ended, Took, stream_on}
-pub use Rattle.coap_model.specs.world.Events.{AreAccepted, Wrote, Released, Announced, Responded, Dropped, IfSide, OnSide}
+pub use Rattle.coap_model.specs.world.Events.{AreAccepted, Wrote, Released, Announced, Responded, Dropped, IfSide}
+pub use Rattle.coap_model.specs.world.Events.{OnSide}
 pub use Rattle.coap_model.specs.world.Events.{beyond, new_fault, size_by, spelled_on, taken_in, takes_of}
 unfoldable pub use Rattle.coap_model.specs.world.Events.{size_on, steps_of, world_after, takes, AreAcceptedBehind}
 unfoldable pub use Rattle.coap_model.specs.world.Events.{IsAccepted, sizes_on, steps_behind, steps_by, taken_on}
-pub use Rattle.coap_model.specs.world.Fates.{Fate, Unanswered, Answered, ApplicationRequest, is_for_application, asks_with}
+pub use Rattle.coap_model.specs.world.Fates.{Fate, Unanswered, Answered, ApplicationRequest, is_for_application}
+pub use Rattle.coap_model.specs.world.Fates.{asks_with}
 pub use Rattle.coap_model.specs.world.Fates.{awaits, is_unanswered, messages_of, entry_of, is_of_application}
 pub use Rattle.coap_model.specs.world.Fates.{has_stopped, fate_of, fate_by, is_unanswered_with, refusal_of, new_request}
-pub use Rattle.coap_model.specs.world.Fates.{requests_due, if_there, limit_after, IsReduced, MayAnswer, IsAnswer, HasFate}
+pub use Rattle.coap_model.specs.world.Fates.{requests_due, if_there, limit_after, IsReduced, MayAnswer, IsAnswer}
+pub use Rattle.coap_model.specs.world.Fates.{HasFate}
 pub use Rattle.coap_model.specs.world.Fates.{HaveOtherPlaces, HaveOwnAnswers, HasOnlyAnswer, given_in, response_of}
 pub use Rattle.coap_model.specs.world.Fates.{AreAnswers, AreQueuedInOrder, IsTimely, first_fate}
 pub use Rattle.coap_model.specs.world.Fates.{handed_requests, handed_in, handed_between, is_by_application}
 pub use Rattle.coap_model.specs.world.Fates.{IsGone, WasDropped}
 unfoldable pub use Rattle.coap_model.specs.world.Fates.{given_on, responses_to}
 unfoldable pub use Rattle.coap_model.specs.world.Fates.{with_fate, requests_after, requests_responded, requests_once}
-unfoldable pub use Rattle.coap_model.specs.world.Fates.{requests_within, requests_settled, requests_acted, requests_then}
+unfoldable pub use Rattle.coap_model.specs.world.Fates.{requests_within, requests_settled, requests_acted}
+unfoldable pub use Rattle.coap_model.specs.world.Fates.{requests_then}
 unfoldable pub use Rattle.coap_model.specs.world.Fates.{requests_by, requests_on}
 pub use Rattle.coap_model.specs.world.EndOfInput.{normalised_step, takes_input}
 unfoldable pub use Rattle.coap_model.specs.world.EndOfInput.{normalised_steps, heard_steps}

@@ -1,5 +1,5 @@
-//! Theorems on the events of a server. Each is the contract of a function that does nothing. `World` and `Connection` are the
-//! server and one connection in the model (`specs/world`).
+//! Theorems on the events of a server. Each is the contract of a function that does nothing. `World` and `Connection`
+//! are the server and one connection in the model (`specs/world`).
 
 ghost use Rattle.std.specs.Prelude.{◌≡◌, ℕ, Bool, ◌<◌, ◌≤◌, List, [], ◌∷◌, ◌++◌, length, true, false, Some, None};
 ghost use Rattle.coap_model.specs.Prelude.{AllByRecursion, Message, StreamFault, LimitValues, AreInRange, AllFit};
@@ -33,7 +33,8 @@ ghost use Rattle.coap_model.specs.world.World.{Opened};
 /// that a connection has queued and changes no other. If the step opens the connection and the limits are in range, all
 /// its queued messages fit.
 pub fn queued_messages_fit_limit()
-    ensures more { (limits : LimitValues) (w : World) (st : Step) (id : ℕ) (s t : Connection) → side_of id w.sides ≡ Some s →
+    ensures more { (limits : LimitValues) (w : World) (st : Step) (id : ℕ) (s t : Connection)
+        → side_of id w.sides ≡ Some s →
         side_of id (step limits w st).sides ≡ Some t →
         (more : List Message) × (t.history.queued ≡ s.history.queued ++ more) × AllFit (limit_now t.history) more }
     ensures opened { (limits : LimitValues) (w : World) (id : ℕ) (t : Connection) → AreInRange limits →
@@ -140,7 +141,8 @@ pub fn last_notification_matches_state()
 /// - `faulted`, `ended`, `released`, `announced`, `responded`, `written`: nothing else queues such a Pong.
 pub fn custody_comes_last()
     ensures order { (c : ConfigValues) (events : List AcceptedCall) (id : ℕ) (s : Connection) →
-        side_of id (world_after c events).sides ≡ Some s → CorrespondTo c.applications s.history.handled s.history.held }
+        side_of id (world_after c events).sides ≡ Some s
+        → CorrespondTo c.applications s.history.handled s.history.held }
     ensures at_once { (store : StoreValue) (now : ℕ) (s : Connection) (m : Message) →
         QueuesCustody s (side_after store now s m) → s.history.held ≡ [] }
     ensures later { (store : StoreValue) (now : ℕ) (s : Connection) → QueuesCustody s (settled_once store now s) →
@@ -169,7 +171,8 @@ pub fn custody_comes_last()
 /// A response counts if it has the token of the request, even if it is bare or a 5.03. No two requests share one
 /// response. Responses with the same token are not distinguished, so a notification may count as one.
 pub fn a_pong_with_custody_follows_all_answers()
-    ensures { (c : ConfigValues) (events : List AcceptedCall) (id : ℕ) (s : Connection) (before : List Message) (pong : Message)
+    ensures { (c : ConfigValues) (events : List AcceptedCall) (id : ℕ) (s : Connection)
+        (before : List Message) (pong : Message)
         (behind : List Message) →
         side_of id (world_after c events).sides ≡ Some s →
         s.history.queued ≡ before ++ pong ∷ behind →
@@ -182,8 +185,8 @@ pub fn a_pong_with_custody_follows_all_answers()
 /// - `message`: a message keeps the pending entries in their places, and appends at most one that it asks for.
 /// - `faulted`, `ended`, `released`, `announced`, `written`, `told`: an error, the end of input, a Release, an
 ///   announcement, written bytes and notifications keep them too.
-/// - `responded`: a response of the application removes the first pending request with its token, and is queued as it fits
-///   the peer's limit. All other entries are kept.
+/// - `responded`: a response of the application removes the first pending request with its token, and is queued as it
+///   fits the peer's limit. All other entries are kept.
 /// - `taken`: settling removes exactly the entry that is due first.
 /// - `answer`, `pong`: this entry is then sent as it fits the peer's limit: a response, or a Pong with Custody.
 ///
@@ -213,7 +216,8 @@ pub fn pending_entries_are_sent()
         (settled_once store now s).history.queued
         ≡ s.history.queued ++ (send (standing_due now (standing_now s.history)) (held_message by token)
         (bare_response (held_message by token))).queued }
-    ensures pong { (store : StoreValue) (now : ℕ) (s : Connection) (token : List ℕ) → next_held now s ≡ Some (Pong token) →
+    ensures pong { (store : StoreValue) (now : ℕ) (s : Connection) (token : List ℕ)
+        → next_held now s ≡ Some (Pong token) →
         (settled_once store now s).history.queued
         ≡ s.history.queued ++ (send (standing_due now (standing_now s.history)) (pong_with true token)
         (pong_with false token)).queued }
@@ -225,8 +229,8 @@ pub fn pending_entries_are_sent()
 /// - `built_in`: the application answers no request for a built-in resource.
 /// - `checked`: it answers no request with an unrecognised critical option, and none that asks for proxying. The store
 ///   answers these with 4.02 and 5.05.
-/// - `handed`, `elsewhere`: of the other requests, it answers exactly those whose path and method its entries have. Their
-///   deadline is that of the application.
+/// - `handed`, `elsewhere`: of the other requests, it answers exactly those whose path and method its entries have.
+///   Their deadline is that of the application.
 /// - `refused`: if such a request is answered at once, the response is 5.03, and nothing changes.
 pub fn application_answers_its_requests()
     ensures none { (s : StoreValue) (now : ℕ) (m : Message) → s.applications ≡ None →
@@ -247,26 +251,27 @@ pub fn application_answers_its_requests()
 /// States that each request that the application answers has one fate, after any events.
 ///
 /// `requests_on` computes these requests of a connection from the events, with the fate of each. A request that got a
-/// place in the pending list was handed to the application (`handed`). Such a request is pending, was answered once, or was
-/// given up by a stop or drop of its connection. Its answer is a response of the application or 5.04. The other requests
-/// are answered with 5.03 at once, unless the connection stopped.
+/// place in the pending list was handed to the application (`handed`). Such a request is pending, was answered once, or
+/// was given up by a stop or drop of its connection. Its answer is a response of the application or 5.04. The other
+/// requests are answered with 5.03 at once, unless the connection stopped.
 ///
 /// - `requests`: they are exactly the requests for the application among the messages handled, in order.
 /// - `handed`: an accepted event adds to those handed to the application the messages that it handled and that became
 ///   pending entries of the application (`handed_in`). It adds no other.
-/// - `pending`: unless the connection has stopped, the unanswered ones are exactly the pending requests. They have the same
-///   order, tokens and deadlines.
+/// - `pending`: unless the connection has stopped, the unanswered ones are exactly the pending requests. They have the
+///   same order, tokens and deadlines.
 /// - `unanswered`: unless the connection has stopped, each unanswered one was handed to the application.
 /// - `given_up`: a connection that has stopped has no pending entry. So its unanswered requests are given up.
-/// - `gone`: after accepted events, a connection that does not exist was dropped, or it never existed and has no requests.
-///   If it was dropped, its requests with their fates are those before the drop. So the unanswered ones are given up.
-/// - `answered`: the answer to each other request is queued at a place after the request was handled, and has the request's
-///   token. It is reduced to fit the limit at that time: the smaller of the local one and the one that the peer announced
-///   last.
+/// - `gone`: after accepted events, a connection that does not exist was dropped, or it never existed and has no
+///   requests. If it was dropped, its requests with their fates are those before the drop. So the unanswered
+///   ones are given up.
+/// - `answered`: the answer to each other request is queued at a place after the request was handled, and has the
+///   request's token. It is reduced to fit the limit at that time: the smaller of the local one and the one that the
+///   peer announced last.
 /// - `own`: no two requests share an answer.
-/// - `given`: after accepted events, the responses that the application gave are exactly its answers, each to one request.
-///   They are queued in the order in which they were given. One more may have been given: a response that did not fit, not
-///   even reduced, and so stopped the connection.
+/// - `given`: after accepted events, the responses that the application gave are exactly its answers, each to one
+///   request. They are queued in the order in which they were given. One more may have been given: a response that did
+///   not fit, not even reduced, and so stopped the connection.
 pub fn application_requests_have_one_fate()
     ensures requests { (c : ConfigValues) (events : List AcceptedCall) (id : ℕ) (s : Connection) →
         side_of id (world_after c events).sides ≡ Some s →
@@ -314,11 +319,13 @@ pub fn application_deadlines_are_kept()
 /// States that the answer to a request for the application is the only response with its token.
 ///
 /// Take any request that the application answers, and the responses with its token that were queued since the server
-/// handled it. Two conditions apply: no delayed response with the token was pending at that time, and no request with the
-/// token was handled since. Notifications with the token are no exception, because the request removes the observer.
+/// handled it. Two conditions apply: no delayed response with the token was pending at that time, and no
+/// request with the token was handled since. Notifications with the token are no exception, because the request
+/// removes the observer.
 ///
 /// - `at`: `handled` is the place of the request among the messages handled.
-/// - `only`: as long as the request is unanswered, there is no such response. After that there is exactly one: its answer.
+/// - `only`: as long as the request is unanswered, there is no such response. After that there is exactly
+///   one: its answer.
 pub fn application_answer_is_only_response()
     ensures at { (c : ConfigValues) (events : List AcceptedCall) (id : ℕ) (s : Connection) →
         side_of id (world_after c events).sides ≡ Some s →

@@ -1,9 +1,11 @@
 -- The entries that are rejected, and the invariant after another entry.
-use Rattle.std.proofs.Common.{◌≡◌, ℕ, zero, suc, ◌≤◌, ◌<◌, Bool, true, false, ◌||◌, Option, Some, None, List, [], ◌∷◌, ◌++◌, length, refl, sym, ap, subst, ◌∙◌, arith, length-append}
+use Rattle.std.proofs.Common.{◌≡◌, ℕ, zero, suc, ◌≤◌, ◌<◌, Bool, true, false, ◌||◌, Option, Some, None, List, [], ◌∷◌}
+use Rattle.std.proofs.Common.{◌++◌, length, refl, sym, ap, subst, ◌∙◌, arith, length-append}
 use Rattle.std.proofs.lemmas.Bool.{leb-false}
 use Rattle.std.proofs.lemmas.List.Folds.{list_any-append}
 use Rattle.coap_path.proofs.PathLemmas.{same_path_sound}
-use Rattle.coap_path.specs.Prelude.{if◌then◌else◌, nat_le, not, ◌==◌, Path, AllByRecursion, same_path, are_methods, are_attributes}
+use Rattle.coap_path.specs.Prelude.{if◌then◌else◌, nat_le, not, ◌==◌, Path, AllByRecursion, same_path, are_methods}
+use Rattle.coap_path.specs.Prelude.{are_attributes}
 use Rattle.coap_path.specs.Prelude.{entry_refusal, refusal_in, first_fault, ApplicationFault}
 use Rattle.coap_path.specs.declared.fault.ApplicationFault.TheVariants.{Full, Root, Twice, Method, Attributes}
 use Rattle.coap_path.proofs.PathStartLemmas.{not_false}
@@ -12,23 +14,35 @@ use Rattle.coap_path.specs.Prelude.{ApplicationEntryValue, IsEntry, AreEntries, 
 -- ---- checks
 
 -- Without an error, the condition of a check does not hold, and the later checks give no error.
-passed : {F : Type 0} (holds : Bool) (fault : F) (rest : Option F) → (if holds then Some fault else rest) ≡ None → (holds ≡ false) × (rest ≡ None)
+passed : {F : Type 0} (holds : Bool) (fault : F) (rest : Option F) → (if holds then Some fault else rest) ≡ None
+    → (holds ≡ false) × (rest ≡ None)
 passed true fault rest none = absurd cc
 passed false fault rest none = (refl, none)
 
 -- No check gives the error `Memory`.
-first_fault_refuses : (checks : List (Bool × ApplicationFault)) (fault : ApplicationFault) → AllByRecursion (λ check. refusal_in check.1 ≡ Some check.1) checks → first_fault checks ≡ Some fault → refusal_in fault ≡ Some fault
+first_fault_refuses : (checks : List (Bool × ApplicationFault)) (fault : ApplicationFault)
+    → AllByRecursion (λ check. refusal_in check.1 ≡ Some check.1) checks → first_fault checks ≡ Some fault
+    → refusal_in fault ≡ Some fault
 first_fault_refuses [] fault all is = absurd cc
 first_fault_refuses (check ∷ checks) fault all is =
-    elim check.0 as (λ b. (if b then Some check.1 else first_fault checks) ≡ Some fault → refusal_in fault ≡ Some fault) [
-      | true ↦ λ here. (let same : check.1 ≡ fault = cc in subst (λ (f : ApplicationFault). refusal_in f ≡ Some f) same all.0)
+    elim check.0
+    as (λ b. (if b then Some check.1 else first_fault checks) ≡ Some fault → refusal_in fault ≡ Some fault) [
+      | true ↦ λ here.
+          (let same : check.1 ≡ fault = cc in subst (λ (f : ApplicationFault). refusal_in f ≡ Some f) same all.0)
       | false ↦ λ later. first_fault_refuses checks fault all.1 later
     ] is
 
-pub add_refused : (es : List ApplicationEntryValue) (prefix : Path) (methods attributes : List ℕ) (fault : ApplicationFault) → entry_refusal es prefix methods attributes ≡ Some fault → entry_refusal es prefix methods attributes ≡ refusal_in fault
+pub add_refused : (es : List ApplicationEntryValue) (prefix : Path) (methods attributes : List ℕ)
+    (fault : ApplicationFault) → entry_refusal es prefix methods attributes ≡ Some fault
+    → entry_refusal es prefix methods attributes ≡ refusal_in fault
 unfolding entry_refusal
 add_refused es prefix methods attributes fault is =
-    is ∙ sym (first_fault_refuses ((nat_le 16 (length es), Full) ∷ (length prefix == 0, Root) ∷ (has_prefix es prefix, Twice) ∷ (not (are_methods methods), Method) ∷ (not (are_attributes attributes), Attributes) ∷ []) fault (refl, (refl, (refl, (refl, (refl, tt))))) is)
+    is ∙ sym
+    (first_fault_refuses ((nat_le 16 (length es), Full) ∷ (length prefix == 0, Root) ∷ (has_prefix es prefix, Twice)
+    ∷ (not (are_methods methods), Method) ∷ (not (are_attributes attributes), Attributes) ∷ []) fault (
+      refl,
+      (refl, (refl, (refl, (refl, tt)))),
+    ) is)
 
 not_zero : (n : ℕ) → (n == 0) ≡ false → 1 ≤ n
 not_zero zero is = absurd cc
@@ -42,7 +56,8 @@ pub record Accepts (es : List ApplicationEntryValue) (prefix : Path) (methods at
   pub methods_ok : are_methods methods ≡ true
   pub attributes_ok : are_attributes attributes ≡ true
 
-pub accepted : (es : List ApplicationEntryValue) (prefix : Path) (methods attributes : List ℕ) → entry_refusal es prefix methods attributes ≡ None → Accepts es prefix methods attributes
+pub accepted : (es : List ApplicationEntryValue) (prefix : Path) (methods attributes : List ℕ)
+    → entry_refusal es prefix methods attributes ≡ None → Accepts es prefix methods attributes
 unfolding entry_refusal
 accepted es prefix methods attributes none =
     let room = passed (nat_le 16 (length es)) Full _ none in
@@ -60,7 +75,8 @@ accepted es prefix methods attributes none =
 
 -- ---- the invariant
 
-all_push : (es : List ApplicationEntryValue) (e : ApplicationEntryValue) → AllByRecursion IsEntry es → IsEntry e → AllByRecursion IsEntry (es ++ e ∷ [])
+all_push : (es : List ApplicationEntryValue) (e : ApplicationEntryValue) → AllByRecursion IsEntry es → IsEntry e
+    → AllByRecursion IsEntry (es ++ e ∷ [])
 all_push [] e all is = (is, tt)
 all_push (f ∷ es) e all is = (all.0, all_push es e all.1 is)
 
@@ -78,14 +94,18 @@ or_false false b is = (refl, is)
 both_false : (a b : Bool) → a ≡ false → b ≡ false → (a || b) ≡ false
 both_false a b first second = rw (first, second) refl
 
-own_push : (es : List ApplicationEntryValue) (e : ApplicationEntryValue) → HaveOwnPrefixes es → has_prefix es e.prefix ≡ false → HaveOwnPrefixes (es ++ e ∷ [])
+own_push : (es : List ApplicationEntryValue) (e : ApplicationEntryValue) → HaveOwnPrefixes es
+    → has_prefix es e.prefix ≡ false → HaveOwnPrefixes (es ++ e ∷ [])
 own_push [] e own new = (refl, tt)
 own_push (f ∷ es) e own new =
     let parts = or_false (same_path f.prefix e.prefix) (has_prefix es e.prefix) new in
-    let last = both_false (same_path e.prefix f.prefix) false (other_way f.prefix e.prefix _ refl parts.0) refl in
-    (list_any-append (λ g. same_path g.prefix f.prefix) es (e ∷ []) ∙ both_false _ _ own.0 last, own_push es e own.1 parts.1)
+    let last = both_false (same_path e.prefix f.prefix) false (other_way f.prefix e.prefix _ refl parts.0) refl in (
+      list_any-append (λ g. same_path g.prefix f.prefix) es (e ∷ []) ∙ both_false _ _ own.0 last,
+      own_push es e own.1 parts.1,
+    )
 
-pub entries_added : (es : List ApplicationEntryValue) (e : ApplicationEntryValue) → AreEntries es → IsEntry e → length es < 16 → has_prefix es e.prefix ≡ false → AreEntries (es ++ e ∷ [])
+pub entries_added : (es : List ApplicationEntryValue) (e : ApplicationEntryValue) → AreEntries es → IsEntry e
+    → length es < 16 → has_prefix es e.prefix ≡ false → AreEntries (es ++ e ∷ [])
 entries_added es e are is room own = record {
   few = omega (arith, length-append es (e ∷ []), room);
   each = all_push es e are.each is;

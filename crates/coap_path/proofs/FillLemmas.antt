@@ -1,5 +1,6 @@
 -- The segments of a path, written one after the other.
-use Rattle.std.proofs.Common.{◌≡◌, ◌≢◌, ℕ, ◌+◌, ◌<◌, ◌≤◌, Bool, true, false, not, ◌||◌, ◌&&◌, ◌==◌, List, [], ◌∷◌, ◌++◌, length, refl, sym, ap, ◌∙◌, arith, append_assoc, append-nil, length-append, ne_eqb}
+use Rattle.std.proofs.Common.{◌≡◌, ◌≢◌, ℕ, ◌+◌, ◌<◌, ◌≤◌, Bool, true, false, not, ◌||◌, ◌&&◌, ◌==◌, List, [], ◌∷◌, ◌++◌}
+use Rattle.std.proofs.Common.{length, refl, sym, ap, ◌∙◌, arith, append_assoc, append-nil, length-append, ne_eqb}
 use Rattle.std.proofs.lemmas.Bool.{and_left, and_right, lt-leb, le-leb}
 use Rattle.std.proofs.lemmas.List.Folds.{list_any-append}
 use Rattle.coap_path.specs.Prelude.{list_any, is_dots, is_one_empty, is_path, same_bytes, Path, written}
@@ -18,20 +19,30 @@ pub record IsWrittenUpTo (all left : Path) (count : ℕ) (bytes : List ℕ) : Ty
 
 pub none_written : (all : Path) (bytes : List ℕ) → bytes ≡ [] → IsWrittenUpTo all all 0 bytes
 unfolding written
-none_written all bytes none = record { before = []; parts = refl; counted = refl; few = omega arith; are = none; short = omega (arith, ap length none); no_dots = refl }
+none_written all bytes none = record {
+  before = [];
+  parts = refl;
+  counted = refl;
+  few = omega arith;
+  are = none;
+  short = omega (arith, ap length none);
+  no_dots = refl;
+}
 
 written-append : (p q : Path) → written (p ++ q) ≡ written p ++ written q
 unfolding written
 written-append [] q = refl
 written-append (s ∷ ss) q =
-    ap (λ (rest : List ℕ). length s ∷ (s ++ rest)) (written-append ss q) ∙ ap (λ (rest : List ℕ). length s ∷ rest) (sym (append_assoc s (written ss) (written q)))
+    ap (λ (rest : List ℕ). length s ∷ (s ++ rest)) (written-append ss q)
+    ∙ ap (λ (rest : List ℕ). length s ∷ rest) (sym (append_assoc s (written ss) (written q)))
 
 written_one : (s : List ℕ) → written (s ∷ []) ≡ length s ∷ s
 unfolding written
 written_one s = ap (λ (rest : List ℕ). length s ∷ rest) (append-nil s)
 
 -- The same after another segment.
-pub one_more : (all left rest : Path) (s : List ℕ) (count : ℕ) (bytes : List ℕ) → IsWrittenUpTo all left count bytes → left ≡ s ∷ rest → (count ≡ 16 → ⊥) → length bytes + length s < 255 → is_dots s ≡ false
+pub one_more : (all left rest : Path) (s : List ℕ) (count : ℕ) (bytes : List ℕ) → IsWrittenUpTo all left count bytes
+    → left ≡ s ∷ rest → (count ≡ 16 → ⊥) → length bytes + length s < 255 → is_dots s ≡ false
     → IsWrittenUpTo all rest (count + 1) ((bytes ++ length s ∷ []) ++ s)
 one_more all left rest s count bytes w is room fits named =
     let few = w.few in
@@ -61,10 +72,12 @@ written_length-append (s ∷ ss) q =
     let rest = written_length-append ss q in
     omega arith
 
-split_at_left : (all left rest : Path) (s : List ℕ) (count : ℕ) (bytes : List ℕ) (w : IsWrittenUpTo all left count bytes) → left ≡ s ∷ rest → all ≡ w.before ++ s ∷ rest
+split_at_left : (all left rest : Path) (s : List ℕ) (count : ℕ) (bytes : List ℕ)
+    (w : IsWrittenUpTo all left count bytes) → left ≡ s ∷ rest → all ≡ w.before ++ s ∷ rest
 split_at_left all left rest s count bytes w is = sym w.parts ∙ ap (λ (os : Path). w.before ++ os) is
 
-pub too_many : (all left rest : Path) (s : List ℕ) (count : ℕ) (bytes : List ℕ) → IsWrittenUpTo all left count bytes → left ≡ s ∷ rest → count ≡ 16 → false ≡ is_path all
+pub too_many : (all left rest : Path) (s : List ℕ) (count : ℕ) (bytes : List ℕ) → IsWrittenUpTo all left count bytes
+    → left ≡ s ∷ rest → count ≡ 16 → false ≡ is_path all
 unfolding is_path
 too_many all left rest s count bytes w is many =
     let split = ap length (split_at_left all left rest s count bytes w is) in
@@ -72,7 +85,8 @@ too_many all left rest s count bytes w is many =
     let counted = w.counted in
     sym (and_left _ _ (and_left _ _ (and_left _ _ (lt-leb (length all) 16 (omega arith)))))
 
-pub too_long : (all left rest : Path) (s : List ℕ) (count : ℕ) (bytes : List ℕ) → IsWrittenUpTo all left count bytes → left ≡ s ∷ rest → 255 ≤ length bytes + length s → false ≡ is_path all
+pub too_long : (all left rest : Path) (s : List ℕ) (count : ℕ) (bytes : List ℕ) → IsWrittenUpTo all left count bytes
+    → left ≡ s ∷ rest → 255 ≤ length bytes + length s → false ≡ is_path all
 unfolding is_path
 too_long all left rest s count bytes w is long =
     let split = ap written_length (split_at_left all left rest s count bytes w is) in
@@ -84,11 +98,13 @@ any_with : (a b c : Bool) → b ≡ true → (a || (b || c)) ≡ true
 any_with true b c e = refl
 any_with false b c e = rw e refl
 
-pub named_dots : (all left rest : Path) (s : List ℕ) (count : ℕ) (bytes : List ℕ) → IsWrittenUpTo all left count bytes → left ≡ s ∷ rest → is_dots s ≡ true → false ≡ is_path all
+pub named_dots : (all left rest : Path) (s : List ℕ) (count : ℕ) (bytes : List ℕ) → IsWrittenUpTo all left count bytes
+    → left ≡ s ∷ rest → is_dots s ≡ true → false ≡ is_path all
 unfolding is_path
 named_dots all left rest s count bytes w is named =
     let any : list_any is_dots all ≡ true =
-    ap (list_any is_dots) (split_at_left all left rest s count bytes w is) ∙ list_any-append is_dots w.before (s ∷ rest) ∙ any_with (list_any is_dots w.before) (is_dots s) (list_any is_dots rest) named in
+    ap (list_any is_dots) (split_at_left all left rest s count bytes w is) ∙ list_any-append is_dots w.before (s ∷ rest)
+    ∙ any_with (list_any is_dots w.before) (is_dots s) (list_any is_dots rest) named in
     sym (and_left _ _ (and_right _ _ (ap not any)))
 
 -- ---- the end
@@ -102,16 +118,19 @@ one_empty ((b ∷ bs) ∷ []) =
     sym (and_right (length ((b ∷ bs) ∷ []) == 1) _ (ne_eqb (length (written ((b ∷ bs) ∷ []))) 1 longer))
 one_empty (s ∷ t ∷ ts) =
     let more : length (s ∷ t ∷ ts) ≢ 1 = (λ e. absurd (omega arith)) in
-    and_right (same_bytes s []) false refl ∙ sym (and_left _ (length (written (s ∷ t ∷ ts)) == 1) (ne_eqb (length (s ∷ t ∷ ts)) 1 more))
+    and_right (same_bytes s []) false refl
+    ∙ sym (and_left _ (length (written (s ∷ t ∷ ts)) == 1) (ne_eqb (length (s ∷ t ∷ ts)) 1 more))
 
 all_before : (all : Path) (count : ℕ) (bytes : List ℕ) (w : IsWrittenUpTo all [] count bytes) → w.before ≡ all
 all_before all count bytes w = sym (append-nil w.before) ∙ w.parts
 
-path_unless_empty : (p : Path) → length p ≤ 16 → written_length p ≤ 255 → list_any is_dots p ≡ false → not (is_one_empty p) ≡ is_path p
+path_unless_empty : (p : Path) → length p ≤ 16 → written_length p ≤ 255 → list_any is_dots p ≡ false
+    → not (is_one_empty p) ≡ is_path p
 unfolding is_path
 path_unless_empty p few short no_dots = rw (le-leb (length p) 16 few, le-leb (written_length p) 255 short, no_dots) refl
 
-pub path_at_end : (all : Path) (count : ℕ) (bytes : List ℕ) → IsWrittenUpTo all [] count bytes → not (count == 1 && length bytes == 1) ≡ is_path all
+pub path_at_end : (all : Path) (count : ℕ) (bytes : List ℕ) → IsWrittenUpTo all [] count bytes
+    → not (count == 1 && length bytes == 1) ≡ is_path all
 path_at_end all count bytes w =
     let few = w.few in
     let counted = w.counted in
@@ -124,6 +143,7 @@ path_at_end all count bytes w =
     ∙ ap is_path (all_before all count bytes w)
 
 -- The key of the root has no byte.
-pub key_of_root : (bytes : List ℕ) → bytes ≡ [] → (written (segments_at bytes) ≡ bytes) × (is_path (segments_at bytes) ≡ true)
+pub key_of_root : (bytes : List ℕ) → bytes ≡ []
+    → (written (segments_at bytes) ≡ bytes) × (is_path (segments_at bytes) ≡ true)
 unfolding written is_path
 key_of_root bytes none = key_of_path [] bytes none refl

@@ -13,14 +13,16 @@ elsewhere_stays (s ∷ ss) = elsewhere_stays ss
 
 -- The kind of resource, by the results of the tests of a path's first segments.
 abbrev place_by_tests : Bool → Bool → Bool → ResourceKind
-place_by_tests time async listing = if time then place.Time else (if async then place.Async else (if listing then place.Listing else place.Dynamic))
+place_by_tests time async listing =
+    if time then place.Time else (if async then place.Async else (if listing then place.Listing else place.Dynamic))
 
 -- A first segment passes at most one of the tests.
 record IsOne (time async well_known : Bool) : Type 0 where
   time_alone : time ≡ true → well_known ≡ false
   async_alone : async ≡ true → well_known ≡ false
 
-is_one : (s : List ℕ) → IsOne (same_bytes s (codes "time")) (same_bytes s (codes "async")) (same_bytes s (codes ".well-known"))
+is_one : (s : List ℕ)
+    → IsOne (same_bytes s (codes "time")) (same_bytes s (codes "async")) (same_bytes s (codes ".well-known"))
 is_one s = record {
   time_alone = λ is. ap (λ (b : List ℕ). same_bytes b (codes ".well-known")) ((bytes_decides s (codes "time")).0 is);
   async_alone = λ is. ap (λ (b : List ℕ). same_bytes b (codes ".well-known")) ((bytes_decides s (codes "async")).0 is);
@@ -32,15 +34,19 @@ and_false false = refl
 
 -- The state after a first segment, by the results of its tests.
 abbrev trail_begun : Bool → Bool → Bool → PathMatch
-trail_begun time async well_known = if time then Time else (if async then Async else (if well_known then WellKnown else Elsewhere))
+trail_begun time async well_known =
+    if time then Time else (if async then Async else (if well_known then WellKnown else Elsewhere))
 
-one_segment : (time async well_known : Bool) → place_at (trail_begun time async well_known) ≡ place_by_tests (time && true) (async && true) (well_known && false)
+one_segment : (time async well_known : Bool)
+    → place_at (trail_begun time async well_known) ≡ place_by_tests (time && true) (async && true) (well_known && false)
 one_segment true async well_known = refl
 one_segment false true well_known = refl
 one_segment false false true = refl
 one_segment false false false = refl
 
-two_segments : (time async well_known core : Bool) (t : List ℕ) → same_bytes t (codes "core") ≡ core → IsOne time async well_known → place_at (trail_with (trail_begun time async well_known) t) ≡ place_by_tests (time && false) (async && false) (well_known && (core && true))
+two_segments : (time async well_known core : Bool) (t : List ℕ) → same_bytes t (codes "core") ≡ core
+    → IsOne time async well_known → place_at (trail_with (trail_begun time async well_known) t)
+    ≡ place_by_tests (time && false) (async && false) (well_known && (core && true))
 two_segments true async well_known core t is one = rw (one.time_alone refl, and_false async) refl
 two_segments false true well_known core t is one = rw (one.async_alone refl) refl
 two_segments false false true true t is one = rw is refl
@@ -61,15 +67,19 @@ second_last false true well_known t s = refl
 second_last false false true t s = core_last (same_bytes t (codes "core")) s
 second_last false false false t s = refl
 
-more_segments : (time async well_known core : Bool) → place.Dynamic ≡ place_by_tests (time && false) (async && false) (well_known && (core && false))
-more_segments time async well_known core = rw (and_false time, and_false async, and_false core, and_false well_known) refl
+more_segments : (time async well_known core : Bool)
+    → place.Dynamic ≡ place_by_tests (time && false) (async && false) (well_known && (core && false))
+more_segments time async well_known core =
+    rw (and_false time, and_false async, and_false core, and_false well_known) refl
 
 pub place_by_trail : (path : Path) → place_at (trail_behind Root path) ≡ kind_of_path path
 unfolding kind_of_path
 place_by_trail [] = refl
-place_by_trail (s ∷ []) = one_segment (same_bytes s (codes "time")) (same_bytes s (codes "async")) (same_bytes s (codes ".well-known"))
+place_by_trail (s ∷ []) =
+    one_segment (same_bytes s (codes "time")) (same_bytes s (codes "async")) (same_bytes s (codes ".well-known"))
 place_by_trail (s ∷ t ∷ []) =
-    two_segments (same_bytes s (codes "time")) (same_bytes s (codes "async")) (same_bytes s (codes ".well-known")) (same_bytes t (codes "core")) t refl (is_one s)
+    two_segments (same_bytes s (codes "time")) (same_bytes s (codes "async")) (same_bytes s (codes ".well-known"))
+    (same_bytes t (codes "core")) t refl (is_one s)
 place_by_trail (s ∷ t ∷ u ∷ ss) =
     let time = same_bytes s (codes "time") in
     let async = same_bytes s (codes "async") in

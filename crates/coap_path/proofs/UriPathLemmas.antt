@@ -9,10 +9,13 @@ is_segment o = o.number == numbers.uri_path
 
 -- The first option is a segment or is skipped.
 told_from : (here : Bool) (o : CoapOption) (os all : List CoapOption) → all ≡ o ∷ os → is_segment o ≡ here
-    → segments_told all ≡ map (λ (o : CoapOption). o.value) (cond here (o ∷ filter is_segment os) (filter is_segment os))
+    → segments_told all
+    ≡ map (λ (o : CoapOption). o.value) (cond here (o ∷ filter is_segment os) (filter is_segment os))
 told_from here o os all is test =
     ap segments_told is
-    ∙ ap (λ (b : Bool). map (λ (o : CoapOption). o.value) (cond b (o ∷ filter is_segment os) (filter is_segment os))) test
+    ∙ ap (λ (b : Bool). map (λ (o : CoapOption). o.value) (cond b (o ∷ filter is_segment os) (filter is_segment os)))
+    test
 
-pub option_passed : (o : CoapOption) (os all : List CoapOption) → all ≡ o ∷ os → (o.number ≡ numbers.uri_path → ⊥) → segments_told all ≡ segments_told os
+pub option_passed : (o : CoapOption) (os all : List CoapOption) → all ≡ o ∷ os → (o.number ≡ numbers.uri_path → ⊥)
+    → segments_told all ≡ segments_told os
 option_passed o os all is other = told_from false o os all is (ne_eqb o.number numbers.uri_path other)

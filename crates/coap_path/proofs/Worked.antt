@@ -1,6 +1,7 @@
 -- Worked examples: the first error of an entry that an application adds.
 use Rattle.std.proofs.Common.{◌≡◌, ℕ, Option, List, [], ◌∷◌, map, Some, None, refl, codes, replicate}
-use Rattle.coap_path.specs.Prelude.{Path, ApplicationEntryValue, are_methods, is_name_char, is_token_char, are_attributes}
+use Rattle.coap_path.specs.Prelude.{Path, ApplicationEntryValue, are_methods, is_name_char, is_token_char}
+use Rattle.coap_path.specs.Prelude.{are_attributes}
 use Rattle.coap_path.specs.Prelude.{entry_refusal, ApplicationFault}
 use Rattle.coap_path.specs.declared.fault.ApplicationFault.TheVariants.{Full, Root, Twice, Method, Attributes}
 use Rattle.coap_wire.specs.Codes as code
@@ -16,10 +17,12 @@ a = codes "a" ∷ []
 
 -- The errors of more entries of an application that has this number of entries for POST at `/rd`.
 abbrev errors : ℕ → List ApplicationEntryValue → List (Option ApplicationFault)
-errors count es = map (λ e. entry_refusal (replicate count (entry rd (code.post ∷ []) [])) e.prefix e.methods e.attributes) es
+errors count es =
+    map (λ e. entry_refusal (replicate count (entry rd (code.post ∷ []) [])) e.prefix e.methods e.attributes) es
 
 -- Each entry but the last has all errors after its own.
-first_errors : errors 1 (entry [] [] (codes ";") ∷ entry rd [] (codes ";") ∷ entry a [] (codes ";") ∷ entry a (code.get ∷ []) (codes ";") ∷ entry a (code.get ∷ []) (codes "obs") ∷ [])
+first_errors : errors 1 (entry [] [] (codes ";") ∷ entry rd [] (codes ";") ∷ entry a [] (codes ";")
+    ∷ entry a (code.get ∷ []) (codes ";") ∷ entry a (code.get ∷ []) (codes "obs") ∷ [])
     ≡ Some Root ∷ Some Twice ∷ Some Method ∷ Some Attributes ∷ None ∷ []
 unfolding entry_refusal are_methods are_attributes is_name_char is_token_char
 first_errors = refl

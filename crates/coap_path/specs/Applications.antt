@@ -1,6 +1,7 @@
--- Defined by this project: the paths whose requests the application answers. A path is the Uri-Path options of a request
--- (RFC 7252 section 5.10.1).
-use Rattle.std.specs.Prelude.{ℕ, Bool, true, false, ◌&&◌, List, [], ◌∷◌, length, Option, Some, None, nat_lt, if◌then◌else◌}
+-- Defined by this project: the paths whose requests the application answers. A path is the Uri-Path options of a
+-- request (RFC 7252 section 5.10.1).
+use Rattle.std.specs.Prelude.{ℕ, Bool, true, false, ◌&&◌, List, [], ◌∷◌, length, Option, Some, None, nat_lt}
+use Rattle.std.specs.Prelude.{if◌then◌else◌}
 use Rattle.coap_path.specs.Paths.{Path, same_bytes}
 use Rattle.coap_path.specs.ResourceKinds.{kind_of_path, is_dynamic}
 use Rattle.coap_path.specs.Methods.{has_method}

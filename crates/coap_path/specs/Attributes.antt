@@ -1,14 +1,17 @@
--- RFC 6690 section 2: the attributes of a link, `link-param *( ";" link-param )`, where each `link-param` has the form of
--- a `link-extension`. The forms of single parameters, such as the number of `sz`, are not checked.
+-- RFC 6690 section 2: the attributes of a link, `link-param *( ";" link-param )`, where each `link-param` has the form
+-- of a `link-extension`. The forms of single parameters, such as the number of `sz`, are not checked.
 --     link-extension = ( parmname [ "=" ( ptoken / quoted-string ) ] ) / ( ext-name-star "=" ext-value )
 --     ext-name-star  = parmname "*"
 --     ptoken         = 1*ptokenchar
 -- RFC 5987 section 3.2.1 has `parmname` and `ext-value`. Each character of the latter is a `ptokenchar`, and no more is
 -- checked. RFC 2616 section 2.2 has `quoted-string`.
-use Rattle.std.specs.Prelude.{ℕ, Bool, true, false, not, ◌&&◌, ◌||◌, List, [], ◌∷◌, length, nat_le, ◌==◌, codes, if◌then◌else◌}
+use Rattle.std.specs.Prelude.{ℕ, Bool, true, false, not, ◌&&◌, ◌||◌, List, [], ◌∷◌, length, nat_le, ◌==◌, codes}
+use Rattle.std.specs.Prelude.{if◌then◌else◌}
 use Rattle.std.specs.List.{list_any}
 use Rattle.coap_path.specs.declared.attributes.AttributeScan.{AttributeScan}
-use Rattle.coap_path.specs.declared.attributes.AttributeScan.TheVariants.{Start, AtName, InName, AfterStar, AtExtended, AtValue, InToken, InQuotes, Escaped, AfterQuotes, Rejected}
+use Rattle.coap_path.specs.declared.attributes.AttributeScan.TheVariants.{Start, AtName, InName, AfterStar, AtExtended}
+use Rattle.coap_path.specs.declared.attributes.AttributeScan.TheVariants.{AtValue, InToken, InQuotes, Escaped}
+use Rattle.coap_path.specs.declared.attributes.AttributeScan.TheVariants.{AfterQuotes, Rejected}
 
 -- The byte is a digit or a letter.
 abbrev pub is_alphanumeric : ℕ → Bool

@@ -8,4 +8,5 @@ use Rattle.coap_path.specs.Applications.{ApplicationEntryValue, begins_with}
 pub record IsLongest (entries : List ApplicationEntryValue) (path : Path) (e : ApplicationEntryValue) : Type 0 where
   pub among : Contains entries e
   pub begins : begins_with e.prefix path ≡ true
-  pub others : AllByRecursion (λ f. begins_with f.prefix path ≡ true → f.prefix ≢ e.prefix → length f.prefix < length e.prefix) entries
+  pub others : AllByRecursion
+      (λ f. begins_with f.prefix path ≡ true → f.prefix ≢ e.prefix → length f.prefix < length e.prefix) entries

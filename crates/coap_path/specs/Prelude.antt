@@ -16,7 +16,8 @@ pub use Rattle.coap_path.specs.PathViews.{segment_list, IsWritten}
 unfoldable pub use Rattle.coap_path.specs.PathViews.{written, segments_at, segments_by}
 pub use Rattle.coap_path.specs.Paths.{Path, is_dots, is_one_empty, written_length, same_bytes, same_path}
 unfoldable pub use Rattle.coap_path.specs.Paths.{is_path}
-pub use Rattle.coap_path.specs.ResourceKinds.{is_dynamic, is_async, is_observable, async_path, listing_path, root_path, time_path}
+pub use Rattle.coap_path.specs.ResourceKinds.{is_dynamic, is_async, is_observable, async_path, listing_path, root_path}
+pub use Rattle.coap_path.specs.ResourceKinds.{time_path}
 unfoldable pub use Rattle.coap_path.specs.ResourceKinds.{kind_of_path}
 pub use Rattle.coap_path.specs.UriPaths.{segments_told, path_told}
 pub use Rattle.coap_path.specs.declared.resource_kind.ResourceKind.{ResourceKind}

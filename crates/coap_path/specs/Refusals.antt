@@ -1,5 +1,6 @@
 -- Defined by this project: the errors of entries.
-use Rattle.std.specs.Prelude.{◌≡◌, ℕ, Bool, not, List, [], ◌∷◌, ◌++◌, length, Option, Some, None, Result, Ok, Err, nat_le, ◌==◌, if◌then◌else◌}
+use Rattle.std.specs.Prelude.{◌≡◌, ℕ, Bool, not, List, [], ◌∷◌, ◌++◌, length, Option, Some, None, Result, Ok, Err}
+use Rattle.std.specs.Prelude.{nat_le, ◌==◌, if◌then◌else◌}
 use Rattle.coap_path.specs.Paths.{Path}
 use Rattle.coap_path.specs.Applications.{ApplicationEntryValue, ApplicationsValue}
 use Rattle.coap_path.specs.Invariant.{has_prefix}

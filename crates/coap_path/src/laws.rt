@@ -14,8 +14,8 @@ pub fn prefix_is_start_of_path()
     ensures begins { (prefix rest : Path) → begins_with prefix (prefix ++ rest) ≡ true }
 {}
 
-/// States that a path belongs to the entry with the longest prefix that the path begins with: each other such prefix has
-/// fewer segments. A path belongs to no entry only if it begins with no prefix.
+/// States that a path belongs to the entry with the longest prefix that the path begins with: each other such prefix
+/// has fewer segments. A path belongs to no entry only if it begins with no prefix.
 pub fn longest_prefix_wins()
     ensures found { (entries : List ApplicationEntryValue) (path : Path) (e : ApplicationEntryValue) →
         entry_for entries path ≡ Some e → IsLongest entries path e }

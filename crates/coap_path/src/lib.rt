@@ -1,5 +1,5 @@
-//! The paths of resources (RFC 7252 sections 5.10.1, 6.4), and the kinds of resources that they name. The embedding program
-//! (the *application*) answers the requests of some paths by itself, instead of the engine.
+//! The paths of resources (RFC 7252 sections 5.10.1, 6.4), and the kinds of resources that they name. The embedding
+//! program (the *application*) answers the requests of some paths by itself, instead of the engine.
 //!
 //! - `PathKey` is the path of a resource. `Segments` iterates over its segments.
 //! - `UriPath` iterates over the path of a request.

@@ -154,8 +154,8 @@ impl PathKey {
         }
     }
 
-    /// Returns `true` if these are the segments of a path, and sets the key to that path: see the limits of `PathKey`. If
-    /// it returns `false`, the path of the key is not specified.
+    /// Returns `true` if these are the segments of a path, and sets the key to that path: see the limits of `PathKey`.
+    /// If it returns `false`, the path of the key is not specified.
     ///
     /// A key is large and costly to move, so this fills it in place.
     pub fn fill(&mut self, segments: UriPath) -> bool

@@ -1,5 +1,6 @@
 -- Escaped text has one meaning.
-use Rattle.std.proofs.Common.{◌≡◌, ℕ, ◌/◌, ◌%◌, ◌<◌, true, false, List, [], ◌∷◌, ◌++◌, refl, sym, ap, ◌∙◌, inl, inr, arith}
+use Rattle.std.proofs.Common.{◌≡◌, ℕ, ◌/◌, ◌%◌, ◌<◌, true, false, List, [], ◌∷◌, ◌++◌, refl, sym, ap, ◌∙◌, inl, inr}
+use Rattle.std.proofs.Common.{arith}
 use Rattle.std.proofs.lemmas.Bool.{cases_Bool, cond-true, cond-false}
 use Rattle.std.proofs.lemmas.Bool.Decides.{nat_tests}
 use Rattle.std.specs.List.{AllByRecursion}
@@ -25,20 +26,33 @@ no_backslash : (x : ℕ) → is_plain x ≡ true → x ≡ 0x5c → ⊥
 no_backslash x p e = grind (arith, nat_tests)
 
 -- The first byte of escaped text has one meaning.
-first_once : (x y : ℕ) (xs ys : List ℕ) → x < 256 → y < 256 → escape_of x ++ xs ≡ escape_of y ++ ys → (x ≡ y) × (xs ≡ ys)
+first_once : (x y : ℕ) (xs ys : List ℕ) → x < 256 → y < 256
+    → escape_of x ++ xs ≡ escape_of y ++ ys → (x ≡ y) × (xs ≡ ys)
 first_once x y xs ys p q e = elim (cases_Bool (is_plain x)) [
   | inl a ↦ elim (cases_Bool (is_plain y)) [
-    | inl b ↦ let same : x ∷ xs ≡ y ∷ ys = sym (ap (λ (t : List ℕ). t ++ xs) (plain x a)) ∙ e ∙ ap (λ (t : List ℕ). t ++ ys) (plain y b) in (cc, cc)
-    | inr b ↦ let same : x ∷ xs ≡ 0x5c ∷ 0x78 ∷ hex_digit (y / 16) ∷ hex_digit (y % 16) ∷ ys = sym (ap (λ (t : List ℕ). t ++ xs) (plain x a)) ∙ e ∙ ap (λ (t : List ℕ). t ++ ys) (other y b) in
+    | inl b ↦
+        let same : x ∷ xs ≡ y ∷ ys =
+        sym (ap (λ (t : List ℕ). t ++ xs) (plain x a)) ∙ e ∙ ap (λ (t : List ℕ). t ++ ys) (plain y b) in (cc, cc)
+    | inr b ↦
+        let same : x ∷ xs ≡ 0x5c ∷ 0x78 ∷ hex_digit (y / 16) ∷ hex_digit (y % 16) ∷ ys =
+        sym (ap (λ (t : List ℕ). t ++ xs) (plain x a)) ∙ e ∙ ap (λ (t : List ℕ). t ++ ys) (other y b) in
         absurd (no_backslash x a cc)
   ]
   | inr a ↦ elim (cases_Bool (is_plain y)) [
-    | inl b ↦ let same : 0x5c ∷ 0x78 ∷ hex_digit (x / 16) ∷ hex_digit (x % 16) ∷ xs ≡ y ∷ ys = sym (ap (λ (t : List ℕ). t ++ xs) (other x a)) ∙ e ∙ ap (λ (t : List ℕ). t ++ ys) (plain y b) in
+    | inl b ↦
+        let same : 0x5c ∷ 0x78 ∷ hex_digit (x / 16) ∷ hex_digit (x % 16) ∷ xs ≡ y ∷ ys =
+        sym (ap (λ (t : List ℕ). t ++ xs) (other x a)) ∙ e ∙ ap (λ (t : List ℕ). t ++ ys) (plain y b) in
         absurd (no_backslash y b cc)
-    | inr b ↦ let same : 0x5c ∷ 0x78 ∷ hex_digit (x / 16) ∷ hex_digit (x % 16) ∷ xs ≡ 0x5c ∷ 0x78 ∷ hex_digit (y / 16) ∷ hex_digit (y % 16) ∷ ys = sym (ap (λ (t : List ℕ). t ++ xs) (other x a)) ∙ e ∙ ap (λ (t : List ℕ). t ++ ys) (other y b) in
+    | inr b ↦
+        let same : 0x5c ∷ 0x78 ∷ hex_digit (x / 16) ∷ hex_digit (x % 16) ∷ xs
+        ≡ 0x5c ∷ 0x78 ∷ hex_digit (y / 16) ∷ hex_digit (y % 16) ∷ ys =
+        sym (ap (λ (t : List ℕ). t ++ xs) (other x a)) ∙ e ∙ ap (λ (t : List ℕ). t ++ ys) (other y b) in
         let high : hex_digit (x / 16) ≡ hex_digit (y / 16) = cc in
-        let low : hex_digit (x % 16) ≡ hex_digit (y % 16) = cc in
-        (halves_once x y (digit_once (x / 16) (y / 16) (omega arith) (omega arith) high) (digit_once (x % 16) (y % 16) (omega arith) (omega arith) low), cc)
+        let low : hex_digit (x % 16) ≡ hex_digit (y % 16) = cc in (
+          halves_once x y (digit_once (x / 16) (y / 16) (omega arith) (omega arith) high)
+              (digit_once (x % 16) (y % 16) (omega arith) (omega arith) low),
+          cc,
+        )
   ]
 ]
 
@@ -46,11 +60,15 @@ first_once x y xs ys p q e = elim (cases_Bool (is_plain x)) [
 some_text : (x : ℕ) (xs : List ℕ) → [] ≡ escape_of x ++ xs → ⊥
 some_text x xs e = elim (cases_Bool (is_plain x)) [
   | inl a ↦ let none : [] ≡ x ∷ xs = e ∙ ap (λ (t : List ℕ). t ++ xs) (plain x a) in cc
-  | inr a ↦ let none : [] ≡ 0x5c ∷ 0x78 ∷ hex_digit (x / 16) ∷ hex_digit (x % 16) ∷ xs = e ∙ ap (λ (t : List ℕ). t ++ xs) (other x a) in cc
+  | inr a ↦
+      let none : [] ≡ 0x5c ∷ 0x78 ∷ hex_digit (x / 16) ∷ hex_digit (x % 16) ∷ xs =
+      e ∙ ap (λ (t : List ℕ). t ++ xs) (other x a) in
+      cc
 ]
 
 -- No two lists of bytes have the same escaped text.
-pub escaped_once : (xs ys : List ℕ) → AllByRecursion IsByte xs → AllByRecursion IsByte ys → escaped_text xs ≡ escaped_text ys → xs ≡ ys
+pub escaped_once : (xs ys : List ℕ) → AllByRecursion IsByte xs → AllByRecursion IsByte ys
+    → escaped_text xs ≡ escaped_text ys → xs ≡ ys
 escaped_once [] [] p q e = refl
 escaped_once [] (y ∷ ys) p q e = absurd (some_text y (escaped_text ys) e)
 escaped_once (x ∷ xs) [] p q e = absurd (some_text x (escaped_text xs) (sym e))

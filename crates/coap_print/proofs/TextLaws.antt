@@ -1,5 +1,6 @@
 -- Printable text.
-use Rattle.std.proofs.Common.{◌≡◌, ℕ, ◌+◌, ◌%◌, ◌<◌, ◌^◌, true, List, [], ◌∷◌, ◌++◌, take, zero, suc, refl, ◌∙◌, arith, decimal}
+use Rattle.std.proofs.Common.{◌≡◌, ℕ, ◌+◌, ◌%◌, ◌<◌, ◌^◌, true, List, [], ◌∷◌, ◌++◌, take, zero, suc, refl, ◌∙◌, arith}
+use Rattle.std.proofs.Common.{decimal}
 use Rattle.std.specs.Str.{IsAscii}
 use Rattle.std.specs.Prelude.{nat_le}
 use Rattle.std.proofs.lemmas.Bool.{and_parts, and_from, leb-true}
@@ -26,7 +27,9 @@ digit_is_text n small = grind (arith, nat_tests)
 
 -- Decimal digits are a text.
 pub decimal_is_text : (n : ℕ) → n < 2 ^ 64 → is_text (decimal n) ≡ true
-decimal_is_text = decimal_by_steps (λ n ds. is_text ds ≡ true) digit_is_text (λ n ds big p. text_of_both ds ((48 + n % 10) ∷ []) p (digit_is_text (n % 10) (omega arith)))
+decimal_is_text =
+    decimal_by_steps (λ n ds. is_text ds ≡ true) digit_is_text
+    (λ n ds big p. text_of_both ds ((48 + n % 10) ∷ []) p (digit_is_text (n % 10) (omega arith)))
 
 -- A text is ASCII.
 pub text_is_ascii : (xs : List ℕ) → is_text xs ≡ true → IsAscii xs

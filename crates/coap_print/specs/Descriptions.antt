@@ -1,5 +1,6 @@
 -- Defined by this project: a message as text.
-use Rattle.std.specs.Prelude.{ℕ, ◌+◌, ◌/◌, ◌%◌, ◌^◌, Bool, true, false, ◌==◌, nat_le, nat_lt, List, [], ◌++◌, length, take, Option, Some, None, codes, decimal, if◌then◌else◌}
+use Rattle.std.specs.Prelude.{ℕ, ◌+◌, ◌/◌, ◌%◌, ◌^◌, Bool, true, false, ◌==◌, nat_le, nat_lt, List, [], ◌++◌, length}
+use Rattle.std.specs.Prelude.{take, Option, Some, None, codes, decimal, if◌then◌else◌}
 use Rattle.std.specs.List.{flat_map}
 use Rattle.coap_wire.specs.Codes.{class_of, detail_of}
 use Rattle.coap_wire.specs.Message.{Message, CoapOption}
@@ -22,7 +23,8 @@ title_text (Some name) = codes " " ++ name
 
 -- A code as class and detail, as in 4.04.
 abbrev pub code_number : ℕ → List ℕ
-code_number code = decimal (class_of code) ++ codes "." ++ decimal (detail_of code / 10) ++ decimal (detail_of code % 10)
+code_number code =
+    decimal (class_of code) ++ codes "." ++ decimal (detail_of code / 10) ++ decimal (detail_of code % 10)
 
 -- A code with its name, as in 4.04 Not Found.
 unfoldable pub code_text : ℕ → List ℕ
@@ -105,13 +107,15 @@ shown_text false bytes = hex_text bytes
 -- payload, the length and the first bytes.
 unfoldable pub payload_text : List ℕ → List ℕ
 payload_text payload =
-    unless_empty payload (codes " payload " ++ size_text (length payload) ++ shown_text (is_text payload) (take most_shown payload))
+    unless_empty payload
+    (codes " payload " ++ size_text (length payload) ++ shown_text (is_text payload) (take most_shown payload))
 
 -- ---- messages
 
 -- A message: its code, its token, its options and its payload.
 unfoldable pub message_text : Message → List ℕ
-message_text m = code_text m.code ++ token_text m.token ++ flat_map (option_text m.code) m.options ++ payload_text m.payload
+message_text m =
+    code_text m.code ++ token_text m.token ++ flat_map (option_text m.code) m.options ++ payload_text m.payload
 
 -- ---- representations
 

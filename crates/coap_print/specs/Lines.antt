@@ -1,5 +1,6 @@
 -- Defined by this project: a line of limited length, and text appended to it.
-use Rattle.std.specs.Prelude.{◌≡◌, ℕ, ◌+◌, ◌-◌, ◌≤◌, Bool, true, nat_le, nat_lt, List, ◌++◌, length, take, codes, if◌then◌else◌}
+use Rattle.std.specs.Prelude.{◌≡◌, ℕ, ◌+◌, ◌-◌, ◌≤◌, Bool, true, nat_le, nat_lt, List, ◌++◌, length, take, codes}
+use Rattle.std.specs.Prelude.{if◌then◌else◌}
 use Rattle.coap_print.specs.Texts.{is_text}
 
 -- The bytes are a line: each is printable ASCII, and there are at most `limit`.

@@ -43,7 +43,8 @@ pub fn describe(line: &mut Line, message: &MessageRef)
     append_payload(line, message.payload());
 }
 
-/// Appends a representation to a line: its Content-Format, if it has one, and its bytes, as `describe` appends a payload.
+/// Appends a representation to a line: its Content-Format, if it has one, and its bytes, as `describe`
+/// appends a payload.
 pub fn describe_representation(line: &mut Line, format: Option<u16>, bytes: &[u8])
     ensures { line.new ≡ appended LINE_LENGTH line.old (spec.representation_text format bytes.now) }
 {

@@ -131,8 +131,8 @@ impl Line {
     }
 }
 
-/// Appends as many bytes of a piece as fit before the ellipsis. If some do not fit, the ellipsis follows. If it is there
-/// already, nothing is appended.
+/// Appends as many bytes of a piece as fit before the ellipsis. If some do not fit, the ellipsis follows. If it is
+/// there already, nothing is appended.
 fn append_piece(buffer: &mut ArrayVec<u8, LINE_LENGTH>, piece: &[u8])
     ensures { buffer.new.items ≡ appended LINE_LENGTH buffer.old.items piece.now }
 {

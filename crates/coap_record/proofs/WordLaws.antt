@@ -1,5 +1,7 @@
 -- The words of a record's lines, and the values that the script reader gives to them.
-use Rattle.std.proofs.Common.{◌≡◌, ℕ, zero, suc, ◌<◌, ◌≤◌, Bool, true, false, not, ◌&&◌, ◌==◌, List, [], ◌∷◌, ◌++◌, length, get_or, map, Option, Some, None, refl, sym, ap, ◌∙◌, arith, nat_le, nat_lt, decimal, All, length-append, append-nil, true≢false, le-leb}
+use Rattle.std.proofs.Common.{◌≡◌, ℕ, zero, suc, ◌<◌, ◌≤◌, Bool, true, false, not, ◌&&◌, ◌==◌, List, [], ◌∷◌, ◌++◌}
+use Rattle.std.proofs.Common.{length, get_or, map, Option, Some, None, refl, sym, ap, ◌∙◌, arith, nat_le, nat_lt}
+use Rattle.std.proofs.Common.{decimal, All, length-append, append-nil, true≢false, le-leb}
 use Rattle.std.proofs.lemmas.Bool.{agree_below_at, and_from, and_parts, cond-true}
 use Rattle.std.proofs.lemmas.Bool.Decides.{nat_tests}
 use Rattle.std.proofs.lemmas.Fmt.{digits_decimal, decimal_nonempty, length-decimal-le, decimal_is_IsNumeral}
@@ -29,20 +31,23 @@ abbrev pub IsWord : List ℕ → Type 0
 IsWord word = list_all word_byte word ≡ true
 
 -- Bytes that pass one test fail another one, if each byte does.
-pub all_fail : (p q : ℕ → Bool) → ((b : ℕ) → p b ≡ true → q b ≡ false) → (bytes : List ℕ) → list_all p bytes ≡ true → All (λ b. q b ≡ false) bytes
+pub all_fail : (p q : ℕ → Bool) → ((b : ℕ) → p b ≡ true → q b ≡ false) → (bytes : List ℕ) → list_all p bytes ≡ true
+    → All (λ b. q b ≡ false) bytes
 all_fail p q fail [] passes = All-nil (λ b. q b ≡ false)
 all_fail p q fail (b ∷ bytes) passes =
     let both = and_parts (p b) (list_all p bytes) passes in
     All-cons (λ c. q c ≡ false) b bytes (fail b both.0) (all_fail p q fail bytes both.1)
 
 -- Bytes that pass one test pass another one, if each byte does.
-pub all_pass : (p q : ℕ → Bool) → ((b : ℕ) → p b ≡ true → q b ≡ true) → (bytes : List ℕ) → list_all p bytes ≡ true → list_all q bytes ≡ true
+pub all_pass : (p q : ℕ → Bool) → ((b : ℕ) → p b ≡ true → q b ≡ true) → (bytes : List ℕ) → list_all p bytes ≡ true
+    → list_all q bytes ≡ true
 all_pass p q pass [] passes = refl
 all_pass p q pass (b ∷ bytes) passes =
     let both = and_parts (p b) (list_all p bytes) passes in
     and_from (q b) (list_all q bytes) (pass b both.0) (all_pass p q pass bytes both.1)
 
-pub both_words : (p : ℕ → Bool) (xs ys : List ℕ) → list_all p xs ≡ true → list_all p ys ≡ true → list_all p (xs ++ ys) ≡ true
+pub both_words : (p : ℕ → Bool) (xs ys : List ℕ) → list_all p xs ≡ true → list_all p ys ≡ true
+    → list_all p (xs ++ ys) ≡ true
 both_words p xs ys first second = list_all-append p xs ys ∙ and_from (list_all p xs) (list_all p ys) first second
 
 -- Each of these bytes is small.
@@ -81,7 +86,13 @@ number_back n small =
     let few = length-decimal-le 20 n (omega arith) (omega arith) small in
     let digits = number_digits n small in
     let value = (decimal_is_IsNumeral n small).1 in
-    rw (digits, value, le-leb 1 (length (decimal n)) some, le-leb (length (decimal n)) 20 few, le-leb n 18446744073709551615 (omega arith)) refl
+    rw (
+      digits,
+      value,
+      le-leb 1 (length (decimal n)) some,
+      le-leb (length (decimal n)) 20 few,
+      le-leb n 18446744073709551615 (omega arith),
+    ) refl
 
 digits_no_hyphen : (ds : List ℕ) → all_ascii_digits ds ≡ true → is_hyphen ds ≡ false
 digits_no_hyphen [] all = refl
@@ -99,7 +110,11 @@ pub format_back : (format : Option ℕ) → IsFormat format → format_value (fo
 unfolding format_value
 format_back None small = refl
 format_back (Some n) small =
-    rw (digits_no_hyphen (decimal n) (digits_of_number n (omega arith)), number_back n (omega arith), le-leb n 65535 (omega arith)) refl
+    rw (
+      digits_no_hyphen (decimal n) (digits_of_number n (omega arith)),
+      number_back n (omega arith),
+      le-leb n 65535 (omega arith),
+    ) refl
 
 -- ---- bytes
 
@@ -112,9 +127,11 @@ pub bytes_word : (bytes : List ℕ) → AreBytes bytes → IsWord (encode_lower 
 unfolding encode_with
 bytes_word [] are = refl
 bytes_word (b ∷ bytes) are =
-    both_words word_byte (encode_lower (b ∷ [])) (encode_lower bytes) (digits_of_byte b (All-head (λ c. c < 256) b bytes are)) (bytes_word bytes (All-tail (λ c. c < 256) b bytes are))
+    both_words word_byte (encode_lower (b ∷ [])) (encode_lower bytes)
+    (digits_of_byte b (All-head (λ c. c < 256) b bytes are)) (bytes_word bytes (All-tail (λ c. c < 256) b bytes are))
 
-pub bytes_back : (byte : ℕ) (bytes : List ℕ) → AreBytes (byte ∷ bytes) → hex_value (encode_lower (byte ∷ bytes)) ≡ Some (byte ∷ bytes)
+pub bytes_back : (byte : ℕ) (bytes : List ℕ) → AreBytes (byte ∷ bytes)
+    → hex_value (encode_lower (byte ∷ bytes)) ≡ Some (byte ∷ bytes)
 bytes_back byte bytes are =
     let all = byte ∷ bytes in
     hex_of_some (encode_lower all) (λ none. omega (arith, length-encode_with lower_digits all))
@@ -149,7 +166,9 @@ escaped_byte_passes b small = agree_below_at (λ c. list_all segment_byte (encod
 pub escaped_passes : (segment : List ℕ) → AreBytes segment → list_all segment_byte (escaped segment) ≡ true
 escaped_passes [] are = refl
 escaped_passes (b ∷ bytes) are =
-    both_words segment_byte (encoded_byte b) (escaped bytes) (escaped_byte_passes b (All-head (λ c. c < 256) b bytes are)) (escaped_passes bytes (All-tail (λ c. c < 256) b bytes are))
+    both_words segment_byte (encoded_byte b) (escaped bytes)
+    (escaped_byte_passes b (All-head (λ c. c < 256) b bytes are))
+    (escaped_passes bytes (All-tail (λ c. c < 256) b bytes are))
 
 no_slash : (b : ℕ) → segment_byte b ≡ true → (b == slash) ≡ false
 no_slash b passes = grind (arith, nat_tests)
@@ -171,13 +190,16 @@ path_is_word [] are = refl
 path_is_word (s ∷ ss) are = segments_word (s ∷ ss) are
 
 -- The parts between the slashes of a path are its escaped segments.
-parts_of_path : (s : List ℕ) (ss : Path) → All AreBytes (s ∷ ss) → parts slash (escaped s ++ path_bytes ss) ≡ map escaped (s ∷ ss)
+parts_of_path : (s : List ℕ) (ss : Path) → All AreBytes (s ∷ ss)
+    → parts slash (escaped s ++ path_bytes ss) ≡ map escaped (s ∷ ss)
 unfolding path_bytes
 parts_of_path s [] are =
-    let alone = all_fail segment_byte (λ b. b == slash) no_slash (escaped s) (escaped_passes s (All-head AreBytes s [] are)) in
+    let alone =
+    all_fail segment_byte (λ b. b == slash) no_slash (escaped s) (escaped_passes s (All-head AreBytes s [] are)) in
     ap (parts slash) (append-nil (escaped s)) ∙ slice_split_none (λ b. b == slash) (escaped s) alone
 parts_of_path s (t ∷ ts) are =
-    let alone = all_fail segment_byte (λ b. b == slash) no_slash (escaped s) (escaped_passes s (All-head AreBytes s (t ∷ ts) are)) in
+    let alone = all_fail segment_byte (λ b. b == slash) no_slash (escaped s)
+    (escaped_passes s (All-head AreBytes s (t ∷ ts) are)) in
     slice_split_at (λ b. b == slash) (escaped s) slash (escaped t ++ path_bytes ts) alone refl
     ∙ ap (λ ps. escaped s ∷ ps) (parts_of_path t ts (All-tail AreBytes s (t ∷ ts) are))
 
@@ -199,10 +221,16 @@ some_after_slash : (s : List ℕ) (ss : Path) → is_path (s ∷ ss) ≡ true �
 unfolding path_bytes is_path
 some_after_slash [] [] is none = true≢false (sym is)
 some_after_slash (b ∷ bytes) [] is none =
-    omega (arith, escaped_byte_some b, length-append (encoded_byte b) (escaped bytes), length-append (escaped (b ∷ bytes)) [])
+    omega (
+      arith,
+      escaped_byte_some b,
+      length-append (encoded_byte b) (escaped bytes),
+      length-append (escaped (b ∷ bytes)) [],
+    )
 some_after_slash s (t ∷ ts) is none = omega (arith, length-append (escaped s) (slash ∷ (escaped t ++ path_bytes ts)))
 
-segments_read : (s : List ℕ) (ss : Path) → is_path (s ∷ ss) ≡ true → All AreBytes (s ∷ ss) → segments_of (escaped s ++ path_bytes ss) ≡ s ∷ ss
+segments_read : (s : List ℕ) (ss : Path) → is_path (s ∷ ss) ≡ true → All AreBytes (s ∷ ss)
+    → segments_of (escaped s ++ path_bytes ss) ≡ s ∷ ss
 segments_read s ss is are =
     segments_of_some (escaped s ++ path_bytes ss) (some_after_slash s ss is)
     ∙ ap (map percent_decode) (parts_of_path s ss are)
@@ -212,10 +240,12 @@ root_back : path_value (path_word []) ≡ Some []
 unfolding path_value path_word key_for is_path segments_of
 root_back = refl
 
-some_back : (s : List ℕ) (ss : Path) → is_path (s ∷ ss) ≡ true → All AreBytes (s ∷ ss) → path_value (path_word (s ∷ ss)) ≡ Some (s ∷ ss)
+some_back : (s : List ℕ) (ss : Path) → is_path (s ∷ ss) ≡ true → All AreBytes (s ∷ ss)
+    → path_value (path_word (s ∷ ss)) ≡ Some (s ∷ ss)
 unfolding path_word path_bytes
 some_back s ss is are =
-    sym (path_read (path_word (s ∷ ss)) (escaped s ++ path_bytes ss) slash (s ∷ ss) (Some (s ∷ ss)) refl refl (sym (segments_read s ss is are)) (sym (cond-true _ _ _ is)))
+    sym (path_read (path_word (s ∷ ss)) (escaped s ++ path_bytes ss) slash (s ∷ ss) (Some (s ∷ ss)) refl refl
+    (sym (segments_read s ss is are)) (sym (cond-true _ _ _ is)))
 
 pub path_back : (path : Path) → is_path path ≡ true → All AreBytes path → path_value (path_word path) ≡ Some path
 path_back [] is are = root_back

@@ -1,7 +1,8 @@
 -- Worked examples: calls and their lines.
 use Rattle.std.proofs.Common.{[], ◌≡◌, ℕ, List, ◌∷◌, map, Some, None, refl, codes}
 use Rattle.std.specs.Fmt.{digits}
-use Rattle.coap_record.specs.Prelude.{encode_with, encoded_byte, path_bytes, AcceptedCall, path_word, took_line, line_of, lines_of}
+use Rattle.coap_record.specs.Prelude.{encode_with, encoded_byte, path_bytes, AcceptedCall, path_word, took_line}
+use Rattle.coap_record.specs.Prelude.{line_of, lines_of}
 use Rattle.coap_model.specs.world.Events as call
 
 -- Each call has the line next to it.
@@ -15,8 +16,14 @@ lines : Have (
     ∷ (call.Wrote 3 1152, codes "drain 3 1152\n")
     ∷ (call.Wrote 3 0, codes "drain 3 0\n")  -- a script may drain nothing
     ∷ (call.Ticked 60, codes "tick 60\n")
-    ∷ (call.Stored (codes "a b" ∷ codes "c" ∷ []) (Some 50) (123 ∷ []), codes "put /a%20b/c 50 7b\n")  -- a space is escaped
-    ∷ (call.Stored (codes "a/b%" ∷ []) None [], codes "put /a%2Fb%25 - -\n")  -- a slash in a segment, no format, no bytes
+    ∷ (
+      call.Stored (codes "a b" ∷ codes "c" ∷ []) (Some 50) (123 ∷ []),
+      codes "put /a%20b/c 50 7b\n",
+    )  -- a space is escaped
+    ∷ (
+      call.Stored (codes "a/b%" ∷ []) None [],
+      codes "put /a%2Fb%25 - -\n",
+    )  -- a slash in a segment, no format, no bytes
     ∷ (call.Stored [] (Some 0) (0 ∷ []), codes "put / 0 00\n")  -- the root
     ∷ (call.Removed ([] ∷ [] ∷ []), codes "remove //\n")  -- two empty segments
     ∷ (call.Ended 1, codes "end 1\n")

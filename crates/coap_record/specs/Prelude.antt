@@ -55,7 +55,8 @@ unfoldable pub use Rattle.coap_record.specs.RecordLines.{path_word, took_line, l
 unfoldable pub use Rattle.coap_record.specs.SaidEvents.{events_said, all_events_said, IsInRange}
 pub use Rattle.coap_record.specs.SaidEvents.{IsNumber, AreBytes, IsPathOfBytes, IsFormat, CanReplay}
 pub use Rattle.coap_record.specs.Writes.{WritesText, WritesUpTo, room_in}
-pub use Rattle.coap_record.specs.Records.{HasLines, HasFirstLines, HasPart, IsRecordOf, AreWholeLines, SaysNoEvent, is_printable}
+pub use Rattle.coap_record.specs.Records.{HasLines, HasFirstLines, HasPart, IsRecordOf, AreWholeLines, SaysNoEvent}
+pub use Rattle.coap_record.specs.Records.{is_printable}
 pub use Rattle.coap_record.specs.Records.{whole_lines_in}
 pub use Rattle.coap_record.specs.Replays.{with_turns, server_with_turns, write_in, lines_of_writes, drain_of, ReplaysTo}
 unfoldable pub use Rattle.coap_record.specs.Replays.{writes_of, drains_of}

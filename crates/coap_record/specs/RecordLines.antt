@@ -5,7 +5,8 @@ use Rattle.coap_wire.specs.Spelling.{spelling}
 use Rattle.coap_path.specs.Paths.{Path}
 use Rattle.coap_store.specs.Listing.{path_bytes}
 use Rattle.coap_script.specs.script.Lines.{bytes_text, tick_line, word_line}
-use Rattle.coap_model.specs.world.Events.{AcceptedCall, Opened, Took, Wrote, Ticked, Stored, Removed, Ended, Released, Announced, Responded, Dropped}
+use Rattle.coap_model.specs.world.Events.{AcceptedCall, Opened, Took, Wrote, Ticked, Stored, Removed, Ended, Released}
+use Rattle.coap_model.specs.world.Events.{Announced, Responded, Dropped}
 
 -- The word of a path: a slash before each segment, which is percent-encoded, and one slash for the root.
 unfoldable pub path_word : Path → List ℕ
@@ -28,7 +29,8 @@ drain_line id count = codes "drain " ++ decimal id ++ codes " " ++ decimal count
 
 -- A representation was stored.
 abbrev pub stored_line : Path → Option ℕ → List ℕ → List ℕ
-stored_line path format bytes = codes "put " ++ path_word path ++ codes " " ++ format_word format ++ codes " " ++ bytes_text bytes ++ codes "\n"
+stored_line path format bytes =
+    codes "put " ++ path_word path ++ codes " " ++ format_word format ++ codes " " ++ bytes_text bytes ++ codes "\n"
 
 -- A resource was removed.
 abbrev pub removed_line : Path → List ℕ

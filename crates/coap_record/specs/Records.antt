@@ -1,5 +1,6 @@
 -- Defined by this project: the text of a record after calls.
-use Rattle.std.specs.Prelude.{◌≡◌, Bool, true, false, ℕ, List, ◌++◌, All, Option, Some, None, Ok, nat_le, nat_lt, ◌&&◌, ◌⊎◌, [], ◌∷◌}
+use Rattle.std.specs.Prelude.{◌≡◌, Bool, true, false, ℕ, List, ◌++◌, All, Option, Some, None, Ok, nat_le, nat_lt, ◌&&◌}
+use Rattle.std.specs.Prelude.{◌⊎◌, [], ◌∷◌}
 use Rattle.std.specs.Prelude.{◌==◌, if◌then◌else◌}
 use Rattle.coap_script.specs.script.Events.{ScriptEventValue}
 use Rattle.coap_script.specs.script.Script.{script_of}
@@ -45,7 +46,8 @@ AreWholeLines text = (text ≡ []) ⊎ ((front : List ℕ) × (text ≡ front ++
 
 -- The text has comments only: before any script, it leaves the events of the script as they are.
 abbrev pub SaysNoEvent : List ℕ → Type 0
-SaysNoEvent text = (more : List ℕ) (events : List ScriptEventValue) → script_of more ≡ Ok events → script_of (text ++ more) ≡ Ok events
+SaysNoEvent text =
+    (more : List ℕ) (events : List ScriptEventValue) → script_of more ≡ Ok events → script_of (text ++ more) ≡ Ok events
 
 -- `true` for a printable character of ASCII.
 abbrev pub is_printable : ℕ → Bool

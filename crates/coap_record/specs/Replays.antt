@@ -1,11 +1,13 @@
 -- Defined by this project: a replay of the text of a record.
 use Rattle.std.specs.Prelude.{◌≡◌, ℕ, List, [], ◌∷◌, ◌++◌, map, take, Ok}
-use Rattle.coap_script.specs.script.Events.{ScriptEventValue, Open, In, Drain, Tick, Put, Remove, End, Release, Respond, Drop, Status}
+use Rattle.coap_script.specs.script.Events.{ScriptEventValue, Open, In, Drain, Tick, Put, Remove, End, Release, Respond}
+use Rattle.coap_script.specs.script.Events.{Drop, Status}
 use Rattle.coap_script.specs.script.Lines.{out_line}
 use Rattle.coap_script.specs.script.Script.{script_of}
 use Rattle.coap_model.specs.Configs.{ConfigValues}
 use Rattle.coap_model.specs.streams.Output.{waiting_of}
-use Rattle.coap_model.specs.world.Events.{AcceptedCall, Opened, Took, Wrote, Ticked, Stored, Removed, Ended, Released, Announced, Responded, Dropped, world_after}
+use Rattle.coap_model.specs.world.Events.{AcceptedCall, Opened, Took, Wrote, Ticked, Stored, Removed, Ended, Released}
+use Rattle.coap_model.specs.world.Events.{Announced, Responded, Dropped, world_after}
 use Rattle.coap_model.specs.world.World.{World, side_of}
 use Rattle.coap_server_engine.specs.script.Replay.{event_ran, replayed}
 use Rattle.coap_server_engine.specs.values.Servers.{ServerValue, new_server}
@@ -36,8 +38,8 @@ write_in w (Announced id size) = []
 write_in w (Responded id m) = []
 write_in w (Dropped id) = []
 
--- The bytes that each of these calls writes, in order, with the number of their connection. The calls follow the earlier
--- ones.
+-- The bytes that each of these calls writes, in order, with the number of their connection. The calls follow
+-- the earlier ones.
 unfoldable pub writes_of : ConfigValues → (earlier calls : List AcceptedCall) → List (ℕ × List ℕ)
 writes_of c earlier [] = []
 writes_of c earlier (e ∷ es) = write_in (world_after c earlier) e ++ writes_of c (earlier ++ e ∷ []) es

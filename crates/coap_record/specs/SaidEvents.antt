@@ -3,8 +3,10 @@ use Rattle.std.specs.Prelude.{◌≡◌, ℕ, ◌<◌, ◌≤◌, ◌^◌, true,
 use Rattle.coap_wire.specs.Reading.{message_of}
 use Rattle.coap_wire.specs.Spelling.{spelling}
 use Rattle.coap_path.specs.Paths.{Path, is_path}
-use Rattle.coap_script.specs.script.Events.{ScriptEventValue, Open, In, Drain, Tick, Put, Remove, End, Release, Respond, Drop}
-use Rattle.coap_model.specs.world.Events.{AcceptedCall, Opened, Took, Wrote, Ticked, Stored, Removed, Ended, Released, Announced, Responded, Dropped}
+use Rattle.coap_script.specs.script.Events.{ScriptEventValue, Open, In, Drain, Tick, Put, Remove, End, Release, Respond}
+use Rattle.coap_script.specs.script.Events.{Drop}
+use Rattle.coap_model.specs.world.Events.{AcceptedCall, Opened, Took, Wrote, Ticked, Stored, Removed, Ended, Released}
+use Rattle.coap_model.specs.world.Events.{Announced, Responded, Dropped}
 use Rattle.coap_record.specs.RecordLines.{path_word}
 
 -- The event of accepted bytes; none for no bytes.

@@ -77,7 +77,8 @@ pub fn a_recorded_run_replays()
 /// States that the file of a record replays the first calls, if the system keeps a prefix of the bytes passed to it.
 ///
 /// - The record is of an outlet that notes the bytes passed on, so also of the file of a program.
-/// - The premise on the file system: the bytes that were passed to the outlet are those of `file`, then those of `lost`.
+/// - The premise on the file system: the bytes that were passed to the outlet are those of `file`, then
+///   those of `lost`.
 /// - The file has the whole header. Its whole lines after the header replay the first calls.
 pub fn a_kept_file_replays<O: Outlet + Drop>(recorder: &Recorder<NotedOutlet<O>>)
     ensures { (v : ServerValue) (header file lost text : List ℕ) (calls : List AcceptedCall) (turns : ℕ) →

@@ -128,8 +128,8 @@ fn write_responded<O: Outlet>(
     write_all(outlet, b"\n")
 }
 
-/// Returns the encoded response of a call: these bytes, or the empty message if they encode no message. (No server accepts
-/// such bytes.)
+/// Returns the encoded response of a call: these bytes, or the empty message if they encode no message. (No server
+/// accepts such bytes.)
 pub(crate) fn response_of(response: &[u8]) -> &[u8]
     ensures encoded { result.now ≡ spelling (response_in (message_of response.now)) }
     ensures some { 1 ≤ length result.now }

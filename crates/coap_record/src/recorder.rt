@@ -12,8 +12,8 @@ use coap_model::ConnId;
 use coap_server_engine::{Call, Monitor, Server};
 
 /// Monitor that writes the line of each call to an outlet, and passes the lines on at the end of each turn. The record
-/// ends after a failed write, or with the line with which the number of its bytes reaches a limit. After that the monitor
-/// ignores all calls. `laws::a_recorded_run_replays` has the theorem on its text.
+/// ends after a failed write, or with the line with which the number of its bytes reaches a limit. After that the
+/// monitor ignores all calls. `laws::a_recorded_run_replays` has the theorem on its text.
 #[derive(Drop)]
 pub struct Recorder<O> {
     outlet: BufferedOutlet<O>,

@@ -37,8 +37,8 @@ abbrev pub number_in : List ℕ → Option ℕ → List (ℕ × Stored) → Opti
 number_in key None es = None
 number_in key (Some n) es = number_with key n (lookup (is_number n) es)
 
--- The labels after a registration with this label was stored at a location. They are without the label of a registration that
--- it replaced, unless both have the same.
+-- The labels after a registration with this label was stored at a location. They are without the label of a
+-- registration that it replaced, unless both have the same.
 abbrev pub without_label : Option ℕ → ℕ → ℕ → List (ℕ × ℕ) → List (ℕ × ℕ)
 without_label None label number labels = labels
 without_label (Some old) label number labels =

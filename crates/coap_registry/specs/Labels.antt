@@ -47,8 +47,8 @@ agrees label a = if is_endpoint_name a.name then has_label label a.value else tr
 abbrev pub link_agrees : ℕ → Link → Bool
 link_agrees label l = list_all (agrees label) l.attributes
 
--- The label, if each `ep` of these attributes and links has it. Otherwise 0, the label of those that a lookup of any endpoint
--- reads.
+-- The label, if each `ep` of these attributes and links has it. Otherwise 0, the label of those that a lookup of any
+-- endpoint reads.
 abbrev pub shared_label : ℕ → List Attribute → List Link → ℕ
 shared_label label attributes links =
     if list_all (agrees label) attributes && list_all (link_agrees label) links then label else 0
@@ -61,8 +61,8 @@ label_with attributes links = shared_label (first_label attributes) attributes l
 abbrev pub registration_label : RegistrationValue → ℕ
 registration_label r = label_with r.attributes r.links
 
--- The criterion asks for an endpoint of exactly this name. (One with `EP` is met by the same registrations, but a lookup reads
--- all for it.)
+-- The criterion asks for an endpoint of exactly this name. (One with `EP` is met by the same registrations, but a
+-- lookup reads all for it.)
 abbrev pub is_exact : CriterionValue → Bool
 is_exact c = pointwise nat_eq c.name (codes "ep") && not (ends_with nat_eq c.pattern (codes "*"))
 

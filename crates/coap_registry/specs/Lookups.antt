@@ -14,8 +14,8 @@ pub record PageValue : Type 0 where
   pub skip : ℕ
   pub count : ℕ
 
--- A text of results. It has the number of results still to be skipped, the number that may still be written, the capacity
--- and the limit. The text is `None` if it is longer than the limit.
+-- A text of results. It has the number of results still to be skipped, the number that may still be written, the
+-- capacity and the limit. The text is `None` if it is longer than the limit.
 pub record ListingValue : Type 0 where
   pub skip : ℕ
   pub left : ℕ

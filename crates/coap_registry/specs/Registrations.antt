@@ -7,8 +7,8 @@ use Rattle.std.specs.Cmp.Lexicographic.{pointwise}
 use Rattle.indexmap.specs.IndexMap.{insert_entry}
 use Rattle.coap_links.specs.Links.{Attribute, Link}
 
--- A registration. It has the number of its location, its lifetime and the time at which it ends, both in seconds. It also
--- has its base URI, the attributes of its endpoint without `base`, and its links.
+-- A registration. It has the number of its location, its lifetime and the time at which it ends, both in seconds. It
+-- also has its base URI, the attributes of its endpoint without `base`, and its links.
 pub record RegistrationValue : Type 0 where
   pub number : ℕ
   pub lifetime : ℕ
@@ -17,8 +17,8 @@ pub record RegistrationValue : Type 0 where
   pub attributes : List Attribute
   pub links : List Link
 
--- The registrations of a directory, by the keys of their endpoints and in the order of their first registration. The others
--- are the number of the next new location, and the maximum number of registrations.
+-- The registrations of a directory, by the keys of their endpoints and in the order of their first registration. The
+-- others are the number of the next new location, and the maximum number of registrations.
 pub record RegistryValue : Type 0 where
   pub entries : List (List ℕ × RegistrationValue)
   pub next : ℕ

@@ -16,8 +16,8 @@ registry_of r = record {
   limit = r.limit;
 }
 
--- The invariant of a registry. The registrations are in the order of their numbers, and the other maps lead to them. None
--- ends before the earliest time.
+-- The invariant of a registry. The registrations are in the order of their numbers, and the other maps lead to them.
+-- None ends before the earliest time.
 pub record IsRegistry (r : Inside) : Type 0 where
   pub ordered : IsStrictlySortedBy nat_cmp (keys_of r.entries.entries)
   pub indexed : Each (IsIndexed r.next r.numbers.entries r.labels.entries (λ k. k.items)) r.entries.entries

@@ -9,8 +9,8 @@ ghost use Rattle.coap_registry.specs.Prelude.{attribute_meets as meets_attribute
 use coap_links::{AttributeRef, Attributes, ValueRef, is_same_name};
 use coap_text::split_once;
 
-/// Search criterion of a lookup (RFC 9176 section 6.1): an attribute of this name has a matching value. Names do not differ
-/// by the case of their letters.
+/// Search criterion of a lookup (RFC 9176 section 6.1): an attribute of this name has a matching value. Names do not
+/// differ by the case of their letters.
 #[derive(Clone, Copy, Default)]
 pub struct Criterion<'a> {
     /// Name of the attribute, or `href` for the target of a link.

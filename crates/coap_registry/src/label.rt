@@ -112,8 +112,8 @@ fn links_agree(label: u64, links: Links) -> bool
     true
 }
 
-/// Returns the label of a registration with these attributes and links: that of its name, or `ANY` if another `ep` is among
-/// them too.
+/// Returns the label of a registration with these attributes and links: that of its name, or `ANY` if another `ep` is
+/// among them too.
 #[tactic(auto, unfolding(crate::specs::Labels::label_with))]
 pub(crate) fn label_of_parts(attributes: &AttributeText, links: &LinkText) -> u64
     ensures value { result ≡ label_with attributes.now links.now }

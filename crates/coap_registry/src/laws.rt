@@ -22,8 +22,8 @@ pub fn registrations_end_with_their_lifetimes()
         found v.entries key ≡ Some r → r.deadline ≤ now → found (expired v now).entries key ≡ None }
 {}
 
-/// States that the registration of an endpoint is its last one, and that a repeated registration keeps the location (RFC
-/// 9176 section 5).
+/// States that the registration of an endpoint is its last one, and that a repeated registration keeps the location
+/// (RFC 9176 section 5).
 pub fn repeated_registrations_keep_the_location()
     ensures location { (v : RegistryValue) (key : List ℕ) (old : RegistrationValue) →
         found v.entries key ≡ Some old → place_of v key ≡ Some old.number }

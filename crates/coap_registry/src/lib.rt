@@ -5,8 +5,8 @@
 //! - `Registration` is the registration of an endpoint: its location, lifetime and base URI, and its links.
 //! - `Criterion` is a search criterion of a lookup, and `Page` the part of the results that a lookup asks for.
 //!
-//! The contracts name the definitions of `specs/Registrations.antt`, `specs/Matching.antt` and `specs/Lookups.antt`. `laws`
-//! has theorems on these definitions.
+//! The contracts name the definitions of `specs/Registrations.antt`, `specs/Matching.antt` and `specs/Lookups.antt`.
+//! `laws` has theorems on these definitions.
 //!
 //! This crate contains no CoAP message: `coap_directory_core` reads requests and writes responses. Continue with
 //! `registry.rt`, then `matching.rt`.

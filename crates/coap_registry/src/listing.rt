@@ -45,7 +45,8 @@ impl Listing {
     ///
     /// - `AllocError` if allocation fails.
     pub fn new(alloc: Global, capacity: usize) -> Result<Listing, AllocError>
-        ensures { IfOk result (λ l. l ≡ record { skip = 0; left = 0; capacity = capacity; limit = capacity; text = Some [] }) }
+        ensures { IfOk result
+            (λ l. l ≡ record { skip = 0; left = 0; capacity = capacity; limit = capacity; text = Some [] }) }
     {
         Ok(Listing {
             skip: 0,

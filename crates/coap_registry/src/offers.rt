@@ -21,7 +21,8 @@ fn offer(
     criteria: &[Criterion],
     registration: &Registration,
 )
-    ensures { listing.new ≡ counted endpoints (criteria_of criteria.now) listing.old (registration_of registration.now) }
+    ensures { listing.new
+        ≡ counted endpoints (criteria_of criteria.now) listing.old (registration_of registration.now) }
 {
     if endpoints {
         offer_endpoint(listing, criteria, registration);

@@ -35,8 +35,8 @@ type Numbers = IndexMap<EndpointKey, u64>;
 /// Registrations of a directory, in the order in which their endpoints were first registered. Contracts see a
 /// `RegistryValue`.
 ///
-/// The cost of a call is logarithmic in the number of registrations, except in two cases. `expire` reads all registrations
-/// if one may have ended. A lookup reads all unless it asks for one name of an endpoint.
+/// The cost of a call is logarithmic in the number of registrations, except in two cases. `expire` reads all
+/// registrations if one may have ended. A lookup reads all unless it asks for one name of an endpoint.
 #[derive(Drop)]
 pub struct Registry {
     /// In the order of their numbers, which is that of the first registrations.
@@ -113,9 +113,9 @@ impl Registry {
         Some(stored.registration.attributes.attributes())
     }
 
-    /// Stores the registration of an endpoint at the location that `place` gives, and returns the number of the location.
-    /// It replaces a present one and keeps its place. Returns `None`, and stores nothing, if the limit of registrations is
-    /// reached.
+    /// Stores the registration of an endpoint at the location that `place` gives, and returns the number of the
+    /// location. It replaces a present one and keeps its place. Returns `None`, and stores nothing, if the limit of
+    /// registrations is reached.
     ///
     /// # Errors
     ///
@@ -126,7 +126,8 @@ impl Registry {
         mut registration: Registration,
     ) -> Result<Option<u64>, AllocError>
         ensures place { IfOk result (λ n. n ≡ place_of self.old key.items) }
-        ensures ok { OnOk result (self.new ≡ registered_at (place_of self.old key.items) self.old key.items (registration_of registration)) }
+        ensures ok { OnOk result
+            (self.new ≡ registered_at (place_of self.old key.items) self.old key.items (registration_of registration)) }
         ensures err { OnErr result (self.new ≡ self.old) }
     {
         let Some(number) = self.place(&key) else {
@@ -189,8 +190,8 @@ impl Registry {
         self.earliest = earliest_deadline(&self.entries);
     }
 
-    /// Renews the registration at a location from this time on, with its lifetime and base URI or with new ones. Returns
-    /// `false` if there is none.
+    /// Renews the registration at a location from this time on, with its lifetime and base URI or with new ones.
+    /// Returns `false` if there is none.
     ///
     /// # Preconditions
     ///
@@ -256,25 +257,27 @@ impl Registry {
         true
     }
 
-    /// Counts the links that the criteria select, and appends those in the part of the listing. Reads only the registrations
-    /// with the name of an endpoint, if a criterion asks for one.
+    /// Counts the links that the criteria select, and appends those in the part of the listing. Reads only the
+    /// registrations with the name of an endpoint, if a criterion asks for one.
     pub fn list_resources(&self, criteria: &[Criterion], listing: &mut Listing)
         ensures { listing.new ≡ fold (offered_links (criteria_of criteria.now)) listing.old (registrations self.now) }
     {
         self.list(false, criteria, listing);
     }
 
-    /// Counts the endpoints that the criteria select, and appends the links of those in the part of the listing. Reads only
-    /// the registrations with the name of an endpoint, if a criterion asks for one.
+    /// Counts the endpoints that the criteria select, and appends the links of those in the part of the listing. Reads
+    /// only the registrations with the name of an endpoint, if a criterion asks for one.
     pub fn list_endpoints(&self, criteria: &[Criterion], listing: &mut Listing)
-        ensures { listing.new ≡ fold (offered_endpoint (criteria_of criteria.now)) listing.old (registrations self.now) }
+        ensures { listing.new
+            ≡ fold (offered_endpoint (criteria_of criteria.now)) listing.old (registrations self.now) }
     {
         self.list(true, criteria, listing);
     }
 
     /// Counts the endpoints or the links that the criteria select, and appends those in the part.
     fn list(&self, endpoints: bool, criteria: &[Criterion], listing: &mut Listing)
-        ensures { listing.new ≡ fold (counted endpoints (criteria_of criteria.now)) listing.old (registrations self.now) }
+        ensures { listing.new
+            ≡ fold (counted endpoints (criteria_of criteria.now)) listing.old (registrations self.now) }
     {
         let Some(name) = requested_name(criteria) else {
             offer_all(&self.entries, endpoints, criteria, listing);
@@ -304,7 +307,8 @@ fn copy_of(key: &EndpointKey) -> EndpointKey
 
 /// Returns the number of the location of an endpoint, if it is registered.
 fn number_of(entries: &Entries, numbers: &Numbers, key: &EndpointKey) -> Option<u64>
-    ensures { result ≡ number_in key.now.items (lookup (λ k. pointwise nat_eq key.now.items k.items) numbers.now.entries) entries.now.entries }
+    ensures { result ≡ number_in key.now.items
+        (lookup (λ k. pointwise nat_eq key.now.items k.items) numbers.now.entries) entries.now.entries }
 {
     let Some(number) = numbers.get(key) else {
         return None;
@@ -359,7 +363,8 @@ fn change(
     base: Option<Vec<u8>>,
 ) -> u64
     requires { now < 2 ^ 63 }
-    ensures after { registration_of registration.new ≡ renewed now lifetime (option_map (λ b. b.items) base) (registration_of registration.old) }
+    ensures after { registration_of registration.new
+        ≡ renewed now lifetime (option_map (λ b. b.items) base) (registration_of registration.old) }
     ensures deadline { result ≡ registration.new.deadline }
 {
     if let Some(lifetime) = lifetime {
@@ -374,7 +379,9 @@ fn change(
 
 /// Removes the label of a registration that was replaced, unless the new one has it.
 fn forget_label(labels: &mut Labels, replaced: &Option<Stored>, label: u64, number: u64)
-    ensures { labels.new.entries ≡ without_label (option_map (λ s. registration_label (registration_of s.registration)) replaced.now) label number labels.old.entries }
+    ensures { labels.new.entries
+        ≡ without_label (option_map (λ s. registration_label (registration_of s.registration)) replaced.now)
+        label number labels.old.entries }
 {
     if let Some(replaced) = replaced {
         forget_other(labels, label_of(&replaced.registration), label, number);
@@ -393,14 +400,16 @@ fn forget_other(labels: &mut Labels, old: u64, label: u64, number: u64)
 
 /// Removes the keys of the endpoints that are no longer registered.
 fn keep_numbers(numbers: &mut Numbers, entries: &Entries)
-    ensures { numbers.new.entries ≡ filter (λ e. is_some (lookup (is_number e.1) entries.now.entries)) numbers.old.entries }
+    ensures { numbers.new.entries
+        ≡ filter (λ e. is_some (lookup (is_number e.1) entries.now.entries)) numbers.old.entries }
 {
     numbers.retain(|_, number| entries.contains_key(&*number));
 }
 
 /// Removes the labels of the registrations that have ended.
 fn keep_labels(labels: &mut Labels, entries: &Entries)
-    ensures { labels.new.entries ≡ filter (λ e. is_some (lookup (is_number e.1) entries.now.entries)) labels.old.entries }
+    ensures { labels.new.entries
+        ≡ filter (λ e. is_some (lookup (is_number e.1) entries.now.entries)) labels.old.entries }
 {
     labels.retain(|_, number| entries.contains_key(&*number));
 }

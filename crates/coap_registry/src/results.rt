@@ -69,7 +69,8 @@ fn is_anchor(name: &[u8]) -> bool
 
 /// Appends an attribute after `;`. The URI of `anchor` is resolved.
 fn push_attribute(listing: &mut Listing, base: &[u8], attribute: AttributeRef)
-    ensures { listing.new ≡ with_bytes listing.old (59 ∷ attribute_text (resolved_attribute base.now (attribute_of attribute.entry))) }
+    ensures { listing.new
+        ≡ with_bytes listing.old (59 ∷ attribute_text (resolved_attribute base.now (attribute_of attribute.entry))) }
 {
     listing.push(b";");
     listing.push(attribute.name);
@@ -82,7 +83,8 @@ fn push_attribute(listing: &mut Listing, base: &[u8], attribute: AttributeRef)
 
 /// Appends attributes, each after `;`.
 fn push_attributes(listing: &mut Listing, base: &[u8], attributes: Attributes)
-    ensures { listing.new ≡ with_bytes listing.old (attributes_text (map (resolved_attribute base.now) attributes.entry)) }
+    ensures { listing.new
+        ≡ with_bytes listing.old (attributes_text (map (resolved_attribute base.now) attributes.entry)) }
 {
     for attribute in attributes {
         push_attribute(listing, base, attribute);
@@ -111,7 +113,8 @@ fn push_endpoint(listing: &mut Listing, registration: &Registration)
 
 /// Appends the attributes of an endpoint, each after `;`.
 fn push_endpoint_attributes(listing: &mut Listing, registration: &Registration)
-    ensures { listing.new ≡ with_bytes listing.old (attributes_text (endpoint_link (registration_of registration.now)).attributes) }
+    ensures { listing.new
+        ≡ with_bytes listing.old (attributes_text (endpoint_link (registration_of registration.now)).attributes) }
 {
     let base = AttributeRef {
         name: b"base",
@@ -133,7 +136,8 @@ fn offer_link(
     registration: &Registration,
     link: &LinkRef,
 )
-    ensures { listing.new ≡ offered_link (criteria_of criteria.now) (registration_of registration.now) listing.old link.now }
+    ensures { listing.new
+        ≡ offered_link (criteria_of criteria.now) (registration_of registration.now) listing.old link.now }
 {
     if !selects_link(criteria, registration, link) {
         return;

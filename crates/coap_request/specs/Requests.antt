@@ -1,6 +1,7 @@
 -- RFC 7252 section 6.4 and RFC 8323 section 8.1: the message of a request for a target. The extra option (`-O`) can
 -- duplicate an option that is not repeatable, or add Proxy-Uri to a request with Uri-Host, Uri-Path and Uri-Query.
-use Rattle.std.specs.Prelude.{ℕ, Bool, false, ◌||◌, List, [], ◌∷◌, ◌++◌, length, map, nat_lt, Option, Some, None, option_map, if◌then◌else◌}
+use Rattle.std.specs.Prelude.{ℕ, Bool, false, ◌||◌, List, [], ◌∷◌, ◌++◌, length, map, nat_lt, Option, Some, None}
+use Rattle.std.specs.Prelude.{option_map, if◌then◌else◌}
 use Rattle.coap_wire.specs.Message.{CoapOption, Message}
 use Rattle.coap_wire.specs.Uint.{bytes_of_uint}
 use Rattle.coap_wire.specs.Codes as codes
@@ -59,8 +60,10 @@ deregister = 1 ∷ []
 -- omitted, because its default is the port of the connection (RFC 7252 section 5.10.1).
 unfoldable pub own_options : TargetValue → ExtrasValue → Option (List ℕ) → List CoapOption
 own_options t e observe =
-    option_with numbers.uri_host (host_sent t e) ++ (option_with numbers.observe observe ++ (options_with numbers.uri_path t.segments
-    ++ (option_with numbers.content_format (uint_sent e.content_format) ++ (options_with numbers.uri_query t.arguments ++ option_with numbers.accept (uint_sent e.accept)))))
+    option_with numbers.uri_host (host_sent t e)
+    ++ (option_with numbers.observe observe ++ (options_with numbers.uri_path t.segments
+    ++ (option_with numbers.content_format (uint_sent e.content_format)
+    ++ (options_with numbers.uri_query t.arguments ++ option_with numbers.accept (uint_sent e.accept)))))
 
 -- The options with an extra one, after those with its number or a lower one.
 unfoldable pub insert_option : CoapOption → List CoapOption → List CoapOption

@@ -1,5 +1,6 @@
 -- RFC 8323 section 8.1 and RFC 7252 section 6.4: the target of a URI of the scheme `coap+tcp`.
-use Rattle.std.specs.Prelude.{◌≡◌, ◌⊎◌, ℕ, Bool, true, not, ◌||◌, ◌==◌, List, [], length, map, drop, nat_lt, nat_le, codes, bytes_eq, Option, Some, None, is_some, unwrap_or, Result, Ok, Err, if◌then◌else◌}
+use Rattle.std.specs.Prelude.{◌≡◌, ◌⊎◌, ℕ, Bool, true, not, ◌||◌, ◌==◌, List, [], length, map, drop, nat_lt, nat_le}
+use Rattle.std.specs.Prelude.{codes, bytes_eq, Option, Some, None, is_some, unwrap_or, Result, Ok, Err, if◌then◌else◌}
 use Rattle.std.specs.List.{list_any, slice_split}
 use Rattle.std.specs.Net.Addr.{ipv4_octets, ipv6_segments}
 use Rattle.std.specs.Net.Reader.{whole_value, read_ipv4}
@@ -136,4 +137,5 @@ GivesUnlessMemory (Err why) expected = (why ≡ fault.Memory) ⊎ (expected ≡ 
 
 -- Says which error follows from an error of the crate `url`: `Memory` if it had no room, and otherwise `Url`.
 abbrev pub MeansUnlessRoom : ParseError → TargetFault → Type 0
-MeansUnlessRoom refusal why = ((why ≡ fault.Memory) × IsOutOfRoom refusal) ⊎ ((why ≡ fault.Url) × ¬ (IsOutOfRoom refusal))
+MeansUnlessRoom refusal why =
+    ((why ≡ fault.Memory) × IsOutOfRoom refusal) ⊎ ((why ≡ fault.Url) × ¬ (IsOutOfRoom refusal))

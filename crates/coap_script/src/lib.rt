@@ -9,9 +9,8 @@
 //! The contracts name the definitions of `specs/script/`: `Script` for the meaning of a text, `Lines` for the lines.
 //!
 //! This crate runs no event and contains no server. `Server::replay` runs the events of a script and writes their lines
-//! (`coap_server_engine/src/replay.rt`). `path_in` reads a path as the lines have it. The functions of `coap_text` read decimal
-//! numbers and hexadecimal bytes.
-//! Continue with `scripts.rt`.
+//! (`coap_server_engine/src/replay.rt`). `path_in` reads a path as the lines have it. The functions of `coap_text` read
+//! decimal numbers and hexadecimal bytes. Continue with `scripts.rt`.
 #![tactic(auto)]
 
 mod event;

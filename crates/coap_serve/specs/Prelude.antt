@@ -1,5 +1,5 @@
--- Re-exports the definitions that the contracts and proofs of this crate use, and those that contracts and attributes of
--- crates above name through this one. This file defines nothing.
+-- Re-exports the definitions that the contracts and proofs of this crate use, and those that contracts and attributes
+-- of crates above name through this one. This file defines nothing.
 
 -- ---- std and the kit's crates
 pub use Rattle.indexmap.specs.IndexMap.{insert_entry, set_value_at, shift_remove_entry}
@@ -9,8 +9,19 @@ unfoldable pub use Rattle.std.specs.List.{IsDistinct}
 pub use Rattle.std.specs.Map.{keys_of, values_of}
 pub use Rattle.std.specs.Prelude.{OnErr, OnOk, is_ok}
 -- ---- coap_wire
-pub use Rattle.coap_server_engine.specs.Prelude.{RefusedBy, AddsBytes, Nothing, RefusedOrMemory, WrittenFault, AcceptedCall, Stored, Removed, Opened, Took, Dropped, Released, InResult, ShowsMore, in_result, fed_more, took, Answering, Exchange, Gone, AreAskedLater, IsAskedLater, Following, IsReasonFor, stop_on, open_refusal, written_refusal, released_refusal, status_of, IsOutside, bit_of, new_server, server_put, server_removed, server_ticked, AreSettled, server_dropped, ServerValue, LiesAt, server_opened, is_there, server_released, settled_entry, count_on, session_becomes, SessionValue, session_written, session_ended, session_released, session_takes, Shows}
-pub use Rattle.coap_server_engine.specs.Prelude.{Stream, split_on, LimitValues, AreInRange, Reason, ConfigValues, Taken, count_of, handled_in, World, Step, IsNotTaken, RefusesPieceOn, server_written, session_shown, ShowsRefused}
+pub use Rattle.coap_server_engine.specs.Prelude.{RefusedBy, AddsBytes, Nothing, RefusedOrMemory, WrittenFault}
+pub use Rattle.coap_server_engine.specs.Prelude.{AcceptedCall, Stored, Removed, Opened, Took, Dropped, Released}
+pub use Rattle.coap_server_engine.specs.Prelude.{InResult, ShowsMore, in_result, fed_more, took, Answering, Exchange}
+pub use Rattle.coap_server_engine.specs.Prelude.{Gone, AreAskedLater, IsAskedLater, Following, IsReasonFor, stop_on}
+pub use Rattle.coap_server_engine.specs.Prelude.{open_refusal, written_refusal, released_refusal, status_of, IsOutside}
+pub use Rattle.coap_server_engine.specs.Prelude.{bit_of, new_server, server_put, server_removed, server_ticked}
+pub use Rattle.coap_server_engine.specs.Prelude.{AreSettled, server_dropped, ServerValue, LiesAt, server_opened}
+pub use Rattle.coap_server_engine.specs.Prelude.{is_there, server_released, settled_entry, count_on, session_becomes}
+pub use Rattle.coap_server_engine.specs.Prelude.{SessionValue, session_written, session_ended, session_released}
+pub use Rattle.coap_server_engine.specs.Prelude.{session_takes, Shows}
+pub use Rattle.coap_server_engine.specs.Prelude.{Stream, split_on, LimitValues, AreInRange, Reason, ConfigValues, Taken}
+pub use Rattle.coap_server_engine.specs.Prelude.{count_of, handled_in, World, Step, IsNotTaken, RefusesPieceOn}
+pub use Rattle.coap_server_engine.specs.Prelude.{server_written, session_shown, ShowsRefused}
 -- ---- coap_conn
 pub use Rattle.coap_conn.specs.Phases.{is_over, stop_of}
 pub use Rattle.coap_conn.specs.QueueValue.{IsNextPart}
@@ -38,19 +49,43 @@ pub use Rattle.coap_server_engine.specs.declared.server.ConnectionWork.{Connecti
 -- ---- runs
 pub use Rattle.coap_serve.specs.declared.door.service.ServiceConfig.{ServiceConfig}
 pub use Rattle.coap_serve.specs.declared.door.service.Times.{Times}
-pub use Rattle.coap_serve.specs.listener.Histories.{AreCallsBetween, AreSteps, Continues, HasAccepted, History, IsAccepted, Journal, calls_only, history_then, journal, known_by, no_history, one_call, one_drop}
-pub use Rattle.coap_serve.specs.listener.Run.{AreTurns, EndsRun, Environment, HasRun, IsBegun, IsCutRun, IsCutTurn, IsRun, IsRunCall, IsRunStep, IsTurnFor, KnownOfRun, Matches, Resting, RunTrace, ServiceValue, Silent, Unlimited, clock_and_door, config_of, environment, exactly, known_of_run, limit_for, moved_calls, moved_to, no_trace, plain_config, service_of, short_wait, some_waits, ticked_calls, trace_then, turn_trace, wait_within, waited_behind}
-pub use Rattle.coap_serve.specs.listener.Serving.{AreServed, AreTimesAfter, HasGoneOn, HasOneMore, HasOpened, HasServed, HasTurned, IsAskedOnce, IsOpening, IsServedBy, IsTurnBy, IsVisited, KnownOfTurn, LoopState, NoMore, Skipped, Views, Visited, Way, asked_by, history_left, known_of_turn, loop_state, opening, opening_then, state_at, status_of_peer, views_of, visit, way}
-pub use Rattle.coap_serve.specs.listener.Silence.{HasSwept, HasSweptAt, Sweep, acted, drop_one, due_sweep, quiet_action, released_at, released_on, silence_action, swept_one, unswept}
+pub use Rattle.coap_serve.specs.listener.Histories.{AreCallsBetween, AreSteps, Continues, HasAccepted, History}
+pub use Rattle.coap_serve.specs.listener.Histories.{IsAccepted, Journal, calls_only, history_then, journal, known_by}
+pub use Rattle.coap_serve.specs.listener.Histories.{no_history, one_call, one_drop}
+pub use Rattle.coap_serve.specs.listener.Run.{AreTurns, EndsRun, Environment, HasRun, IsBegun, IsCutRun, IsCutTurn}
+pub use Rattle.coap_serve.specs.listener.Run.{IsRun, IsRunCall, IsRunStep, IsTurnFor, KnownOfRun, Matches, Resting}
+pub use Rattle.coap_serve.specs.listener.Run.{RunTrace, ServiceValue, Silent, Unlimited, clock_and_door, config_of}
+pub use Rattle.coap_serve.specs.listener.Run.{environment, exactly, known_of_run, limit_for, moved_calls, moved_to}
+pub use Rattle.coap_serve.specs.listener.Run.{no_trace, plain_config, service_of, short_wait, some_waits, ticked_calls}
+pub use Rattle.coap_serve.specs.listener.Run.{trace_then, turn_trace, wait_within, waited_behind}
+pub use Rattle.coap_serve.specs.listener.Serving.{AreServed, AreTimesAfter, HasGoneOn, HasOneMore, HasOpened, HasServed}
+pub use Rattle.coap_serve.specs.listener.Serving.{HasTurned, IsAskedOnce, IsOpening, IsServedBy, IsTurnBy, IsVisited}
+pub use Rattle.coap_serve.specs.listener.Serving.{KnownOfTurn, LoopState, NoMore, Skipped, Views, Visited, Way}
+pub use Rattle.coap_serve.specs.listener.Serving.{asked_by, history_left, known_of_turn, loop_state, opening}
+pub use Rattle.coap_serve.specs.listener.Serving.{opening_then, state_at, status_of_peer, views_of, visit, way}
+pub use Rattle.coap_serve.specs.listener.Silence.{HasSwept, HasSweptAt, Sweep, acted, drop_one, due_sweep, quiet_action}
+pub use Rattle.coap_serve.specs.listener.Silence.{released_at, released_on, silence_action, swept_one, unswept}
 unfoldable pub use Rattle.coap_serve.specs.listener.Silence.{swept}
-pub use Rattle.coap_serve.specs.listener.Sleepers.{ArePaired, AreAsleep, KeepsBeside, MaySleep, SleepOn, is_known_ready, known}
-pub use Rattle.coap_serve.specs.listener.Turns.{CanAnyGoOn, CanGoOn, IsAsked, IsCourseFor, IsLaidOut, IsNoOp, IsOffered, IsServedOnceBy, IsTakenAlone, IsTakenAndWritten, IsTakenInPart, IsTakenWith, IsWaitAfter, PeerStatus, Readiness, Taking, VisitState, activity_after, can_go_on, course_of, has_failed, has_written, heard_events, is_heard, is_over_in, least_with, left_behind, new_activity, peer_status, readiness, refused_events, rest_behind, server_heard, server_wrote, status_with, visit_state, wait_for, wait_until, waiting_once, wants_in, wants_of, wrote_events}
+pub use Rattle.coap_serve.specs.listener.Sleepers.{ArePaired, AreAsleep, KeepsBeside, MaySleep, SleepOn, is_known_ready}
+pub use Rattle.coap_serve.specs.listener.Sleepers.{known}
+pub use Rattle.coap_serve.specs.listener.Turns.{CanAnyGoOn, CanGoOn, IsAsked, IsCourseFor, IsLaidOut, IsNoOp, IsOffered}
+pub use Rattle.coap_serve.specs.listener.Turns.{IsServedOnceBy, IsTakenAlone, IsTakenAndWritten, IsTakenInPart}
+pub use Rattle.coap_serve.specs.listener.Turns.{IsTakenWith, IsWaitAfter, PeerStatus, Readiness, Taking, VisitState}
+pub use Rattle.coap_serve.specs.listener.Turns.{activity_after, can_go_on, course_of, has_failed, has_written}
+pub use Rattle.coap_serve.specs.listener.Turns.{heard_events, is_heard, is_over_in, least_with, left_behind}
+pub use Rattle.coap_serve.specs.listener.Turns.{new_activity, peer_status, readiness, refused_events, rest_behind}
+pub use Rattle.coap_serve.specs.listener.Turns.{server_heard, server_wrote, status_with, visit_state, wait_for}
+pub use Rattle.coap_serve.specs.listener.Turns.{wait_until, waiting_once, wants_in, wants_of, wrote_events}
 pub use Rattle.coap_serve.specs.declared.serve.Report.{Report}
 pub use Rattle.coap_serve.specs.declared.serve.Turn.{Turn}
-pub use Rattle.coap_serve.specs.streams.StdioCalls.{AreTransfers, EndsReport, HasReported, HasReportedCut, HasReportedEnd, HasReportedStop, IsAfterOutput, IsCutFlush, IsReportedFlush, IsReportedRun, IsTransfer, flush_calls, written_in}
+pub use Rattle.coap_serve.specs.streams.StdioCalls.{AreTransfers, EndsReport, HasReported, HasReportedCut}
+pub use Rattle.coap_serve.specs.streams.StdioCalls.{HasReportedEnd, HasReportedStop, IsAfterOutput, IsCutFlush}
+pub use Rattle.coap_serve.specs.streams.StdioCalls.{IsReportedFlush, IsReportedRun, IsTransfer, flush_calls, written_in}
 unfoldable pub use Rattle.coap_serve.specs.streams.StdioCalls.{AreAfterOutput, calls_of_flush, written_on}
-pub use Rattle.coap_serve.specs.streams.StdioProgress.{AreTransfersOf, HasRead, IsAtBytes, IsCut, IsRefused, IsRunningAt, IsTurn, IsWhole, Says}
-pub use Rattle.coap_serve.specs.streams.StdioRun.{AreNotEmpty, GoesOn, IsLastByte, IsStdioRun, LeavesNothing, LeavesNothingWaiting}
+pub use Rattle.coap_serve.specs.streams.StdioProgress.{AreTransfersOf, HasRead, IsAtBytes, IsCut, IsRefused}
+pub use Rattle.coap_serve.specs.streams.StdioProgress.{IsRunningAt, IsTurn, IsWhole, Says}
+pub use Rattle.coap_serve.specs.streams.StdioRun.{AreNotEmpty, GoesOn, IsLastByte, IsStdioRun, LeavesNothing}
+pub use Rattle.coap_serve.specs.streams.StdioRun.{LeavesNothingWaiting}
 pub use Rattle.coap_server_engine.specs.values.Faults.{IsMemory, IsMemoryOrTurns}
 pub use Rattle.coap_server_engine.specs.values.Faults.{is_read_fault, is_write_fault}
 -- ---- coap_server_engine and coap_server_session
@@ -66,7 +101,8 @@ unfoldable pub use Rattle.coap_server_engine.specs.values.Flushes.{flush_turns}
 pub use Rattle.coap_server_engine.specs.values.Exchanges.{Asked, Offered, Given, offers}
 pub use Rattle.coap_server_engine.specs.values.Calls.{call_value}
 unfoldable pub use Rattle.coap_server_session.specs.values.Sessions.{taking}
-pub use Rattle.coap_model.specs.streams.Output.{only_id, stream_of, stdio_output, Outcome, more_of, waiting_of, outcome_on}
+pub use Rattle.coap_model.specs.streams.Output.{only_id, stream_of, stdio_output, Outcome, more_of, waiting_of}
+pub use Rattle.coap_model.specs.streams.Output.{outcome_on}
 unfoldable pub use Rattle.coap_model.specs.streams.Output.{flushed, flushed_after, outcome, world_for, written_times}
 pub use Rattle.coap_model.specs.world.Events.{Ended, stream_on, Wrote, beyond, spelled_on}
 pub use Rattle.coap_model.specs.world.Events.{Ticked}

@@ -27,8 +27,8 @@ use std::alloc::Global;
 pub struct Clocks<C, U> {
     /// Clock of the server.
     pub time: C,
-    /// Clock that never goes back, such as `RunClock` of `coap_sockets`. Without a limit of silence, it may be an absent
-    /// clock (`None`).
+    /// Clock that never goes back, such as `RunClock` of `coap_sockets`. Without a limit of silence, it may be an
+    /// absent clock (`None`).
     pub uptime: U,
 }
 
@@ -55,8 +55,8 @@ impl Clock for NoUptime {
 /// its queue has no room for a message of the maximum size. A connection is read and written only if it is ready. A
 /// connection is dropped if its transport has failed or nothing more will be written. This affects no other connection.
 ///
-/// The listener waits between turns, and then the clock is read. The wait is zero if and only if a connection was opened
-/// in the turn, or something can be done at once on a connection.
+/// The listener waits between turns, and then the clock is read. The wait is zero if and only if a connection was
+/// opened in the turn, or something can be done at once on a connection.
 ///
 /// Otherwise the wait ends as soon as a connection is ready, or a client connects and another connection may be opened.
 /// The wait ends at the latest when time alone may queue something. At that time a delayed response is due or an
@@ -82,7 +82,8 @@ pub fn serve_door<D: Door, C: Clock>(
     ensures fault { IsMemoryOrTurns result }
     // The run consists of whole turns, as the traces of the clock and of the listener record them. They are all allowed
     // turns, or those before an allocation failed. No application responds.
-    ensures run { IsRun (environment Silent Resting (some_waits Unlimited) (views_of D.Wire.readable D.Wire.writable D.Wire.given
+    ensures run { IsRun
+        (environment Silent Resting (some_waits Unlimited) (views_of D.Wire.readable D.Wire.writable D.Wire.given
         D.Wire.written D.Wire.answers D.Wire.rooms)) (plain_config config) (clock_and_door (TellsMore
         (C.moments clock.old) (C.moments clock.new)) (TellsMore (D.calls door.old) (D.calls door.new))) result }
 {
@@ -98,9 +99,9 @@ pub fn serve_door<D: Door, C: Clock>(
     )
 }
 
-/// Serves the connections that a listener accepts, as `serve_door` does, for an application and with a limit of silence.
-/// Each turn is one of `Service::turn`. The monitor receives each call that the server accepts, in order, and the end of
-/// each turn.
+/// Serves the connections that a listener accepts, as `serve_door` does, for an application and with a limit of
+/// silence. Each turn is one of `Service::turn`. The monitor receives each call that the server accepts, in order, and
+/// the end of each turn.
 ///
 /// # Errors
 ///

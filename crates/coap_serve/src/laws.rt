@@ -1,5 +1,5 @@
-//! Theorems about every server. Each is the contract of a function with an empty body. Those on runs are here. The modules
-//! have those of the crates below, some of which have the same names.
+//! Theorems about every server. Each is the contract of a function with an empty body. Those on runs are here. The
+//! modules have those of the crates below, some of which have the same names.
 
 ghost use Rattle.std.specs.Prelude.{◌≡◌, ℕ, Option, Result, List, [], All, false};
 ghost use Rattle.coap_serve.specs.Prelude.{ConfigValues, ServerValue, AcceptedCall, Shows, IsFlushed, AddsBytes};
@@ -43,16 +43,16 @@ pub fn a_flush_leaves_nothing_waiting()
 /// States that an idle connection may be skipped.
 ///
 /// The theorem is about a connection of a server whose connections are all settled. If nothing in its I/O interest can
-/// be done, serving it has no effect, whatever its wire does. The wire is neither read nor written. There is an outcome.
-/// Every outcome leaves the server, the bytes left from its reads, and the trace of its wire unchanged, and the
-/// connection stays open. The only call is a take that accepts none of the bytes left, if there are some.
+/// be done, serving it has no effect, whatever its wire does. The wire is neither read nor written. There is an
+/// outcome. Every outcome leaves the server, the bytes left from its reads, and the trace of its wire unchanged, and
+/// the connection stays open. The only call is a take that accepts none of the bytes left, if there are some.
 pub fn idle_connections_may_be_skipped()
     ensures { (v : ServerValue) (id i : ℕ) (rest : List ℕ) (ready : Readiness) → LiesAt id i v.sessions → AreSettled
         v.host v.sessions → can_go_on (wants_of v id rest) ready ≡ false → IsNoOp ready v id rest }
 {}
 
-/// States that a run stores and removes no resource for the embedding program, and announces no message size. So a script
-/// makes each call of a run again, from its line in a record alone.
+/// States that a run stores and removes no resource for the embedding program, and announces no message size. So a
+/// script makes each call of a run again, from its line in a record alone.
 pub fn a_run_announces_no_size()
     ensures { (v after : ServerValue) (h : History) → AreSteps IsRunStep v after h → All IsRunCall h.events }
 {}

@@ -11,8 +11,8 @@
 //! - `laws` has the theorems over all servers.
 //!
 //! Neither run opens a socket: `coap_sockets` implements `Door`, `Wire` and `Clock` over TCP. The server is in
-//! `coap_server_engine`, and one connection of it in `coap_server_session`. `coap_model` defines the server's behaviour as a
-//! function of its events.
+//! `coap_server_engine`, and one connection of it in `coap_server_session`. `coap_model` defines the server's behaviour
+//! as a function of its events.
 //!
 //! The contracts name the definitions of `specs/streams` (`serve_one`) and of `specs/listener`: `Turns.antt` and
 //! `Serving.antt` (one iteration), `Run.antt` (a run). Continue with `serve.rt`, then `door.rt`, or with

@@ -10,8 +10,8 @@ use coap_io::{Outlet, WriteFailed, write_parts};
 use coap_model::ConnId;
 use coap_server_engine::{Call, ConnIndex, FlushStep, Monitor, Server};
 
-/// Writes the bytes that are queued on a new connection. The monitor also receives the end of a turn, because the caller
-/// reads next, and a read may wait for the peer.
+/// Writes the bytes that are queued on a new connection. The monitor also receives the end of a turn, because the
+/// caller reads next, and a read may wait for the peer.
 ///
 /// # Errors
 ///

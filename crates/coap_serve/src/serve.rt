@@ -102,13 +102,13 @@ pub fn serve_one<R: Source, W: Outlet>(
     serve_one_with(alloc, reader, writer, config, &mut NoMonitor)
 }
 
-/// Serves one connection over an input and an output, as `serve_one` does. The monitor receives each call that the server
-/// accepts, in order.
+/// Serves one connection over an input and an output, as `serve_one` does. The monitor receives each call that the
+/// server accepts, in order.
 ///
-/// The first call opens the connection. Each `take` is a call, also one for which allocation fails: the bytes before the
-/// last one of its message are accepted. Each successful write of all queued bytes is a call, and before each `take` no
-/// byte is queued. If the end of input ends the run, that is the last call. The monitor also receives the end of a turn
-/// before the first read, and after the bytes of each read were processed.
+/// The first call opens the connection. Each `take` is a call, also one for which allocation fails: the bytes before
+/// the last one of its message are accepted. Each successful write of all queued bytes is a call, and before each
+/// `take` no byte is queued. If the end of input ends the run, that is the last call. The monitor also receives the end
+/// of a turn before the first read, and after the bytes of each read were processed.
 ///
 /// # Errors
 ///
@@ -220,9 +220,11 @@ fn take_turn<R: Source, W: Outlet, M: Monitor<()>>(
         × IsRunningAt c server.old id bytes (FollowsMore (M.follows first) (M.follows monitor.old)) }
     requires room { length buffer.old ≡ 4096 }
     ensures turn { (first : M) (c : ConfigValues) (bytes : List ℕ) →
-        IsRunningAt c server.old id bytes (FollowsMore (M.follows first) (M.follows monitor.old)) → IsTurn c bytes server.new
+        IsRunningAt c server.old id bytes (FollowsMore (M.follows first) (M.follows monitor.old))
+        → IsTurn c bytes server.new
         (HasGiven (R.told reader.old) (R.told reader.new))
-        (AddsBytes (W.written writer.old) (W.written writer.new)) (FollowsMore (M.follows first) (M.follows monitor.new)) result }
+        (AddsBytes (W.written writer.old) (W.written writer.new))
+        (FollowsMore (M.follows first) (M.follows monitor.new)) result }
     ensures few { IfOk result (λ t. t.read ≤ 4096) }
     ensures few_messages { IfOk result (λ t. t.messages ≤ t.read) }
     ensures read { R.is_failed reader.new ≡ is_read_fault result }

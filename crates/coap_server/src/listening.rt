@@ -35,8 +35,8 @@ fn config_now<C: Clock>(clock: &mut C, plan: &ServerPlan) -> Option<Config>
 }
 
 /// Listens at an address, writes one line that says so to standard error, and serves the connections that clients open.
-/// Returns an exit status only after an error. The file of a record is created before the server listens, and its header
-/// is written afterwards.
+/// Returns an exit status only after an error. The file of a record is created before the server listens, and its
+/// header is written afterwards.
 ///
 /// The errors are a limit out of its range, a record that cannot be created, and a system that cannot listen. A failed
 /// allocation and the limit of turns are errors too.
@@ -67,8 +67,8 @@ pub(crate) fn run<'a>(
     }
 }
 
-/// Serves the connections of a listener, with the log and the record of the plan. With a log, the listener wakes up each
-/// second.
+/// Serves the connections of a listener, with the log and the record of the plan. With a log, the listener wakes
+/// up each second.
 fn serve<'a, R: Net + time::Clock + AllocGlobal, O: Outlet + Drop>(
     rt: &'a R,
     door: &mut SocketDoor<'a, R>,

@@ -71,9 +71,9 @@ fn read_and_run(
     }
 }
 
-/// Runs the script in the file with this name, or in standard input if the name is `-`. The application of the server has
-/// these entries. Returns the exit status: 1 for a line that is no event, 3 for a failed file, device or allocation. If a
-/// line is no event, no event is run.
+/// Runs the script in the file with this name, or in standard input if the name is `-`. The application of the server
+/// has these entries. Returns the exit status: 1 for a line that is no event, 3 for a failed file, device or
+/// allocation. If a line is no event, no event is run.
 pub(crate) fn run(
     rt: &(impl Input + Print + Eprint + Files + AllocGlobal),
     name: &str,

@@ -14,4 +14,5 @@ front_text program = escaped_text program ++ codes ": record ended: "
 -- The line for a record of this program that has ended: a write has failed, or it has reached the limit.
 unfoldable pub end_text : (program name : List ℕ) (limit : ℕ) (has_failed : Bool) → List ℕ
 end_text program name limit true = front_text program ++ codes "cannot write " ++ title_text name
-end_text program name limit false = front_text program ++ title_text name ++ codes " has reached " ++ decimal limit ++ codes " bytes"
+end_text program name limit false =
+    front_text program ++ title_text name ++ codes " has reached " ++ decimal limit ++ codes " bytes"

@@ -1,5 +1,5 @@
--- Defined by this project: the header of a record. It has three lines: the version and the format, the options that were
--- in force, and a command line that replays the record.
+-- Defined by this project: the header of a record. It has three lines: the version and the format, the options that
+-- were in force, and a command line that replays the record.
 use Rattle.std.specs.Prelude.{ℕ, Bool, false, List, [], ◌∷◌, ◌++◌, ◌==◌, ◌&&◌, ◌||◌, not, if◌then◌else◌, codes, decimal}
 use Rattle.std.specs.List.{flat_map, list_all}
 use Rattle.std.specs.Char.{is_ascii_alphanumeric}
@@ -7,7 +7,8 @@ use Rattle.coap_model.specs.Configs.{ConfigValues, StartValues}
 
 -- A byte that means itself in each command line: a letter, a digit, or one of `. _ / + -`.
 abbrev pub is_plain : ℕ → Bool
-is_plain byte = is_ascii_alphanumeric byte || (byte == 46) || (byte == 95) || (byte == 47) || (byte == 43) || (byte == 45)
+is_plain byte =
+    is_ascii_alphanumeric byte || (byte == 46) || (byte == 95) || (byte == 47) || (byte == 43) || (byte == 45)
 
 -- The name of a file is a word of a command line: it needs no quotes and is no option.
 abbrev pub is_word : List ℕ → Bool
@@ -52,5 +53,6 @@ unfoldable pub header_text : (program version name : List ℕ) → ConfigValues 
 header_text program version name c entries =
     codes "# Record of " ++ program ++ codes " " ++ version ++ codes ", format 1\n"
     ++ options_line c ++ entries_text [] entries ++ codes "\n"
-    ++ codes "# replay: coap-server --script " ++ shown_name name ++ codes " " ++ options_text c ++ entries_text (codes "'") entries
+    ++ codes "# replay: coap-server --script " ++ shown_name name ++ codes " " ++ options_text c
+    ++ entries_text (codes "'") entries
     ++ codes "\n"

@@ -13,8 +13,8 @@ use coap_model::Config;
 use coap_text::decimal_digits;
 use std::alloc::{AllocError, Global};
 
-/// Returns the header of the record with this name, of a program whose server has this configuration, and whose application
-/// answers these entries. Each of its lines is a comment.
+/// Returns the header of the record with this name, of a program whose server has this configuration, and whose
+/// application answers these entries. Each of its lines is a comment.
 ///
 /// # Errors
 ///

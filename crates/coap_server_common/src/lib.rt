@@ -3,11 +3,11 @@
 //! - `config_of` and `config_in` return the configuration of the server for a plan of the command line.
 //! - `print_listen_fault` reports that a program cannot listen.
 //! - `text_of` returns the reason for which a connection stopped, in words.
-//! - `ServerLog` writes the lines of `--log`, and `ServerRecord` those of `--record`, after a header. Both are monitors: a
-//!   run passes them each call that its server accepted. `monitor_of` joins them, each if the plan has it.
+//! - `ServerLog` writes the lines of `--log`, and `ServerRecord` those of `--record`, after a header. Both are
+//!   monitors: a run passes them each call that its server accepted. `monitor_of` joins them, each if the plan has it.
 //!
-//! The contracts name the definitions of `specs/Planned.antt` and `specs/Reasons.antt`. `specs/RecordHeaders.antt` defines
-//! the header of a record, which one program writes and the other reads.
+//! The contracts name the definitions of `specs/Planned.antt` and `specs/Reasons.antt`. `specs/RecordHeaders.antt`
+//! defines the header of a record, which one program writes and the other reads.
 //!
 //! `coap_program` has the parts that `coap-client` uses too. Continue with `planned.rt`, then `log.rt` and `record.rt`.
 #![tactic(auto)]

@@ -53,8 +53,8 @@ pub struct ServerLog<'a, R> {
     reported: DoorTroubles,
 }
 
-/// Returns `true` if a response with this code refuses a request because of a limit. Its code is 4.13, 5.00 or 5.03, or it
-/// is 4.06 and the server has its maximum number of resources (`is_full`).
+/// Returns `true` if a response with this code refuses a request because of a limit. Its code is 4.13, 5.00 or 5.03, or
+/// it is 4.06 and the server has its maximum number of resources (`is_full`).
 fn is_refusal(code: Code, is_full: bool) -> bool
     ensures { result ≡ is_refusal code is_full }
 {
@@ -239,8 +239,8 @@ impl<'a, R: time::Clock> ServerLog<'a, R> {
         }
     }
 
-    /// Ends the log, with the last line of this connection if it is still open. If it has not stopped, it has failed. The
-    /// lines left out are reported first.
+    /// Ends the log, with the last line of this connection if it is still open. If it has not stopped, it has failed.
+    /// The lines left out are reported first.
     pub fn finish(&mut self, id: Option<ConnId>) {
         let line = match id {
             Some(id) => self.last_line(id, true),
@@ -300,8 +300,8 @@ impl<'a, R: time::Clock> ServerLog<'a, R> {
     }
 }
 
-/// Returns the reason for the end of a connection, in words. If there is no reason of the protocol, its wire has failed, or
-/// it was silent and could not be released. It has then sent no CSM, or its queue was full.
+/// Returns the reason for the end of a connection, in words. If there is no reason of the protocol, its wire has
+/// failed, or it was silent and could not be released. It has then sent no CSM, or its queue was full.
 fn reason_of(followed: &Followed, has_failed: bool) -> &'static str
     ensures { result.now ≡ end_text followed.now.stop has_failed followed.now.incoming.messages }
 {

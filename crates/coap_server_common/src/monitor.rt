@@ -23,9 +23,9 @@ pub type ServerMonitor<'a, R, O> = MonitorPair<
     Option<ServerRecord<'a, O>>,
 >;
 
-/// Returns the monitor of a program whose server has this configuration, and whose application answers these entries. It
-/// has a log if the level asks for one. Writes the header of the record. `troubles` counts the failed system calls of the
-/// listener, if the server has one.
+/// Returns the monitor of a program whose server has this configuration, and whose application answers these entries.
+/// It has a log if the level asks for one. Writes the header of the record. `troubles` counts the failed system calls
+/// of the listener, if the server has one.
 ///
 /// # Errors
 ///

@@ -80,8 +80,8 @@ pub struct ServerRecord<'a, O> {
     errors: LineWriter<Stderr>,
 }
 
-/// Creates the file of a record with this name, or takes standard output if the name is `-`. The record ends when it has
-/// `limit` bytes. The result is `None` without a name.
+/// Creates the file of a record with this name, or takes standard output if the name is `-`. The record ends when it
+/// has `limit` bytes. The result is `None` without a name.
 ///
 /// # Errors
 ///
@@ -186,8 +186,8 @@ impl<'a, O: Outlet + Drop> ServerRecord<'a, O> {
         })
     }
 
-    /// Writes the header for a server with this configuration, whose application answers these entries. The lines of calls
-    /// follow.
+    /// Writes the header for a server with this configuration, whose application answers these entries. The lines
+    /// of calls follow.
     ///
     /// # Errors
     ///

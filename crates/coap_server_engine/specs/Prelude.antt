@@ -59,7 +59,8 @@ pub use Rattle.coap_store.specs.declared.fault.StoreFault.{StoreFault}
 pub use Rattle.coap_store.specs.declared.fault.StoreFault.TheVariants.{NoSuch}
 -- ---- coap_script
 pub use Rattle.coap_script.specs.script.EventViews.{event_value}
-pub use Rattle.coap_script.specs.script.Events.{ScriptEventValue, Drain, Drop, In, Open, Release, Remove, Respond, Status, Tick}
+pub use Rattle.coap_script.specs.script.Events.{ScriptEventValue, Drain, Drop, In, Open, Release, Remove, Respond}
+pub use Rattle.coap_script.specs.script.Events.{Status, Tick}
 pub use Rattle.coap_script.specs.script.Lines.{open_line, put_line, remove_line, tick_line, word_line}
 -- ---- coap_model
 pub use Rattle.coap_model.specs.Answers.{release_fault, response_fault}
@@ -72,7 +73,8 @@ pub use Rattle.coap_model.specs.declared.answers.TakeFault.{TakeFault}
 pub use Rattle.coap_model.specs.declared.answers.Taken.{Taken}
 pub use Rattle.coap_model.specs.declared.answers.WrittenFault.{WrittenFault}
 pub use Rattle.coap_model.specs.world.Events.{AcceptedCall, Ticked, Stored, Removed, Opened, Ended, Took, stream_on}
-pub use Rattle.coap_model.specs.world.Events.{AreAccepted, Wrote, Released, Announced, Responded, Dropped, IfSide, OnSide}
+pub use Rattle.coap_model.specs.world.Events.{AreAccepted, Wrote, Released, Announced, Responded, Dropped, IfSide}
+pub use Rattle.coap_model.specs.world.Events.{OnSide}
 pub use Rattle.coap_model.specs.world.Events.{beyond, taken_in, takes_of}
 unfoldable pub use Rattle.coap_model.specs.world.Events.{size_on, steps_of, world_after, takes, AreAcceptedBehind}
 unfoldable pub use Rattle.coap_model.specs.world.Events.{IsAccepted, steps_by}
@@ -99,15 +101,18 @@ pub use Rattle.coap_server_engine.specs.declared.replay.OutputLine.{OutputLine}
 pub use Rattle.coap_server_engine.specs.script.Cuts.{DifferInCuts, AreInTime, other_lines, IsInTime}
 unfoldable pub use Rattle.coap_server_engine.specs.script.Cuts.{lines_of, in_before, joined}
 pub use Rattle.coap_server_engine.specs.script.Replay.{stop_number, drained, EventResult, comes_to, drain_ran}
-pub use Rattle.coap_server_engine.specs.script.Replay.{in_ran, on_connection, open_number, release_number, response_number}
+pub use Rattle.coap_server_engine.specs.script.Replay.{in_ran, on_connection, open_number, release_number}
+pub use Rattle.coap_server_engine.specs.script.Replay.{response_number}
 pub use Rattle.coap_server_engine.specs.script.Replay.{status_ran, store_number, tick_refusal, unless_refused}
 unfoldable pub use Rattle.coap_server_engine.specs.script.Replay.{replayed, event_ran}
 pub use Rattle.coap_server_engine.specs.script.Replayed.{replay_number, IsReplayed, fails_write, IsCutAt, IsRefusedAt}
 pub use Rattle.coap_server_engine.specs.script.Replayed.{IsUnrun}
-pub use Rattle.coap_server_engine.specs.script.Shown.{unless_any, ShowsRun, IsShownReplay, ShowsPart, IsPartlyMade, ShowsRefusedAt}
+pub use Rattle.coap_server_engine.specs.script.Shown.{unless_any, ShowsRun, IsShownReplay, ShowsPart, IsPartlyMade}
+pub use Rattle.coap_server_engine.specs.script.Shown.{ShowsRefusedAt}
 unfoldable pub use Rattle.coap_server_engine.specs.script.Shown.{events_made, events_ran}
 pub use Rattle.coap_server_engine.specs.script.RequestLines.{request_text, request_lines, IsTakeRefused, IsLineRefused}
-pub use Rattle.coap_server_engine.specs.script.RequestLines.{IsUnlisted, IsUnfinishedIn, IsUnlistedAfter, IsUnfinishedAfter}
+pub use Rattle.coap_server_engine.specs.script.RequestLines.{IsUnlisted, IsUnfinishedIn, IsUnlistedAfter}
+pub use Rattle.coap_server_engine.specs.script.RequestLines.{IsUnfinishedAfter}
 unfoldable pub use Rattle.coap_server_engine.specs.script.RequestLines.{request_turns}
 -- ---- this crate: values
 pub use Rattle.coap_server_engine.specs.values.Calls.{call_value, follows_if, has_passed_if, Following}
@@ -118,7 +123,8 @@ pub use Rattle.coap_server_session.specs.values.Causes.{IsUnaffected}
 pub use Rattle.coap_server_session.specs.values.Causes.{ConcernsNone, IsMarkedBut}
 pub use Rattle.coap_server_session.specs.values.Deadlines.{due_on, IsBefore}
 pub use Rattle.coap_server_session.specs.values.Entries.{settled_held}
-pub use Rattle.coap_server_engine.specs.values.InResults.{InResult, IsPartialIn, ShowsMore, ShowsPartlyFed, in_result, fed_more, fed_once}
+pub use Rattle.coap_server_engine.specs.values.InResults.{InResult, IsPartialIn, ShowsMore, ShowsPartlyFed, in_result}
+pub use Rattle.coap_server_engine.specs.values.InResults.{fed_more, fed_once}
 pub use Rattle.coap_server_engine.specs.values.InResults.{took, unfed, where_there}
 unfoldable pub use Rattle.coap_server_engine.specs.values.InResults.{fed_turns, took_turns}
 pub use Rattle.coap_server_engine.specs.values.Flushes.{IsFlushed, waiting_at, more_at, IsFlushedOnce}
@@ -128,7 +134,8 @@ pub use Rattle.coap_server_engine.specs.values.ServerAnswers.{stop_on, open_refu
 pub use Rattle.coap_server_engine.specs.values.ServerAnswers.{can_take_on, written_refusal, front_of}
 pub use Rattle.coap_server_engine.specs.values.ServerAnswers.{OpenedOrMemory, released_refusal, status_of}
 pub use Rattle.coap_server_engine.specs.values.ServerAnswers.{released_refusal_on, handled_so, RefusesPieceOn}
-pub use Rattle.coap_server_engine.specs.values.ServerAnswers.{responded_refusal_on, responded_refusal, IsReplyOn, response_event}
+pub use Rattle.coap_server_engine.specs.values.ServerAnswers.{responded_refusal_on, responded_refusal, IsReplyOn}
+pub use Rattle.coap_server_engine.specs.values.ServerAnswers.{response_event}
 pub use Rattle.coap_server_engine.specs.values.ServerAnswers.{handled_on}
 pub use Rattle.coap_server_engine.specs.values.ServerAnswers.{session_status, written_refusal_on}
 unfoldable pub use Rattle.coap_server_engine.specs.values.ServerAnswers.{handled_by}
@@ -140,17 +147,23 @@ pub use Rattle.coap_server_engine.specs.values.ConcernSets.{Covers, AreCovered, 
 pub use Rattle.coap_server_engine.specs.declared.index_set.IndexSet.{IndexSet}
 pub use Rattle.coap_server_engine.specs.declared.server.concerned.Concerned.{Concerned}
 pub use Rattle.coap_server_session.specs.values.Causes.{may_concern, last_hash}
-pub use Rattle.coap_server_engine.specs.values.ServerDeadlines.{WaitsForDeadlines, outlook_of, KeepsWork, KeepsOthers, AddsAffected}
-pub use Rattle.coap_server_engine.specs.values.Servers.{config_with, new_server, server_put, server_removed, server_ticked, AreSettled}
+pub use Rattle.coap_server_engine.specs.values.ServerDeadlines.{WaitsForDeadlines, outlook_of, KeepsWork, KeepsOthers}
+pub use Rattle.coap_server_engine.specs.values.ServerDeadlines.{AddsAffected}
+pub use Rattle.coap_server_engine.specs.values.Servers.{config_with, new_server, server_put, server_removed}
+pub use Rattle.coap_server_engine.specs.values.Servers.{server_ticked, AreSettled}
 pub use Rattle.coap_server_engine.specs.values.Servers.{server_dropped, ServerValue, LiesAt, server_opened}
 pub use Rattle.coap_server_engine.specs.values.Servers.{is_there, server_written, server_ended, server_released}
-pub use Rattle.coap_server_engine.specs.values.Servers.{server_announced, server_responded, server_given, session_given_by, settled_entry, count_on, on_session, server_settled}
-pub use Rattle.coap_server_engine.specs.values.Servers.{server_taken_on, server_taken_so, session_becomes, unmarked_entry}
+pub use Rattle.coap_server_engine.specs.values.Servers.{server_announced, server_responded, server_given}
+pub use Rattle.coap_server_engine.specs.values.Servers.{session_given_by, settled_entry, count_on, on_session}
+pub use Rattle.coap_server_engine.specs.values.Servers.{server_settled}
+pub use Rattle.coap_server_engine.specs.values.Servers.{server_taken_on, server_taken_so, session_becomes}
+pub use Rattle.coap_server_engine.specs.values.Servers.{unmarked_entry}
 pub use Rattle.coap_server_engine.specs.values.Servers.{unmarked, AreAllMarked, splits_of}
 unfoldable pub use Rattle.coap_server_engine.specs.values.Servers.{session_of, count_taken, server_taken, changed_at}
 pub use Rattle.coap_server_session.specs.values.Sessions.{host_changed}
 pub use Rattle.coap_server_session.specs.values.Sessions.{SessionValue}
-pub use Rattle.coap_server_session.specs.values.Sessions.{session_written, session_ended, session_released, session_announced}
+pub use Rattle.coap_server_session.specs.values.Sessions.{session_written, session_ended, session_released}
+pub use Rattle.coap_server_session.specs.values.Sessions.{session_announced}
 pub use Rattle.coap_server_session.specs.values.Sessions.{session_given}
 pub use Rattle.coap_server_session.specs.values.Sessions.{change_by, new_session}
 pub use Rattle.coap_server_session.specs.values.Sessions.{session_takes, IsSettled, RefusesPiece}
@@ -164,15 +177,22 @@ pub use Rattle.coap_server_session.specs.values.Sessions.{taking_found, taking_r
 unfoldable pub use Rattle.coap_server_session.specs.values.Sessions.{changed_mark}
 unfoldable pub use Rattle.coap_server_session.specs.values.Sessions.{session_settled, session_handled}
 unfoldable pub use Rattle.coap_server_session.specs.values.Sessions.{taking}
-pub use Rattle.coap_server_engine.specs.values.HandedRequests.{handed_on, handed_by, frame_message, message_in, IsTakenRequest}
+pub use Rattle.coap_server_engine.specs.values.HandedRequests.{handed_on, handed_by, frame_message, message_in}
+pub use Rattle.coap_server_engine.specs.values.HandedRequests.{IsTakenRequest}
 unfoldable pub use Rattle.coap_server_engine.specs.values.HandedRequests.{handed_frame}
-pub use Rattle.coap_server_engine.specs.values.ChangedRequests.{changing_on, request_key, frame_key, DifferAt, DifferBy, ChangesBy}
+pub use Rattle.coap_server_engine.specs.values.ChangedRequests.{changing_on, request_key, frame_key, DifferAt, DifferBy}
+pub use Rattle.coap_server_engine.specs.values.ChangedRequests.{ChangesBy}
 unfoldable pub use Rattle.coap_server_engine.specs.values.ChangedRequests.{changing_frame}
-pub use Rattle.coap_server_engine.specs.values.Exchanges.{Exchange, Asked, Offered, Given, Gone, Answering, AreUnanswered, offers}
+pub use Rattle.coap_server_engine.specs.values.Exchanges.{Exchange, Asked, Offered, Given, Gone, Answering}
+pub use Rattle.coap_server_engine.specs.values.Exchanges.{AreUnanswered, offers}
 unfoldable pub use Rattle.coap_server_engine.specs.values.Exchanges.{AnswersMore}
-pub use Rattle.coap_server_engine.specs.values.ApplicationCalls.{server_offered, offered_events, failure_with, response_for, AskResult, asking, ServeResult}
-pub use Rattle.coap_server_engine.specs.values.ApplicationCalls.{asks_for, asked_by, limit_of, IsTakenFor, IsNotTakenFor, unserved, served_more, AreMade, IsServed, IsPartlyServed}
-pub use Rattle.coap_server_engine.specs.values.ApplicationCalls.{IsGivenLater, IsAskedLater, AreGivenLater, NothingGiven, OneMoreGiven, AreAskedLater}
+pub use Rattle.coap_server_engine.specs.values.ApplicationCalls.{server_offered, offered_events, failure_with}
+pub use Rattle.coap_server_engine.specs.values.ApplicationCalls.{response_for, AskResult, asking, ServeResult}
+pub use Rattle.coap_server_engine.specs.values.ApplicationCalls.{asks_for, asked_by, limit_of, IsTakenFor}
+pub use Rattle.coap_server_engine.specs.values.ApplicationCalls.{IsNotTakenFor, unserved, served_more, AreMade}
+pub use Rattle.coap_server_engine.specs.values.ApplicationCalls.{IsServed, IsPartlyServed}
+pub use Rattle.coap_server_engine.specs.values.ApplicationCalls.{IsGivenLater, IsAskedLater, AreGivenLater}
+pub use Rattle.coap_server_engine.specs.values.ApplicationCalls.{NothingGiven, OneMoreGiven, AreAskedLater}
 unfoldable pub use Rattle.coap_server_engine.specs.values.ApplicationCalls.{message_limit, served}
 -- ---- this crate: views
 pub use Rattle.coap_server_engine.specs.views.LineViews.{line_bytes, IsRun, IsDrainable}

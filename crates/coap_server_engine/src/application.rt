@@ -13,8 +13,8 @@ use coap_wire::MessageRef;
 
 /// Program that answers requests: those of the entries in `Applications` with which the server was created.
 ///
-/// The server calls it during a run. Contracts see the exchanges: the requests that it was shown, its responses and their
-/// results, in order. `NoApplication` answers nothing, for servers that hand over no request.
+/// The server calls it during a run. Contracts see the exchanges: the requests that it was shown, its responses and
+/// their results, in order. `NoApplication` answers nothing, for servers that hand over no request.
 pub trait Application {
     /// States what the application made of the exchanges so far, in order. By default nothing is stated.
     ghost follows: { Self → List Exchange → Type 0 } = { λ _ _. Unit {0} };
@@ -22,12 +22,14 @@ pub trait Application {
     /// States that the application has no later response now. By default nothing is stated.
     ghost idle: { Self → Type 0 } = { λ _. Unit {0} };
 
-    /// States that this is the longest wait that delays no response, at a time, in seconds. By default nothing is stated.
+    /// States that this is the longest wait that delays no response, at a time, in seconds. By default
+    /// nothing is stated.
     ghost waits: { Self → ℕ → Wait → Type 0 } = { λ _ _ _. Unit {0} };
 
-    /// Receives a request of a connection. It may write a response at once, as one encoded message with the token of the
-    /// request, to `response`, which is empty. If it writes nothing, it responds later, through `next_response`. A
-    /// response of more than `limit` bytes is reduced to its code and token: no larger message may be sent on the connection.
+    /// Receives a request of a connection. It may write a response at once, as one encoded message with the token
+    /// of the request, to `response`, which is empty. If it writes nothing, it responds later, through
+    /// `next_response`. A response of more than `limit` bytes is reduced to its code and token: no larger message
+    /// may be sent on the connection.
     ///
     /// The path begins with that of an entry with this method, and there is no unrecognised critical option. The
     /// application checks the other options (RFC 7252 sections 5.4.1 and 5.10):
@@ -39,8 +41,8 @@ pub trait Application {
     ///
     /// It responds with 4.02 (Bad Option) to one of the critical options that it does not support.
     ///
-    /// If the server does not accept the response (`Server::respond`), it sends 5.00 (Internal Server Error). The response
-    /// always has room (`laws::responses_at_once_have_room`). So two errors remain:
+    /// If the server does not accept the response (`Server::respond`), it sends 5.00 (Internal Server Error). The
+    /// response always has room (`laws::responses_at_once_have_room`). So two errors remain:
     ///
     /// - `NotAResponse`: the bytes encode no message, or one whose code is no response or that has Observe.
     /// - `NoSuchRequest`: no pending request has the token.
@@ -52,17 +54,18 @@ pub trait Application {
         response: &mut Vec<u8>,
     )
         requires { response.old.items ≡ [] }
-        ensures { AnswersMore (follows self.old) (follows self.new) (Asked from request.now limit response.new.items ∷ []) };
+        ensures { AnswersMore (follows self.old) (follows self.new)
+            (Asked from request.now limit response.new.items ∷ []) };
 
-    /// Writes the next later response to `response`, which is empty, as one encoded message, and returns the connection of
-    /// its request. Returns `None` if there is no response now.
+    /// Writes the next later response to `response`, which is empty, as one encoded message, and returns the connection
+    /// of its request. Returns `None` if there is no response now.
     fn next_response(&mut self, response: &mut Vec<u8>) -> Option<ConnId>
         requires { response.old.items ≡ [] }
         ensures offered { AnswersMore (follows self.old) (follows self.new) (offers result response.new.items) }
         ensures none { IfNone result (idle self.new) };
 
-    /// Receives the result of the response that `next_response` returned last, for that connection. After `NoRoom`, it may
-    /// return the response again in a later turn.
+    /// Receives the result of the response that `next_response` returned last, for that connection. After `NoRoom`, it
+    /// may return the response again in a later turn.
     fn responded(&mut self, to: ConnId, outcome: Result<Reply, ResponseFault>)
         ensures { AnswersMore (follows self.old) (follows self.new) (Given to outcome ∷ []) };
 

@@ -37,8 +37,8 @@ pub fn no_change_is_lost()
 ///
 /// - A slice and its two parts, one after the other, make the same steps and leave the same world. This holds whatever
 ///   events come before and after them (`steps`, `worlds`).
-/// - Normalised steps (`normalised_steps`) never say of the end of input after a stop that it truncated a message (`quiet`).
-///   They lead to the same world (`heard`), and equal steps have equal normalised steps (`alike`).
+/// - Normalised steps (`normalised_steps`) never say of the end of input after a stop that it truncated a message
+///   (`quiet`). They lead to the same world (`heard`), and equal steps have equal normalised steps (`alike`).
 /// - Equal normalised steps leave equal worlds (`same_steps`). If the bytes kept of unfinished messages are equal too,
 ///   they leave equal servers (`servers`). So bytes that no connection processes make no difference.
 pub fn segmentation_is_irrelevant()
@@ -77,15 +77,18 @@ pub fn segmentation_is_irrelevant()
 /// Moving an `in` past an `in` of another connection is not covered.
 pub fn script_segmentation_is_irrelevant()
     ensures taken { (v : ServerValue) (before : List AcceptedCall) (id : ℕ) (xs ys : List ℕ) → Shows v before →
-        (in_result v id (xs ++ ys)).count ≡ (in_result v id xs).count + (in_result (in_result v id xs).server id ys).count }
+        (in_result v id (xs ++ ys)).count
+        ≡ (in_result v id xs).count + (in_result (in_result v id xs).server id ys).count }
     ensures after { (v : ServerValue) (before : List AcceptedCall) (id : ℕ) (xs ys : List ℕ) → Shows v before →
         (in_result v id (xs ++ ys)).server ≡ (in_result (in_result v id xs).server id ys).server }
-    ensures servers { (v : ServerValue) (before : List AcceptedCall) (events others : List ScriptEventValue) → Shows v before →
+    ensures servers { (v : ServerValue) (before : List AcceptedCall) (events others : List ScriptEventValue)
+        → Shows v before →
         v.ids < 2 ^ 64 → AreInTime events → AreInTime others → DifferInCuts events others →
         (replayed v events).server ≡ (replayed v others).server }
     ensures text { (v : ServerValue) (events : List ScriptEventValue) →
         concat (map (λ l. l.1) (lines_of v events)) ≡ (replayed v events).text }
-    ensures lines { (v : ServerValue) (before : List AcceptedCall) (events others : List ScriptEventValue) → Shows v before →
+    ensures lines { (v : ServerValue) (before : List AcceptedCall) (events others : List ScriptEventValue)
+        → Shows v before →
         v.ids < 2 ^ 64 → AreInTime events → AreInTime others → DifferInCuts events others →
         other_lines v events ≡ other_lines v others }
 {}
@@ -131,7 +134,8 @@ pub fn unanswered_requests_change_nothing()
 /// After accepted events, a connection has processed the messages that its accepted bytes encode up to the first error,
 /// each once and in order. If there is an error, it is the reason for which the connection stopped.
 pub fn each_message_taken_is_handled_once()
-    ensures messages { (c : ConfigValues) (events : List AcceptedCall) (id : ℕ) (s : Connection) → AreAccepted c events →
+    ensures messages { (c : ConfigValues) (events : List AcceptedCall) (id : ℕ) (s : Connection)
+        → AreAccepted c events →
         side_of id (world_after c events).sides ≡ Some s →
         s.history.handled ≡ (stream_on c.limits.max_message id events).messages }
     ensures fault { (c : ConfigValues) (events : List AcceptedCall) (id : ℕ) (s : Connection) (fault : StreamFault) →
@@ -156,14 +160,14 @@ pub fn lent_requests_are_handed_over()
 
 /// States that a response at once has room: one that is given directly after the take that handed over its request.
 ///
-/// A take accepts bytes only if the queue has room for a message of `max_sent` bytes. A request that is handed over queues
-/// nothing, and makes nothing else due. So there is room for any response, since no larger message is sent.
+/// A take accepts bytes only if the queue has room for a message of `max_sent` bytes. A request that is handed over
+/// queues nothing, and makes nothing else due. So there is room for any response, since no larger message is sent.
 ///
-/// - `refused`: `respond` has two other errors. Bytes that encode no message, or one that is no response or has Observe,
-///   are `NotAResponse`. A response whose token no pending request has is `NoSuchRequest`.
+/// - `refused`: `respond` has two other errors. Bytes that encode no message, or one that is no response or has
+///   Observe, are `NotAResponse`. A response whose token no pending request has is `NoSuchRequest`.
 /// - `accepted`: a response with the token of the request, of class 2, 4 or 5 and without Observe, is accepted.
-/// - `answered`: whatever bytes the application writes, the server accepts these or the 5.00 that `take_all_for` gives in
-///   their place. If it writes none, the request stays pending.
+/// - `answered`: whatever bytes the application writes, the server accepts these or the 5.00 that `take_all_for` gives
+///   in their place. If it writes none, the request stays pending.
 ///
 /// `accepted` and `answered` need a time before the last one, 2^64 - 1. At that time the deadline has come at once, and
 /// the server has answered by 5.04.

@@ -4,8 +4,8 @@
 //!   passes, or a resource is stored or removed. The server queues the responses and notifications that the event
 //!   causes.
 //! - `Monitor` is the interface through which a program follows the calls that a server accepts.
-//! - `Application` is the interface through which a program answers the requests that a server hands to it. `TakenRequest`
-//!   lends such a request.
+//! - `Application` is the interface through which a program answers the requests that a server hands to it.
+//!   `TakenRequest` lends such a request.
 //! - `Server::replay` runs the events of a script (`coap_script`) and writes a line for each.
 //! - `ConnectionWork` is the work left on a connection.
 //! - `IndexSet` is a set of the indices of connections. By it, `Server::concerned_by` and `Served` name the connections

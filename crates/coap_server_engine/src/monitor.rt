@@ -60,17 +60,17 @@ pub trait Monitor<W> {
     /// `calls` since its text was `start`. A monitor without a text leaves `start` out. By default nothing is stated.
     ghost follows: { Self → List ℕ → List AcceptedCall → Type 0 } = { λ _ _ _. Unit {0} };
 
-    /// States that the monitor has passed on what it received, as a recorder does at the end of a turn. By default nothing is
-    /// stated.
+    /// States that the monitor has passed on what it received, as a recorder does at the end of a turn. By default
+    /// nothing is stated.
     ghost has_passed: { Self → Type 0 } = { λ _. Unit {0} };
 
-    /// Receives a call of `open`: the number of the new connection, and its transport connection. `server` is the server
-    /// after the call.
+    /// Receives a call of `open`: the number of the new connection, and its transport connection. `server` is the
+    /// server after the call.
     fn opened(&mut self, id: ConnId, wire: &W, server: &Server)
         ensures { FollowsMore (follows self.old) (follows self.new) (Opened id ∷ []) };
 
-    /// Receives any other call that the server accepted. `server` is the server after the call. Only for `Call::Wrote` and
-    /// `Call::Dropped` is it the server before the call, which still has the bytes and the connection.
+    /// Receives any other call that the server accepted. `server` is the server after the call. Only for `Call::Wrote`
+    /// and `Call::Dropped` is it the server before the call, which still has the bytes and the connection.
     ///
     /// # Preconditions
     ///

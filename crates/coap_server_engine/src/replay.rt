@@ -1,9 +1,9 @@
-//! Runs the events of a script on a server, and writes one line for each. The line of an `in` is followed by one for each
-//! request that the application receives.
+//! Runs the events of a script on a server, and writes one line for each. The line of an `in` is followed by one for
+//! each request that the application receives.
 //!
 //! If the line of an event needs memory, the line is built before the event runs, so that no event runs without its
-//! line. Only the lines of requests are built while their event runs. `remove` calls `can_remove` first, so that an event
-//! that fails needs no memory.
+//! line. Only the lines of requests are built while their event runs. `remove` calls `can_remove` first, so that an
+//! event that fails needs no memory.
 
 ghost use Rattle.std.specs.Prelude.{◌≡◌, ◌++◌, option_map, true, false, List, map, IfOk, OnErr};
 ghost use Rattle.coap_server_engine.specs.Prelude.{refusal_in, open_refusal_in, replay_number, line_bytes, event_value};
@@ -165,7 +165,8 @@ impl Server {
     ///
     /// # Errors
     ///
-    /// Returns `AllocError` if allocation fails. The event did not run then, but an `in` accepted bytes, as `replay` says.
+    /// Returns `AllocError` if allocation fails. The event did not run then, but an `in` accepted bytes, as
+    /// `replay` says.
     fn run_event(&mut self, event: &Event) -> Result<OutputLine, AllocError>
         ensures run { IsRun self.old (event_value event.now) self.new result }
         ensures shows { ShowsRun self.old (event_value event.now) self.new result }

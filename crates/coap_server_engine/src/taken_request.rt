@@ -16,10 +16,12 @@ use coap_wire::{MessageRef, parse};
 pub struct TakenRequest<'a> {
     /// Result of the take.
     pub taken: Taken,
-    /// Encoded request that the server handed to the application, if the accepted bytes end with one. It is borrowed from
-    /// the input slice. If earlier calls had accepted bytes of it, it is borrowed from the buffer of the connection.
+    /// Encoded request that the server handed to the application, if the accepted bytes end with one. It is
+    /// borrowed from the input slice. If earlier calls had accepted bytes of it, it is borrowed from the buffer of
+    /// the connection.
     pub frame: Option<&'a [u8]>,
-    /// Encoded request that stored or deleted a resource, if the accepted bytes end with one. It is borrowed as `frame` is.
+    /// Encoded request that stored or deleted a resource, if the accepted bytes end with one. It is borrowed
+    /// as `frame` is.
     pub changed: Option<&'a [u8]>,
 }
 

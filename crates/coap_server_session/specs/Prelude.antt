@@ -95,7 +95,8 @@ pub use Rattle.coap_server_session.specs.declared.chains.Chains.{Chains}
 pub use Rattle.coap_server_session.specs.declared.session.Session.TheInside.{Inside}
 -- ---- this crate: values
 pub use Rattle.coap_server_session.specs.values.Causes.{change_hash, ObservesNone, hash_behind, path_hash}
-pub use Rattle.coap_server_session.specs.values.Causes.{IsUnaffected, has_come, may_touch, may_concern, last_hash, observes_hash, segments_hash}
+pub use Rattle.coap_server_session.specs.values.Causes.{IsUnaffected, has_come, may_touch, may_concern, last_hash}
+pub use Rattle.coap_server_session.specs.values.Causes.{observes_hash, segments_hash}
 pub use Rattle.coap_server_session.specs.values.Causes.{is_concerned}
 pub use Rattle.coap_server_session.specs.values.Causes.{ConcernsNone, marks_after, IsMarkedBut}
 unfoldable pub use Rattle.coap_server_session.specs.values.Causes.{marks_anew}

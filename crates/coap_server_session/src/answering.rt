@@ -51,8 +51,8 @@ impl RequestEffect {
 
 /// Processes a request: applies its change, removes its observer, and sends or delays its response.
 ///
-/// A request that the application answers is pending until its response or its deadline. Every other request is answered
-/// from the store, as `answer_from_store` explains.
+/// A request that the application answers is pending until its response or its deadline. Every other request is
+/// answered from the store, as `answer_from_store` explains.
 ///
 /// Returns the effect of the request.
 ///
@@ -219,8 +219,8 @@ fn hash_of_change(change: &PlannedChange) -> Option<u8>
     }
 }
 
-/// Delays the response to a request until `moment`, in seconds. Sends 5.03 if the pending list is full. In both cases the
-/// observer with the request's token is removed.
+/// Delays the response to a request until `moment`, in seconds. Sends 5.03 if the pending list is full. In both cases
+/// the observer with the request's token is removed.
 #[inline(never)]
 fn delay_answer(link: &mut Link, observers: &mut Observers, request: &MessageRef, moment: u64)
     requires ready { IsReady link.old }
@@ -239,14 +239,15 @@ fn delay_answer(link: &mut Link, observers: &mut Observers, request: &MessageRef
     }
 }
 
-/// Hands a request to the application, which may respond until `moment`, in seconds. Sends 5.03 and returns `false` if the
-/// pending list is full. In both cases the observer with the request's token is removed.
+/// Hands a request to the application, which may respond until `moment`, in seconds. Sends 5.03 and returns `false` if
+/// the pending list is full. In both cases the observer with the request's token is removed.
 #[inline(never)]
 fn hand_over(link: &mut Link, observers: &mut Observers, request: &MessageRef, moment: u64) -> bool
     requires ready { IsReady link.old }
     requires open { is_open link.old.phase ≡ true }
     ensures link { link.new
-        ≡ (if can_hold link.old then link_after link.old (call.HoldRequest request.now.token moment) else link_after link.old
+        ≡ (if can_hold link.old then link_after link.old (call.HoldRequest request.now.token moment)
+        else link_after link.old
         (call.Reply (response_message request.now.token (only code.service_unavailable)))) }
     ensures entries { observers.new.entries ≡ without_entry request.now.token observers.old.entries }
     ensures marks { (mark : ObserverValue → Option ℕ) → observers.old.marks ≡ map mark observers.old.entries →
@@ -272,7 +273,8 @@ fn hand_over(link: &mut Link, observers: &mut Observers, request: &MessageRef, m
 #[inline(always)]
 pub(crate) fn send_due(link: &mut Link, now: u64) -> bool
     requires { IsReady link.old }
-    ensures sent { (e : PendingEntryValue) → first_due now link.old.held ≡ Some e → link.new ≡ link_sent link.old now e }
+    ensures sent { (e : PendingEntryValue) → first_due now link.old.held ≡ Some e
+        → link.new ≡ link_sent link.old now e }
     ensures silent { first_due now link.old.held ≡ None → link.new ≡ link.old }
     ensures found { result ≡ is_some (first_due now link.old.held) }
 {
@@ -287,7 +289,8 @@ pub(crate) fn send_due(link: &mut Link, now: u64) -> bool
 #[inline(never)]
 fn send_first_due(link: &mut Link, now: u64) -> bool
     requires { IsReady link.old }
-    ensures sent { (e : PendingEntryValue) → first_due now link.old.held ≡ Some e → link.new ≡ link_sent link.old now e }
+    ensures sent { (e : PendingEntryValue) → first_due now link.old.held ≡ Some e
+        → link.new ≡ link_sent link.old now e }
     ensures silent { first_due now link.old.held ≡ None → link.new ≡ link.old }
     ensures found { result ≡ is_some (first_due now link.old.held) }
 {

@@ -108,7 +108,8 @@ impl Observers {
 
     /// Recomputes the changed marks of the observers that a change affects.
     pub(crate) fn mark(&mut self, cause: Cause, host: &ServerState)
-        ensures { self.new ≡ record self.old { marks = marks_anew cause host.entry.now self.old.entries self.old.marks } }
+        ensures { self.new
+            ≡ record self.old { marks = marks_anew cause host.entry.now self.old.entries self.old.marks } }
     {
         mark_chain(
             &mut self.entries,
@@ -139,8 +140,8 @@ impl Observers {
         &self.entries[index]
     }
 
-    /// Records that the observer at an index was sent the state with this mark, and clears its changed mark. `place` is the
-    /// index of its resource.
+    /// Records that the observer at an index was sent the state with this mark, and clears its changed mark. `place` is
+    /// the index of its resource.
     pub(crate) fn set_mark(&mut self, index: usize, mark: u64, place: usize)
         requires { index < length self.old.entries }
         ensures { (o : ObserverValue) → slice_get self.old.entries index ≡ Some o → self.new ≡ record self.old {

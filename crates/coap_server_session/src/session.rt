@@ -438,8 +438,8 @@ fn discard(framer: &mut Framer, link: &Link, observers: &mut Observers)
     }
 }
 
-/// Removes the bytes of an unfinished frame. A split frame that the framer has just returned stays: its message may have
-/// stopped the connection and yet changed the store.
+/// Removes the bytes of an unfinished frame. A split frame that the framer has just returned stays: its message may
+/// have stopped the connection and yet changed the store.
 fn discard_unfinished(framer: &mut Framer)
     ensures { framer.new ≡ record framer.old { kept = [] } }
 {

@@ -14,7 +14,8 @@ use Rattle.coap_sockets.specs.declared.io_results.ListenError.TheVariants as lis
 use Rattle.coap_sockets.specs.declared.io_results.AcceptError.TheVariants.{Full}
 use Rattle.coap_sockets.specs.declared.troubles.DoorTroubles.{DoorTroubles}
 use Rattle.coap_sockets.specs.Troubles.{after_accept, after_failure}
-use Rattle.coap_sockets.specs.IoResults.{is_would_block, fault_got, accept_fault, connect_error_of, read_got, write_got, listen_error_of, number_of}
+use Rattle.coap_sockets.specs.IoResults.{is_would_block, fault_got, accept_fault, connect_error_of, read_got, write_got}
+use Rattle.coap_sockets.specs.IoResults.{listen_error_of, number_of}
 
 pub another_is_no_would_block : (k : ErrorKind) → k ≢ WouldBlock → false ≡ is_would_block k
 unfolding is_would_block
@@ -68,12 +69,14 @@ fault_is_within room WouldBlock = tt
 fault_is_within room Interrupted = tt
 fault_is_within room _ = tt
 
-pub read_is_within : (buffer : List ℕ) (answer : Result ℕ Error) → ReadsAtMost answer buffer → IsWithin (length buffer) (read_got answer)
+pub read_is_within : (buffer : List ℕ) (answer : Result ℕ Error) → ReadsAtMost answer buffer
+    → IsWithin (length buffer) (read_got answer)
 read_is_within buffer (Ok zero) most = tt
 read_is_within buffer (Ok (suc n)) most = (omega arith, most.0)
 read_is_within buffer (Err e) most = fault_is_within (length buffer) (error_kind e)
 
-pub write_is_within : (bytes : List ℕ) (answer : Result ℕ Error) → WritesAtMost answer bytes → IsWithin (length bytes) (write_got answer)
+pub write_is_within : (bytes : List ℕ) (answer : Result ℕ Error) → WritesAtMost answer bytes
+    → IsWithin (length bytes) (write_got answer)
 write_is_within bytes (Ok zero) most = tt
 write_is_within bytes (Ok (suc n)) most = (omega arith, most)
 write_is_within bytes (Err e) most = fault_is_within (length bytes) (error_kind e)

@@ -40,8 +40,8 @@ abbrev pub is_in_second_of : (last : ℕ) → (wall : Option ℕ) → Bool
 is_in_second_of last None = false
 is_in_second_of last (Some wall) = wall / second == last / second
 
--- The time of a clock that returned `last`, after `passed` by the monotonic clock. It is the time of the system's clock,
--- unless that was set back or cannot be read. The clock then continues from its last time.
+-- The time of a clock that returned `last`, after `passed` by the monotonic clock. It is the time of the system's
+-- clock, unless that was set back or cannot be read. The clock then continues from its last time.
 abbrev pub continued : (last passed : ℕ) → (wall : Option ℕ) → ℕ
 continued last passed None = min (last + passed) max_nanos
 continued last passed (Some wall) = max wall (min (last + passed) max_nanos)

@@ -47,7 +47,8 @@ stays_writable offered (Ok count) = (count == 0) || not (nat_lt count offered)
 stays_writable offered (Err e) = not (is_would_block (error_kind e))
 
 abbrev pub after_write : Readiness → ℕ → Result ℕ Error → Readiness
-after_write r offered answer = record r { writable = stays_writable offered answer; yields = false; has_yielded = false }
+after_write r offered answer =
+    record r { writable = stays_writable offered answer; yields = false; has_yielded = false }
 
 -- The readiness after a write was deferred.
 abbrev pub deferred : Readiness → Readiness

@@ -4,4 +4,5 @@ use Rattle.coap_sockets.specs.declared.woken.Woken.{Woken}
 
 -- The places, if all are recorded.
 abbrev pub named : Woken → Option (List ℕ)
-named woken = if nat_le woken.count (length woken.places.items) then Some (take woken.count woken.places.items) else None
+named woken =
+    if nat_le woken.count (length woken.places.items) then Some (take woken.count woken.places.items) else None

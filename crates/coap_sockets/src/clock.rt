@@ -12,8 +12,8 @@ use std::time::Duration;
 
 /// Clock that returns the seconds since 1970, and never goes back.
 ///
-/// If the system's clock is set back, or cannot be read, this clock continues from its last time by the monotonic clock.
-/// It is then ahead of the system's clock, until that is set forward.
+/// If the system's clock is set back, or cannot be read, this clock continues from its last time by the monotonic
+/// clock. It is then ahead of the system's clock, until that is set forward.
 #[derive(Drop)]
 pub struct SystemClock<'a, R> {
     rt: &'a R,

@@ -246,8 +246,8 @@ impl<'a, R: Net + time::Clock> SocketDoor<'a, R> {
         self.listener.local_addr()
     }
 
-    /// Returns a share of the numbers of failed system calls. The listener updates them whenever a call fails, and a log
-    /// can read them while the listener is borrowed. If the numbers have too many shares, the result is `None`.
+    /// Returns a share of the numbers of failed system calls. The listener updates them whenever a call fails, and a
+    /// log can read them while the listener is borrowed. If the numbers have too many shares, the result is `None`.
     pub fn troubles(&self) -> Option<Rc<Cell<DoorTroubles>>> {
         self.troubles.clone().ok()
     }

@@ -1,7 +1,8 @@
-//! TCP keep-alive (RFC 9293 section 3.8.4): the system probes a silent peer, and ends the connection if the peer is gone.
+//! TCP keep-alive (RFC 9293 section 3.8.4): the system probes a silent peer, and ends the connection if
+//! the peer is gone.
 //!
-//! std and mio have no call for it. `keep_alive` therefore calls the C library, in the only `unsafe` block besides the two of
-//! `coap_handle`.
+//! std and mio have no call for it. `keep_alive` therefore calls the C library, in the only `unsafe` block besides the
+//! two of `coap_handle`.
 
 ghost use Rattle.std.specs.Prelude.{◌≡◌, ◌++◌, replicate};
 ghost use Rattle.std.specs.Int.{to_le_bytes};
@@ -31,7 +32,8 @@ fn option_value(number: u32) -> [u8; 16]
     value
 }
 
-/// Lets the system probe the peers of a socket. A listening socket passes its options on to the sockets that it accepts.
+/// Lets the system probe the peers of a socket. A listening socket passes its options on to the sockets
+/// that it accepts.
 ///
 /// If the system rejects an option, the socket keeps the value of the system for it.
 pub(crate) fn keep_alive(socket: &impl AsRawFd) {

@@ -2,8 +2,8 @@
 //!
 //! - `SocketDoor` is the listener of a server (`coap_io::Door`), and `SocketWire` one connection that it accepted.
 //!   `ListenFault` and `ListenError` are the reasons if there is none. `DoorTroubles` counts system calls that failed.
-//! - `ClientWire` is the connection of a client (`coap_io::Wire`). `ConnectFault` and `ConnectError` are the reasons if there is
-//!   none.
+//! - `ClientWire` is the connection of a client (`coap_io::Wire`). `ConnectFault` and `ConnectError` are the reasons if
+//!   there is none.
 //! - `RunClock` and `SystemClock` return the time (`coap_io::Clock`).
 //!
 //! No call on a socket blocks. A listener waits for the events of all its connections together. The connection of a

@@ -44,8 +44,8 @@ impl Readiness {
         }
     }
 
-    /// Returns the readiness after an event. `behind_many` is `true` if the same wait reported at least `WRITES_BEFORE_READS`
-    /// events before it.
+    /// Returns the readiness after an event. `behind_many` is `true` if the same wait reported at least
+    /// `WRITES_BEFORE_READS` events before it.
     pub(crate) fn after_event(self, event: &Event, behind_many: bool) -> Readiness
         ensures { result ≡ spec.after_event self event.now behind_many }
     {

@@ -70,8 +70,8 @@ impl DoorTroubles {
         }
     }
 
-    /// Returns the numbers after an accept that failed for another reason, or after an accepted socket that could not be
-    /// set up.
+    /// Returns the numbers after an accept that failed for another reason, or after an accepted socket that could
+    /// not be set up.
     pub(crate) fn after_other(self) -> DoorTroubles
         ensures { result ≡ spec.after_other self }
     {

@@ -1,10 +1,12 @@
 -- The map of the resources agrees with their list.
-use Rattle.std.proofs.Common.{◌≡◌, ℕ, zero, suc, ◌<◌, Bool, true, false, List, [], ◌∷◌, ◌++◌, length, Option, Some, None, refl, sym, ap, ◌∙◌, arith}
+use Rattle.std.proofs.Common.{◌≡◌, ℕ, zero, suc, ◌<◌, Bool, true, false, List, [], ◌∷◌, ◌++◌, length, Option, Some}
+use Rattle.std.proofs.Common.{None, refl, sym, ap, ◌∙◌, arith}
 use Rattle.std.specs.Prelude.{position}
 use Rattle.std.specs.List.{remove}
 use Rattle.std.specs.Map.{keys_of}
 use Rattle.coap_store.specs.Prelude.{option_map, not, nat_eq, option_eq, Bor, lookup, insert_entry, set_value_at}
-use Rattle.coap_store.specs.Prelude.{if◌then◌else◌, Path, same_path, Representation, found_in, put_at, removed_at, entry_bytes}
+use Rattle.coap_store.specs.Prelude.{if◌then◌else◌, Path, same_path, Representation, found_in, put_at, removed_at}
+use Rattle.coap_store.specs.Prelude.{entry_bytes}
 use Rattle.coap_store.specs.Prelude.{built_in_bytes, first_bytes, representation, resources_in, texts_of, Resource}
 use Rattle.coap_store.specs.Prelude.{IsFoundAt, replaced_at, resource_at}
 use Rattle.std.specs.Option.{is_some, option_copied}
@@ -13,7 +15,8 @@ use Rattle.std.proofs.lemmas.List.{length-map}
 use Rattle.coap_store.specs.Store as store
 use Rattle.coap_path.specs.contracts.path.PathKeyPartialEq.TheImpl as key_eq
 use Rattle.coap_path.proofs.PathLemmas.{key_equality}
-use Rattle.coap_store.proofs.ListingLemmas.{IsFirstAt, resources_found, resources_put, resources_set, resources_removed, texts_created, first_at, first_within}
+use Rattle.coap_store.proofs.ListingLemmas.{IsFirstAt, resources_found, resources_put, resources_set, resources_removed}
+use Rattle.coap_store.proofs.ListingLemmas.{texts_created, first_at, first_within}
 
 -- The comparison of keys in the map.
 abbrev pub key_test : Path → Path → Bool
@@ -28,28 +31,36 @@ none_of_some None is = refl
 none_of_some (Some r) is = absurd cc
 
 -- The map finds the resource that the list has.
-pub found_at : (entries : List (Path × Resource)) (path : Path) (found : Option (Bor Resource)) → option_copied found ≡ lookup (key_test path) entries → option_map (λ r. representation r.now) found ≡ found_in (resources_in entries) path
-found_at entries path None is = ap (option_map representation) is ∙ sym (resources_found key_test key_equality entries path)
-found_at entries path (Some r) is = ap (option_map representation) is ∙ sym (resources_found key_test key_equality entries path)
+pub found_at : (entries : List (Path × Resource)) (path : Path) (found : Option (Bor Resource))
+    → option_copied found ≡ lookup (key_test path) entries
+    → option_map (λ r. representation r.now) found ≡ found_in (resources_in entries) path
+found_at entries path None is =
+    ap (option_map representation) is ∙ sym (resources_found key_test key_equality entries path)
+found_at entries path (Some r) is =
+    ap (option_map representation) is ∙ sym (resources_found key_test key_equality entries path)
 
 pub count_resources : (entries : List (Path × Resource)) → length (resources_in entries) ≡ length entries
 unfolding resources_in
 count_resources entries = length-map entries _
 
 -- The map has a path if and only if the list has it.
-pub has_found : (entries : List (Path × Resource)) (path : Path) (found : Bool) → found ≡ is_some (lookup (key_test path) entries) → is_some (found_in (resources_in entries) path) ≡ found
+pub has_found : (entries : List (Path × Resource)) (path : Path) (found : Bool)
+    → found ≡ is_some (lookup (key_test path) entries) → is_some (found_in (resources_in entries) path) ≡ found
 has_found entries path found is =
-    ap is_some (resources_found key_test key_equality entries path) ∙ some_mapped (lookup (key_test path) entries) ∙ sym is
+    ap is_some (resources_found key_test key_equality entries path)
+    ∙ some_mapped (lookup (key_test path) entries) ∙ sym is
 
 -- A path that is not in the map is not in the list.
-pub absent_path : (entries : List (Path × Resource)) (path : Path) → is_some (lookup (key_test path) entries) ≡ false → found_in (resources_in entries) path ≡ None
+pub absent_path : (entries : List (Path × Resource)) (path : Path) → is_some (lookup (key_test path) entries) ≡ false
+    → found_in (resources_in entries) path ≡ None
 absent_path entries path none = none_of_some _ (has_found entries path false (sym none))
 
 pub none_there : (entries : List (Path × Resource)) → entries ≡ [] → resources_in entries ≡ []
 unfolding resources_in
 none_there entries none = ap resources_in none
 
-pub texts_of_none : (entries : List (Path × Resource)) → entries ≡ [] → texts_of (first_bytes None) (resources_in entries) ≡ built_in_bytes ∷ []
+pub texts_of_none : (entries : List (Path × Resource)) → entries ≡ []
+    → texts_of (first_bytes None) (resources_in entries) ≡ built_in_bytes ∷ []
 unfolding resources_in texts_of first_bytes
 texts_of_none entries none = ap (λ es. texts_of (first_bytes None) (resources_in es)) none
 
@@ -67,19 +78,24 @@ same_format a b is = equal_format a b (not_false (option_eq nat_eq a b) is)
     not_false true is = refl
     not_false false is = sym is
 
-module _ (entries after : List (Path × Resource)) (path : Path) (r : Resource) (is : after ≡ insert_entry key_test entries path r) where
+module _ (entries after : List (Path × Resource)) (path : Path) (r : Resource)
+    (is : after ≡ insert_entry key_test entries path r) where
   pub stored_list : resources_in after ≡ put_at (resources_in entries) path (representation r)
   stored_list = ap resources_in is ∙ resources_put key_test key_equality entries path r
 
   -- The text of a new resource follows those of the others.
-  pub texts_of_created : (first : List ℕ) → found_in (resources_in entries) path ≡ None → texts_of first (resources_in after) ≡ texts_of first (resources_in entries) ++ entry_bytes path r.format ∷ []
-  texts_of_created first absent = ap (texts_of first) stored_list ∙ texts_created first (resources_in entries) path (representation r) absent
+  pub texts_of_created : (first : List ℕ) → found_in (resources_in entries) path ≡ None
+      → texts_of first (resources_in after) ≡ texts_of first (resources_in entries) ++ entry_bytes path r.format ∷ []
+  texts_of_created first absent =
+      ap (texts_of first) stored_list ∙ texts_created first (resources_in entries) path (representation r) absent
 
-module _ (entries : List (Path × Resource)) (path : Path) (i : ℕ) (at : position (key_test path) (keys_of entries) ≡ Some i) where
+module _ (entries : List (Path × Resource)) (path : Path) (i : ℕ)
+    (at : position (key_test path) (keys_of entries) ≡ Some i) where
   pub found_within : i < length entries
   found_within = first_within (key_test path) entries i (first_at (key_test path) entries i at)
 
-  pub set_list : (r : Resource) → resources_in (set_value_at entries i r) ≡ put_at (resources_in entries) path (representation r)
+  pub set_list : (r : Resource)
+      → resources_in (set_value_at entries i r) ≡ put_at (resources_in entries) path (representation r)
   set_list r = resources_set key_test key_equality entries path i r (first_at (key_test path) entries i at)
 
   pub removed_list : resources_in (remove entries i) ≡ removed_at (resources_in entries) path
@@ -89,25 +105,29 @@ removed_none : (rs : List store.Resource) (path : Path) → found_in rs path ≡
 unfolding found_in removed_at
 removed_none [] path none = refl
 removed_none (r ∷ rs) path none =
-    elim (same_path path r.path) as (λ b. (if b then Some r.now else found_in rs path) ≡ None → (if b then rs else (r ∷ removed_at rs path)) ≡ (r ∷ rs)) [
+    elim (same_path path r.path) as (λ b. (if b then Some r.now else found_in rs path) ≡ None
+    → (if b then rs else (r ∷ removed_at rs path)) ≡ (r ∷ rs)) [
       | true ↦ λ e. absurd cc
       | false ↦ λ e. ap (λ (ss : List store.Resource). r ∷ ss) (removed_none rs path e)
     ] none
 
 -- Removing a path that is not there changes nothing.
-pub removed_absent : (entries : List (Path × Resource)) (path : Path) → is_some (lookup (key_test path) entries) ≡ false → removed_at (resources_in entries) path ≡ resources_in entries
+pub removed_absent : (entries : List (Path × Resource)) (path : Path) → is_some (lookup (key_test path) entries) ≡ false
+    → removed_at (resources_in entries) path ≡ resources_in entries
 removed_absent entries path none = removed_none (resources_in entries) path (absent_path entries path none)
 
 -- ---- the resource with an index
 
-found_first : (entries : List (Path × Resource)) (path : Path) (i : ℕ) → IsFirstAt (key_test path) entries i → IsFoundAt (resources_in entries) path i
+found_first : (entries : List (Path × Resource)) (path : Path) (i : ℕ) → IsFirstAt (key_test path) entries i
+    → IsFoundAt (resources_in entries) path i
 unfolding resources_in
 found_first [] path i first = absurd first
 found_first (e ∷ es) path zero first = sym (key_equality path e.0) ∙ first
 found_first (e ∷ es) path (suc i) first = (sym (key_equality path e.0) ∙ first.0, found_first es path i first.1)
 
 -- The map finds a resource at the index that the list has.
-pub found_place : (entries : List (Path × Resource)) (path : Path) (i : ℕ) → position (key_test path) (keys_of entries) ≡ Some i → IsFoundAt (resources_in entries) path i
+pub found_place : (entries : List (Path × Resource)) (path : Path) (i : ℕ)
+    → position (key_test path) (keys_of entries) ≡ Some i → IsFoundAt (resources_in entries) path i
 found_place entries path i at = found_first entries path i (first_at (key_test path) entries i at)
 
 pub place_within : (rs : List store.Resource) (path : Path) (i : ℕ) → IsFoundAt rs path i → i < length rs
@@ -115,13 +135,15 @@ place_within [] path i found = absurd found
 place_within (r ∷ rs) path zero found = omega arith
 place_within (r ∷ rs) path (suc i) found = omega (arith, place_within rs path i found.1)
 
-pub replaced_list : (entries : List (Path × Resource)) (i : ℕ) (r : Resource) → resources_in (set_value_at entries i r) ≡ replaced_at (resources_in entries) i (representation r)
+pub replaced_list : (entries : List (Path × Resource)) (i : ℕ) (r : Resource)
+    → resources_in (set_value_at entries i r) ≡ replaced_at (resources_in entries) i (representation r)
 unfolding resources_in replaced_at
 replaced_list [] i r = refl
 replaced_list (e ∷ es) zero r = refl
 replaced_list (e ∷ es) (suc i) r = ap (λ (rs : List store.Resource). resource_at e ∷ rs) (replaced_list es i r)
 
-pub removed_index : (entries : List (Path × Resource)) (i : ℕ) → resources_in (remove entries i) ≡ remove (resources_in entries) i
+pub removed_index : (entries : List (Path × Resource)) (i : ℕ)
+    → resources_in (remove entries i) ≡ remove (resources_in entries) i
 unfolding resources_in
 removed_index [] zero = refl
 removed_index [] (suc i) = refl
@@ -129,15 +151,19 @@ removed_index (e ∷ es) zero = refl
 removed_index (e ∷ es) (suc i) = ap (λ (rs : List store.Resource). resource_at e ∷ rs) (removed_index es i)
 
 -- A representation that is stored at an index is stored at the path of its resource.
-pub put_by_index : (rs : List store.Resource) (path : Path) (i : ℕ) (now : Representation) → IsFoundAt rs path i → replaced_at rs i now ≡ put_at rs path now
+pub put_by_index : (rs : List store.Resource) (path : Path) (i : ℕ) (now : Representation) → IsFoundAt rs path i
+    → replaced_at rs i now ≡ put_at rs path now
 unfolding replaced_at put_at
 put_by_index [] path i now found = absurd found
 put_by_index (r ∷ rs) path zero now found = rw found refl
-put_by_index (r ∷ rs) path (suc i) now found = rw found.0 (ap (λ (ss : List store.Resource). r ∷ ss) (put_by_index rs path i now found.1))
+put_by_index (r ∷ rs) path (suc i) now found =
+    rw found.0 (ap (λ (ss : List store.Resource). r ∷ ss) (put_by_index rs path i now found.1))
 
 -- The resource that is removed at an index is that at its path.
-pub removed_by_index : (rs : List store.Resource) (path : Path) (i : ℕ) → IsFoundAt rs path i → remove rs i ≡ removed_at rs path
+pub removed_by_index : (rs : List store.Resource) (path : Path) (i : ℕ) → IsFoundAt rs path i
+    → remove rs i ≡ removed_at rs path
 unfolding removed_at
 removed_by_index [] path i found = absurd found
 removed_by_index (r ∷ rs) path zero found = rw found refl
-removed_by_index (r ∷ rs) path (suc i) found = rw found.0 (ap (λ (ss : List store.Resource). r ∷ ss) (removed_by_index rs path i found.1))
+removed_by_index (r ∷ rs) path (suc i) found =
+    rw found.0 (ap (λ (ss : List store.Resource). r ∷ ss) (removed_by_index rs path i found.1))

@@ -1,7 +1,9 @@
 -- The options of a request, each with a flag that states if it is recognised.
-use Rattle.std.proofs.Common.{◌≡◌, Bool, true, false, not, ◌&&◌, ◌||◌, cond, List, [], ◌∷◌, map, filter, Option, Some, refl, ap}
+use Rattle.std.proofs.Common.{◌≡◌, Bool, true, false, not, ◌&&◌, ◌||◌, cond, List, [], ◌∷◌, map, filter, Option, Some}
+use Rattle.std.proofs.Common.{refl, ap}
 use Rattle.std.specs.Prelude.{find}
-use Rattle.coap_store.specs.Prelude.{is_some, option_map, list_any, CoapOption, Placed, placed, is_recognised, is_critical}
+use Rattle.coap_store.specs.Prelude.{is_some, option_map, list_any, CoapOption, Placed, placed, is_recognised}
+use Rattle.coap_store.specs.Prelude.{is_critical}
 use Rattle.coap_store.specs.Prelude.{known_options, known_behind, first_critical, first_critical_behind}
 use Rattle.coap_store.specs.Prelude.{checked_options, checked_behind, checked_at, CheckedOptionValue}
 
@@ -18,22 +20,29 @@ has_bad cs = list_any is_bad cs
 
 -- ---- the lists of options
 
-recognised_front : (known : Bool) (p : Placed) (cs : List CheckedOptionValue) (ps : List Placed) → map (λ (c : CheckedOptionValue). c.option) cs ≡ map (λ (p : Placed). p.option) ps
-    → map (λ (c : CheckedOptionValue). c.option) (cond known (checked_at p ∷ cs) cs) ≡ map (λ (p : Placed). p.option) (cond known (p ∷ ps) ps)
+recognised_front : (known : Bool) (p : Placed) (cs : List CheckedOptionValue) (ps : List Placed)
+    → map (λ (c : CheckedOptionValue). c.option) cs ≡ map (λ (p : Placed). p.option) ps
+    → map (λ (c : CheckedOptionValue). c.option) (cond known (checked_at p ∷ cs) cs)
+    ≡ map (λ (p : Placed). p.option) (cond known (p ∷ ps) ps)
 recognised_front true p cs ps same = ap (λ (os : List CoapOption). p.option ∷ os) same
 recognised_front false p cs ps same = same
 
-recognised_placed : (ps : List Placed) → recognised_in (map checked_at ps) ≡ map (λ (p : Placed). p.option) (filter (λ (p : Placed). is_recognised p.before p.option) ps)
+recognised_placed : (ps : List Placed) → recognised_in (map checked_at ps)
+    ≡ map (λ (p : Placed). p.option) (filter (λ (p : Placed). is_recognised p.before p.option) ps)
 recognised_placed [] = refl
 recognised_placed (p ∷ ps) =
-    recognised_front (is_recognised p.before p.option) p (filter (λ (c : CheckedOptionValue). c.recognised) (map checked_at ps)) (filter (λ (p : Placed). is_recognised p.before p.option) ps) (recognised_placed ps)
+    recognised_front (is_recognised p.before p.option) p
+    (filter (λ (c : CheckedOptionValue). c.recognised) (map checked_at ps))
+    (filter (λ (p : Placed). is_recognised p.before p.option) ps) (recognised_placed ps)
 
-bad_front : (bad : Bool) (p : Placed) (any : Bool) (found : Option Placed) → any ≡ is_some (option_map (λ (p : Placed). p.option.number) found)
+bad_front : (bad : Bool) (p : Placed) (any : Bool) (found : Option Placed)
+    → any ≡ is_some (option_map (λ (p : Placed). p.option.number) found)
     → (bad || any) ≡ is_some (option_map (λ (p : Placed). p.option.number) (cond bad (Some p) found))
 bad_front true p any found same = refl
 bad_front false p any found same = same
 
-bad_placed : (ps : List Placed) → has_bad (map checked_at ps) ≡ is_some (option_map (λ (p : Placed). p.option.number) (find (λ (p : Placed). is_critical p.option && not (is_recognised p.before p.option)) ps))
+bad_placed : (ps : List Placed) → has_bad (map checked_at ps) ≡ is_some (option_map (λ (p : Placed). p.option.number)
+    (find (λ (p : Placed). is_critical p.option && not (is_recognised p.before p.option)) ps))
 bad_placed [] = refl
 bad_placed (p ∷ ps) =
     bad_front (is_critical p.option && not (is_recognised p.before p.option)) p (has_bad (map checked_at ps))

@@ -1,7 +1,9 @@
 -- The entries of a listing, and its text after a change of an entry.
-use Rattle.std.proofs.Common.{◌≡◌, ℕ, zero, suc, ◌+◌, ◌-◌, ◌<◌, ◌≤◌, List, [], ◌∷◌, ◌++◌, length, take, drop, map, get_or, set, refl, sym, ap, ◌∙◌, append_assoc, length-append, arith}
+use Rattle.std.proofs.Common.{◌≡◌, ℕ, zero, suc, ◌+◌, ◌-◌, ◌<◌, ◌≤◌, List, [], ◌∷◌, ◌++◌, length, take, drop, map}
+use Rattle.std.proofs.Common.{get_or, set, refl, sym, ap, ◌∙◌, append_assoc, length-append, arith}
 use Rattle.std.proofs.Math.Seq.{take-append_seam, drop-append_seam}
-use Rattle.std.proofs.lemmas.List.{append-nil, take-append-drop, take-append-le, length-take, length-drop, length-map, nil_from_length, map_push, map-set, get_or-map}
+use Rattle.std.proofs.lemmas.List.{append-nil, take-append-drop, take-append-le, length-take, length-drop, length-map}
+use Rattle.std.proofs.lemmas.List.{nil_from_length, map_push, map-set, get_or-map}
 use Rattle.std.proofs.lemmas.List.Sums.{sum_by-cons, sum_by_more_le}
 use Rattle.coap_store.specs.Prelude.{joined, split_by, with_end, remove, sum}
 
@@ -11,14 +13,16 @@ sum_cons n ns = sum_by-cons (λ (k : ℕ). k) n ns
 pub length_joined : (es : List (List ℕ)) → length (joined es) ≡ sum (map length es)
 unfolding joined
 length_joined [] = refl
-length_joined (e ∷ es) = omega (arith, length-append e (joined es), length_joined es, sum_cons (length e) (map length es))
+length_joined (e ∷ es) =
+    omega (arith, length-append e (joined es), length_joined es, sum_cons (length e) (map length es))
 
 -- The lengths and the bytes determine the entries.
 pub split_joined : (es : List (List ℕ)) → split_by (map length es) (joined es) ≡ es
 unfolding joined split_by
 split_joined [] = refl
 split_joined (e ∷ es) =
-    λ i. take-append_seam e (joined es) i ∷ (ap (split_by (map length es)) (drop-append_seam e (joined es)) ∙ split_joined es) i
+    λ i. take-append_seam e (joined es) i
+    ∷ (ap (split_by (map length es)) (drop-append_seam e (joined es)) ∙ split_joined es) i
 
 pub joined_split : (ns bs : List ℕ) → sum ns ≡ length bs → joined (split_by ns bs) ≡ bs
 unfolding joined split_by
@@ -60,22 +64,28 @@ abbrev pub place : List (List ℕ) → ℕ → ℕ
 place es i = sum (take i (map length es))
 
 pub joined_ended : (es : List (List ℕ)) (i count : ℕ) (end : List ℕ) → i < length es → count ≤ length (get_or es i [])
-    → joined (set es i (with_end (get_or es i []) count end)) ≡ take (place es i + length (get_or es i []) - count) (joined es) ++ (end ++ drop (place es i + length (get_or es i [])) (joined es))
+    → joined (set es i (with_end (get_or es i []) count end))
+    ≡ take (place es i + length (get_or es i []) - count) (joined es)
+    ++ (end ++ drop (place es i + length (get_or es i [])) (joined es))
 unfolding joined
 joined_ended [] i count end within le = absurd (omega arith)
 joined_ended (e ∷ es) zero count end within le =
     let stop : length e ≡ 0 + length e = omega arith in
     append_assoc (take (length e - count) e) end (joined es)
-    ∙ (λ i. sym (take_before e (joined es) (length e - count) (omega arith)) i ++ (end ++ sym (drop-append_seam e (joined es)) i))
+    ∙ (λ i. sym (take_before e (joined es) (length e - count) (omega arith)) i
+    ++ (end ++ sym (drop-append_seam e (joined es)) i))
     ∙ (λ i. take (stop i - count) (e ++ joined es) ++ (end ++ drop (stop i) (e ++ joined es)))
 joined_ended (e ∷ es) (suc i) count end within le =
     let n = length (get_or es i []) in
     let sums = sum_cons (length e) (take i (map length es)) in
     ap (λ (t : List ℕ). e ++ t) (joined_ended es i count end (omega arith) le)
     ∙ sym (append_assoc e (take (place es i + n - count) (joined es)) (end ++ drop (place es i + n) (joined es)))
-    ∙ (λ j. sym (take_behind e (joined es) (place es i + n - count) (place (e ∷ es) (suc i) + n - count) (omega (arith, sums, le))) j ++ (end ++ sym (drop_behind e (joined es) (place es i + n) (place (e ∷ es) (suc i) + n) (omega (arith, sums))) j))
+    ∙ (λ j. sym
+    (take_behind e (joined es) (place es i + n - count) (place (e ∷ es) (suc i) + n - count) (omega (arith, sums, le)))
+    j ++ (end ++ sym (drop_behind e (joined es) (place es i + n) (place (e ∷ es) (suc i) + n) (omega (arith, sums))) j))
 
-pub joined_removed : (es : List (List ℕ)) (i : ℕ) → i < length es → joined (remove es i) ≡ take (place es i) (joined es) ++ drop (place es i + length (get_or es i [])) (joined es)
+pub joined_removed : (es : List (List ℕ)) (i : ℕ) → i < length es
+    → joined (remove es i) ≡ take (place es i) (joined es) ++ drop (place es i + length (get_or es i [])) (joined es)
 unfolding joined
 joined_removed [] i within = absurd (omega arith)
 joined_removed (e ∷ es) zero within =
@@ -86,7 +96,8 @@ joined_removed (e ∷ es) (suc i) within =
     let sums = sum_cons (length e) (take i (map length es)) in
     ap (λ (t : List ℕ). e ++ t) (joined_removed es i (omega arith))
     ∙ sym (append_assoc e (take (place es i) (joined es)) (drop (place es i + n) (joined es)))
-    ∙ (λ j. sym (take_behind e (joined es) (place es i) (place (e ∷ es) (suc i)) (omega (arith, sums))) j ++ sym (drop_behind e (joined es) (place es i + n) (place (e ∷ es) (suc i) + n) (omega (arith, sums))) j)
+    ∙ (λ j. sym (take_behind e (joined es) (place es i) (place (e ∷ es) (suc i)) (omega (arith, sums))) j
+    ++ sym (drop_behind e (joined es) (place es i + n) (place (e ∷ es) (suc i) + n) (omega (arith, sums))) j)
 
 -- ---- the numbers and the bytes of a listing
 
@@ -121,7 +132,12 @@ module _ (ns bs : List ℕ) (es : List (List ℕ)) (text : IsListed ns bs es) wh
 
   pub place_within : (i : ℕ) → i < length es → sum (take i ns) + length (get_or es i []) ≤ length bs
   place_within i within =
-      omega (arith, sum_by_more_le (λ (k : ℕ). k) ns i 0 (omega (arith, counted, within)), length_at i 0 within, whole_text)
+      omega (
+        arith,
+        sum_by_more_le (λ (k : ℕ). k) ns i 0 (omega (arith, counted, within)),
+        length_at i 0 within,
+        whole_text,
+      )
 
   pub appended : (ms cs e : List ℕ) → ms ≡ ns ++ length e ∷ [] → cs ≡ bs ++ e → IsListed ms cs (es ++ e ∷ [])
   appended ms cs e more longer = record {
@@ -129,19 +145,30 @@ module _ (ns bs : List ℕ) (es : List (List ℕ)) (text : IsListed ns bs es) wh
     bytes = longer ∙ ap (λ (t : List ℕ). t ++ e) text.bytes ∙ sym (joined_push es e);
   }
 
-  pub ended : (ms cs : List ℕ) (i count n : ℕ) (end : List ℕ) → i < length es → count ≤ length (get_or es i []) → n ≡ length (get_or es i []) - count + length end
-      → ms ≡ set ns i n → cs ≡ take (sum (take i ns) + length (get_or es i []) - count) bs ++ (end ++ drop (sum (take i ns) + length (get_or es i [])) bs)
+  pub ended : (ms cs : List ℕ) (i count n : ℕ) (end : List ℕ) → i < length es → count ≤ length (get_or es i [])
+      → n ≡ length (get_or es i []) - count + length end
+      → ms ≡ set ns i n → cs ≡ take (sum (take i ns) + length (get_or es i []) - count) bs
+      ++ (end ++ drop (sum (take i ns) + length (get_or es i [])) bs)
       → IsListed ms cs (set es i (with_end (get_or es i []) count end))
   ended ms cs i count n end within le size lengths bytes =
       let e = get_or es i [] in
-      let m : n ≡ length (with_end e count end) = omega (arith, size, length-append (take (length e - count) e) end, length-take (length e - count) e) in
+      let m : n ≡ length (with_end e count end) =
+      omega (arith, size, length-append (take (length e - count) e) end, length-take (length e - count) e) in
       record {
         lengths = lengths ∙ (λ j. set (text.lengths j) i (m j)) ∙ sym (map-set length es i (with_end e count end));
-        bytes = bytes ∙ (λ j. take (sum (take i (text.lengths j)) + length e - count) (text.bytes j) ++ (end ++ drop (sum (take i (text.lengths j)) + length e) (text.bytes j))) ∙ sym (joined_ended es i count end within le);
+        bytes =
+            bytes ∙ (λ j. take (sum (take i (text.lengths j)) + length e - count) (text.bytes j)
+            ++ (end ++ drop (sum (take i (text.lengths j)) + length e) (text.bytes j)))
+            ∙ sym (joined_ended es i count end within le);
       }
 
-  pub removed : (ms cs : List ℕ) (i : ℕ) → i < length es → ms ≡ remove ns i → cs ≡ take (sum (take i ns)) bs ++ drop (sum (take i ns) + length (get_or es i [])) bs → IsListed ms cs (remove es i)
+  pub removed : (ms cs : List ℕ) (i : ℕ) → i < length es → ms ≡ remove ns i
+      → cs ≡ take (sum (take i ns)) bs ++ drop (sum (take i ns) + length (get_or es i [])) bs
+      → IsListed ms cs (remove es i)
   removed ms cs i within lengths bytes = record {
     lengths = lengths ∙ ap (λ (ks : List ℕ). remove ks i) text.lengths ∙ map_removed es i within;
-    bytes = bytes ∙ (λ j. take (sum (take i (text.lengths j))) (text.bytes j) ++ drop (sum (take i (text.lengths j)) + length (get_or es i [])) (text.bytes j)) ∙ sym (joined_removed es i within);
+    bytes =
+        bytes ∙ (λ j. take (sum (take i (text.lengths j))) (text.bytes j)
+        ++ drop (sum (take i (text.lengths j)) + length (get_or es i [])) (text.bytes j))
+        ∙ sym (joined_removed es i within);
   }

@@ -4,7 +4,8 @@ use Rattle.std.proofs.lemmas.Bool.{and_parts, leb-true}
 use Rattle.coap_store.specs.Prelude.{Message, Path, Representation, StoreValue, is_async, kind_of_path, state_at}
 use Rattle.coap_store.specs.Prelude.{target_of, is_get, path_of, value_of, digits_mean, is_seconds, is_good_query}
 use Rattle.coap_store.specs.Prelude.{seconds_of, Answer, Nothing, only, content, late, delayed_response, is_delayed}
-use Rattle.coap_store.specs.Prelude.{stored_under, answer_at, removes_watch, with_observe_rule, answer_of, unheld_by, without_hold}
+use Rattle.coap_store.specs.Prelude.{stored_under, answer_at, removes_watch, with_observe_rule, answer_of, unheld_by}
+use Rattle.coap_store.specs.Prelude.{without_hold}
 use Rattle.coap_store.specs.Prelude.{immediate_answer, ResourceKind, Root, Time, Async, Listing, Dynamic, Add}
 use Rattle.coap_wire.specs.Codes as code
 use Rattle.coap_wire.specs.OptionNumbers as numbers
@@ -23,7 +24,8 @@ seconds_fit None good = omega arith
 seconds_fit (Some bytes) good = hour bytes good
 
 -- The state of `/async` is always the same.
-late_content : (s : StoreValue) (now : ℕ) (key : Option Path) (place : ResourceKind) (r : Representation) → is_async place ≡ true → state_at s now key place ≡ Some r → content place r ≡ delayed_response
+late_content : (s : StoreValue) (now : ℕ) (key : Option Path) (place : ResourceKind) (r : Representation)
+    → is_async place ≡ true → state_at s now key place ≡ Some r → content place r ≡ delayed_response
 unfolding state_at
 late_content s now key Root r waits is = absurd cc
 late_content s now key Time r waits is = absurd cc
@@ -43,12 +45,15 @@ HoldsWell m a = (seconds : ℕ) → a.hold ≡ Some seconds → IsHeld m a secon
 at_once : (m : Message) (a : Answer) → a.hold ≡ None → HoldsWell m a
 at_once m a none seconds e = absurd cc
 
-stored_at_once : (key : Option Path) (state : Option Representation) (m : Message) → (stored_under key state m).hold ≡ None
+stored_at_once : (key : Option Path) (state : Option Representation) (m : Message)
+    → (stored_under key state m).hold ≡ None
 stored_at_once None state m = refl
 stored_at_once (Some path) None m = refl
 stored_at_once (Some path) (Some r) m = refl
 
-late_holds : (s : StoreValue) (now : ℕ) (m : Message) (r : Representation) → is_get m ≡ true → (target_of s now (path_of m)).state ≡ Some r → is_async (kind_of_path (path_of m)) ≡ true → is_good_query (value_of numbers.uri_query m) ≡ true → HoldsWell m (late (kind_of_path (path_of m)) r m)
+late_holds : (s : StoreValue) (now : ℕ) (m : Message) (r : Representation) → is_get m ≡ true
+    → (target_of s now (path_of m)).state ≡ Some r → is_async (kind_of_path (path_of m)) ≡ true
+    → is_good_query (value_of numbers.uri_query m) ≡ true → HoldsWell m (late (kind_of_path (path_of m)) r m)
 late_holds s now m r get is waits good seconds e =
     let same : seconds_of (value_of numbers.uri_query m) ≡ seconds = cc in
     record {
@@ -69,25 +74,31 @@ held_at s now m =
         content = at_once m _ refl;
       });
       deleted = λ dynamic other. at_once m _ refl;
-      stored = λ dynamic other. store_cases P s t m (λ c e. at_once m _ refl) (at_once m _ refl) (λ can. at_once m _ (stored_at_once t.key t.state m));
+      stored = λ dynamic other. store_cases P s t m (λ c e. at_once m _ refl) (at_once m _ refl)
+          (λ can. at_once m _ (stored_at_once t.key t.state m));
     })
 
 -- The effect on the observers does not matter.
 held_finally : (m : Message) (b : Bool) (a : Answer) → HoldsWell m a → HoldsWell m (with_observe_rule b a)
-held_finally m true a holds seconds e = let is = holds seconds e in record { asked = is.asked; response = is.response; change = is.change; short = is.short }
+held_finally m true a holds seconds e =
+    let is = holds seconds e in
+    record { asked = is.asked; response = is.response; change = is.change; short = is.short }
 held_finally m false a holds seconds e = holds seconds e
 
-pub held_of : (s : StoreValue) (now : ℕ) (m : Message) (seconds : ℕ) → (answer_of s now m).hold ≡ Some seconds → IsHeld m (answer_of s now m) seconds
+pub held_of : (s : StoreValue) (now : ℕ) (m : Message) (seconds : ℕ) → (answer_of s now m).hold ≡ Some seconds
+    → IsHeld m (answer_of s now m) seconds
 unfolding answer_of
 held_of s now m = held_finally m (removes_watch m) (answer_at s (target_of s now (path_of m)) m) (held_at s now m)
 
 -- Such a request registers no observer.
-pub held_unwatched : (s : StoreValue) (now : ℕ) (m : Message) (seconds : ℕ) → (answer_of s now m).hold ≡ Some seconds → (answer_of s now m).watch ≢ Add
+pub held_unwatched : (s : StoreValue) (now : ℕ) (m : Message) (seconds : ℕ) → (answer_of s now m).hold ≡ Some seconds
+    → (answer_of s now m).watch ≢ Add
 held_unwatched s now m seconds e = λ adds. (let none = watched_at_once s now m adds in absurd cc)
 
 -- ---- a full pending list
 
-pub unheld_held : (a : Answer) (seconds : ℕ) → a.hold ≡ Some seconds → (without_hold a).response ≡ only code.service_unavailable
+pub unheld_held : (a : Answer) (seconds : ℕ) → a.hold ≡ Some seconds
+    → (without_hold a).response ≡ only code.service_unavailable
 unheld_held a seconds e = ap (λ hold. (unheld_by hold a).response) e
 
 pub unheld_prompt : (a : Answer) → a.hold ≡ None → without_hold a ≡ a
@@ -96,14 +107,17 @@ unheld_prompt a e = ap (λ hold. unheld_by hold a) e
 pub unheld_change : (a : Answer) → (without_hold a).change ≡ a.change
 unheld_change a = change_unheld a.hold a
 
-pub refused_for_now : (s : StoreValue) (now : ℕ) (m : Message) (seconds : ℕ) → (answer_of s now m).hold ≡ Some seconds → (immediate_answer s now m).response ≡ only code.service_unavailable
+pub refused_for_now : (s : StoreValue) (now : ℕ) (m : Message) (seconds : ℕ) → (answer_of s now m).hold ≡ Some seconds
+    → (immediate_answer s now m).response ≡ only code.service_unavailable
 unfolding immediate_answer
 refused_for_now s now m seconds e = unheld_held (answer_of s now m) seconds e
 
-pub same_change : (s : StoreValue) (now : ℕ) (m : Message) → (immediate_answer s now m).change ≡ (answer_of s now m).change
+pub same_change : (s : StoreValue) (now : ℕ) (m : Message)
+    → (immediate_answer s now m).change ≡ (answer_of s now m).change
 unfolding immediate_answer
 same_change s now m = unheld_change (answer_of s now m)
 
-pub same_at_once : (s : StoreValue) (now : ℕ) (m : Message) → (answer_of s now m).hold ≡ None → immediate_answer s now m ≡ answer_of s now m
+pub same_at_once : (s : StoreValue) (now : ℕ) (m : Message) → (answer_of s now m).hold ≡ None
+    → immediate_answer s now m ≡ answer_of s now m
 unfolding immediate_answer
 same_at_once s now m e = unheld_prompt (answer_of s now m) e

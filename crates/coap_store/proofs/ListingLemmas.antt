@@ -1,5 +1,6 @@
 -- The listing, and the texts of the resources, after a change.
-use Rattle.std.proofs.Common.{◌≡◌, ℕ, zero, suc, ◌+◌, ◌*◌, ◌<◌, ◌≤◌, Bool, true, false, List, [], ◌∷◌, ◌++◌, length, map, get_or, set, Option, Some, None, refl, sym, ap, ◌∙◌, append_assoc, arith}
+use Rattle.std.proofs.Common.{◌≡◌, ℕ, zero, suc, ◌+◌, ◌*◌, ◌<◌, ◌≤◌, Bool, true, false, List, [], ◌∷◌, ◌++◌, length}
+use Rattle.std.proofs.Common.{map, get_or, set, Option, Some, None, refl, sym, ap, ◌∙◌, append_assoc, arith}
 use Rattle.std.specs.Prelude.{slice_get, position}
 use Rattle.std.specs.List.{remove}
 use Rattle.coap_store.specs.Prelude.{IfSome, option_map, if◌then◌else◌, AllByRecursion, flat_map}
@@ -24,17 +25,22 @@ lines rs = flat_map line rs
 
 -- ---- the text after a change
 
-lines_created : (rs : List store.Resource) (path : Path) (now : Representation) → found_in rs path ≡ None → map line (put_at rs path now) ≡ map line rs ++ entry_bytes path now.format ∷ []
+lines_created : (rs : List store.Resource) (path : Path) (now : Representation) → found_in rs path ≡ None
+    → map line (put_at rs path now) ≡ map line rs ++ entry_bytes path now.format ∷ []
 unfolding found_in put_at
 lines_created [] path now none = refl
 lines_created (r ∷ rs) path now none =
-    elim (same_path path r.path) as (λ b. (if b then Some r.now else found_in rs path) ≡ None → map line (if b then (record r { now = now } ∷ rs) else (r ∷ put_at rs path now)) ≡ map line (r ∷ rs) ++ entry_bytes path now.format ∷ []) [
+    elim (same_path path r.path) as (λ b. (if b then Some r.now else found_in rs path) ≡ None
+    → map line (if b then (record r { now = now } ∷ rs) else (r ∷ put_at rs path now))
+    ≡ map line (r ∷ rs) ++ entry_bytes path now.format ∷ []) [
       | true ↦ λ e. absurd cc
       | false ↦ λ e. ap (λ (ts : List (List ℕ)). line r ∷ ts) (lines_created rs path now e)
     ] none
 
 -- A new resource is last in the listing.
-pub texts_created : (first : List ℕ) (rs : List store.Resource) (path : Path) (now : Representation) → found_in rs path ≡ None → texts_of first (put_at rs path now) ≡ texts_of first rs ++ entry_bytes path now.format ∷ []
+pub texts_created : (first : List ℕ) (rs : List store.Resource) (path : Path) (now : Representation)
+    → found_in rs path ≡ None
+    → texts_of first (put_at rs path now) ≡ texts_of first rs ++ entry_bytes path now.format ∷ []
 unfolding texts_of
 texts_created first rs path now none = ap (λ (ts : List (List ℕ)). first ∷ ts) (lines_created rs path now none)
 
@@ -43,17 +49,24 @@ unfolding joined
 lines_joined [] = refl
 lines_joined (r ∷ rs) = ap (λ (t : List ℕ). line r ++ t) (lines_joined rs)
 
-pub texts_joined : (applications : Option ApplicationsValue) (rs : List store.Resource) → joined (texts_of (first_bytes applications) rs) ≡ listing applications rs
+pub texts_joined : (applications : Option ApplicationsValue) (rs : List store.Resource)
+    → joined (texts_of (first_bytes applications) rs) ≡ listing applications rs
 unfolding joined texts_of first_bytes listing
 texts_joined applications rs =
     ap (λ (t : List ℕ). (built_in_bytes ++ application_bytes applications) ++ t) (lines_joined rs)
     ∙ append_assoc built_in_bytes (application_bytes applications) (lines rs)
 
 -- The length of the texts, by that of the listing without an application.
-pub texts_length : (first : List ℕ) (rs : List store.Resource) → length (joined (texts_of first rs)) ≤ length first + length (listing None rs)
+pub texts_length : (first : List ℕ) (rs : List store.Resource)
+    → length (joined (texts_of first rs)) ≤ length first + length (listing None rs)
 unfolding joined texts_of listing
 texts_length first rs =
-    omega (arith, length-append first (joined (map line rs)), ap length (lines_joined rs), length-append built_in_bytes (lines rs))
+    omega (
+      arith,
+      length-append first (joined (map line rs)),
+      ap length (lines_joined rs),
+      length-append built_in_bytes (lines rs),
+    )
 
 -- ---- the length of the text
 
@@ -63,10 +76,12 @@ CanBeListed r = (is_path r.path ≡ true) × IfSome r.now.format (λ n. n < 6553
 
 lines_bound : (rs : List store.Resource) → AllByRecursion CanBeListed rs → length (lines rs) ≤ 781 * length rs
 lines_bound [] h = omega arith
-lines_bound (r ∷ rs) h = omega (arith, lines_bound rs h.1, entry_short r.path r.now.format h.0.0 h.0.1, length-append (line r) (lines rs))
+lines_bound (r ∷ rs) h =
+    omega (arith, lines_bound rs h.1, entry_short r.path r.now.format h.0.0 h.0.1, length-append (line r) (lines rs))
 
 -- The listing of 1,000 resources fits in 1,048,576 bytes.
-pub listing_bound : (applications : Option ApplicationsValue) (rs : List store.Resource) → AllByRecursion CanBeListed rs → length rs ≤ 1000 → length (first_bytes applications) ≤ 16423 → length (listing applications rs) ≤ 1048576
+pub listing_bound : (applications : Option ApplicationsValue) (rs : List store.Resource) → AllByRecursion CanBeListed rs
+    → length rs ≤ 1000 → length (first_bytes applications) ≤ 16423 → length (listing applications rs) ≤ 1048576
 unfolding listing first_bytes
 listing_bound applications rs each few short =
     omega (
@@ -85,14 +100,19 @@ IsFirstAt test [] i = ⊥
 IsFirstAt test (e ∷ es) zero = test e.0 ≡ true
 IsFirstAt test (e ∷ es) (suc i) = (test e.0 ≡ false) × IsFirstAt test es i
 
-first_from : (test : Path → Bool) (es : List (Path × Resource)) (i : ℕ) → i < length (keys_of es) → test (get_or (keys_of es) i []) ≡ true → ((k : ℕ) → k < i → test (get_or (keys_of es) k []) ≡ false) → IsFirstAt test es i
+first_from : (test : Path → Bool) (es : List (Path × Resource)) (i : ℕ) → i < length (keys_of es)
+    → test (get_or (keys_of es) i []) ≡ true → ((k : ℕ) → k < i → test (get_or (keys_of es) k []) ≡ false)
+    → IsFirstAt test es i
 first_from test [] i within is before = absurd (omega arith)
 first_from test (e ∷ es) zero within is before = is
 first_from test (e ∷ es) (suc i) within is before =
     (before 0 (omega arith), first_from test es i (omega arith) is (λ k less. before (suc k) (omega arith)))
 
-pub first_at : (test : Path → Bool) (es : List (Path × Resource)) (i : ℕ) → position test (keys_of es) ≡ Some i → IsFirstAt test es i
-first_at test es i at = let found = position-Some test (keys_of es) i [] at in first_from test es i found.0 found.1 found.2
+pub first_at : (test : Path → Bool) (es : List (Path × Resource)) (i : ℕ)
+    → position test (keys_of es) ≡ Some i → IsFirstAt test es i
+first_at test es i at =
+    let found = position-Some test (keys_of es) i [] at in
+    first_from test es i found.0 found.1 found.2
 
 pub first_within : (test : Path → Bool) (es : List (Path × Resource)) (i : ℕ) → IsFirstAt test es i → i < length es
 first_within test [] i first = absurd first
@@ -103,69 +123,91 @@ first_within test (e ∷ es) (suc i) first = omega (arith, first_within test es 
 abbrev entry_lines : List (Path × Resource) → List (List ℕ)
 entry_lines es = map line (resources_in es)
 
-line_at : (es : List (Path × Resource)) (i : ℕ) (e : Path × Resource) → slice_get es i ≡ Some e → get_or (entry_lines es) i [] ≡ entry_bytes e.0 e.1.format
+line_at : (es : List (Path × Resource)) (i : ℕ) (e : Path × Resource) → slice_get es i ≡ Some e
+    → get_or (entry_lines es) i [] ≡ entry_bytes e.0 e.1.format
 unfolding resources_in
 line_at [] i e at = absurd cc
 line_at (f ∷ es) zero e at = let is : f ≡ e = cc in ap (λ (g : Path × Resource). entry_bytes g.0 g.1.format) is
 line_at (f ∷ es) (suc i) e at = line_at es i e at
 
-lines_set : (es : List (Path × Resource)) (i : ℕ) (e : Path × Resource) (r : Resource) → slice_get es i ≡ Some e → entry_lines (set_value_at es i r) ≡ set (entry_lines es) i (entry_bytes e.0 r.format)
+lines_set : (es : List (Path × Resource)) (i : ℕ) (e : Path × Resource) (r : Resource) → slice_get es i ≡ Some e
+    → entry_lines (set_value_at es i r) ≡ set (entry_lines es) i (entry_bytes e.0 r.format)
 unfolding resources_in
 lines_set [] i e r at = absurd cc
-lines_set (f ∷ es) zero e r at = let is : f ≡ e = cc in ap (λ (g : Path × Resource). entry_bytes g.0 r.format ∷ entry_lines es) is
+lines_set (f ∷ es) zero e r at =
+    let is : f ≡ e = cc in
+    ap (λ (g : Path × Resource). entry_bytes g.0 r.format ∷ entry_lines es) is
 lines_set (f ∷ es) (suc i) e r at = ap (λ (ts : List (List ℕ)). line (resource_at f) ∷ ts) (lines_set es i e r at)
 
-lines_removed : (es : List (Path × Resource)) (i : ℕ) → i < length es → entry_lines (remove es i) ≡ remove (entry_lines es) i
+lines_removed : (es : List (Path × Resource)) (i : ℕ) → i < length es
+    → entry_lines (remove es i) ≡ remove (entry_lines es) i
 unfolding resources_in
 lines_removed [] i within = absurd (omega arith)
 lines_removed (e ∷ es) zero within = refl
-lines_removed (e ∷ es) (suc i) within = ap (λ (ts : List (List ℕ)). line (resource_at e) ∷ ts) (lines_removed es i (omega arith))
+lines_removed (e ∷ es) (suc i) within =
+    ap (λ (ts : List (List ℕ)). line (resource_at e) ∷ ts) (lines_removed es i (omega arith))
 
-pub text_at : (first : List ℕ) (es : List (Path × Resource)) (i : ℕ) (e : Path × Resource) → slice_get es i ≡ Some e → get_or (texts_of first (resources_in es)) (i + 1) [] ≡ entry_bytes e.0 e.1.format
+pub text_at : (first : List ℕ) (es : List (Path × Resource)) (i : ℕ) (e : Path × Resource) → slice_get es i ≡ Some e
+    → get_or (texts_of first (resources_in es)) (i + 1) [] ≡ entry_bytes e.0 e.1.format
 unfolding texts_of
-text_at first es i e at = let next : i + 1 ≡ suc i = omega arith in ap (λ k. get_or (first ∷ entry_lines es) k []) next ∙ line_at es i e at
+text_at first es i e at =
+    let next : i + 1 ≡ suc i = omega arith in
+    ap (λ k. get_or (first ∷ entry_lines es) k []) next ∙ line_at es i e at
 
 -- The text of a resource is replaced if it is.
-pub texts_set : (first : List ℕ) (es : List (Path × Resource)) (i : ℕ) (e : Path × Resource) (r : Resource) → slice_get es i ≡ Some e
-    → texts_of first (resources_in (set_value_at es i r)) ≡ set (texts_of first (resources_in es)) (i + 1) (entry_bytes e.0 r.format)
+pub texts_set : (first : List ℕ) (es : List (Path × Resource)) (i : ℕ) (e : Path × Resource) (r : Resource)
+    → slice_get es i ≡ Some e
+    → texts_of first (resources_in (set_value_at es i r))
+    ≡ set (texts_of first (resources_in es)) (i + 1) (entry_bytes e.0 r.format)
 unfolding texts_of
 texts_set first es i e r at =
     let next : suc i ≡ i + 1 = omega arith in
-    ap (λ (ts : List (List ℕ)). first ∷ ts) (lines_set es i e r at) ∙ ap (λ k. set (first ∷ entry_lines es) k (entry_bytes e.0 r.format)) next
+    ap (λ (ts : List (List ℕ)). first ∷ ts) (lines_set es i e r at)
+    ∙ ap (λ k. set (first ∷ entry_lines es) k (entry_bytes e.0 r.format)) next
 
 -- A resource that keeps its Content-Format keeps its text.
-pub texts_kept : (first : List ℕ) (es : List (Path × Resource)) (i : ℕ) (e : Path × Resource) (r : Resource) → slice_get es i ≡ Some e → e.1.format ≡ r.format → texts_of first (resources_in (set_value_at es i r)) ≡ texts_of first (resources_in es)
+pub texts_kept : (first : List ℕ) (es : List (Path × Resource)) (i : ℕ) (e : Path × Resource) (r : Resource)
+    → slice_get es i ≡ Some e → e.1.format ≡ r.format
+    → texts_of first (resources_in (set_value_at es i r)) ≡ texts_of first (resources_in es)
 texts_kept first es i e r at same =
     texts_set first es i e r at
-    ∙ ap (λ t. set (texts_of first (resources_in es)) (i + 1) t) (ap (λ f. entry_bytes e.0 f) (sym same) ∙ sym (text_at first es i e at))
+    ∙ ap (λ t. set (texts_of first (resources_in es)) (i + 1) t)
+    (ap (λ f. entry_bytes e.0 f) (sym same) ∙ sym (text_at first es i e at))
     ∙ set-get_or (texts_of first (resources_in es)) (i + 1) []
 
 -- The entry at an index, which has this Content-Format.
-pub entry_of : (es : List (Path × Resource)) (i : ℕ) (format : Option ℕ) → Some format ≡ option_map (λ e. e.1.format) (slice_get es i)
+pub entry_of : (es : List (Path × Resource)) (i : ℕ) (format : Option ℕ)
+    → Some format ≡ option_map (λ e. e.1.format) (slice_get es i)
     → (e : Path × Resource) × (slice_get es i ≡ Some e) × (format ≡ e.1.format)
 entry_of es i format is = by (slice_get es i) refl is
   where
-    by : (found : Option (Path × Resource)) → slice_get es i ≡ found → Some format ≡ option_map (λ e. e.1.format) found → (e : Path × Resource) × (slice_get es i ≡ Some e) × (format ≡ e.1.format)
+    by : (found : Option (Path × Resource)) → slice_get es i ≡ found → Some format ≡ option_map (λ e. e.1.format) found
+        → (e : Path × Resource) × (slice_get es i ≡ Some e) × (format ≡ e.1.format)
     by None at same = absurd cc
     by (Some e) at same = (e, at, cc)
 
 -- The listing, in which the end of the text of a resource is replaced.
-pub texts_changed : (first : List ℕ) (es : List (Path × Resource)) (i : ℕ) (e : Path × Resource) (r : Resource) (ts : List (List ℕ)) (at n : ℕ) (end : List ℕ) → slice_get es i ≡ Some e
+pub texts_changed : (first : List ℕ) (es : List (Path × Resource)) (i : ℕ) (e : Path × Resource) (r : Resource)
+    (ts : List (List ℕ)) (at n : ℕ) (end : List ℕ) → slice_get es i ≡ Some e
     → ts ≡ texts_of first (resources_in es) → at ≡ i + 1 → n ≡ length (end_bytes e.1.format) → end ≡ end_bytes r.format
     → set ts at (with_end (get_or ts at []) n end) ≡ texts_of first (resources_in (set_value_at es i r))
 texts_changed first es i e r ts at n end found listed place count ends =
     (λ k. set (listed k) (place k) (with_end (get_or (listed k) (place k) []) (count k) (ends k)))
-    ∙ ap (λ t. set (texts_of first (resources_in es)) (i + 1) (with_end t (length (end_bytes e.1.format)) (end_bytes r.format))) (text_at first es i e found)
+    ∙ ap (λ t. set (texts_of first (resources_in es)) (i + 1)
+    (with_end t (length (end_bytes e.1.format)) (end_bytes r.format))) (text_at first es i e found)
     ∙ ap (λ t. set (texts_of first (resources_in es)) (i + 1) t) (entry_changed e.0 e.1.format r.format)
     ∙ sym (texts_set first es i e r found)
 
-pub texts_removed : (first : List ℕ) (es : List (Path × Resource)) (i : ℕ) → i < length es → texts_of first (resources_in (remove es i)) ≡ remove (texts_of first (resources_in es)) (i + 1)
+pub texts_removed : (first : List ℕ) (es : List (Path × Resource)) (i : ℕ) → i < length es
+    → texts_of first (resources_in (remove es i)) ≡ remove (texts_of first (resources_in es)) (i + 1)
 unfolding texts_of
 texts_removed first es i within =
     let next : suc i ≡ i + 1 = omega arith in
-    ap (λ (ts : List (List ℕ)). first ∷ ts) (lines_removed es i within) ∙ ap (λ k. remove (first ∷ entry_lines es) k) next
+    ap (λ (ts : List (List ℕ)). first ∷ ts) (lines_removed es i within)
+    ∙ ap (λ k. remove (first ∷ entry_lines es) k) next
 
-pub texts_count : (first : List ℕ) (es : List (Path × Resource)) → length (texts_of first (resources_in es)) ≡ length es + 1
+pub texts_count : (first : List ℕ) (es : List (Path × Resource))
+    → length (texts_of first (resources_in es)) ≡ length es + 1
 unfolding texts_of resources_in
 texts_count first es = omega (arith, length-map (resources_in es) line, length-map es resource_at)
 
@@ -175,24 +217,32 @@ unfolding texts_of
 texts_first first new rs = refl
 
 -- The first text is that with which the listing begins.
-pub head_is : (first : List ℕ) (rs : List store.Resource) (ts : List (List ℕ)) → ts ≡ texts_of first rs → head_of ts ≡ first
+pub head_is : (first : List ℕ) (rs : List store.Resource) (ts : List (List ℕ))
+    → ts ≡ texts_of first rs → head_of ts ≡ first
 unfolding texts_of
 head_is first rs ts is = ap head_of is
 
-pub by_head : (first : List ℕ) (rs : List store.Resource) (ts : List (List ℕ)) → ts ≡ texts_of first rs → ts ≡ texts_of (head_of ts) rs
+pub by_head : (first : List ℕ) (rs : List store.Resource) (ts : List (List ℕ)) → ts ≡ texts_of first rs
+    → ts ≡ texts_of (head_of ts) rs
 by_head first rs ts is = is ∙ ap (λ f. texts_of f rs) (sym (head_is first rs ts is))
 
 module _ (eq : Path → Path → Bool) (same : (p q : Path) → eq p q ≡ same_path p q) where
-  pub resources_put : (entries : List (Path × Resource)) (path : Path) (r : Resource) → resources_in (insert_entry eq entries path r) ≡ put_at (resources_in entries) path (representation r)
+  pub resources_put : (entries : List (Path × Resource)) (path : Path) (r : Resource)
+      → resources_in (insert_entry eq entries path r) ≡ put_at (resources_in entries) path (representation r)
   unfolding resources_in put_at
   resources_put [] path r = refl
   resources_put (e ∷ es) path r =
-      rw (same path e.0) (elim (same_path path e.0) as (λ b. resources_in (if b then (e.0, r) ∷ es else (e ∷ insert_entry eq es path r)) ≡ (if b then (record { path = e.0; now = representation r } ∷ resources_in es) else (resource_at e ∷ put_at (resources_in es) path (representation r)))) [
+      rw (same path e.0)
+      (elim (same_path path e.0) as (λ b. resources_in (if b then (e.0, r) ∷ es else (e ∷ insert_entry eq es path r))
+      ≡ (if b then (record { path = e.0; now = representation r } ∷ resources_in es)
+      else (resource_at e ∷ put_at (resources_in es) path (representation r)))) [
         | true ↦ refl
         | false ↦ ap (λ (rs : List store.Resource). resource_at e ∷ rs) (resources_put es path r)
       ])
 
-  pub resources_set : (entries : List (Path × Resource)) (path : Path) (i : ℕ) (r : Resource) → IsFirstAt (eq path) entries i → resources_in (set_value_at entries i r) ≡ put_at (resources_in entries) path (representation r)
+  pub resources_set : (entries : List (Path × Resource)) (path : Path) (i : ℕ) (r : Resource)
+      → IsFirstAt (eq path) entries i
+      → resources_in (set_value_at entries i r) ≡ put_at (resources_in entries) path (representation r)
   unfolding resources_in put_at
   resources_set [] path i r first = absurd first
   resources_set (e ∷ es) path zero r first = let is = sym (same path e.0) ∙ first in rw is refl
@@ -200,7 +250,8 @@ module _ (eq : Path → Path → Bool) (same : (p q : Path) → eq p q ≡ same_
       let other = sym (same path e.0) ∙ first.0 in
       rw other (ap (λ (rs : List store.Resource). resource_at e ∷ rs) (resources_set es path i r first.1))
 
-  pub resources_removed : (entries : List (Path × Resource)) (path : Path) (i : ℕ) → IsFirstAt (eq path) entries i → resources_in (remove entries i) ≡ removed_at (resources_in entries) path
+  pub resources_removed : (entries : List (Path × Resource)) (path : Path) (i : ℕ) → IsFirstAt (eq path) entries i
+      → resources_in (remove entries i) ≡ removed_at (resources_in entries) path
   unfolding resources_in removed_at
   resources_removed [] path i first = absurd first
   resources_removed (e ∷ es) path zero first = let is = sym (same path e.0) ∙ first in rw is refl
@@ -208,11 +259,14 @@ module _ (eq : Path → Path → Bool) (same : (p q : Path) → eq p q ≡ same_
       let other = sym (same path e.0) ∙ first.0 in
       rw other (ap (λ (rs : List store.Resource). resource_at e ∷ rs) (resources_removed es path i first.1))
 
-  pub resources_found : (entries : List (Path × Resource)) (path : Path) → found_in (resources_in entries) path ≡ option_map representation (lookup (eq path) entries)
+  pub resources_found : (entries : List (Path × Resource)) (path : Path)
+      → found_in (resources_in entries) path ≡ option_map representation (lookup (eq path) entries)
   unfolding resources_in found_in
   resources_found [] path = refl
   resources_found (e ∷ es) path =
-      rw (same path e.0) (elim (same_path path e.0) as (λ b. (if b then Some (representation e.1) else found_in (resources_in es) path) ≡ option_map representation (if b then Some e.1 else lookup (eq path) es)) [
+      rw (same path e.0)
+      (elim (same_path path e.0) as (λ b. (if b then Some (representation e.1) else found_in (resources_in es) path)
+      ≡ option_map representation (if b then Some e.1 else lookup (eq path) es)) [
         | true ↦ refl
         | false ↦ resources_found es path
       ])

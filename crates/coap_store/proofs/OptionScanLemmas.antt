@@ -1,7 +1,9 @@
 -- The options collected from all recognised options are those of the request.
-use Rattle.std.proofs.Common.{◌≡◌, ℕ, Bool, true, false, ◌||◌, ◌==◌, cond, List, [], ◌∷◌, map, filter, Option, Some, None, refl, ap, ◌∙◌}
+use Rattle.std.proofs.Common.{◌≡◌, ℕ, Bool, true, false, ◌||◌, ◌==◌, cond, List, [], ◌∷◌, map, filter, Option, Some}
+use Rattle.std.proofs.Common.{None, refl, ap, ◌∙◌}
 use Rattle.coap_store.specs.Prelude.{CoapOption, Message, known_options, values_of, value_of, has_option, path_of}
-use Rattle.coap_store.specs.Prelude.{is_given, first_or_none, trail_behind, place_at, RequestOptions, nothing, first_given}
+use Rattle.coap_store.specs.Prelude.{is_given, first_or_none, trail_behind, place_at, RequestOptions, nothing}
+use Rattle.coap_store.specs.Prelude.{first_given}
 use Rattle.coap_store.specs.Prelude.{match_after, options_after, all_noted, AreNotesOf, PathMatch}
 use Rattle.coap_wire.specs.OptionNumbers as numbers
 use Rattle.coap_store.proofs.RequestLemmas.{has_number, values_in, given_at}
@@ -16,14 +18,17 @@ or_moved true b c = refl
 or_moved false b c = refl
 
 -- The presence of an option.
-module _ (field : RequestOptions → Bool) (number : ℕ) (step : (n : RequestOptions) (o : CoapOption) → field (options_after n o) ≡ (field n || o.number == number)) where
-  pub flag_noted : (n : RequestOptions) (os : List CoapOption) → field (all_noted n os) ≡ (field n || is_given (values_in number os))
+module _ (field : RequestOptions → Bool) (number : ℕ)
+    (step : (n : RequestOptions) (o : CoapOption) → field (options_after n o) ≡ (field n || o.number == number)) where
+  pub flag_noted : (n : RequestOptions) (os : List CoapOption)
+      → field (all_noted n os) ≡ (field n || is_given (values_in number os))
   flag_noted n [] = or_false (field n)
   flag_noted n (o ∷ os) =
       flag_noted (options_after n o) os
       ∙ ap (λ (b : Bool). b || is_given (values_in number os)) (step n o)
       ∙ or_moved (field n) (o.number == number) (is_given (values_in number os))
-      ∙ ap (λ (b : Bool). field n || b) (given_at (has_number number o) o (filter (has_number number) os) (is_given (values_in number os)) refl)
+      ∙ ap (λ (b : Bool). field n || b)
+      (given_at (has_number number o) o (filter (has_number number) os) (is_given (values_in number os)) refl)
 
 pub or_none_more : (b : Bool) → (b || false) ≡ b
 or_none_more true = refl
@@ -39,7 +44,12 @@ not_given None value = refl
 not_given (Some v) value = refl
 
 -- An option that changes nothing.
-pub nothing_noted : (n : RequestOptions) (o : CoapOption) → (o.number == numbers.uri_path) ≡ false → (o.number == numbers.if_match) ≡ false → (o.number == numbers.etag) ≡ false → (o.number == numbers.if_none_match) ≡ false → (o.number == numbers.proxy_uri) ≡ false → (o.number == numbers.proxy_scheme) ≡ false → (o.number == numbers.observe) ≡ false → (o.number == numbers.content_format) ≡ false → (o.number == numbers.uri_query) ≡ false → (o.number == numbers.accept) ≡ false → n ≡ options_after n o
+pub nothing_noted : (n : RequestOptions) (o : CoapOption) → (o.number == numbers.uri_path) ≡ false
+    → (o.number == numbers.if_match) ≡ false → (o.number == numbers.etag) ≡ false
+    → (o.number == numbers.if_none_match) ≡ false → (o.number == numbers.proxy_uri) ≡ false
+    → (o.number == numbers.proxy_scheme) ≡ false → (o.number == numbers.observe) ≡ false
+    → (o.number == numbers.content_format) ≡ false → (o.number == numbers.uri_query) ≡ false
+    → (o.number == numbers.accept) ≡ false → n ≡ options_after n o
 unfolding options_after
 nothing_noted n o a b c d e f g h i j = rw (a, b, c, d, e, f, g, h, i, j) (simp (or_none_more, not_given))
 
@@ -52,13 +62,17 @@ or_none : (first : Option (List ℕ)) → first ≡ or_first first None
 or_none None = refl
 or_none (Some v) = refl
 
-first_moved : (first : Option (List ℕ)) (here : Bool) (o : CoapOption) (os : List CoapOption) → or_first (first_given first here o.value) (first_or_none (map (λ (o : CoapOption). o.value) os)) ≡ or_first first (first_or_none (map (λ (o : CoapOption). o.value) (cond here (o ∷ os) os)))
+first_moved : (first : Option (List ℕ)) (here : Bool) (o : CoapOption) (os : List CoapOption)
+    → or_first (first_given first here o.value) (first_or_none (map (λ (o : CoapOption). o.value) os))
+    ≡ or_first first (first_or_none (map (λ (o : CoapOption). o.value) (cond here (o ∷ os) os)))
 first_moved (Some v) here o os = refl
 first_moved None true o os = refl
 first_moved None false o os = refl
 
-module _ (field : RequestOptions → Option (List ℕ)) (number : ℕ) (step : (n : RequestOptions) (o : CoapOption) → field (options_after n o) ≡ first_given (field n) (o.number == number) o.value) where
-  pub first_noted : (n : RequestOptions) (os : List CoapOption) → field (all_noted n os) ≡ or_first (field n) (first_or_none (values_in number os))
+module _ (field : RequestOptions → Option (List ℕ)) (number : ℕ) (step : (n : RequestOptions) (o : CoapOption)
+    → field (options_after n o) ≡ first_given (field n) (o.number == number) o.value) where
+  pub first_noted : (n : RequestOptions) (os : List CoapOption)
+      → field (all_noted n os) ≡ or_first (field n) (first_or_none (values_in number os))
   first_noted n [] = or_none (field n)
   first_noted n (o ∷ os) =
       first_noted (options_after n o) os
@@ -66,15 +80,19 @@ module _ (field : RequestOptions → Option (List ℕ)) (number : ℕ) (step : (
       ∙ first_moved (field n) (has_number number o) o (filter (has_number number) os)
 
 -- The state of matching the path.
-trail_moved : (trail : PathMatch) (here : Bool) (o : CoapOption) (os : List CoapOption) → trail_behind (match_after trail here o.value) (map (λ (o : CoapOption). o.value) os) ≡ trail_behind trail (map (λ (o : CoapOption). o.value) (cond here (o ∷ os) os))
+trail_moved : (trail : PathMatch) (here : Bool) (o : CoapOption) (os : List CoapOption)
+    → trail_behind (match_after trail here o.value) (map (λ (o : CoapOption). o.value) os)
+    ≡ trail_behind trail (map (λ (o : CoapOption). o.value) (cond here (o ∷ os) os))
 trail_moved trail true o os = refl
 trail_moved trail false o os = refl
 
-trail_noted : (n : RequestOptions) (os : List CoapOption) → (all_noted n os).trail ≡ trail_behind n.trail (values_in numbers.uri_path os)
+trail_noted : (n : RequestOptions) (os : List CoapOption)
+    → (all_noted n os).trail ≡ trail_behind n.trail (values_in numbers.uri_path os)
 unfolding options_after
 trail_noted n [] = refl
 trail_noted n (o ∷ os) =
-    trail_noted (options_after n o) os ∙ trail_moved n.trail (has_number numbers.uri_path o) o (filter (has_number numbers.uri_path) os)
+    trail_noted (options_after n o) os
+    ∙ trail_moved n.trail (has_number numbers.uri_path o) o (filter (has_number numbers.uri_path) os)
 
 -- All recognised options of a request.
 pub scan_options : (m : Message) → AreNotesOf m (all_noted nothing (known_options m.options))

@@ -1,5 +1,6 @@
 -- The changes by the embedding program that are rejected, and those that are not.
-use Rattle.std.proofs.Common.{◌≡◌, ℕ, ◌<◌, ◌^◌, Bool, true, false, ◌&&◌, List, [], ◌∷◌, length, Option, Some, None, refl, sym, ap, subst, ◌∙◌}
+use Rattle.std.proofs.Common.{◌≡◌, ℕ, ◌<◌, ◌^◌, Bool, true, false, ◌&&◌, List, [], ◌∷◌, length, Option, Some, None}
+use Rattle.std.proofs.Common.{refl, sym, ap, subst, ◌∙◌}
 use Rattle.coap_store.specs.Prelude.{is_some, is_none, nat_le, nat_lt, ◌==◌, not, option_map, IfSome, if◌then◌else◌}
 use Rattle.coap_store.specs.Prelude.{Bor, AllByRecursion, Path, is_path, Representation, StoreValue, found_in}
 use Rattle.coap_store.specs.Prelude.{put_in, kind_of_path, is_dynamic, greatest_version, representation, TakesPut}
@@ -13,37 +14,47 @@ use Rattle.coap_store.proofs.StoreLemmas.{store_put, found_kept}
 -- ---- checks
 
 -- Without an error, the condition of a check does not hold, and the later checks give no error.
-pub passed : {F : Type 0} (holds : Bool) (fault : F) (rest : Option F) → (if holds then Some fault else rest) ≡ None → (holds ≡ false) × (rest ≡ None)
+pub passed : {F : Type 0} (holds : Bool) (fault : F) (rest : Option F) → (if holds then Some fault else rest) ≡ None
+    → (holds ≡ false) × (rest ≡ None)
 passed true fault rest none = absurd cc
 passed false fault rest none = (refl, none)
 
 -- No check gives the error `Memory`.
-first_fault_refuses : (checks : List (Bool × StoreFault)) (fault : StoreFault) → AllByRecursion (λ check. refusal_in check.1 ≡ Some check.1) checks → first_fault checks ≡ Some fault → refusal_in fault ≡ Some fault
+first_fault_refuses : (checks : List (Bool × StoreFault)) (fault : StoreFault)
+    → AllByRecursion (λ check. refusal_in check.1 ≡ Some check.1) checks → first_fault checks ≡ Some fault
+    → refusal_in fault ≡ Some fault
 first_fault_refuses [] fault all is = absurd cc
 first_fault_refuses (check ∷ checks) fault all is =
-    elim check.0 as (λ b. (if b then Some check.1 else first_fault checks) ≡ Some fault → refusal_in fault ≡ Some fault) [
+    elim check.0
+    as (λ b. (if b then Some check.1 else first_fault checks) ≡ Some fault → refusal_in fault ≡ Some fault) [
       | true ↦ λ here. (let same : check.1 ≡ fault = cc in subst (λ (f : StoreFault). refusal_in f ≡ Some f) same all.0)
       | false ↦ λ behind. first_fault_refuses checks fault all.1 behind
     ] is
 
 -- ---- put
 
-pub put_told : (s : StoreValue) (path : Path) (bytes : List ℕ) (fault : StoreFault) → put_refusal s path bytes ≡ Some fault → put_refusal s path bytes ≡ refusal_in fault
+pub put_told : (s : StoreValue) (path : Path) (bytes : List ℕ) (fault : StoreFault)
+    → put_refusal s path bytes ≡ Some fault → put_refusal s path bytes ≡ refusal_in fault
 unfolding put_refusal
 put_told s path bytes fault is =
-    is ∙ sym (first_fault_refuses ((nat_lt s.rep_max (length bytes), TooLarge) ∷ (not (is_dynamic (kind_of_path path)), BadPath) ∷ (is_none (found_in s.resources path) && nat_le s.dynamic_max (length s.resources), Limit) ∷ (s.versions == greatest_version, VersionsSpent) ∷ []) fault (refl, (refl, (refl, (refl, tt)))) is)
+    is ∙ sym
+    (first_fault_refuses ((nat_lt s.rep_max (length bytes), TooLarge) ∷ (not (is_dynamic (kind_of_path path)), BadPath)
+    ∷ (is_none (found_in s.resources path) && nat_le s.dynamic_max (length s.resources), Limit)
+    ∷ (s.versions == greatest_version, VersionsSpent) ∷ []) fault (refl, (refl, (refl, (refl, tt)))) is)
 
 is_dynamic_place : (dynamic : Bool) → not dynamic ≡ false → dynamic ≡ true
 is_dynamic_place true is = refl
 is_dynamic_place false is = absurd cc
 
 -- The store accepts a representation that is not rejected.
-pub takes_put : (s : StoreValue) (path : Path) (bytes : List ℕ) → is_path path ≡ true → s.versions < 2 ^ 64 → put_refusal s path bytes ≡ None → TakesPut s path bytes
+pub takes_put : (s : StoreValue) (path : Path) (bytes : List ℕ) → is_path path ≡ true → s.versions < 2 ^ 64
+    → put_refusal s path bytes ≡ None → TakesPut s path bytes
 unfolding put_refusal
 takes_put s path bytes is fits none =
     let small = passed (nat_lt s.rep_max (length bytes)) TooLarge _ none in
     let dynamic = passed (not (is_dynamic (kind_of_path path))) BadPath _ small.1 in
-    let room = passed (is_none (found_in s.resources path) && nat_le s.dynamic_max (length s.resources)) Limit _ dynamic.1 in
+    let room =
+    passed (is_none (found_in s.resources path) && nat_le s.dynamic_max (length s.resources)) Limit _ dynamic.1 in
     let left = passed (s.versions == greatest_version) VersionsSpent _ room.1 in
     record {
       path_ok = is;
@@ -53,33 +64,47 @@ takes_put s path bytes is fits none =
       version_left = version_fits s.versions left.0 fits;
     }
 
-pub put_keeps : (s : StoreValue) (path : Path) (format : Option ℕ) (bytes : List ℕ) → IsStore s → is_path path ≡ true → put_refusal s path bytes ≡ None → IfSome format (λ number. number < 65536) → IsStore (put_in s path format bytes)
-put_keeps s path format bytes is path_ok none short = store_put s path format bytes is (takes_put s path bytes path_ok is.versions none) short
+pub put_keeps : (s : StoreValue) (path : Path) (format : Option ℕ) (bytes : List ℕ) → IsStore s → is_path path ≡ true
+    → put_refusal s path bytes ≡ None → IfSome format (λ number. number < 65536) → IsStore (put_in s path format bytes)
+put_keeps s path format bytes is path_ok none short =
+    store_put s path format bytes is (takes_put s path bytes path_ok is.versions none) short
 
 -- ---- remove
 
 -- A resource is borrowed if and only if a representation is found.
-lent_alike : (lent : Option (Bor lent.Resource)) (found : Option Representation) → option_map (λ r. representation r.now) lent ≡ found → is_none lent ≡ is_none found
+lent_alike : (lent : Option (Bor lent.Resource)) (found : Option Representation)
+    → option_map (λ r. representation r.now) lent ≡ found → is_none lent ≡ is_none found
 lent_alike None found same = ap is_none same
 lent_alike (Some r) found same = ap is_none same
 
-pub remove_absent : (s : StoreValue) (path : Path) (lent : Option (Bor lent.Resource)) → option_map (λ r. representation r.now) lent ≡ found_in s.resources path → is_none lent ≡ true → remove_refusal s path ≡ Some NoSuch
+pub remove_absent : (s : StoreValue) (path : Path) (lent : Option (Bor lent.Resource))
+    → option_map (λ r. representation r.now) lent ≡ found_in s.resources path → is_none lent ≡ true
+    → remove_refusal s path ≡ Some NoSuch
 unfolding remove_refusal
 remove_absent s path lent same none =
     rw (sym (lent_alike lent (found_in s.resources path) same) ∙ none)
-    (elim (not (is_dynamic (kind_of_path path))) as (λ b. (if b then Some NoSuch else Some NoSuch) ≡ Some NoSuch) [ true ↦ refl | false ↦ refl ])
+    (elim (not (is_dynamic (kind_of_path path))) as (λ b. (if b then Some NoSuch else Some NoSuch) ≡ Some NoSuch) [
+      | true ↦ refl
+      | false ↦ refl
+    ])
 
-found_dynamic : (s : StoreValue) (path : Path) (found : Option Representation) → IsStore s → found_in s.resources path ≡ found → is_none found ≡ false → not (is_dynamic (kind_of_path path)) ≡ false
+found_dynamic : (s : StoreValue) (path : Path) (found : Option Representation) → IsStore s
+    → found_in s.resources path ≡ found → is_none found ≡ false → not (is_dynamic (kind_of_path path)) ≡ false
 found_dynamic s path None is same some = absurd cc
 found_dynamic s path (Some r) is same some = ap (λ place. not (is_dynamic place)) (found_kept s path r is same).place
 
-pub remove_present : (s : StoreValue) (path : Path) (lent : Option (Bor lent.Resource)) → IsStore s → option_map (λ r. representation r.now) lent ≡ found_in s.resources path → is_none lent ≡ false → remove_refusal s path ≡ None
+pub remove_present : (s : StoreValue) (path : Path) (lent : Option (Bor lent.Resource)) → IsStore s
+    → option_map (λ r. representation r.now) lent ≡ found_in s.resources path → is_none lent ≡ false
+    → remove_refusal s path ≡ None
 unfolding remove_refusal
 remove_present s path lent is same some =
-    let there : is_none (found_in s.resources path) ≡ false = sym (lent_alike lent (found_in s.resources path) same) ∙ some in
+    let there : is_none (found_in s.resources path) ≡ false =
+    sym (lent_alike lent (found_in s.resources path) same) ∙ some in
     rw (found_dynamic s path (found_in s.resources path) is refl there, there) refl
 
 -- A resource is removed if and only if one is found.
-pub removal_told : (s : StoreValue) (path : Path) (lent : Option (Bor lent.Resource)) → IsStore s → option_map (λ r. representation r.now) lent ≡ found_in s.resources path → is_some lent ≡ is_none (remove_refusal s path)
+pub removal_told : (s : StoreValue) (path : Path) (lent : Option (Bor lent.Resource)) → IsStore s
+    → option_map (λ r. representation r.now) lent ≡ found_in s.resources path
+    → is_some lent ≡ is_none (remove_refusal s path)
 removal_told s path None is same = ap is_none (sym (remove_absent s path None same refl))
 removal_told s path (Some r) is same = ap is_none (sym (remove_present s path (Some r) is same refl))

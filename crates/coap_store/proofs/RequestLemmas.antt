@@ -1,5 +1,6 @@
 -- The recognised options with one number, and their values.
-use Rattle.std.proofs.Common.{◌≡◌, ℕ, ◌<◌, ◌≤◌, Bool, true, false, ◌&&◌, ◌||◌, cond, ◌==◌, List, [], ◌∷◌, length, map, filter, get_or, Option, Some, None, refl, sym, ap, subst, ◌∙◌, arith}
+use Rattle.std.proofs.Common.{◌≡◌, ℕ, ◌<◌, ◌≤◌, Bool, true, false, ◌&&◌, ◌||◌, cond, ◌==◌, List, [], ◌∷◌, length, map}
+use Rattle.std.proofs.Common.{filter, get_or, Option, Some, None, refl, sym, ap, subst, ◌∙◌, arith}
 use Rattle.coap_store.specs.Prelude.{option_map, nat_le, is_some, IfSome, then_some, list_any, list_all, CoapOption}
 use Rattle.coap_store.specs.Prelude.{Message, Placed, placed, once, kind_of, has_kind, is_recognised, known_behind}
 use Rattle.coap_store.specs.Prelude.{known_options, uint_of, bytes_of_uint, OptionKind, same_bytes, Representation}
@@ -17,46 +18,59 @@ has_number number o = o.number == number
 abbrev pub values_in : ℕ → List CoapOption → List (List ℕ)
 values_in number os = map (λ o. o.value) (filter (has_number number) os)
 
-pub given_at : (test : Bool) (o : CoapOption) (os : List CoapOption) (any : Bool) → any ≡ is_given (map (λ (o : CoapOption). o.value) os) → (test || any) ≡ is_given (map (λ (o : CoapOption). o.value) (cond test (o ∷ os) os))
+pub given_at : (test : Bool) (o : CoapOption) (os : List CoapOption) (any : Bool)
+    → any ≡ is_given (map (λ (o : CoapOption). o.value) os)
+    → (test || any) ≡ is_given (map (λ (o : CoapOption). o.value) (cond test (o ∷ os) os))
 given_at true o os any rest = refl
 given_at false o os any rest = rest
 
-any_at : (passes : List ℕ → Bool) (test : Bool) (o : CoapOption) (os : List CoapOption) (any : Bool) → any ≡ list_any passes (map (λ (o : CoapOption). o.value) os)
+any_at : (passes : List ℕ → Bool) (test : Bool) (o : CoapOption) (os : List CoapOption) (any : Bool)
+    → any ≡ list_any passes (map (λ (o : CoapOption). o.value) os)
     → ((test && passes o.value) || any) ≡ list_any passes (map (λ (o : CoapOption). o.value) (cond test (o ∷ os) os))
 any_at passes true o os any rest = ap (λ (b : Bool). passes o.value || b) rest
 any_at passes false o os any rest = rest
 
-any_in : (passes : List ℕ → Bool) (number : ℕ) (os : List CoapOption) → list_any (λ (o : CoapOption). has_number number o && passes o.value) os ≡ list_any passes (values_in number os)
+any_in : (passes : List ℕ → Bool) (number : ℕ) (os : List CoapOption)
+    → list_any (λ (o : CoapOption). has_number number o && passes o.value) os ≡ list_any passes (values_in number os)
 any_in passes number [] = refl
 any_in passes number (o ∷ os) =
-    any_at passes (has_number number o) o (filter (has_number number) os) (list_any (λ (o : CoapOption). has_number number o && passes o.value) os) (any_in passes number os)
+    any_at passes (has_number number o) o (filter (has_number number) os)
+    (list_any (λ (o : CoapOption). has_number number o && passes o.value) os) (any_in passes number os)
 
 -- ---- in a request
 
-pub value_passes : (passes : List ℕ → Bool) (number : ℕ) (m : Message) → list_any (λ (o : CoapOption). has_number number o && passes o.value) (known_options m.options) ≡ list_any passes (values_of number m)
+pub value_passes : (passes : List ℕ → Bool) (number : ℕ) (m : Message)
+    → list_any (λ (o : CoapOption). has_number number o && passes o.value) (known_options m.options)
+    ≡ list_any passes (values_of number m)
 unfolding values_of
 value_passes passes number m = any_in passes number (known_options m.options)
 
-none_given_passes : (passes : List ℕ → Bool) (values : List (List ℕ)) → false ≡ is_given values → false ≡ list_any passes values
+none_given_passes : (passes : List ℕ → Bool) (values : List (List ℕ)) → false ≡ is_given values
+    → false ≡ list_any passes values
 none_given_passes passes [] none = refl
 none_given_passes passes (v ∷ vs) none = absurd cc
 
 -- Without an option, no value passes the test.
-pub none_passes : (passes : List ℕ → Bool) (number : ℕ) (m : Message) → false ≡ has_option number m → false ≡ list_any passes (values_of number m)
+pub none_passes : (passes : List ℕ → Bool) (number : ℕ) (m : Message) → false ≡ has_option number m
+    → false ≡ list_any passes (values_of number m)
 unfolding has_option
 none_passes passes number m none = none_given_passes passes (values_of number m) none
 
 -- ---- the length of a recognised option's value
 
-recognised_fits : (before : List CoapOption) (o : CoapOption) (kind : OptionKind) → kind_of o.number ≡ Some kind → is_recognised before o ≡ true → length o.value ≤ kind.max
+recognised_fits : (before : List CoapOption) (o : CoapOption) (kind : OptionKind) → kind_of o.number ≡ Some kind
+    → is_recognised before o ≡ true → length o.value ≤ kind.max
 unfolding is_recognised
 recognised_fits before o kind is test =
     let known : has_kind before o (Some kind) ≡ true = ap (has_kind before o) (sym is) ∙ test in
     leb-true (length o.value) kind.max (and_parts _ _ (and_parts _ _ known).0).1
 
 -- A first option with the number has the first value.
-front_fits : (same : Bool) (number : ℕ) (kind : OptionKind) (p : Placed) (rest : List CoapOption) (value : List ℕ) → has_number number p.option ≡ same → is_recognised p.before p.option ≡ true → kind_of number ≡ Some kind
-    → (first_or_none (map (λ (o : CoapOption). o.value) rest) ≡ Some value → length value ≤ kind.max) → first_or_none (map (λ (o : CoapOption). o.value) (cond same (p.option ∷ rest) rest)) ≡ Some value → length value ≤ kind.max
+front_fits : (same : Bool) (number : ℕ) (kind : OptionKind) (p : Placed) (rest : List CoapOption) (value : List ℕ)
+    → has_number number p.option ≡ same → is_recognised p.before p.option ≡ true → kind_of number ≡ Some kind
+    → (first_or_none (map (λ (o : CoapOption). o.value) rest) ≡ Some value → length value ≤ kind.max)
+    → first_or_none (map (λ (o : CoapOption). o.value) (cond same (p.option ∷ rest) rest)) ≡ Some value
+    → length value ≤ kind.max
 front_fits true number kind p rest value same known is later found =
     let of_it : kind_of p.option.number ≡ Some kind = ap kind_of (eqb-true p.option.number number same) ∙ is in
     let its : p.option.value ≡ value = cc in
@@ -64,24 +78,32 @@ front_fits true number kind p rest value same known is later found =
 front_fits false number kind p rest value same known is later found = later found
 
 -- A first option that is not recognised is skipped.
-placed_front : (known : Bool) (number : ℕ) (kind : OptionKind) (p : Placed) (ps : List Placed) (value : List ℕ) → is_recognised p.before p.option ≡ known → kind_of number ≡ Some kind
-    → (first_or_none (values_in number (map (λ (p : Placed). p.option) ps)) ≡ Some value → length value ≤ kind.max) → first_or_none (values_in number (map (λ (p : Placed). p.option) (cond known (p ∷ ps) ps))) ≡ Some value
+placed_front : (known : Bool) (number : ℕ) (kind : OptionKind) (p : Placed) (ps : List Placed) (value : List ℕ)
+    → is_recognised p.before p.option ≡ known → kind_of number ≡ Some kind
+    → (first_or_none (values_in number (map (λ (p : Placed). p.option) ps)) ≡ Some value → length value ≤ kind.max)
+    → first_or_none (values_in number (map (λ (p : Placed). p.option) (cond known (p ∷ ps) ps))) ≡ Some value
     → length value ≤ kind.max
 placed_front true number kind p ps value known is later found =
-    front_fits (has_number number p.option) number kind p (filter (has_number number) (map (λ (p : Placed). p.option) ps)) value refl known is later found
+    front_fits (has_number number p.option) number kind p
+    (filter (has_number number) (map (λ (p : Placed). p.option) ps)) value refl known is later found
 placed_front false number kind p ps value known is later found = later found
 
 -- The first value with the number, among the recognised options.
 abbrev first_placed : ℕ → List Placed → Option (List ℕ)
-first_placed number ps = first_or_none (values_in number (map (λ p. p.option) (filter (λ p. is_recognised p.before p.option) ps)))
+first_placed number ps =
+    first_or_none (values_in number (map (λ p. p.option) (filter (λ p. is_recognised p.before p.option) ps)))
 
-placed_fits : (number : ℕ) (kind : OptionKind) (ps : List Placed) (value : List ℕ) → kind_of number ≡ Some kind → first_placed number ps ≡ Some value → length value ≤ kind.max
+placed_fits : (number : ℕ) (kind : OptionKind) (ps : List Placed) (value : List ℕ) → kind_of number ≡ Some kind
+    → first_placed number ps ≡ Some value → length value ≤ kind.max
 placed_fits number kind [] value is found = let bad : ◌≡◌ {A = Option (List ℕ)} None (Some value) = found in absurd cc
 placed_fits number kind (p ∷ ps) value is found =
-    placed_front (is_recognised p.before p.option) number kind p (filter (λ (p : Placed). is_recognised p.before p.option) ps) value refl is (placed_fits number kind ps value is) found
+    placed_front (is_recognised p.before p.option) number kind p
+    (filter (λ (p : Placed). is_recognised p.before p.option) ps) value refl is
+    (placed_fits number kind ps value is) found
 
 -- A value of a recognised option has at most the maximum length of its kind.
-pub value_fits : (number : ℕ) (kind : OptionKind) (m : Message) (value : List ℕ) → kind_of number ≡ Some kind → Some value ≡ value_of number m → length value ≤ kind.max
+pub value_fits : (number : ℕ) (kind : OptionKind) (m : Message) (value : List ℕ) → kind_of number ≡ Some kind
+    → Some value ≡ value_of number m → length value ≤ kind.max
 unfolding value_of values_of known_behind
 value_fits number kind m value is found = placed_fits number kind (placed [] m.options) value is (sym found)
 
@@ -91,7 +113,8 @@ pub no_number : (number : ℕ) (m : Message) → None ≡ value_of number m → 
 unfolding number_of
 no_number number m none = ap (option_map uint_of) none
 
-pub number_found : (number : ℕ) (m : Message) (value : List ℕ) → Some value ≡ value_of number m → Some (uint_of value) ≡ number_of number m
+pub number_found : (number : ℕ) (m : Message) (value : List ℕ) → Some value ≡ value_of number m
+    → Some (uint_of value) ≡ number_of number m
 unfolding number_of
 number_found number m value found = ap (option_map uint_of) found
 
@@ -104,11 +127,13 @@ observe_fits m value found =
 
 -- ---- preconditions
 
-pub match_not_asked : (state : Option Representation) (m : Message) → false ≡ has_option numbers.if_match m → true ≡ match_holds state m
+pub match_not_asked : (state : Option Representation) (m : Message) → false ≡ has_option numbers.if_match m
+    → true ≡ match_holds state m
 unfolding match_holds
 match_not_asked state m absent = rw (sym absent) refl
 
-pub match_of_none : (state : Option Representation) (m : Message) → true ≡ has_option numbers.if_match m → None ≡ option_map (λ (r : Representation). r.version) state → false ≡ match_holds state m
+pub match_of_none : (state : Option Representation) (m : Message) → true ≡ has_option numbers.if_match m
+    → None ≡ option_map (λ (r : Representation). r.version) state → false ≡ match_holds state m
 unfolding match_holds
 match_of_none None m asked is = rw (sym asked) refl
 match_of_none (Some r) m asked is = let bad : ◌≡◌ {A = Option ℕ} None (Some r.version) = is in absurd cc
@@ -117,10 +142,14 @@ match_of_none (Some r) m asked is = let bad : ◌≡◌ {A = Option ℕ} None (S
 abbrev pub is_match : List ℕ → List ℕ → Bool
 is_match etag value = length value == 0 || same_bytes value etag
 
-pub match_of_version : (state : Option Representation) (m : Message) (version : ℕ) (etag : List ℕ) → true ≡ has_option numbers.if_match m → Some version ≡ option_map (λ (r : Representation). r.version) state → etag ≡ bytes_of_uint version
+pub match_of_version : (state : Option Representation) (m : Message) (version : ℕ) (etag : List ℕ)
+    → true ≡ has_option numbers.if_match m → Some version ≡ option_map (λ (r : Representation). r.version) state
+    → etag ≡ bytes_of_uint version
     → list_any (is_match etag) (values_of numbers.if_match m) ≡ match_holds state m
 unfolding match_holds
-match_of_version None m version etag asked is etag_is = let bad : ◌≡◌ {A = Option ℕ} (Some version) None = is in absurd cc
+match_of_version None m version etag asked is etag_is =
+    let bad : ◌≡◌ {A = Option ℕ} (Some version) None = is in
+    absurd cc
 match_of_version (Some r) m version etag asked is etag_is =
     let same : version ≡ r.version = cc in
     let etags : etag ≡ bytes_of_uint r.version = etag_is ∙ ap bytes_of_uint same in
@@ -137,11 +166,13 @@ pub no_seconds_long : (text : List ℕ) → 4 < length text → false ≡ is_sec
 unfolding is_seconds
 no_seconds_long text long = sym (and_left _ _ (and_left _ _ (and_right _ _ (lt-leb (length text) 4 long))))
 
-pub no_seconds_at : (text : List ℕ) (i d : ℕ) → i < length text → is_digit (get_or text i d) ≡ false → false ≡ is_seconds text
+pub no_seconds_at : (text : List ℕ) (i d : ℕ) → i < length text → is_digit (get_or text i d) ≡ false
+    → false ≡ is_seconds text
 unfolding is_seconds
 no_seconds_at text i d lt other = sym (and_left _ _ (and_right _ _ (list_all_at is_digit text i d lt other)))
 
-pub seconds_of_digits : (text : List ℕ) → 1 ≤ length text → length text ≤ 4 → list_all is_digit text ≡ true → nat_le (digits_mean text) 3600 ≡ is_seconds text
+pub seconds_of_digits : (text : List ℕ) → 1 ≤ length text → length text ≤ 4 → list_all is_digit text ≡ true
+    → nat_le (digits_mean text) 3600 ≡ is_seconds text
 unfolding is_seconds
 seconds_of_digits text some few digits = rw (le-leb 1 (length text) some, le-leb (length text) 4 few, digits) refl
 

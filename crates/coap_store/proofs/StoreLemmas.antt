@@ -1,5 +1,6 @@
 -- Each change keeps the invariant of a store, and stored resources satisfy it.
-use Rattle.std.proofs.Common.{◌≡◌, ◌≢◌, ℕ, ◌+◌, ◌<◌, ◌≤◌, ◌^◌, true, false, ◌||◌, List, [], ◌∷◌, length, Option, Some, None, refl, sym, ap, subst, ◌∙◌, arith, nat_lt}
+use Rattle.std.proofs.Common.{◌≡◌, ◌≢◌, ℕ, ◌+◌, ◌<◌, ◌≤◌, ◌^◌, true, false, ◌||◌, List, [], ◌∷◌, length, Option, Some}
+use Rattle.std.proofs.Common.{None, refl, sym, ap, subst, ◌∙◌, arith, nat_lt}
 use Rattle.coap_store.specs.Prelude.{IfSome, option_map, if◌then◌else◌, Bor, AllByRecursion, Path, same_path}
 use Rattle.coap_store.specs.Prelude.{Representation, StoreValue, found_in, put_at, removed_at, put_in, removed_in}
 use Rattle.coap_store.specs.Prelude.{listing, representation, Change, Nothing, Put, Delete, changed, TakesPut}
@@ -15,27 +16,37 @@ use Rattle.coap_store.proofs.ChangeLaws.{put_distinct, removed_distinct}
 
 -- ---- each resource
 
-all_resources_to : (P Q : Resource → Type 0) → ((r : Resource) → P r → Q r) → (rs : List Resource) → AllByRecursion P rs → AllByRecursion Q rs
+all_resources_to : (P Q : Resource → Type 0) → ((r : Resource) → P r → Q r) → (rs : List Resource)
+    → AllByRecursion P rs → AllByRecursion Q rs
 all_resources_to P Q to [] all = tt
 all_resources_to P Q to (r ∷ rs) all = (to r all.0, all_resources_to P Q to rs all.1)
 
 module _ (P : Resource → Type 0) where
   -- A property of each resource holds for a resource that is found.
-  pub holds_of_found : (rs : List Resource) (path : Path) (now : Representation) → AllByRecursion P rs → found_in rs path ≡ Some now → P (record { path = path; now = now })
+  pub holds_of_found : (rs : List Resource) (path : Path) (now : Representation) → AllByRecursion P rs
+      → found_in rs path ≡ Some now → P (record { path = path; now = now })
   unfolding found_in
   holds_of_found [] path now all is = absurd cc
   holds_of_found (r ∷ rs) path now all is =
-      elim (same_path path r.path) as (λ b. same_path path r.path ≡ b → (if b then Some r.now else found_in rs path) ≡ Some now → P (record { path = path; now = now })) [
-        | true ↦ λ same e. (let here : r.now ≡ now = cc in subst (λ (p : Path). P (record { path = p; now = now })) (sym (same_path_sound path r.path same)) (subst (λ (n : Representation). P (record { path = r.path; now = n })) here all.0))
+      elim (same_path path r.path) as (λ b. same_path path r.path ≡ b
+      → (if b then Some r.now else found_in rs path) ≡ Some now → P (record { path = path; now = now })) [
+        | true ↦ λ same e. (let here : r.now ≡ now = cc in
+            subst (λ (p : Path). P (record { path = p; now = now })) (sym (same_path_sound path r.path same))
+            (subst (λ (n : Representation). P (record { path = r.path; now = n })) here all.0))
         | false ↦ λ other e. holds_of_found rs path now all.1 e
       ] refl is
 
-  pub put_all : (rs : List Resource) (path : Path) (now : Representation) → AllByRecursion P rs → P (record { path = path; now = now }) → AllByRecursion P (put_at rs path now)
+  pub put_all : (rs : List Resource) (path : Path) (now : Representation) → AllByRecursion P rs
+      → P (record { path = path; now = now }) → AllByRecursion P (put_at rs path now)
   unfolding put_at
   put_all [] path now all here = (here, tt)
   put_all (r ∷ rs) path now all here =
-      elim (same_path path r.path) as (λ b. same_path path r.path ≡ b → AllByRecursion P (if b then (record r { now = now } ∷ rs) else (r ∷ put_at rs path now))) [
-        | true ↦ λ is. (subst (λ (p : Path). P (record { path = p; now = now })) (same_path_sound path r.path is) here, all.1)
+      elim (same_path path r.path) as (λ b. same_path path r.path ≡ b
+      → AllByRecursion P (if b then (record r { now = now } ∷ rs) else (r ∷ put_at rs path now))) [
+        | true ↦ λ is. (
+          subst (λ (p : Path). P (record { path = p; now = now })) (same_path_sound path r.path is) here,
+          all.1,
+        )
         | false ↦ λ is. (all.0, put_all rs path now all.1 here)
       ] refl
 
@@ -54,13 +65,16 @@ module _ (P : Resource → Type 0) where
 abbrev HasOther : ℕ → Resource → Type 0
 HasOther version r = version ≢ r.now.version
 
-put_own : (rs : List Resource) (path : Path) (now : Representation) → AllByRecursion (HasOther now.version) rs → HaveOwnVersions rs → HaveOwnVersions (put_at rs path now)
+put_own : (rs : List Resource) (path : Path) (now : Representation) → AllByRecursion (HasOther now.version) rs
+    → HaveOwnVersions rs → HaveOwnVersions (put_at rs path now)
 unfolding put_at
 put_own [] path now fresh own = (tt, tt)
 put_own (r ∷ rs) path now fresh own =
-    elim (same_path path r.path) as (λ b. HaveOwnVersions (if b then (record r { now = now } ∷ rs) else (r ∷ put_at rs path now))) [
+    elim (same_path path r.path)
+    as (λ b. HaveOwnVersions (if b then (record r { now = now } ∷ rs) else (r ∷ put_at rs path now))) [
       | true ↦ (fresh.1, own.1)
-      | false ↦ (put_all (HasOther r.now.version) rs path now own.0 (λ e. fresh.0 (sym e)), put_own rs path now fresh.1 own.1)
+      | false ↦
+          (put_all (HasOther r.now.version) rs path now own.0 (λ e. fresh.0 (sym e)), put_own rs path now fresh.1 own.1)
     ]
 
 removed_own : (rs : List Resource) (path : Path) → HaveOwnVersions rs → HaveOwnVersions (removed_at rs path)
@@ -73,28 +87,41 @@ removed_own (r ∷ rs) path own =
     ]
 
 -- Two representations with the same version are the same.
-pub one_version : (rs : List Resource) (p q : Path) (a b : Representation) → HaveOwnVersions rs → found_in rs p ≡ Some a → found_in rs q ≡ Some b → a.version ≡ b.version → (p ≡ q) × (a ≡ b)
+pub one_version : (rs : List Resource) (p q : Path) (a b : Representation) → HaveOwnVersions rs → found_in rs p ≡ Some a
+    → found_in rs q ≡ Some b → a.version ≡ b.version → (p ≡ q) × (a ≡ b)
 unfolding found_in
 one_version [] p q a b own at_p at_q same = absurd cc
 one_version (r ∷ rs) p q a b own at_p at_q same =
-    elim (same_path p r.path) as (λ c. same_path p r.path ≡ c → (if c then Some r.now else found_in rs p) ≡ Some a → (p ≡ q) × (a ≡ b)) [
-      | true ↦ λ is_p e. elim (same_path q r.path) as (λ d. same_path q r.path ≡ d → (if d then Some r.now else found_in rs q) ≡ Some b → (p ≡ q) × (a ≡ b)) [
-        | true ↦ λ is_q f. (same_path_sound p r.path is_p ∙ sym (same_path_sound q r.path is_q), (let one : r.now ≡ a = cc in let two : r.now ≡ b = cc in sym one ∙ two))
-        | false ↦ λ no f. (let one : r.now ≡ a = cc in absurd (holds_of_found (HasOther r.now.version) rs q b own.0 f (ap (λ (n : Representation). n.version) one ∙ same)))
-      ] refl at_q
-      | false ↦ λ no e. elim (same_path q r.path) as (λ d. same_path q r.path ≡ d → (if d then Some r.now else found_in rs q) ≡ Some b → (p ≡ q) × (a ≡ b)) [
-        | true ↦ λ is_q f. (let two : r.now ≡ b = cc in absurd (holds_of_found (HasOther r.now.version) rs p a own.0 e (ap (λ (n : Representation). n.version) two ∙ sym same)))
-        | false ↦ λ other f. one_version rs p q a b own.1 e f same
-      ] refl at_q
+    elim (same_path p r.path)
+    as (λ c. same_path p r.path ≡ c → (if c then Some r.now else found_in rs p) ≡ Some a → (p ≡ q) × (a ≡ b)) [
+      | true ↦ λ is_p e. elim (same_path q r.path)
+          as (λ d. same_path q r.path ≡ d → (if d then Some r.now else found_in rs q) ≡ Some b → (p ≡ q) × (a ≡ b)) [
+            | true ↦ λ is_q f. (
+              same_path_sound p r.path is_p ∙ sym (same_path_sound q r.path is_q),
+              (let one : r.now ≡ a = cc in let two : r.now ≡ b = cc in sym one ∙ two),
+            )
+            | false ↦
+                λ no f. (let one : r.now ≡ a = cc in absurd (holds_of_found (HasOther r.now.version) rs q b own.0 f
+                (ap (λ (n : Representation). n.version) one ∙ same)))
+          ] refl at_q
+      | false ↦ λ no e. elim (same_path q r.path)
+          as (λ d. same_path q r.path ≡ d → (if d then Some r.now else found_in rs q) ≡ Some b → (p ≡ q) × (a ≡ b)) [
+            | true ↦
+                λ is_q f. (let two : r.now ≡ b = cc in absurd (holds_of_found (HasOther r.now.version) rs p a own.0 e
+                (ap (λ (n : Representation). n.version) two ∙ sym same)))
+            | false ↦ λ other f. one_version rs p q a b own.1 e f same
+          ] refl at_q
     ] refl at_p
 
 -- ---- the number of resources
 
-put_present : (rs : List Resource) (path : Path) (now : Representation) → is_some (found_in rs path) ≡ true → length (put_at rs path now) ≡ length rs
+put_present : (rs : List Resource) (path : Path) (now : Representation) → is_some (found_in rs path) ≡ true
+    → length (put_at rs path now) ≡ length rs
 unfolding found_in put_at
 put_present [] path now present = absurd cc
 put_present (r ∷ rs) path now present =
-    elim (same_path path r.path) as (λ b. is_some (if b then Some r.now else found_in rs path) ≡ true → length (if b then (record r { now = now } ∷ rs) else (r ∷ put_at rs path now)) ≡ length (r ∷ rs)) [
+    elim (same_path path r.path) as (λ b. is_some (if b then Some r.now else found_in rs path) ≡ true
+    → length (if b then (record r { now = now } ∷ rs) else (r ∷ put_at rs path now)) ≡ length (r ∷ rs)) [
       | true ↦ λ is. refl
       | false ↦ λ is. omega (arith, put_present rs path now is)
     ] present
@@ -103,15 +130,19 @@ put_more : (rs : List Resource) (path : Path) (now : Representation) → length 
 unfolding put_at
 put_more [] path now = omega arith
 put_more (r ∷ rs) path now =
-    elim (same_path path r.path) as (λ b. length (if b then (record r { now = now } ∷ rs) else (r ∷ put_at rs path now)) ≤ length (r ∷ rs) + 1) [
+    elim (same_path path r.path)
+    as (λ b. length (if b then (record r { now = now } ∷ rs) else (r ∷ put_at rs path now)) ≤ length (r ∷ rs) + 1) [
       | true ↦ omega arith
       | false ↦ omega (arith, put_more rs path now)
     ]
 
 -- The resource exists, or the limit allows another one.
-pub put_few : (rs : List Resource) (path : Path) (now : Representation) (slots : ℕ) → (is_some (found_in rs path) || nat_lt (length rs) slots) ≡ true → length rs ≤ slots → length (put_at rs path now) ≤ slots
+pub put_few : (rs : List Resource) (path : Path) (now : Representation) (slots : ℕ)
+    → (is_some (found_in rs path) || nat_lt (length rs) slots) ≡ true → length rs ≤ slots
+    → length (put_at rs path now) ≤ slots
 put_few rs path now slots room few =
-    elim (is_some (found_in rs path)) as (λ b. is_some (found_in rs path) ≡ b → (b || nat_lt (length rs) slots) ≡ true → length (put_at rs path now) ≤ slots) [
+    elim (is_some (found_in rs path)) as (λ b. is_some (found_in rs path) ≡ b → (b || nat_lt (length rs) slots) ≡ true
+    → length (put_at rs path now) ≤ slots) [
       | true ↦ λ is left. omega (arith, put_present rs path now is)
       | false ↦ λ is left. (let less = ltb-true (length rs) slots left in omega (arith, put_more rs path now))
     ] refl room
@@ -128,7 +159,8 @@ removed_few (r ∷ rs) path =
 -- ---- the store
 
 -- A larger last version keeps the property.
-more_given : (versions more rep_max : ℕ) (r : Resource) → versions ≤ more → IsKept versions rep_max r → IsKept more rep_max r
+more_given : (versions more rep_max : ℕ) (r : Resource) → versions ≤ more
+    → IsKept versions rep_max r → IsKept more rep_max r
 more_given versions more rep_max r le kept = record {
   path = kept.path;
   place = kept.place;
@@ -143,15 +175,25 @@ next_version_is_other : (versions rep_max : ℕ) (r : Resource) → IsKept versi
 next_version_is_other versions rep_max r kept = λ e. omega (arith, kept.given)
 
 -- Storing a representation that the store accepts keeps the invariant.
-pub store_put : (s : StoreValue) (path : Path) (format : Option ℕ) (bytes : List ℕ) → IsStore s → TakesPut s path bytes → IfSome format (λ f. f < 65536) → IsStore (put_in s path format bytes)
+pub store_put : (s : StoreValue) (path : Path) (format : Option ℕ) (bytes : List ℕ) → IsStore s → TakesPut s path bytes
+    → IfSome format (λ f. f < 65536) → IsStore (put_in s path format bytes)
 store_put s path format bytes is takes short =
     let now : Representation = record { version = s.versions + 1; format = format; bytes = bytes } in
-    let kept = all_resources_to (IsKept s.versions s.rep_max) (IsKept (s.versions + 1) s.rep_max) (λ r. more_given s.versions (s.versions + 1) s.rep_max r (omega arith)) s.resources is.kept in
-    let fresh = all_resources_to (IsKept s.versions s.rep_max) (HasOther (s.versions + 1)) (next_version_is_other s.versions s.rep_max) s.resources is.kept in
+    let kept = all_resources_to (IsKept s.versions s.rep_max) (IsKept (s.versions + 1) s.rep_max)
+    (λ r. more_given s.versions (s.versions + 1) s.rep_max r (omega arith)) s.resources is.kept in
+    let fresh = all_resources_to (IsKept s.versions s.rep_max) (HasOther (s.versions + 1))
+    (next_version_is_other s.versions s.rep_max) s.resources is.kept in
     record {
       paths = put_distinct s.resources path now is.paths;
       own_versions = put_own s.resources path now fresh is.own_versions;
-      kept = put_all (IsKept (s.versions + 1) s.rep_max) s.resources path now kept (record { path = takes.path_ok; place = takes.place; numbered = omega arith; given = omega arith; format = short; small = takes.small });
+      kept = put_all (IsKept (s.versions + 1) s.rep_max) s.resources path now kept (record {
+        path = takes.path_ok;
+        place = takes.place;
+        numbered = omega arith;
+        given = omega arith;
+        format = short;
+        small = takes.small;
+      });
       few = put_few s.resources path now s.dynamic_max takes.room is.few;
       most = is.most;
       largest = is.largest;
@@ -169,43 +211,67 @@ store_removed s path is = record {
   versions = is.versions;
 }
 
-pub store_changed : (s : StoreValue) (c : Change) → IsStore s → TakesChange s c → HasSmallFormat c → IsStore (changed s c)
+pub store_changed : (s : StoreValue) (c : Change) → IsStore s → TakesChange s c
+    → HasSmallFormat c → IsStore (changed s c)
 store_changed s Nothing is takes short = is
 store_changed s (Put path format bytes) is takes short = store_put s path format bytes is takes short
 store_changed s (Delete path) is takes short = store_removed s path is
 
-pub store_empty : (dynamic_max rep_max versions : ℕ) (applications : Option ApplicationsValue) → dynamic_max ≤ 1000 → rep_max ≤ 1048576 → versions < 2 ^ 64
-    → IsStore (record { dynamic_max = dynamic_max; rep_max = rep_max; resources = []; versions = versions; applications = applications })
-store_empty dynamic_max rep_max versions applications most largest fits = record { paths = tt; own_versions = tt; kept = tt; few = omega arith; most = most; largest = largest; versions = fits }
+pub store_empty : (dynamic_max rep_max versions : ℕ) (applications : Option ApplicationsValue) → dynamic_max ≤ 1000
+    → rep_max ≤ 1048576 → versions < 2 ^ 64
+    → IsStore (record {
+      dynamic_max = dynamic_max;
+      rep_max = rep_max;
+      resources = [];
+      versions = versions;
+      applications = applications;
+    })
+store_empty dynamic_max rep_max versions applications most largest fits = record {
+  paths = tt;
+  own_versions = tt;
+  kept = tt;
+  few = omega arith;
+  most = most;
+  largest = largest;
+  versions = fits;
+}
 
 -- A resource that is found has the property of stored resources.
-pub found_kept : (s : StoreValue) (path : Path) (now : Representation) → IsStore s → found_in s.resources path ≡ Some now → IsKept s.versions s.rep_max (record { path = path; now = now })
+pub found_kept : (s : StoreValue) (path : Path) (now : Representation) → IsStore s
+    → found_in s.resources path ≡ Some now → IsKept s.versions s.rep_max (record { path = path; now = now })
 found_kept s path now is found = holds_of_found (IsKept s.versions s.rep_max) s.resources path now is.kept found
 
 -- A path that is found is that of a resource.
-pub found_is_path : (s : StoreValue) (path : Path) → IsStore s → is_some (found_in s.resources path) ≡ true → is_path path ≡ true
+pub found_is_path : (s : StoreValue) (path : Path) → IsStore s → is_some (found_in s.resources path) ≡ true
+    → is_path path ≡ true
 found_is_path s path kept found = by (found_in s.resources path) refl found
   where
     by : (o : Option Representation) → found_in s.resources path ≡ o → is_some o ≡ true → is_path path ≡ true
     by None e f = absurd cc
     by (Some r) e f = (found_kept s path r kept e).path
 
-pub stored_small : (s : StoreValue) → IsStore s → (path : Path) (r : Representation) → found_in s.resources path ≡ Some r → length r.bytes ≤ 1048576
+pub stored_small : (s : StoreValue) → IsStore s → (path : Path) (r : Representation)
+    → found_in s.resources path ≡ Some r → length r.bytes ≤ 1048576
 stored_small s is path r found = let kept = found_kept s path r is found in omega (arith, kept.small, is.largest)
 
 -- A resource that the catalogue returns is small.
-pub lent_small : (s : StoreValue) (path : Path) (found : Option (Bor lent.Resource)) → IsStore s → option_map (λ r. representation r.now) found ≡ found_in s.resources path → IfSome found (λ r. length r.now.bytes.items ≤ 1048576)
+pub lent_small : (s : StoreValue) (path : Path) (found : Option (Bor lent.Resource)) → IsStore s
+    → option_map (λ r. representation r.now) found ≡ found_in s.resources path
+    → IfSome found (λ r. length r.now.bytes.items ≤ 1048576)
 lent_small s path None is same = tt
 lent_small s path (Some r) is same = stored_small s is path (representation r.now) (sym same)
 
-listable : (versions rep_max : ℕ) (rs : List Resource) → AllByRecursion (IsKept versions rep_max) rs → AllByRecursion CanBeListed rs
+listable : (versions rep_max : ℕ) (rs : List Resource) → AllByRecursion (IsKept versions rep_max) rs
+    → AllByRecursion CanBeListed rs
 listable versions rep_max rs kept =
     all_resources_to (IsKept versions rep_max) CanBeListed (λ r is. (is.path, is.format)) rs kept
 
 -- The listing of a store whose application has a short text.
-pub listing_short : (s : StoreValue) (applications : Option ApplicationsValue) → IsStore s → length (first_bytes applications) ≤ 16423 → length (listing applications s.resources) ≤ 1048576
+pub listing_short : (s : StoreValue) (applications : Option ApplicationsValue) → IsStore s
+    → length (first_bytes applications) ≤ 16423 → length (listing applications s.resources) ≤ 1048576
 listing_short s applications is short =
-    listing_bound applications s.resources (listable s.versions s.rep_max s.resources is.kept) (omega (arith, is.few, is.most)) short
+    listing_bound applications s.resources (listable s.versions s.rep_max s.resources is.kept)
+    (omega (arith, is.few, is.most)) short
 
 pub bare_listing_short : (s : StoreValue) → IsStore s → length (listing None s.resources) ≤ 1048576
 unfolding first_bytes

@@ -1,27 +1,33 @@
 -- No version is given twice, over all changes.
-use Rattle.std.proofs.Common.{◌≡◌, ◌≢◌, ◌⊎◌, inl, inr, ℕ, ◌+◌, ◌<◌, ◌≤◌, ◌^◌, true, false, List, [], ◌∷◌, Option, Some, refl, sym, ap, ◌∙◌, arith}
+use Rattle.std.proofs.Common.{◌≡◌, ◌≢◌, ◌⊎◌, inl, inr, ℕ, ◌+◌, ◌<◌, ◌≤◌, ◌^◌, true, false, List, [], ◌∷◌, Option, Some}
+use Rattle.std.proofs.Common.{refl, sym, ap, ◌∙◌, arith}
 use Rattle.coap_wire.proofs.UintLaws.{bytes_are_one}
 use Rattle.coap_store.specs.Prelude.{Path, same_path, Representation, StoreValue, found_in, etag_of, Change, Nothing}
 use Rattle.coap_store.specs.Prelude.{Put, Delete, changed, TakesChange, changed_by, TakesChanges, AreDistinct}
 use Rattle.coap_store.specs.Prelude.{IsStore}
 use Rattle.coap_path.proofs.PathLemmas.{same_path_sound}
 use Rattle.coap_store.proofs.StoreLemmas.{one_version, found_kept}
-use Rattle.coap_store.proofs.ChangeLaws.{put_is_stored, other_is_kept_on_put, other_is_kept_on_delete, deleted_is_gone, distinct_stays, apart_from}
+use Rattle.coap_store.proofs.ChangeLaws.{put_is_stored, other_is_kept_on_put, other_is_kept_on_delete, deleted_is_gone}
+use Rattle.coap_store.proofs.ChangeLaws.{distinct_stays, apart_from}
 
 -- ---- an ETag identifies the version
 
-pub etag_tells : (a b : Representation) → a.version < 2 ^ 64 → b.version < 2 ^ 64 → etag_of a ≡ etag_of b → a.version ≡ b.version
+pub etag_tells : (a b : Representation) → a.version < 2 ^ 64 → b.version < 2 ^ 64
+    → etag_of a ≡ etag_of b → a.version ≡ b.version
 etag_tells a b fits_a fits_b same = bytes_are_one a.version b.version fits_a fits_b same
 
 -- ---- in one store
 
-pub stored_version_fits : (s : StoreValue) (path : Path) (r : Representation) → IsStore s → found_in s.resources path ≡ Some r → r.version < 2 ^ 64
+pub stored_version_fits : (s : StoreValue) (path : Path) (r : Representation) → IsStore s
+    → found_in s.resources path ≡ Some r → r.version < 2 ^ 64
 stored_version_fits s path r is found =
     let kept = found_kept s path r is found in omega (arith, kept.given, is.versions)
 
-pub together : (s : StoreValue) (p q : Path) (a b : Representation) → IsStore s → found_in s.resources p ≡ Some a → found_in s.resources q ≡ Some b → etag_of a ≡ etag_of b → (p ≡ q) × (a ≡ b)
+pub together : (s : StoreValue) (p q : Path) (a b : Representation) → IsStore s → found_in s.resources p ≡ Some a
+    → found_in s.resources q ≡ Some b → etag_of a ≡ etag_of b → (p ≡ q) × (a ≡ b)
 together s p q a b is at_p at_q same =
-    one_version s.resources p q a b is.own_versions at_p at_q (etag_tells a b (stored_version_fits s p a is at_p) (stored_version_fits s q b is at_q) same)
+    one_version s.resources p q a b is.own_versions at_p at_q
+    (etag_tells a b (stored_version_fits s p a is at_p) (stored_version_fits s q b is at_q) same)
 
 -- ---- over changes
 
@@ -31,7 +37,8 @@ pub record ComesLater (s t : StoreValue) : Type 0 where
   pub fits : t.versions < 2 ^ 64
   pub given : (q : Path) (b : Representation) → found_in t.resources q ≡ Some b → b.version ≤ t.versions
   pub later : s.versions ≤ t.versions
-  pub stays : (q : Path) (b : Representation) → found_in t.resources q ≡ Some b → (s.versions < b.version) ⊎ (found_in s.resources q ≡ Some b)
+  pub stays : (q : Path) (b : Representation) → found_in t.resources q ≡ Some b
+      → (s.versions < b.version) ⊎ (found_in s.resources q ≡ Some b)
 
 later_than_itself : (s : StoreValue) → IsStore s → ComesLater s s
 later_than_itself s is = record {
@@ -45,29 +52,39 @@ later_than_itself s is = record {
 -- The path is that of the change, or another one.
 pub by_path : {A : Type 0} (q path : Path) → (q ≡ path → A) → (q ≢ path → A) → A
 by_path {A = A} q path same other =
-    elim (same_path q path) as (λ b. same_path q path ≡ b → A) [ true ↦ λ is. same (same_path_sound q path is) | false ↦ λ no. other (λ is. apart_from q path no (sym is)) ] refl
+    elim (same_path q path) as (λ b. same_path q path ≡ b → A) [
+      | true ↦ λ is. same (same_path_sound q path is)
+      | false ↦ λ no. other (λ is. apart_from q path no (sym is))
+    ] refl
 
 change_later : (s t : StoreValue) (c : Change) → ComesLater s t → TakesChange t c → ComesLater s (changed t c)
 change_later s t Nothing so takes = so
 change_later s t (Put path format bytes) so takes =
     let n : StoreValue = changed t (Put path format bytes) in
-    let new : (q : Path) (b : Representation) → found_in n.resources q ≡ Some b → q ≡ path → t.versions + 1 ≡ b.version = λ q b found is. (
+    let new : (q : Path) (b : Representation) → found_in n.resources q ≡ Some b → q ≡ path
+    → t.versions + 1 ≡ b.version = λ q b found is. (
     let put = put_is_stored t path format bytes in
     let here : found_in n.resources path ≡ Some b = ap (found_in n.resources) (sym is) ∙ found in
     let now : record { version = t.versions + 1; format = format; bytes = bytes } ≡ b = cc in
     ap (λ (r : Representation). r.version) now) in
-    let old : (q : Path) (b : Representation) → found_in n.resources q ≡ Some b → q ≢ path → found_in t.resources q ≡ Some b = λ q b found apart. sym (other_is_kept_on_put t path q format bytes apart) ∙ found in
+    let old : (q : Path) (b : Representation) → found_in n.resources q ≡ Some b → q ≢ path
+    → found_in t.resources q ≡ Some b =
+    λ q b found apart. sym (other_is_kept_on_put t path q format bytes apart) ∙ found in
     record {
       distinct = distinct_stays t (Put path format bytes) so.distinct;
       fits = takes.version_left;
-      given = λ q b found. by_path q path (λ is. omega (arith, new q b found is)) (λ apart. omega (arith, so.given q b (old q b found apart)));
+      given = λ q b found. by_path q path (λ is. omega (arith, new q b found is))
+          (λ apart. omega (arith, so.given q b (old q b found apart)));
       later = omega (arith, so.later);
-      stays = λ q b found. by_path q path (λ is. inl (omega (arith, so.later, new q b found is))) (λ apart. so.stays q b (old q b found apart));
+      stays = λ q b found. by_path q path (λ is. inl (omega (arith, so.later, new q b found is)))
+          (λ apart. so.stays q b (old q b found apart));
     }
 change_later s t (Delete path) so takes =
     let n : StoreValue = changed t (Delete path) in
-    let old : (q : Path) (b : Representation) → found_in n.resources q ≡ Some b → found_in t.resources q ≡ Some b = λ q b found. by_path q path
-    (λ is. (let gone = deleted_is_gone t path so.distinct in let here : found_in n.resources path ≡ Some b = ap (found_in n.resources) (sym is) ∙ found in absurd cc))
+    let old : (q : Path) (b : Representation) → found_in n.resources q ≡ Some b → found_in t.resources q ≡ Some b =
+    λ q b found. by_path q path
+    (λ is. (let gone = deleted_is_gone t path so.distinct in
+    let here : found_in n.resources path ≡ Some b = ap (found_in n.resources) (sym is) ∙ found in absurd cc))
     (λ apart. sym (other_is_kept_on_delete t path q apart) ∙ found) in
     record {
       distinct = distinct_stays t (Delete path) so.distinct;
@@ -77,22 +94,28 @@ change_later s t (Delete path) so takes =
       stays = λ q b found. so.stays q b (old q b found);
     }
 
-changes_later : (s t : StoreValue) (cs : List Change) → ComesLater s t → TakesChanges t cs → ComesLater s (changed_by t cs)
+changes_later : (s t : StoreValue) (cs : List Change) → ComesLater s t → TakesChanges t cs
+    → ComesLater s (changed_by t cs)
 changes_later s t [] so takes = so
 changes_later s t (c ∷ cs) so takes = changes_later s (changed t c) cs (change_later s t c so takes.0) takes.1
 
 -- Representations stored before and after changes are the same, at the same path, if they have the same ETag.
-pub later : (s : StoreValue) (cs : List Change) (p q : Path) (a b : Representation) → IsStore s → TakesChanges s cs → found_in s.resources p ≡ Some a → found_in (changed_by s cs).resources q ≡ Some b → etag_of a ≡ etag_of b → (p ≡ q) × (a ≡ b)
+pub later : (s : StoreValue) (cs : List Change) (p q : Path) (a b : Representation) → IsStore s → TakesChanges s cs
+    → found_in s.resources p ≡ Some a → found_in (changed_by s cs).resources q ≡ Some b
+    → etag_of a ≡ etag_of b → (p ≡ q) × (a ≡ b)
 later s cs p q a b is takes at_p at_q same =
     let so = changes_later s s cs (later_than_itself s is) takes in
-    let versions : a.version ≡ b.version = etag_tells a b (stored_version_fits s p a is at_p) (omega (arith, so.given q b at_q, so.fits)) same in
+    let versions : a.version ≡ b.version =
+    etag_tells a b (stored_version_fits s p a is at_p) (omega (arith, so.given q b at_q, so.fits)) same in
     elim (so.stays q b at_q) [
       | inl newer ↦ absurd (omega (arith, newer, versions, (found_kept s p a is at_p).given))
       | inr before ↦ one_version s.resources p q a b is.own_versions at_p before versions
     ]
 
 -- A new representation has a larger version than each stored one.
-pub newer : (s : StoreValue) (path other : Path) (format : Option ℕ) (bytes : List ℕ) (old new : Representation) → IsStore s → found_in s.resources other ≡ Some old → found_in (changed s (Put path format bytes)).resources path ≡ Some new → old.version < new.version
+pub newer : (s : StoreValue) (path other : Path) (format : Option ℕ) (bytes : List ℕ) (old new : Representation)
+    → IsStore s → found_in s.resources other ≡ Some old
+    → found_in (changed s (Put path format bytes)).resources path ≡ Some new → old.version < new.version
 newer s path other format bytes old new is before after =
     let put = put_is_stored s path format bytes in
     let now : record { version = s.versions + 1; format = format; bytes = bytes } ≡ new = cc in

@@ -3,7 +3,8 @@ use Rattle.std.proofs.Common.{◌≡◌, ℕ, Bool, true, false, ◌&&◌, Optio
 use Rattle.coap_store.specs.Prelude.{◌⊎◌, if◌then◌else◌, Message, Path, same_path, is_path, Representation}
 use Rattle.coap_store.specs.Prelude.{StoreValue, time_path, is_observable, kind_of_path, key_for, stored_at, state_at}
 use Rattle.coap_store.specs.Prelude.{state_of, target_of, path_of, number_of, Answer, Response, is_number, watch_of}
-use Rattle.coap_store.specs.Prelude.{watched, stored_under, answer_at, removes_watch, with_observe_rule, answer_of, unheld_by}
+use Rattle.coap_store.specs.Prelude.{watched, stored_under, answer_at, removes_watch, with_observe_rule, answer_of}
+use Rattle.coap_store.specs.Prelude.{unheld_by}
 use Rattle.coap_store.specs.Prelude.{immediate_answer, MayObserve, ResourceKind, Root, Time, Async, Listing, Dynamic}
 use Rattle.std.proofs.lemmas.Bool.{cond-true}
 use Rattle.coap_wire.specs.Codes as code
@@ -28,7 +29,9 @@ watched_place place m e = left_true (is_observable place) (is_number (number_of 
 
 -- ---- resources can have their paths
 
-time_test : (a b c d : Bool) → (if a then Root else (if b then Time else (if c then Async else (if d then Listing else Dynamic)))) ≡ Time → b ≡ true
+time_test : (a b c d : Bool)
+    → (if a then Root else (if b then Time else (if c then Async else (if d then Listing else Dynamic)))) ≡ Time
+    → b ≡ true
 time_test true b c d e = absurd cc
 time_test false true c d e = refl
 time_test false false true d e = absurd cc
@@ -43,12 +46,15 @@ time_key : (path : Path) → kind_of_path path ≡ Time → key_for path ≡ Som
 unfolding key_for
 time_key path e = cond-true (is_path path) (Some path) None (ap is_path (time_only path e) ∙ is_time)
 
-stored_key : (s : StoreValue) (path : Path) (key : Option Path) (r : Representation) → key_for path ≡ key → stored_at s key ≡ Some r → key_for path ≡ Some path
+stored_key : (s : StoreValue) (path : Path) (key : Option Path) (r : Representation) → key_for path ≡ key
+    → stored_at s key ≡ Some r → key_for path ≡ Some path
 stored_key s path None r is e = absurd cc
 stored_key s path (Some q) r is e = is ∙ ap (λ (p : Path). Some p) (sym (key_is path q is).1)
 
 -- An observable resource that exists has a key.
-observed_key : (s : StoreValue) (now : ℕ) (path : Path) (place : ResourceKind) (r : Representation) → kind_of_path path ≡ place → is_observable place ≡ true → state_at s now (key_for path) place ≡ Some r → key_for path ≡ Some path
+observed_key : (s : StoreValue) (now : ℕ) (path : Path) (place : ResourceKind) (r : Representation)
+    → kind_of_path path ≡ place → is_observable place ≡ true → state_at s now (key_for path) place ≡ Some r
+    → key_for path ≡ Some path
 unfolding state_at
 observed_key s now path Root r is e there = absurd cc
 observed_key s now path Time r is e there = time_key path is
@@ -67,7 +73,9 @@ abbrev WatchesWell : StoreValue → ℕ → Path → Answer → Type 0
 WatchesWell s now path a = a.watch ≡ watch.Add → IsWatched s now path a
 
 -- The answers with the state of the path.
-watches : (s : StoreValue) (now : ℕ) (path : Path) (m : Message) (representation : Representation) (r : Response) → state_of s now path ≡ Some representation → (r.code ≡ code.content) ⊎ (r.code ≡ code.valid) → WatchesWell s now path (watched (kind_of_path path) m r)
+watches : (s : StoreValue) (now : ℕ) (path : Path) (m : Message) (representation : Representation) (r : Response)
+    → state_of s now path ≡ Some representation → (r.code ≡ code.content) ⊎ (r.code ≡ code.valid)
+    → WatchesWell s now path (watched (kind_of_path path) m r)
 watches s now path m representation r there is e =
     let seen = watched_place (kind_of_path path) m e in
     record {
@@ -82,7 +90,8 @@ watches s now path m representation r there is e =
       };
     }
 
-pub stored_unwatched : (key : Option Path) (state : Option Representation) (m : Message) → (stored_under key state m).watch ≡ watch.Nothing
+pub stored_unwatched : (key : Option Path) (state : Option Representation) (m : Message)
+    → (stored_under key state m).watch ≡ watch.Nothing
 stored_unwatched None state m = refl
 stored_unwatched (Some path) None m = refl
 stored_unwatched (Some path) (Some r) m = refl
@@ -90,7 +99,8 @@ stored_unwatched (Some path) (Some r) m = refl
 unwatched : (s : StoreValue) (now : ℕ) (path : Path) (a : Answer) → a.watch ≡ watch.Nothing → WatchesWell s now path a
 unwatched s now path a nothing e = absurd cc
 
-watched_at : (s : StoreValue) (now : ℕ) (path : Path) (m : Message) → WatchesWell s now path (answer_at s (target_of s now path) m)
+watched_at : (s : StoreValue) (now : ℕ) (path : Path) (m : Message)
+    → WatchesWell s now path (answer_at s (target_of s now path) m)
 watched_at s now path m =
     let t = target_of s now path in
     let P : Answer → Type 0 = WatchesWell s now path in
@@ -102,28 +112,37 @@ watched_at s now path m =
         content = watches s now path m r _ is (inl refl);
       });
       deleted = λ dynamic other. nothing _ refl;
-      stored = λ dynamic other. store_cases P s t m (λ c e. nothing _ refl) (nothing _ refl) (λ can. nothing _ (stored_unwatched t.key t.state m));
+      stored = λ dynamic other. store_cases P s t m (λ c e. nothing _ refl) (nothing _ refl)
+          (λ can. nothing _ (stored_unwatched t.key t.state m));
     })
 
-watched_finally : (s : StoreValue) (now : ℕ) (path : Path) (removes : Bool) (a : Answer) → WatchesWell s now path a → WatchesWell s now path (with_observe_rule removes a)
+watched_finally : (s : StoreValue) (now : ℕ) (path : Path) (removes : Bool) (a : Answer) → WatchesWell s now path a
+    → WatchesWell s now path (with_observe_rule removes a)
 watched_finally s now path true a is e = absurd cc
 watched_finally s now path false a is e = is e
 
-watched_unheld : (s : StoreValue) (now : ℕ) (path : Path) (hold : Option ℕ) (a : Answer) → a.hold ≡ hold → WatchesWell s now path a → WatchesWell s now path (unheld_by hold a)
+watched_unheld : (s : StoreValue) (now : ℕ) (path : Path) (hold : Option ℕ) (a : Answer) → a.hold ≡ hold
+    → WatchesWell s now path a → WatchesWell s now path (unheld_by hold a)
 watched_unheld s now path None a held is e = is e
 watched_unheld s now path (Some seconds) a held is e = let at_once = (is e).at_once in absurd cc
 
 watched_of : (s : StoreValue) (now : ℕ) (m : Message) → WatchesWell s now (path_of m) (answer_of s now m)
 unfolding answer_of
-watched_of s now m = watched_finally s now (path_of m) (removes_watch m) (answer_at s (target_of s now (path_of m)) m) (watched_at s now (path_of m) m)
+watched_of s now m =
+    watched_finally s now (path_of m) (removes_watch m) (answer_at s (target_of s now (path_of m)) m)
+    (watched_at s now (path_of m) m)
 
 -- The answer has no delay.
-pub watched_at_once : (s : StoreValue) (now : ℕ) (m : Message) → (answer_of s now m).watch ≡ watch.Add → (answer_of s now m).hold ≡ None
+pub watched_at_once : (s : StoreValue) (now : ℕ) (m : Message) → (answer_of s now m).watch ≡ watch.Add
+    → (answer_of s now m).hold ≡ None
 watched_at_once s now m e = (watched_of s now m e).at_once
 
-pub watched_is_there : (s : StoreValue) (now : ℕ) (m : Message) → (answer_of s now m).watch ≡ watch.Add → MayObserve s now (path_of m) (answer_of s now m)
+pub watched_is_there : (s : StoreValue) (now : ℕ) (m : Message) → (answer_of s now m).watch ≡ watch.Add
+    → MayObserve s now (path_of m) (answer_of s now m)
 watched_is_there s now m e = (watched_of s now m e).may
 
-pub promptly_watched_is_there : (s : StoreValue) (now : ℕ) (m : Message) → (immediate_answer s now m).watch ≡ watch.Add → MayObserve s now (path_of m) (immediate_answer s now m)
+pub promptly_watched_is_there : (s : StoreValue) (now : ℕ) (m : Message) → (immediate_answer s now m).watch ≡ watch.Add
+    → MayObserve s now (path_of m) (immediate_answer s now m)
 unfolding immediate_answer
-promptly_watched_is_there s now m e = (watched_unheld s now (path_of m) (answer_of s now m).hold (answer_of s now m) refl (watched_of s now m) e).may
+promptly_watched_is_there s now m e =
+    (watched_unheld s now (path_of m) (answer_of s now m).hold (answer_of s now m) refl (watched_of s now m) e).may

@@ -1,6 +1,7 @@
 -- RFC 7252 sections 5.8 to 5.10 and 12.1, RFC 6690 section 4, RFC 7641 section 4.1: the answer to a request. Error
 -- responses have no payload, although RFC 7252 section 5.5.2 would allow a diagnostic one.
-use Rattle.std.specs.Prelude.{ℕ, Bool, true, false, not, ◌&&◌, ◌||◌, List, [], ◌∷◌, length, Option, Some, None, codes, is_some, is_none, nat_le, nat_lt, ◌==◌, if◌then◌else◌}
+use Rattle.std.specs.Prelude.{ℕ, Bool, true, false, not, ◌&&◌, ◌||◌, List, [], ◌∷◌, length, Option, Some, None, codes}
+use Rattle.std.specs.Prelude.{is_some, is_none, nat_le, nat_lt, ◌==◌, if◌then◌else◌}
 use Rattle.std.specs.List.{list_any}
 use Rattle.coap_wire.specs.Message.{Message}
 use Rattle.coap_wire.specs.Codes as code
@@ -13,7 +14,8 @@ use Rattle.coap_store.specs.State.{text_plain, RequestTarget, target_of}
 use Rattle.coap_path.specs.declared.resource_kind.ResourceKind.{ResourceKind}
 use Rattle.coap_store.specs.declared.plan.Watch.{Watch}
 use Rattle.coap_store.specs.declared.plan.Watch.TheVariants as watch
-use Rattle.coap_store.specs.Requests.{values_of, value_of, has_option, path_of, number_of, is_get, is_post, is_put, is_delete, is_method, etag_of, preconditions_hold, is_good_query, seconds_of}
+use Rattle.coap_store.specs.Requests.{values_of, value_of, has_option, path_of, number_of, is_get, is_post, is_put}
+use Rattle.coap_store.specs.Requests.{is_delete, is_method, etag_of, preconditions_hold, is_good_query, seconds_of}
 
 -- ---- the parts of an answer
 
@@ -96,7 +98,12 @@ valid place r = record (only code.valid) { etag = etag_at place r }
 
 -- The 2.05 response for a representation.
 abbrev pub content : ResourceKind → Representation → Response
-content place r = record (only code.content) { etag = etag_at place r; format = r.format; max_age = max_age_at place; payload = r.bytes }
+content place r = record (only code.content) {
+  etag = etag_at place r;
+  format = r.format;
+  max_age = max_age_at place;
+  payload = r.bytes;
+}
 
 -- There is a number, and it is `n`.
 abbrev pub is_number : Option ℕ → ℕ → Bool
@@ -155,7 +162,9 @@ location_at path m = if is_post m then path else []
 -- The answer that stores the payload at a path: 2.04 if the resource exists, otherwise 2.01.
 abbrev pub stored : Path → Option Representation → Message → Answer
 stored path (Some r) m = record (says (only code.changed)) { change = put_of path m }
-stored path None m = record (says (record (only code.created) { location = location_at path m })) { change = put_of path m }
+stored path None m = record (says (record (only code.created) { location = location_at path m })) {
+  change = put_of path m;
+}
 
 -- The same, if a resource can have the path. Otherwise the request was rejected before, and the first case does not
 -- occur.

@@ -1,5 +1,6 @@
 -- Defined by this project: the changes that a store accepts.
-use Rattle.std.specs.Prelude.{◌≡◌, ℕ, ◌+◌, ◌<◌, ◌≤◌, ◌^◌, Bool, true, false, ◌&&◌, ◌||◌, List, [], ◌∷◌, length, Option, is_some, nat_lt, IfSome, ◌==◌}
+use Rattle.std.specs.Prelude.{◌≡◌, ℕ, ◌+◌, ◌<◌, ◌≤◌, ◌^◌, Bool, true, false, ◌&&◌, ◌||◌, List, [], ◌∷◌, length, Option}
+use Rattle.std.specs.Prelude.{is_some, nat_lt, IfSome, ◌==◌}
 use Rattle.coap_wire.specs.Codes as code
 use Rattle.coap_path.specs.Paths.{Path, is_path}
 use Rattle.coap_store.specs.Store.{Representation, StoreValue, found_in, IsFoundAt}

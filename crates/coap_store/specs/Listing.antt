@@ -10,4 +10,5 @@ unfoldable pub use Rattle.coap_store.specs.Links.{encoded_byte, entry_bytes, fir
 -- The listing: the built-in resources, followed by the entries of the application, followed by the created resources in
 -- order of creation.
 unfoldable pub listing : Option ApplicationsValue → List Resource → List ℕ
-listing applications rs = built_in_bytes ++ (application_bytes applications ++ flat_map (λ r. entry_bytes r.path r.now.format) rs)
+listing applications rs =
+    built_in_bytes ++ (application_bytes applications ++ flat_map (λ r. entry_bytes r.path r.now.format) rs)

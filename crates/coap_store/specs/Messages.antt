@@ -28,11 +28,14 @@ empty_at number true = record { number = number; value = [] } ∷ []
 -- Max-Age and Size1. Observe is empty, since the stream keeps the order (RFC 8323 section 7.1).
 abbrev pub options_with_observe : Bool → Response → List CoapOption
 options_with_observe observe r =
-    option_at numbers.etag r.etag ++ (empty_at numbers.observe observe ++ (each_at numbers.location_path r.location ++ (number_at numbers.content_format r.format ++ (number_at numbers.max_age r.max_age ++ number_at numbers.size1 r.size1))))
+    option_at numbers.etag r.etag ++ (empty_at numbers.observe observe
+    ++ (each_at numbers.location_path r.location ++ (number_at numbers.content_format r.format
+    ++ (number_at numbers.max_age r.max_age ++ number_at numbers.size1 r.size1))))
 
 -- The response to a request with this token. With the flag, it is also a notification (RFC 7641 section 4.2).
 abbrev pub response_with_observe : List ℕ → Bool → Response → Message
-response_with_observe token observe r = record { code = r.code; token = token; options = options_with_observe observe r; payload = r.payload }
+response_with_observe token observe r =
+    record { code = r.code; token = token; options = options_with_observe observe r; payload = r.payload }
 
 -- The response to a request with this token, which is no notification.
 abbrev pub response_message : List ℕ → Response → Message

@@ -13,7 +13,8 @@ use Rattle.coap_path.specs.declared.resource_kind.ResourceKind.{ResourceKind}
 -- No Content-Format differs from Content-Format 0.
 unfoldable pub notification_at : ResourceKind → Option Representation → Option ℕ → Response
 notification_at place None format = only code.not_found
-notification_at place (Some r) format = if option_eq nat_eq r.format format then content place r else only code.not_acceptable
+notification_at place (Some r) format =
+    if option_eq nat_eq r.format format then content place r else only code.not_acceptable
 
 -- The notification of an observer of a path at the time `now`. Earlier notifications had this Content-Format, or none.
 abbrev pub notification_of : StoreValue → ℕ → Path → Option ℕ → Response

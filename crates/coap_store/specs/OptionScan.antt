@@ -1,5 +1,6 @@
 -- Defined by this project: the recognised options of a request, collected one after the other.
-use Rattle.std.specs.Prelude.{◌≡◌, ℕ, Bool, true, false, ◌||◌, List, [], ◌∷◌, Option, Some, None, ◌==◌, if◌then◌else◌, option_copied}
+use Rattle.std.specs.Prelude.{◌≡◌, ℕ, Bool, true, false, ◌||◌, List, [], ◌∷◌, Option, Some, None, ◌==◌, if◌then◌else◌}
+use Rattle.std.specs.Prelude.{option_copied}
 use Rattle.coap_wire.specs.Message.{CoapOption, Message}
 use Rattle.coap_wire.specs.OptionNumbers as numbers
 use Rattle.coap_path.specs.ResourceKinds.{kind_of_path}
@@ -25,7 +26,18 @@ pub record RequestOptions : Type 0 where
 
 -- The state before the first option.
 abbrev pub nothing : RequestOptions
-nothing = record { trail = Root; if_match = false; etag = false; if_none_match = false; proxy_uri = false; proxy_scheme = false; observe = None; content_format = None; query = None; accept = None }
+nothing = record {
+  trail = Root;
+  if_match = false;
+  etag = false;
+  if_none_match = false;
+  proxy_uri = false;
+  proxy_scheme = false;
+  observe = None;
+  content_format = None;
+  query = None;
+  accept = None;
+}
 
 -- The first value of an option. Later values do not replace it.
 abbrev pub first_given : Option (List ℕ) → Bool → List ℕ → Option (List ℕ)

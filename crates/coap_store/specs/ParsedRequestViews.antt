@@ -1,4 +1,5 @@
--- Defined by this project: the model value and the invariant of the type `ParsedRequest`, which contracts see as its message.
+-- Defined by this project: the model value and the invariant of the type `ParsedRequest`, which contracts see
+-- as its message.
 use Rattle.std.specs.Prelude.{◌≡◌, is_some}
 use Rattle.coap_wire.specs.Message.{Message}
 use Rattle.coap_wire.specs.Recognition.{first_critical}

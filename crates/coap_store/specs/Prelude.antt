@@ -64,7 +64,8 @@ pub use Rattle.coap_store.specs.Invariant.{IsStore, AreDistinct, HaveOwnVersions
 pub use Rattle.coap_store.specs.Catalogues.{CatalogueValue}
 pub use Rattle.coap_store.specs.Listing.{slash, format_bytes, built_in_bytes, hex_digit, is_unreserved}
 pub use Rattle.coap_store.specs.Listing.{application_bytes, attribute_bytes, end_bytes}
-unfoldable pub use Rattle.coap_store.specs.Listing.{listing, entry_bytes, encoded_byte, first_bytes, link_bytes, path_bytes}
+unfoldable pub use Rattle.coap_store.specs.Listing.{listing, entry_bytes, encoded_byte, first_bytes, link_bytes}
+unfoldable pub use Rattle.coap_store.specs.Listing.{path_bytes}
 pub use Rattle.coap_store.specs.Messages.{each_at, response_message}
 pub use Rattle.coap_store.specs.Notifications.{notification_of}
 unfoldable pub use Rattle.coap_store.specs.Notifications.{notification_at}

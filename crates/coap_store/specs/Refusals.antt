@@ -1,11 +1,13 @@
 -- Defined by this project: the errors of changes by the embedding program.
-use Rattle.std.specs.Prelude.{◌≡◌, ℕ, Bool, not, ◌&&◌, List, [], ◌∷◌, length, Option, Some, None, Result, Ok, Err, is_none, nat_le, nat_lt, ◌==◌, if◌then◌else◌}
+use Rattle.std.specs.Prelude.{◌≡◌, ℕ, Bool, not, ◌&&◌, List, [], ◌∷◌, length, Option, Some, None, Result, Ok, Err}
+use Rattle.std.specs.Prelude.{is_none, nat_le, nat_lt, ◌==◌, if◌then◌else◌}
 use Rattle.coap_path.specs.Paths.{Path}
 use Rattle.coap_store.specs.Store.{StoreValue, found_in}
 use Rattle.coap_path.specs.ResourceKinds.{kind_of_path, is_dynamic}
 use Rattle.coap_store.specs.Answer.{greatest_version}
 use Rattle.coap_store.specs.declared.fault.StoreFault.{StoreFault}
-use Rattle.coap_store.specs.declared.fault.StoreFault.TheVariants.{NoSuch, TooLarge, Limit, BadPath, VersionsSpent, Memory}
+use Rattle.coap_store.specs.declared.fault.StoreFault.TheVariants.{NoSuch, TooLarge, Limit, BadPath, VersionsSpent}
+use Rattle.coap_store.specs.declared.fault.StoreFault.TheVariants.{Memory}
 
 -- The first error whose condition holds, if any.
 abbrev pub first_fault : List (Bool × StoreFault) → Option StoreFault
@@ -25,7 +27,8 @@ put_refusal s path bytes =
 
 -- The error of `remove`: the path is that of a built-in resource, or absent.
 unfoldable pub remove_refusal : StoreValue → Path → Option StoreFault
-remove_refusal s path = first_fault ((not (is_dynamic (kind_of_path path)), NoSuch) ∷ (is_none (found_in s.resources path), NoSuch) ∷ [])
+remove_refusal s path =
+    first_fault ((not (is_dynamic (kind_of_path path)), NoSuch) ∷ (is_none (found_in s.resources path), NoSuch) ∷ [])
 
 -- The error of the definitions that a failed call returned. `Memory` is none of these.
 abbrev pub refusal_in : StoreFault → Option StoreFault

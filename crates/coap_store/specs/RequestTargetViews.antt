@@ -13,4 +13,8 @@ found_value f = record { version = f.version; format = f.format; bytes = bytes_i
 
 -- The target of a request, which has the path.
 abbrev pub target_value : Message → RequestTarget → state.RequestTarget
-target_value m t = record { key = if t.is_path then Some (path_of m) else None; place = t.place; state = option_map found_value t.state }
+target_value m t = record {
+  key = if t.is_path then Some (path_of m) else None;
+  place = t.place;
+  state = option_map found_value t.state;
+}

@@ -1,5 +1,6 @@
 -- RFC 7252 sections 5.8 and 5.10, RFC 7641 section 2: the meaning of the recognised options of a request.
-use Rattle.std.specs.Prelude.{ℕ, ◌+◌, ◌*◌, ◌-◌, Bool, true, false, not, ◌&&◌, ◌||◌, List, [], ◌∷◌, length, map, filter, fold, Option, Some, None, option_map, nat_le, ◌==◌}
+use Rattle.std.specs.Prelude.{ℕ, ◌+◌, ◌*◌, ◌-◌, Bool, true, false, not, ◌&&◌, ◌||◌, List, [], ◌∷◌, length, map, filter}
+use Rattle.std.specs.Prelude.{fold, Option, Some, None, option_map, nat_le, ◌==◌}
 use Rattle.std.specs.List.{list_any, list_all}
 use Rattle.coap_wire.specs.Message.{Message}
 use Rattle.coap_wire.specs.Uint.{uint_of, bytes_of_uint}
@@ -97,7 +98,8 @@ digits_mean bytes = fold (λ n b. 10 * n + (b - 48)) 0 bytes
 
 -- The bytes are 1 to 4 decimal digits of a number up to 3,600.
 unfoldable pub is_seconds : List ℕ → Bool
-is_seconds bytes = nat_le 1 (length bytes) && nat_le (length bytes) 4 && list_all is_digit bytes && nat_le (digits_mean bytes) 3600
+is_seconds bytes =
+    nat_le 1 (length bytes) && nat_le (length bytes) 4 && list_all is_digit bytes && nat_le (digits_mean bytes) 3600
 
 -- There is no query, or it is a number of seconds.
 abbrev pub is_good_query : Option (List ℕ) → Bool

@@ -15,8 +15,8 @@ pub record Resource : Type 0 where
   pub now : Representation
 
 -- The model value of a store. `dynamic_max` limits the number of created resources, and `rep_max` the bytes of each.
--- `resources` are in order of creation. `versions` is the version of the representation stored last. `applications` are the
--- paths whose requests the embedding program answers, if there are such.
+-- `resources` are in order of creation. `versions` is the version of the representation stored last. `applications` are
+-- the paths whose requests the embedding program answers, if there are such.
 pub record StoreValue : Type 0 where
   pub dynamic_max : ℕ
   pub rep_max : ℕ
@@ -55,7 +55,10 @@ replaced_at (r ∷ rs) (suc index) now = r ∷ replaced_at rs index now
 -- The store after a representation was stored at a path, with the next version.
 abbrev pub put_in : StoreValue → Path → Option ℕ → List ℕ → StoreValue
 put_in s path format bytes =
-    record s { resources = put_at s.resources path (record { version = s.versions + 1; format = format; bytes = bytes }); versions = s.versions + 1 }
+    record s {
+      resources = put_at s.resources path (record { version = s.versions + 1; format = format; bytes = bytes });
+      versions = s.versions + 1;
+    }
 
 -- The store after the resource at a path, if any, was removed.
 abbrev pub removed_in : StoreValue → Path → StoreValue

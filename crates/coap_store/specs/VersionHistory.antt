@@ -7,4 +7,5 @@ use Rattle.coap_store.specs.Store.{Representation, StoreValue, found_in}
 -- representation with this version is the same, at the same path.
 pub record WasStored (s : StoreValue) (path : Path) (told : Representation) : Type 0 where
   pub given : told.version ≤ s.versions
-  pub same : (other : Path) (r : Representation) → found_in s.resources other ≡ Some r → r.version ≡ told.version → (other ≡ path) × (r ≡ told)
+  pub same : (other : Path) (r : Representation) → found_in s.resources other ≡ Some r → r.version ≡ told.version
+      → (other ≡ path) × (r ≡ told)

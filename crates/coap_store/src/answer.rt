@@ -41,11 +41,11 @@ impl Store {
         plan
     }
 
-    /// Fills a new plan with that for a request at the time `now`, in seconds. Does the same as `answer`. A plan is large
-    /// and costly to move, so this fills it in place.
+    /// Fills a new plan with that for a request at the time `now`, in seconds. Does the same as `answer`. A plan is
+    /// large and costly to move, so this fills it in place.
     ///
-    /// Returns the index of the resource that the plan's change replaces or removes, or `None` if there is none. `apply_at`
-    /// then needs no search.
+    /// Returns the index of the resource that the plan's change replaces or removes, or `None` if there is none.
+    /// `apply_at` then needs no search.
     ///
     /// # Preconditions
     ///
@@ -297,8 +297,8 @@ fn read<'s, 'r>(asked: &ParsedRequest<'_, 'r>, target: RequestTarget<'s>, plan: 
     }
 }
 
-/// Fills a new plan with that for GET of a resource that exists. For `/async`, the first Uri-Query has the delay of the response
-/// in seconds, and the default is 5.
+/// Fills a new plan with that for GET of a resource that exists. For `/async`, the first Uri-Query has the delay of the
+/// response in seconds, and the default is 5.
 #[tactic(auto, unfolding(crate::specs::Answer::get_answer))]
 fn get<'s, 'r>(
     asked: &ParsedRequest<'_, 'r>,

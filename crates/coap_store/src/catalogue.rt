@@ -24,7 +24,8 @@ pub(crate) struct Catalogue {
     resources: Resources,
     /// Paths whose requests the application answers, if there are such.
     applications: Option<Applications>,
-    /// Text of the built-in resources and the application, and that of each created resource in the order of `resources`.
+    /// Text of the built-in resources and the application, and that of each created resource in the order
+    /// of `resources`.
     listing: Listing,
 }
 
@@ -124,8 +125,8 @@ impl Catalogue {
         Some((index, resource))
     }
 
-    /// Returns the resource at a path, and its index. First compares the path of the resource with the index `near`, and
-    /// searches only if it is another one.
+    /// Returns the resource at a path, and its index. First compares the path of the resource with the index `near`,
+    /// and searches only if it is another one.
     pub(crate) fn find_near(&self, path: &PathKey, near: usize) -> Option<(usize, &Resource)>
         ensures { option_map (λ r. representation r.1.now) result ≡ found_in self.now.resources path.now }
     {

@@ -28,7 +28,8 @@ pub fn expired_response() -> Plan<'static, 'static>
     Plan::of_code(Code::GATEWAY_TIMEOUT)
 }
 
-/// Returns the plan for a request whose response cannot be delayed, because too many are: 5.03 (RFC 7252 section 5.9.3.4).
+/// Returns the plan for a request whose response cannot be delayed, because too many are: 5.03 (RFC 7252
+/// section 5.9.3.4).
 pub fn refused_delay() -> Plan<'static, 'static>
     ensures { result ≡ says (only code.service_unavailable) }
 {

@@ -195,7 +195,8 @@ pub fn what_is_watched_is_there()
 /// a GET changes nothing and registers no observer. If the pending list is full, the response is 5.03.
 pub fn delayed_response_is_constant()
     ensures held { (s : StoreValue) (now : ℕ) (m : Message) (seconds : ℕ) → (answer_of s now m).hold ≡ Some seconds →
-        IsTrue (is_delayed m) × ((answer_of s now m).response ≡ delayed_response) × ((answer_of s now m).change ≡ Nothing)
+        IsTrue (is_delayed m) × ((answer_of s now m).response ≡ delayed_response)
+        × ((answer_of s now m).change ≡ Nothing)
         × (seconds ≤ 3600) }
     ensures watch { (s : StoreValue) (now : ℕ) (m : Message) (seconds : ℕ) → (answer_of s now m).hold ≡ Some seconds →
         (answer_of s now m).watch ≢ Add }

@@ -32,8 +32,8 @@ impl Store {
         plan
     }
 
-    /// Fills a new plan with the notification that `notification` returns, and returns the index of the resource, or 0 if
-    /// there is none.
+    /// Fills a new plan with the notification that `notification` returns, and returns the index of the resource, or 0
+    /// if there is none.
     ///
     /// `near` is an index that the resource may have, as an earlier call returned it. Only if it has another one, it is
     /// searched.
@@ -71,8 +71,8 @@ impl Store {
         index
     }
 
-    /// Returns the representation of a resource at the time `now`, if it exists, and its index, which is 0 if it is built
-    /// in.
+    /// Returns the representation of a resource at the time `now`, if it exists, and its index, which is 0 if
+    /// it is built in.
     fn found_near(
         &self,
         path: &PathKey,

@@ -348,7 +348,8 @@ impl<'s, 'r> Plan<'s, 'r> {
     }
 }
 
-/// Plan for a request that makes a change: the code of the response, its path and the change. Contracts see an `Answer`.
+/// Plan for a request that makes a change: the code of the response, its path and the change. Contracts
+/// see an `Answer`.
 #[derive(Drop)]
 pub struct ChangePlan<'r> {
     change: PlannedChange<'r>,

@@ -37,7 +37,8 @@ impl<'q, 'r> Model for ParsedRequest<'q, 'r> {
 
 /// Adds the recognised options of a request to `notes`, which has none yet, in one pass. Returns `true` if an option is
 /// critical and not recognised.
-// Never inlined, so that the fields of `notes` stay in memory: an inlined loop would keep each in a register or reload it.
+// Never inlined, so that the fields of `notes` stay in memory: an inlined loop would keep each in a
+// register or reload it.
 #[inline(never)]
 fn scan_options<'r>(request: &MessageRef<'r>, notes: &mut RequestOptions<'r>) -> bool
     requires { notes_value notes.old ≡ nothing }

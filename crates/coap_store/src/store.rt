@@ -96,8 +96,8 @@ impl Store {
         })
     }
 
-    /// Returns the same store, in which the application answers the requests of these entries. The listing has a link for
-    /// each, after those of the built-in resources and in the order of the entries.
+    /// Returns the same store, in which the application answers the requests of these entries. The listing has a link
+    /// for each, after those of the built-in resources and in the order of the entries.
     ///
     /// # Errors
     ///
@@ -185,8 +185,8 @@ impl Store {
         Ok(())
     }
 
-    /// Makes a change that `fill_plan` returned with this index. Does the same as `apply`, and builds a key only if there
-    /// is no index.
+    /// Makes a change that `fill_plan` returned with this index. Does the same as `apply`, and builds a key only if
+    /// there is no index.
     ///
     /// # Errors
     ///
@@ -379,7 +379,8 @@ impl Store {
     }
 }
 
-/// Returns the deadline of the application with these entries for a request, or `None` if it does not answer the request.
+/// Returns the deadline of the application with these entries for a request, or `None` if it does not
+/// answer the request.
 // Never inlined: a function clears all its locals, and most servers have no application.
 #[inline(never)]
 #[tactic(auto, unfolding(crate::specs::ApplicationRequests::application_deadline, crate::specs::Requests::values_of))]

@@ -9,8 +9,8 @@ use std::marker::Model;
 /// Maximum number of unused bytes before a text.
 const MAX_START: usize = 4_096;
 
-/// Bytes that are changed in place. A change moves the bytes before it or those after it, whichever are fewer. Contracts
-/// see the bytes.
+/// Bytes that are changed in place. A change moves the bytes before it or those after it, whichever are fewer.
+/// Contracts see the bytes.
 ///
 /// The bytes before a change can only move up if there are few unused bytes before them, and down if there are enough.
 /// Otherwise the bytes after the change move.

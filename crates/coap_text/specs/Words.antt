@@ -1,5 +1,6 @@
 -- Defined by this project: the words of a text, and the numbers and bytes that they mean.
-use Rattle.std.specs.Prelude.{ℕ, Bool, ◌&&◌, ◌==◌, List, [], ◌∷◌, length, nat_le, nat_eq, Option, Some, None, if◌then◌else◌, codes}
+use Rattle.std.specs.Prelude.{ℕ, Bool, ◌&&◌, ◌==◌, List, [], ◌∷◌, length, nat_le, nat_eq, Option, Some, None}
+use Rattle.std.specs.Prelude.{if◌then◌else◌, codes}
 use Rattle.std.specs.Char.{is_ascii_digit}
 use Rattle.std.specs.List.{list_all, slice_split}
 use lib.Pointwise.{pointwise}
@@ -18,7 +19,8 @@ is_hyphen word = pointwise nat_eq word (codes "-")
 -- The number that a word of 1 to 20 decimal digits means, if the number fits in 64 bits.
 unfoldable pub decimal_value : List ℕ → Option ℕ
 decimal_value word =
-    if nat_le 1 (length word) && nat_le (length word) 20 && list_all is_ascii_digit word && nat_le (digits_value 10 word) 18446744073709551615
+    if nat_le 1 (length word) && nat_le (length word) 20 && list_all is_ascii_digit word
+    && nat_le (digits_value 10 word) 18446744073709551615
     then Some (digits_value 10 word)
     else None
 

@@ -4,7 +4,8 @@ use Rattle.std.proofs.lemmas.List.{append-nil, length-append}
 use Rattle.std.proofs.lemmas.Grind.{common_steps}
 use Rattle.std.proofs.lemmas.Bool.Decides.{nat_tests}
 use Rattle.coap_wire.specs.Prelude.{AllByRecursion, CoapOption, AreOrdered, last_number, HasOptionForm, IsOptionBytes}
-use Rattle.coap_wire.specs.Prelude.{option_spelling, options_spelling, options_read, options_in, option_form, IsEncoding}
+use Rattle.coap_wire.specs.Prelude.{option_spelling, options_spelling, options_read, options_in, option_form}
+use Rattle.coap_wire.specs.Prelude.{IsEncoding}
 use Rattle.coap_wire.proofs.OptionLists.{options_spelling-append, last_number-push, ordered-push, forms-push}
 use Rattle.coap_wire.proofs.SpellingLaws.{options_are_spelled}
 use Rattle.coap_wire.proofs.BodySteps.{body_end}
@@ -15,9 +16,11 @@ extension_bound : (n : ℕ) → length (option_form n).1 ≤ 2
 extension_bound n = grind (arith, nat_tests, common_steps)
 
 -- Decoding the encoding of options returns the options.
-pub read_again : (os : List CoapOption) → AreOrdered 0 os → AllByRecursion HasOptionForm os → options_in 0 (options_spelling 0 os) ≡ os
+pub read_again : (os : List CoapOption) → AreOrdered 0 os → AllByRecursion HasOptionForm os
+    → options_in 0 (options_spelling 0 os) ≡ os
 read_again os ordered each =
-    let bytes : IsOptionBytes 0 os (options_spelling 0 os) [] = subst (λ (s : List ℕ). IsOptionBytes 0 os s []) (append-nil (options_spelling 0 os)) (options_are_spelled 0 os [] ordered each) in
+    let bytes : IsOptionBytes 0 os (options_spelling 0 os) [] = subst (λ (s : List ℕ). IsOptionBytes 0 os s [])
+    (append-nil (options_spelling 0 os)) (options_are_spelled 0 os [] ordered each) in
     ap options_read (body_again 0 os (options_spelling 0 os) [] bytes)
 
 -- The empty list is the encoding of no option.
@@ -35,7 +38,8 @@ pub nothing_read : options_in 0 [] ≡ []
 nothing_read = ap options_read (body_end 0)
 
 -- The encoding of an option is appended to that of others.
-module _ (bytes new : List ℕ) (last : ℕ) (o : CoapOption) (is : IsEncoding bytes last) (order : last ≤ o.number) (form : HasOptionForm o) (new_is : new ≡ bytes ++ option_spelling last o) where
+module _ (bytes new : List ℕ) (last : ℕ) (o : CoapOption) (is : IsEncoding bytes last) (order : last ≤ o.number)
+    (form : HasOptionForm o) (new_is : new ≡ bytes ++ option_spelling last o) where
   os : List CoapOption
   os = options_in 0 bytes
 
@@ -53,7 +57,8 @@ module _ (bytes new : List ℕ) (last : ℕ) (o : CoapOption) (is : IsEncoding b
   new_spelled : new ≡ options_spelling 0 more
   unfolding more os
   new_spelled =
-      new_is ∙ ap (λ (s : List ℕ). s ++ option_spelling last o) is.encoded ∙ ap (λ (k : ℕ). options_spelling 0 os ++ option_spelling k o) is.last_is
+      new_is ∙ ap (λ (s : List ℕ). s ++ option_spelling last o) is.encoded
+      ∙ ap (λ (k : ℕ). options_spelling 0 os ++ option_spelling k o) is.last_is
       ∙ ap (λ (s : List ℕ). options_spelling 0 os ++ s) (sym (append-nil (option_spelling (last_number 0 os) o)))
       ∙ sym (options_spelling-append 0 os (o ∷ []))
 
@@ -75,10 +80,23 @@ module _ (bytes new : List ℕ) (last : ℕ) (o : CoapOption) (is : IsEncoding b
   }
 
   -- The length grows by that of the new encoding.
-  pub longer : length (options_spelling 0 (options_in 0 new)) ≡ length (options_spelling 0 (options_in 0 bytes)) + length (option_spelling last o)
-  longer = omega (arith, ap length encoded_more.encoded, ap length is.encoded, ap length new_is, length-append bytes (option_spelling last o))
+  pub longer : length (options_spelling 0 (options_in 0 new))
+      ≡ length (options_spelling 0 (options_in 0 bytes)) + length (option_spelling last o)
+  longer = omega (
+    arith,
+    ap length encoded_more.encoded,
+    ap length is.encoded,
+    ap length new_is,
+    length-append bytes (option_spelling last o),
+  )
 
 -- An encoded option has at most 5 bytes besides its value.
 pub option_size_bound : (base : ℕ) (o : CoapOption) → length (option_spelling base o) ≤ 5 + length o.value
 option_size_bound base o =
-    omega (arith, extension_bound (o.number - base), extension_bound (length o.value), length-append (option_form (o.number - base)).1 ((option_form (length o.value)).1 ++ o.value), length-append (option_form (length o.value)).1 o.value)
+    omega (
+      arith,
+      extension_bound (o.number - base),
+      extension_bound (length o.value),
+      length-append (option_form (o.number - base)).1 ((option_form (length o.value)).1 ++ o.value),
+      length-append (option_form (length o.value)).1 o.value,
+    )

@@ -1,5 +1,6 @@
 -- The form of a number is its only one.
-use Rattle.std.proofs.Common.{◌≡◌, ℕ, zero, suc, ◌-◌, ◌<◌, ◌≤◌, List, [], ◌∷◌, length, get_or, refl, sym, ap, subst, ◌∙◌, arith, inl, inr, le-ltb, lt-ltb}
+use Rattle.std.proofs.Common.{◌≡◌, ℕ, zero, suc, ◌-◌, ◌<◌, ◌≤◌, List, [], ◌∷◌, length, get_or, refl, sym, ap, subst}
+use Rattle.std.proofs.Common.{◌∙◌, arith, inl, inr, le-ltb, lt-ltb}
 use Rattle.coap_wire.specs.Prelude.{w16, w32, to_be_bytes, from_be_bytes, AllByRecursion, IsByte, IsLengthForm}
 use Rattle.coap_wire.specs.Prelude.{length_form, greatest_length, IsOptionForm, option_form, MAX_EXTENDED_LENGTH}
 use Rattle.coap_wire.specs.Prelude.{option_extension, greatest_token, IsTokenForm, token_form}
@@ -23,7 +24,8 @@ are_bytes_4 n = (omega arith, (omega arith, (omega arith, (omega arith, tt))))
 number_2 : (a b : ℕ) → AllByRecursion IsByte (a ∷ b ∷ []) → from_be_bytes w16 (a ∷ b ∷ []) < 65536
 number_2 a b fits = omega (arith, fits.0, fits.1.0)
 
-number_4 : (a b c d : ℕ) → AllByRecursion IsByte (a ∷ b ∷ c ∷ d ∷ []) → from_be_bytes w32 (a ∷ b ∷ c ∷ d ∷ []) < 4294967296
+number_4 : (a b c d : ℕ) → AllByRecursion IsByte (a ∷ b ∷ c ∷ d ∷ [])
+    → from_be_bytes w32 (a ∷ b ∷ c ∷ d ∷ []) < 4294967296
 number_4 a b c d fits = omega (arith, fits.0, fits.1.0, fits.1.1.0, fits.1.1.1.0)
 
 -- ---- the length of the options, the marker and the payload
@@ -51,23 +53,38 @@ length_form_is n fits =
     elim (cases_lt n 13) [
       | inl lt ↦ subst (λ (p : ℕ × List ℕ). IsLengthForm p.0 p.1 n) (sym (length_form_none n lt)) (lt, refl)
       | inr le ↦ elim (cases_lt n 269) [
-        | inl lt ↦ subst (λ (p : ℕ × List ℕ). IsLengthForm p.0 p.1 n) (sym (length_form_one n le lt)) (refl, omega arith, omega arith)
+        | inl lt ↦ subst (λ (p : ℕ × List ℕ). IsLengthForm p.0 p.1 n) (sym (length_form_one n le lt)) (
+          refl,
+          omega arith,
+          omega arith,
+        )
         | inr le ↦ elim (cases_lt n 65805) [
-          | inl lt ↦ subst (λ (p : ℕ × List ℕ). IsLengthForm p.0 p.1 n) (sym (length_form_two n le lt)) (refl, are_bytes_2 (n - 269), omega (arith, from_be_bytes-to_be_bytes_2 (n - 269) (omega arith)))
-          | inr le ↦ subst (λ (p : ℕ × List ℕ). IsLengthForm p.0 p.1 n) (sym (length_form_four n le)) (refl, are_bytes_4 (n - 65805), omega (arith, from_be_bytes-to_be_bytes_4 (n - 65805) (omega arith)))
+          | inl lt ↦ subst (λ (p : ℕ × List ℕ). IsLengthForm p.0 p.1 n) (sym (length_form_two n le lt)) (
+            refl,
+            are_bytes_2 (n - 269),
+            omega (arith, from_be_bytes-to_be_bytes_2 (n - 269) (omega arith)),
+          )
+          | inr le ↦ subst (λ (p : ℕ × List ℕ). IsLengthForm p.0 p.1 n) (sym (length_form_four n le)) (
+            refl,
+            are_bytes_4 (n - 65805),
+            omega (arith, from_be_bytes-to_be_bytes_4 (n - 65805) (omega arith)),
+          )
         ]
       ]
     ]
 
 -- A length has no other form.
-pub length_form_only : (x : ℕ) (e : List ℕ) (n : ℕ) → IsLengthForm x e n → (x ≡ (length_form n).0) × (e ≡ (length_form n).1)
+pub length_form_only : (x : ℕ) (e : List ℕ) (n : ℕ) → IsLengthForm x e n
+    → (x ≡ (length_form n).0) × (e ≡ (length_form n).1)
 length_form_only x [] n form =
     let is = length_form_none n (omega (arith, form.0, form.1)) in
     (sym form.1 ∙ ap (λ (p : ℕ × List ℕ). p.0) (sym is), ap (λ (p : ℕ × List ℕ). p.1) (sym is))
 length_form_only x (a ∷ []) n form =
     let is = length_form_one n (omega (arith, form.2)) (omega (arith, form.1, form.2)) in
-    let back : a ≡ n - 13 = omega (arith, form.2) in
-    (form.0 ∙ ap (λ (p : ℕ × List ℕ). p.0) (sym is), ap (λ (b : ℕ). b ∷ []) back ∙ ap (λ (p : ℕ × List ℕ). p.1) (sym is))
+    let back : a ≡ n - 13 = omega (arith, form.2) in (
+      form.0 ∙ ap (λ (p : ℕ × List ℕ). p.0) (sym is),
+      ap (λ (b : ℕ). b ∷ []) back ∙ ap (λ (p : ℕ × List ℕ). p.1) (sym is),
+    )
 length_form_only x (a ∷ b ∷ []) n form =
     let small = number_2 a b form.1 in
     let is = length_form_two n (omega (arith, form.2)) (omega (arith, form.2, small)) in
@@ -88,7 +105,8 @@ length_form_bound x [] n form = (omega (arith, form.0), omega (arith, form.0, fo
 length_form_bound x (a ∷ []) n form = (omega (arith, form.0), omega (arith, form.1, form.2))
 length_form_bound x (a ∷ b ∷ []) n form = (omega (arith, form.0), omega (arith, number_2 a b form.1, form.2))
 length_form_bound x (a ∷ b ∷ c ∷ []) n form = absurd form
-length_form_bound x (a ∷ b ∷ c ∷ d ∷ []) n form = (omega (arith, form.0), omega (arith, number_4 a b c d form.1, form.2))
+length_form_bound x (a ∷ b ∷ c ∷ d ∷ []) n form =
+    (omega (arith, form.0), omega (arith, number_4 a b c d form.1, form.2))
 length_form_bound x (a ∷ b ∷ c ∷ d ∷ e ∷ es) n form = absurd form
 
 -- ---- an option delta or an option length
@@ -110,20 +128,31 @@ option_form_is n fits =
     elim (cases_lt n 13) [
       | inl lt ↦ subst (λ (p : ℕ × List ℕ). IsOptionForm p.0 p.1 n) (sym (option_form_none n lt)) (lt, refl)
       | inr le ↦ elim (cases_lt n 269) [
-        | inl lt ↦ subst (λ (p : ℕ × List ℕ). IsOptionForm p.0 p.1 n) (sym (option_form_one n le lt)) (refl, omega arith, omega arith)
-        | inr le ↦ subst (λ (p : ℕ × List ℕ). IsOptionForm p.0 p.1 n) (sym (option_form_two n le)) (refl, are_bytes_2 (n - 269), omega (arith, from_be_bytes-to_be_bytes_2 (n - 269) (omega arith)))
+        | inl lt ↦ subst (λ (p : ℕ × List ℕ). IsOptionForm p.0 p.1 n) (sym (option_form_one n le lt)) (
+          refl,
+          omega arith,
+          omega arith,
+        )
+        | inr le ↦ subst (λ (p : ℕ × List ℕ). IsOptionForm p.0 p.1 n) (sym (option_form_two n le)) (
+          refl,
+          are_bytes_2 (n - 269),
+          omega (arith, from_be_bytes-to_be_bytes_2 (n - 269) (omega arith)),
+        )
       ]
     ]
 
 -- An option delta or an option length has no other form.
-pub option_form_only : (x : ℕ) (e : List ℕ) (n : ℕ) → IsOptionForm x e n → (x ≡ (option_form n).0) × (e ≡ (option_form n).1)
+pub option_form_only : (x : ℕ) (e : List ℕ) (n : ℕ) → IsOptionForm x e n
+    → (x ≡ (option_form n).0) × (e ≡ (option_form n).1)
 option_form_only x [] n form =
     let is = option_form_none n (omega (arith, form.0, form.1)) in
     (sym form.1 ∙ ap (λ (p : ℕ × List ℕ). p.0) (sym is), ap (λ (p : ℕ × List ℕ). p.1) (sym is))
 option_form_only x (a ∷ []) n form =
     let is = option_form_one n (omega (arith, form.2)) (omega (arith, form.1, form.2)) in
-    let back : a ≡ n - 13 = omega (arith, form.2) in
-    (form.0 ∙ ap (λ (p : ℕ × List ℕ). p.0) (sym is), ap (λ (b : ℕ). b ∷ []) back ∙ ap (λ (p : ℕ × List ℕ). p.1) (sym is))
+    let back : a ≡ n - 13 = omega (arith, form.2) in (
+      form.0 ∙ ap (λ (p : ℕ × List ℕ). p.0) (sym is),
+      ap (λ (b : ℕ). b ∷ []) back ∙ ap (λ (p : ℕ × List ℕ). p.1) (sym is),
+    )
 option_form_only x (a ∷ b ∷ []) n form =
     let is = option_form_two n (omega (arith, form.2)) in
     let back : n - 269 ≡ from_be_bytes w16 (a ∷ b ∷ []) = omega (arith, form.2) in

@@ -1,5 +1,6 @@
 -- The head of a frame: decoding returns it if and only if the bytes encode it. `declared_of` agrees with `Declares`.
-use Rattle.std.proofs.Common.{◌≡◌, ◌≢◌, ℕ, ◌+◌, ◌-◌, ◌*◌, ◌/◌, ◌%◌, ◌<◌, ◌≤◌, List, [], ◌∷◌, ◌++◌, length, take, drop, Some, None, Ok, Err, ◌⊎◌, inl, inr, refl, sym, ap, subst, ◌∙◌, append_assoc, arith}
+use Rattle.std.proofs.Common.{◌≡◌, ◌≢◌, ℕ, ◌+◌, ◌-◌, ◌*◌, ◌/◌, ◌%◌, ◌<◌, ◌≤◌, List, [], ◌∷◌, ◌++◌, length, take, drop}
+use Rattle.std.proofs.Common.{Some, None, Ok, Err, ◌⊎◌, inl, inr, refl, sym, ap, subst, ◌∙◌, append_assoc, arith}
 use Rattle.std.proofs.lemmas.Bool.{eq-eqb, ne_eqb, lt-ltb, le-ltb, cases_lt, cases_eq}
 use Rattle.std.proofs.lemmas.List.{length-take, length-drop, length-append, take-append-drop, take_at, drop_at}
 use Rattle.coap_wire.specs.Prelude.{AreBytes, IsLengthForm, extension_of, IsOptionForm, option_extension}
@@ -9,7 +10,9 @@ use Rattle.coap_wire.specs.Prelude.{BadToken, FormatFault, TokenLength, NotOneFr
 use Rattle.coap_wire.specs.Prelude.{size_with, size_from, declared_of, Head, head_with, head_behind, head_from}
 use Rattle.coap_wire.specs.Prelude.{head_at}
 use Rattle.coap_wire.proofs.FormLaws.{option_form_width, option_extension_some}
-use Rattle.coap_wire.proofs.NumberLaws.{option_cases, AreBytes-tail, AreBytes-drop, length_again, option_number_none, option_number_again, option_form_nibble, length_takes, option_number_takes, length_at_taken, option_number_length}
+use Rattle.coap_wire.proofs.NumberLaws.{option_cases, AreBytes-tail, AreBytes-drop, length_again, option_number_none}
+use Rattle.coap_wire.proofs.NumberLaws.{option_number_again, option_form_nibble, length_takes, option_number_takes}
+use Rattle.coap_wire.proofs.NumberLaws.{length_at_taken, option_number_length}
 use Rattle.coap_wire.proofs.BodySteps.{some_is, ok_is}
 use Rattle.coap_wire.proofs.BodyLaws.{ok_or_err, nibbles}
 
@@ -27,7 +30,8 @@ pub record ReadsLengths (b : ℕ) (s : List ℕ) (t n : ℕ) : Type 0 where
 -- A byte of these lengths is missing.
 pub record IsCutHead (b : ℕ) (s : List ℕ) : Type 0 where
   pub nibble : b % 16 ≢ 15
-  pub cut : (length_at (b / 16) s ≡ None) ⊎ ((y : ℕ × List ℕ) × (length_at (b / 16) s ≡ Some y) × (option_number_at (b % 16) (drop 1 y.1) ≡ None))
+  pub cut : (length_at (b / 16) s ≡ None)
+      ⊎ ((y : ℕ × List ℕ) × (length_at (b / 16) s ≡ Some y) × (option_number_at (b % 16) (drop 1 y.1) ≡ None))
 
 -- The lengths are decoded, or the token length has nibble 15, or a byte is missing.
 abbrev pub HeadCases : ℕ → List ℕ → Type 0
@@ -39,7 +43,8 @@ head_cases b s =
       | inl none ↦ inr (inl none)
       | inr nibble ↦ elim (option_cases (length_at (b / 16) s)) [
         | inl y ↦ elim (option_cases (option_number_at (b % 16) (drop 1 y.0.1))) [
-          | inl z ↦ inl (z.0.0, y.0.0, record { at_code = y.0.1; at_token = z.0.1; nibble = nibble; body = y.1; token = z.1 })
+          | inl z ↦
+              inl (z.0.0, y.0.0, record { at_code = y.0.1; at_token = z.0.1; nibble = nibble; body = y.1; token = z.1 })
           | inr none ↦ inr (inr (record { nibble = nibble; cut = inr (y.0, y.1, none) }))
         ]
         | inr none ↦ inr (inr (record { nibble = nibble; cut = inl none }))
@@ -76,31 +81,43 @@ pub declared_cut : (b : ℕ) (s : List ℕ) → IsCutHead b s → declared_of (b
 declared_cut b s c =
     elim (c.cut) [
       | inl none ↦ declared_from b s c.nibble ∙ ap (size_from (b % 16) s) none
-      | inr y ↦ declared_from b s c.nibble ∙ ap (size_from (b % 16) s) y.1 ∙ ap (size_with (1 + (length s - length y.0.1)) y.0.0 (drop 1 y.0.1)) y.2
+      | inr y ↦
+          declared_from b s c.nibble ∙ ap (size_from (b % 16) s) y.1
+          ∙ ap (size_with (1 + (length s - length y.0.1)) y.0.0 (drop 1 y.0.1)) y.2
     ]
 
-declared_with : (b : ℕ) (s : List ℕ) (t n : ℕ) → (r : ReadsLengths b s t n) → declared_of (b ∷ s) ≡ size_with (1 + (length s - length r.at_code)) n (drop 1 r.at_code) (Some (t, r.at_token))
+declared_with : (b : ℕ) (s : List ℕ) (t n : ℕ) → (r : ReadsLengths b s t n)
+    → declared_of (b ∷ s) ≡ size_with (1 + (length s - length r.at_code)) n (drop 1 r.at_code) (Some (t, r.at_token))
 declared_with b s t n r =
-    declared_from b s r.nibble ∙ ap (size_from (b % 16) s) r.body ∙ ap (size_with (1 + (length s - length r.at_code)) n (drop 1 r.at_code)) r.token
+    declared_from b s r.nibble ∙ ap (size_from (b % 16) s) r.body
+    ∙ ap (size_with (1 + (length s - length r.at_code)) n (drop 1 r.at_code)) r.token
 
-size_of_token : (first n : ℕ) (behind : List ℕ) (y : ℕ × List ℕ) → y.0 ≤ greatest_token → size_with first n behind (Some y) ≡ Size (first + 1 + (length behind - length y.1) + y.0 + n)
+size_of_token : (first n : ℕ) (behind : List ℕ) (y : ℕ × List ℕ) → y.0 ≤ greatest_token
+    → size_with first n behind (Some y) ≡ Size (first + 1 + (length behind - length y.1) + y.0 + n)
 size_of_token first n behind y h = rw (le-ltb greatest_token y.0 h) refl
 
-size_of_long_token : (first n : ℕ) (behind : List ℕ) (y : ℕ × List ℕ) → greatest_token < y.0 → size_with first n behind (Some y) ≡ BadToken
+size_of_long_token : (first n : ℕ) (behind : List ℕ) (y : ℕ × List ℕ) → greatest_token < y.0
+    → size_with first n behind (Some y) ≡ BadToken
 size_of_long_token first n behind y h = rw (lt-ltb greatest_token y.0 h) refl
 
 -- The size of a frame with this first byte, a token of t bytes and a body of n bytes.
 abbrev pub frame_size : ℕ → ℕ → ℕ → ℕ
 frame_size b t n = 1 + extension_of (b / 16) + 1 + option_extension (b % 16) + t + n
 
-pub declared_size : (b : ℕ) (s : List ℕ) (t n : ℕ) → ReadsLengths b s t n → t ≤ greatest_token → declared_of (b ∷ s) ≡ Size (frame_size b t n)
+pub declared_size : (b : ℕ) (s : List ℕ) (t n : ℕ) → ReadsLengths b s t n → t ≤ greatest_token
+    → declared_of (b ∷ s) ≡ Size (frame_size b t n)
 declared_size b s t n r short =
     let w = widths b s t n r in
-    let same : 1 + (length s - length r.at_code) + 1 + (length (drop 1 r.at_code) - length r.at_token) + t + n ≡ frame_size b t n = omega (arith, w.body, w.token) in
-    declared_with b s t n r ∙ size_of_token (1 + (length s - length r.at_code)) n (drop 1 r.at_code) (t, r.at_token) short ∙ ap Size same
+    let same : 1 + (length s - length r.at_code) + 1 + (length (drop 1 r.at_code) - length r.at_token) + t + n
+    ≡ frame_size b t n = omega (arith, w.body, w.token) in
+    declared_with b s t n r
+    ∙ size_of_token (1 + (length s - length r.at_code)) n (drop 1 r.at_code) (t, r.at_token) short ∙ ap Size same
 
-pub declared_long : (b : ℕ) (s : List ℕ) (t n : ℕ) → ReadsLengths b s t n → greatest_token < t → declared_of (b ∷ s) ≡ BadToken
-declared_long b s t n r long = declared_with b s t n r ∙ size_of_long_token (1 + (length s - length r.at_code)) n (drop 1 r.at_code) (t, r.at_token) long
+pub declared_long : (b : ℕ) (s : List ℕ) (t n : ℕ) → ReadsLengths b s t n → greatest_token < t
+    → declared_of (b ∷ s) ≡ BadToken
+declared_long b s t n r long =
+    declared_with b s t n r
+    ∙ size_of_long_token (1 + (length s - length r.at_code)) n (drop 1 r.at_code) (t, r.at_token) long
 
 -- ---- stated lengths are decoded
 
@@ -109,7 +126,8 @@ record ReadsToken (x t : ℕ) (s : List ℕ) : Type 0 where
   behind : List ℕ
   is : option_number_at x (drop 1 s) ≡ Some (t, behind)
 
-token_again : (x t code : ℕ) (extension more : List ℕ) → IsOptionForm x extension t → ReadsToken x t (code_and_extension code extension ++ more)
+token_again : (x t code : ℕ) (extension more : List ℕ) → IsOptionForm x extension t
+    → ReadsToken x t (code_and_extension code extension ++ more)
 token_again x t code [] more form = record { behind = drop 1 more; is = option_number_again x [] t (drop 1 more) form }
 token_again x t code (e ∷ es) more form = record { behind = more; is = option_number_again x (e ∷ es) t more form }
 
@@ -143,7 +161,8 @@ stated_read head more t n h =
     let at_code = code_and_extension h.code h.token_extension ++ more in
     let token = token_again y t h.code h.token_extension more h.token_form in
     let body : length_at x (behind_stated h more) ≡ Some (n, at_code) =
-    ap (length_at x) (append_assoc h.extension (code_and_extension h.code h.token_extension) more) ∙ length_again x h.extension n at_code h.length_form in
+    ap (length_at x) (append_assoc h.extension (code_and_extension h.code h.token_extension) more)
+    ∙ length_again x h.extension n at_code h.length_form in
     record {
       first = first_of h;
       behind = behind_stated h more;
@@ -164,14 +183,17 @@ pub size_declared : (s : List ℕ) (n : ℕ) → IsDeclaredSize s n → declared
 size_declared s n d =
     let h = d.3 in
     let r = stated_read d.0 d.1 h.token_length h.body_length h.lengths in
-    let same : frame_size r.first h.token_length h.body_length ≡ n = omega (arith, h.size, r.extension, r.token_extension) in
-    ap declared_of (d.2 ∙ r.bytes) ∙ declared_size r.first r.behind h.token_length h.body_length r.read h.short ∙ ap Size same
+    let same : frame_size r.first h.token_length h.body_length ≡ n =
+    omega (arith, h.size, r.extension, r.token_extension) in
+    ap declared_of (d.2 ∙ r.bytes)
+    ∙ declared_size r.first r.behind h.token_length h.body_length r.read h.short ∙ ap Size same
 
 -- An invalid token length that the first bytes state is declared.
 pub bad_token_declared : (s : List ℕ) → HasBadToken s → declared_of s ≡ BadToken
 bad_token_declared s bad =
     elim (bad.3) [
-      | inl none ↦ ap declared_of (bad.2 ∙ ap (λ (head : List ℕ). head ++ bad.1) none.1) ∙ declared_no_length none.0 bad.1 none.2
+      | inl none ↦
+          ap declared_of (bad.2 ∙ ap (λ (head : List ℕ). head ++ bad.1) none.1) ∙ declared_no_length none.0 bad.1 none.2
       | inr long ↦
           let r = stated_read bad.0 bad.1 long.0 long.1 long.2 in
           ap declared_of (bad.2 ∙ r.bytes) ∙ declared_long r.first r.behind long.0 long.1 r.read long.3
@@ -207,13 +229,16 @@ read_stated b s t n fits r =
     let byte : b < 256 = fits 0 in
     let split : b ≡ 16 * (b / 16) + b % 16 = omega arith in
     let l = length_takes (b / 16) s (n, r.at_code) (AreBytes-tail (b ∷ []) s fits) (omega arith) r.body in
-    let k = option_number_takes (b % 16) (drop 1 r.at_code) (t, r.at_token) (AreBytes-drop 1 r.at_code l.rest_fits) (omega (arith, r.nibble)) r.token in
+    let k = option_number_takes (b % 16) (drop 1 r.at_code) (t, r.at_token) (AreBytes-drop 1 r.at_code l.rest_fits)
+    (omega (arith, r.nibble)) r.token in
     let c = code_before r.at_code k.extension r.at_token k.parts in
     let front = code_and_extension c.code k.extension in
     record {
       head = b ∷ (l.extension ++ front);
       more = c.more;
-      bytes = ap (λ (x : List ℕ). b ∷ x) (l.parts ∙ ap (λ (x : List ℕ). l.extension ++ x) c.parts ∙ sym (append_assoc l.extension front c.more));
+      bytes =
+          ap (λ (x : List ℕ). b ∷ x)
+          (l.parts ∙ ap (λ (x : List ℕ). l.extension ++ x) c.parts ∙ sym (append_assoc l.extension front c.more));
       lengths = record {
         length_nibble = b / 16;
         extension = l.extension;
@@ -228,16 +253,24 @@ read_stated b s t n fits r =
       token_extension = option_form_width (b % 16) k.extension t k.form;
     }
 
-read_size : (b : ℕ) (s : List ℕ) (t n : ℕ) → AreBytes (b ∷ s) → ReadsLengths b s t n → t ≤ greatest_token → IsDeclaredSize (b ∷ s) (frame_size b t n)
+read_size : (b : ℕ) (s : List ℕ) (t n : ℕ) → AreBytes (b ∷ s) → ReadsLengths b s t n → t ≤ greatest_token
+    → IsDeclaredSize (b ∷ s) (frame_size b t n)
 read_size b s t n fits r short =
     let i = read_stated b s t n fits r in (
       i.head,
       i.more,
       i.bytes,
-      record { token_length = t; body_length = n; lengths = i.lengths; short = short; size = omega (arith, i.extension, i.token_extension) },
+      record {
+        token_length = t;
+        body_length = n;
+        lengths = i.lengths;
+        short = short;
+        size = omega (arith, i.extension, i.token_extension);
+      },
     )
 
-pub read_bad_token : (b : ℕ) (s : List ℕ) (t n : ℕ) → AreBytes (b ∷ s) → ReadsLengths b s t n → greatest_token < t → HasBadToken (b ∷ s)
+pub read_bad_token : (b : ℕ) (s : List ℕ) (t n : ℕ) → AreBytes (b ∷ s) → ReadsLengths b s t n
+    → greatest_token < t → HasBadToken (b ∷ s)
 read_bad_token b s t n fits r long =
     let i = read_stated b s t n fits r in
     (i.head, i.more, i.bytes, inr (t, n, i.lengths, long))
@@ -296,7 +329,8 @@ head_cut b s c =
       | inr y ↦ head_by b s c.nibble ∙ ap (head_from (b % 16)) y.1 ∙ cut_behind (b % 16) y.0.0 y.0.1 y.2
     ]
 
-head_read : (b : ℕ) (s : List ℕ) (t n : ℕ) (at_code at_token : List ℕ) (code : ℕ) → b % 16 ≢ 15 → length_at (b / 16) s ≡ Some (n, code ∷ at_code)
+head_read : (b : ℕ) (s : List ℕ) (t n : ℕ) (at_code at_token : List ℕ) (code : ℕ) → b % 16 ≢ 15
+    → length_at (b / 16) s ≡ Some (n, code ∷ at_code)
     → option_number_at (b % 16) at_code ≡ Some (t, at_token) → head_at (b ∷ s) ≡ head_with code n (Some (t, at_token))
 head_read b s t n at_code at_token code nibble body token =
     head_by b s nibble ∙ ap (head_from (b % 16)) body ∙ ap (head_with code n) token
@@ -307,22 +341,28 @@ head_made code t s = record { code = code; token = take t s; body = drop t s }
 pub head_long : (code t n : ℕ) (s : List ℕ) → greatest_token < t → head_with code n (Some (t, s)) ≡ Err TokenLength
 head_long code t n s long = rw (lt-ltb greatest_token t long) refl
 
-pub head_made_is : (code t : ℕ) (s : List ℕ) → head_made code t s ≡ record { code = code; token = take t s; body = drop t s }
+pub head_made_is : (code t : ℕ) (s : List ℕ)
+    → head_made code t s ≡ record { code = code; token = take t s; body = drop t s }
 unfolding head_made
 head_made_is code t s = refl
 
-pub head_whole : (code t n : ℕ) (s : List ℕ) → t ≤ greatest_token → length s ≡ t + n → head_with code n (Some (t, s)) ≡ Ok (head_made code t s)
+pub head_whole : (code t n : ℕ) (s : List ℕ) → t ≤ greatest_token → length s ≡ t + n
+    → head_with code n (Some (t, s)) ≡ Ok (head_made code t s)
 unfolding head_made
 head_whole code t n s short h = rw (le-ltb greatest_token t short, eq-eqb (length s) (t + n) h) refl
 
-pub head_not_whole : (code t n : ℕ) (s : List ℕ) → t ≤ greatest_token → length s ≢ t + n → head_with code n (Some (t, s)) ≡ Err NotOneFrame
+pub head_not_whole : (code t n : ℕ) (s : List ℕ) → t ≤ greatest_token → length s ≢ t + n
+    → head_with code n (Some (t, s)) ≡ Err NotOneFrame
 head_not_whole code t n s short h = rw (le-ltb greatest_token t short, ne_eqb (length s) (t + n) h) refl
 
 -- If no byte follows the length, the token length has no extension.
 few_token : (x t : ℕ) (behind : List ℕ) → option_number_at x [] ≡ Some (t, behind) → t ≤ greatest_token
 few_token x t behind e =
     elim (cases_lt x 13) [
-      | inl lt ↦ let same : x ≡ t = ap (λ (y : ℕ × List ℕ). y.0) (some_is (x, []) (t, behind) (sym (option_number_none x [] lt) ∙ e)) in omega (arith, lt, same)
+      | inl lt ↦
+          let same : x ≡ t =
+          ap (λ (y : ℕ × List ℕ). y.0) (some_is (x, []) (t, behind) (sym (option_number_none x [] lt) ∙ e)) in
+          omega (arith, lt, same)
       | inr ge ↦ absurd (omega (arith, option_extension_some x ge, option_number_length x [] (t, behind) e))
     ]
 
@@ -330,25 +370,30 @@ few_token x t behind e =
 abbrev pub HeadParts : ℕ → List ℕ → ℕ → ℕ → List ℕ → List ℕ → Type 0
 HeadParts b s t n at_code at_token =
     ((at_code ≡ []) × (head_at (b ∷ s) ≡ Err NotOneFrame) × (t ≤ greatest_token))
-    ⊎ ((code : ℕ) × (behind : List ℕ) × (at_code ≡ code ∷ behind) × (head_at (b ∷ s) ≡ head_with code n (Some (t, at_token))))
+    ⊎ ((code : ℕ) × (behind : List ℕ) × (at_code ≡ code ∷ behind)
+    × (head_at (b ∷ s) ≡ head_with code n (Some (t, at_token))))
 
-parts_by : (b : ℕ) (s : List ℕ) (t n : ℕ) (at_code at_token : List ℕ) → b % 16 ≢ 15 → length_at (b / 16) s ≡ Some (n, at_code)
+parts_by : (b : ℕ) (s : List ℕ) (t n : ℕ) (at_code at_token : List ℕ) → b % 16 ≢ 15
+    → length_at (b / 16) s ≡ Some (n, at_code)
     → option_number_at (b % 16) (drop 1 at_code) ≡ Some (t, at_token) → HeadParts b s t n at_code at_token
 parts_by b s t n [] at_token nibble body token =
     inl (refl, head_by b s nibble ∙ ap (head_from (b % 16)) body, few_token (b % 16) t at_token token)
-parts_by b s t n (code ∷ behind) at_token nibble body token = inr (code, behind, refl, head_read b s t n behind at_token code nibble body token)
+parts_by b s t n (code ∷ behind) at_token nibble body token =
+    inr (code, behind, refl, head_read b s t n behind at_token code nibble body token)
 
 pub head_parts : (b : ℕ) (s : List ℕ) (t n : ℕ) → (r : ReadsLengths b s t n) → HeadParts b s t n r.at_code r.at_token
 head_parts b s t n r = parts_by b s t n r.at_code r.at_token r.nibble r.body r.token
 
 -- The bytes of a decoded head encode it, and its body has bytes only.
-head_spelled : (b : ℕ) (s : List ℕ) (t n code : ℕ) (behind : List ℕ) → AreBytes (b ∷ s) → (r : ReadsLengths b s t n) → r.at_code ≡ code ∷ behind → t ≤ greatest_token → length r.at_token ≡ t + n
+head_spelled : (b : ℕ) (s : List ℕ) (t n code : ℕ) (behind : List ℕ) → AreBytes (b ∷ s) → (r : ReadsLengths b s t n)
+    → r.at_code ≡ code ∷ behind → t ≤ greatest_token → length r.at_token ≡ t + n
     → IsHeadAndBody (b ∷ s) code (take t r.at_token) (drop t r.at_token) × AreBytes (drop t r.at_token)
 head_spelled b s t n code behind fits r is short whole =
     let byte : b < 256 = fits 0 in
     let split : b ≡ 16 * (b / 16) + b % 16 = omega arith in
     let l = length_takes (b / 16) s (n, r.at_code) (AreBytes-tail (b ∷ []) s fits) (omega arith) r.body in
-    let k = option_number_takes (b % 16) (drop 1 r.at_code) (t, r.at_token) (AreBytes-drop 1 r.at_code l.rest_fits) (omega (arith, r.nibble)) r.token in
+    let k = option_number_takes (b % 16) (drop 1 r.at_code) (t, r.at_token) (AreBytes-drop 1 r.at_code l.rest_fits)
+    (omega (arith, r.nibble)) r.token in
     let token : length (take t r.at_token) ≡ t = omega (arith, whole, length-take t r.at_token) in
     let body : length (drop t r.at_token) ≡ n = omega (arith, whole, length-drop t r.at_token) in
     let rest : behind ≡ k.extension ++ (take t r.at_token ++ drop t r.at_token) =
@@ -359,9 +404,11 @@ head_spelled b s t n code behind fits r is short whole =
         token_nibble = b % 16;
         token_extension = k.extension;
         length_form = subst (λ (x : ℕ). IsLengthForm (b / 16) l.extension x) (sym body) l.form;
-        token_form = (subst (λ (x : ℕ). IsOptionForm (b % 16) k.extension x) (sym token) k.form, omega (arith, token, short));
+        token_form =
+            (subst (λ (x : ℕ). IsOptionForm (b % 16) k.extension x) (sym token) k.form, omega (arith, token, short));
         bytes = ap (λ (x : ℕ). x ∷ s) split
-            ∙ ap (λ (x : List ℕ). (16 * (b / 16) + b % 16) ∷ x) (l.parts ∙ ap (λ (x : List ℕ). l.extension ++ x) (is ∙ ap (λ (x : List ℕ). code ∷ x) rest));
+            ∙ ap (λ (x : List ℕ). (16 * (b / 16) + b % 16) ∷ x)
+            (l.parts ∙ ap (λ (x : List ℕ). l.extension ++ x) (is ∙ ap (λ (x : List ℕ). code ∷ x) rest));
       },
       AreBytes-drop t r.at_token k.rest_fits,
     )
@@ -370,19 +417,28 @@ head_spelled b s t n code behind fits r is short whole =
 abbrev IsSpelledSo : List ℕ → Head → Type 0
 IsSpelledSo s h = IsHeadAndBody s h.code h.token h.body × AreBytes h.body
 
-takes_parts : (b : ℕ) (s : List ℕ) (h : Head) (t n code : ℕ) (behind : List ℕ) → AreBytes (b ∷ s) → (r : ReadsLengths b s t n) → r.at_code ≡ code ∷ behind
+takes_parts : (b : ℕ) (s : List ℕ) (h : Head) (t n code : ℕ) (behind : List ℕ) → AreBytes (b ∷ s)
+    → (r : ReadsLengths b s t n) → r.at_code ≡ code ∷ behind
     → head_with code n (Some (t, r.at_token)) ≡ Ok h → IsSpelledSo (b ∷ s) h
 unfolding head_made
 takes_parts b s h t n code behind fits r is e =
     elim (cases_lt greatest_token t) [
-      | inl long ↦ absurd (ok_or_err (head_with code n (Some (t, r.at_token))) h TokenLength e (head_long code t n r.at_token long))
+      | inl long ↦
+          absurd
+          (ok_or_err (head_with code n (Some (t, r.at_token))) h TokenLength e (head_long code t n r.at_token long))
       | inr short ↦ elim (cases_eq (length r.at_token) (t + n)) [
-        | inl whole ↦ subst (IsSpelledSo (b ∷ s)) (ok_is (head_made code t r.at_token) h (sym (head_whole code t n r.at_token short whole) ∙ e)) (head_spelled b s t n code behind fits r is short whole)
-        | inr other ↦ absurd (ok_or_err (head_with code n (Some (t, r.at_token))) h NotOneFrame e (head_not_whole code t n r.at_token short other))
+        | inl whole ↦
+            subst (IsSpelledSo (b ∷ s))
+            (ok_is (head_made code t r.at_token) h (sym (head_whole code t n r.at_token short whole) ∙ e))
+            (head_spelled b s t n code behind fits r is short whole)
+        | inr other ↦
+            absurd (ok_or_err (head_with code n (Some (t, r.at_token))) h NotOneFrame e
+            (head_not_whole code t n r.at_token short other))
       ]
     ]
 
-pub head_takes : (s : List ℕ) (h : Head) → AreBytes s → head_at s ≡ Ok h → IsHeadAndBody s h.code h.token h.body × AreBytes h.body
+pub head_takes : (s : List ℕ) (h : Head) → AreBytes s → head_at s ≡ Ok h
+    → IsHeadAndBody s h.code h.token h.body × AreBytes h.body
 head_takes [] h fits e = absurd (ok_or_err (head_at []) h NotOneFrame e head_nothing)
 head_takes (b ∷ s) h fits e =
     elim (head_cases b s) [
@@ -396,12 +452,14 @@ head_takes (b ∷ s) h fits e =
       ]
     ]
 
-made_is : (code t : ℕ) (token body : List ℕ) → length token ≡ t → head_made code t (token ++ body) ≡ record { code = code; token = token; body = body }
+made_is : (code t : ℕ) (token body : List ℕ) → length token ≡ t
+    → head_made code t (token ++ body) ≡ record { code = code; token = token; body = body }
 unfolding head_made
 made_is code t token body h = rw (take_at token body t h, drop_at token body t h) refl
 
 -- The encoding of a head is decoded to it.
-pub head_again : (s : List ℕ) (code : ℕ) (token body : List ℕ) → IsHeadAndBody s code token body → head_at s ≡ Ok (record { code = code; token = token; body = body })
+pub head_again : (s : List ℕ) (code : ℕ) (token body : List ℕ) → IsHeadAndBody s code token body
+    → head_at s ≡ Ok (record { code = code; token = token; body = body })
 head_again s code token body h =
     let x = h.length_nibble in
     let y = h.token_nibble in
@@ -409,11 +467,15 @@ head_again s code token body h =
     let behind = h.token_extension ++ (token ++ body) in
     let small : y < 15 = option_form_nibble y h.token_extension t h.token_form.0 in
     let k = nibbles x y (omega (arith, small)) in
-    let is : length_at x (h.extension ++ code ∷ behind) ≡ Some (length body, code ∷ behind) = length_again x h.extension (length body) (code ∷ behind) h.length_form in
-    let token_is : option_number_at y behind ≡ Some (t, token ++ body) = option_number_again y h.token_extension t (token ++ body) h.token_form.0 in
+    let is : length_at x (h.extension ++ code ∷ behind) ≡ Some (length body, code ∷ behind) =
+    length_again x h.extension (length body) (code ∷ behind) h.length_form in
+    let token_is : option_number_at y behind ≡ Some (t, token ++ body) =
+    option_number_again y h.token_extension t (token ++ body) h.token_form.0 in
     ap head_at h.bytes
-    ∙ head_read (16 * x + y) (h.extension ++ code ∷ behind) t (length body) behind (token ++ body) code (omega (arith, k.1, small)) (rw (k.0) is) (rw (k.1) token_is)
-    ∙ head_whole code t (length body) (token ++ body) h.token_form.1 (length-append token body) ∙ ap Ok (made_is code t token body refl)
+    ∙ head_read (16 * x + y) (h.extension ++ code ∷ behind) t (length body) behind (token ++ body) code
+    (omega (arith, k.1, small)) (rw (k.0) is) (rw (k.1) token_is)
+    ∙ head_whole code t (length body) (token ++ body) h.token_form.1 (length-append token body)
+    ∙ ap Ok (made_is code t token body refl)
 
 -- The head of a frame is decoded without an error.
 pub frame_head : (s : List ℕ) → IsFrame s → (h : Head) × (head_at s ≡ Ok h)
@@ -427,8 +489,10 @@ frame_head s f =
       | inr p ↦
           let behind : length (drop 1 r.read.at_code) ≡ length p.1 = ap (λ (l : List ℕ). length (drop 1 l)) p.2 in
           let len : length r.read.at_token ≡ h.token_length + h.body_length =
-          omega (arith, all, h.size, r.extension, r.token_extension, w.body, w.token, behind, ap length p.2) in
-          (head_made p.0 h.token_length r.read.at_token, ap head_at (f.2 ∙ r.bytes) ∙ p.3 ∙ head_whole p.0 h.token_length h.body_length r.read.at_token h.short len)
+          omega (arith, all, h.size, r.extension, r.token_extension, w.body, w.token, behind, ap length p.2) in (
+            head_made p.0 h.token_length r.read.at_token,
+            ap head_at (f.2 ∙ r.bytes) ∙ p.3 ∙ head_whole p.0 h.token_length h.body_length r.read.at_token h.short len,
+          )
     ]
 
 -- A head and a body of the stated length are a frame.
@@ -439,10 +503,17 @@ head_frame s code token body h =
     let c = code_before behind h.token_extension (token ++ body) refl in
     let front = code_and_extension c.code h.token_extension in
     let len : length s ≡ 1 + length h.extension + 1 + length h.token_extension + length token + length body =
-    omega (arith, ap length h.bytes, length-append h.extension behind, length-append h.token_extension (token ++ body), length-append token body) in (
+    omega (
+      arith,
+      ap length h.bytes,
+      length-append h.extension behind,
+      length-append h.token_extension (token ++ body),
+      length-append token body,
+    ) in (
       first ∷ (h.extension ++ front),
       c.more,
-      h.bytes ∙ ap (λ (x : List ℕ). first ∷ x) (ap (λ (x : List ℕ). h.extension ++ x) c.parts ∙ sym (append_assoc h.extension front c.more)),
+      h.bytes ∙ ap (λ (x : List ℕ). first ∷ x)
+          (ap (λ (x : List ℕ). h.extension ++ x) c.parts ∙ sym (append_assoc h.extension front c.more)),
       record {
         token_length = length token;
         body_length = length body;
@@ -467,7 +538,8 @@ head_frame s code token body h =
 pub bad_token_read : (s : List ℕ) → HasBadToken s → head_at s ≡ Err TokenLength
 bad_token_read s bad =
     elim (bad.3) [
-      | inl none ↦ ap head_at (bad.2 ∙ ap (λ (head : List ℕ). head ++ bad.1) none.1) ∙ head_no_length none.0 bad.1 none.2
+      | inl none ↦
+          ap head_at (bad.2 ∙ ap (λ (head : List ℕ). head ++ bad.1) none.1) ∙ head_no_length none.0 bad.1 none.2
       | inr long ↦
           let r = stated_read bad.0 bad.1 long.0 long.1 long.2 in
           ap head_at (bad.2 ∙ r.bytes)
@@ -487,13 +559,16 @@ no_frame_is s e is h = let same : NotOneFrame ≡ e = cc in subst (IsFirstFault 
 bad_token_is : (s : List ℕ) (e : FormatFault) → HasBadToken s → head_at s ≡ Err e → IsFirstFault s e
 bad_token_is s e bad h = let same : TokenLength ≡ e = cc (bad_token_read s bad) in subst (IsFirstFault s) same bad
 
-parts_fault : (b : ℕ) (s : List ℕ) (e : FormatFault) (t n code : ℕ) → AreBytes (b ∷ s) → (r : ReadsLengths b s t n) → head_at (b ∷ s) ≡ head_with code n (Some (t, r.at_token))
+parts_fault : (b : ℕ) (s : List ℕ) (e : FormatFault) (t n code : ℕ) → AreBytes (b ∷ s) → (r : ReadsLengths b s t n)
+    → head_at (b ∷ s) ≡ head_with code n (Some (t, r.at_token))
     → head_at (b ∷ s) ≡ Err e → IsFirstFault (b ∷ s) e
 parts_fault b s e t n code fits r is h =
     elim (cases_lt greatest_token t) [
       | inl long ↦ bad_token_is (b ∷ s) e (read_bad_token b s t n fits r long) h
       | inr short ↦ elim (cases_eq (length r.at_token) (t + n)) [
-        | inl whole ↦ absurd (ok_or_err (head_at (b ∷ s)) (head_made code t r.at_token) e (is ∙ head_whole code t n r.at_token short whole) h)
+        | inl whole ↦
+            absurd (ok_or_err (head_at (b ∷ s)) (head_made code t r.at_token) e
+            (is ∙ head_whole code t n r.at_token short whole) h)
         | inr other ↦ no_frame_is (b ∷ s) e (is ∙ head_not_whole code t n r.at_token short other) h
       ]
     ]

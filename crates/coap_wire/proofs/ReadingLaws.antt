@@ -15,8 +15,10 @@ use Rattle.coap_wire.proofs.FaultLaws.{err_is, bind_fault, body_fault_takes, bod
 pub message_spelled : (s : List ℕ) (m : Message) → AreBytes s → message_of s ≡ Ok m → Spells s m
 unfolding message_of
 message_spelled s m fits e =
-    let a = bind_ok (head_at s) (λ head. body_at 0 head.body >>= λ body. Ok (record { code = head.code; token = head.token; options = body.0; payload = body.1 })) m e in
-    let b = bind_ok (body_at 0 a.0.body) (λ body. Ok (record { code = a.0.code; token = a.0.token; options = body.0; payload = body.1 })) m a.2 in
+    let a = bind_ok (head_at s) (λ head. body_at 0 head.body
+    >>= λ body. Ok (record { code = head.code; token = head.token; options = body.0; payload = body.1 })) m e in
+    let b = bind_ok (body_at 0 a.0.body)
+    (λ body. Ok (record { code = a.0.code; token = a.0.token; options = body.0; payload = body.1 })) m a.2 in
     let h = head_takes s a.0 fits a.1 in
     let made : Message = record { code = a.0.code; token = a.0.token; options = b.0.0; payload = b.0.1 } in
     subst (λ (k : Message). Spells s k) (ok_is made m b.2)
@@ -25,7 +27,8 @@ message_spelled s m fits e =
 -- If the bytes encode a message, `message_of` returns it.
 pub message_again : (s : List ℕ) (m : Message) → Spells s m → message_of s ≡ Ok m
 unfolding message_of
-message_again s m h = rw (head_again s m.code m.token h.body h.head, body_again 0 m.options h.body m.payload h.options) refl
+message_again s m h =
+    rw (head_again s m.code m.token h.body h.head, body_again 0 m.options h.body m.payload h.options) refl
 
 -- Bytes encode at most one message.
 pub one_message : (s : List ℕ) (m n : Message) → Spells s m → Spells s n → m ≡ n
@@ -49,10 +52,26 @@ fault_is_first s f fits e =
     elim (result_cases (head_at s)) [
       | inl good ↦
           let h = head_takes s good.0 fits good.1 in
-          let behind : (body_at 0 good.0.body >>= λ body. Ok (record { code = good.0.code; token = good.0.token; options = body.0; payload = body.1 })) ≡ Err f = rw good.1 at e in
-          let bad = bind_fault (body_at 0 good.0.body) (λ (body : List CoapOption × List ℕ). record { code = good.0.code; token = good.0.token; options = body.0; payload = body.1 }) f behind in
+          let behind : (body_at 0 good.0.body
+          >>= λ body. Ok (record { code = good.0.code; token = good.0.token; options = body.0; payload = body.1 }))
+          ≡ Err f = rw good.1 at e in
+          let bad = bind_fault (body_at 0 good.0.body) (λ (body : List CoapOption × List ℕ). record {
+            code = good.0.code;
+            token = good.0.token;
+            options = body.0;
+            payload = body.1;
+          }) f behind in
           let w = body_fault_takes 0 good.0.body f h.1 bad in
-          first_of_option s f (record { code = good.0.code; token = good.0.token; body = good.0.body; head = h.0; options = w.options; rest = w.rest; bytes = w.bytes; wrong = w.wrong })
+          first_of_option s f (record {
+            code = good.0.code;
+            token = good.0.token;
+            body = good.0.body;
+            head = h.0;
+            options = w.options;
+            rest = w.rest;
+            bytes = w.bytes;
+            wrong = w.wrong;
+          })
       | inr bad ↦
           let then : ◌≡◌ {A = Result Message FormatFault} (Err bad.0) (Err f) = rw bad.1 at e in
           subst (IsFirstFault s) (err_is {A = Message} bad.0 f then) (head_is_wrong s bad.0 fits bad.1)
@@ -60,13 +79,15 @@ fault_is_first s f fits e =
 
 option_fault_read : (s : List ℕ) (f : FormatFault) → HasOptionFault s f → message_of s ≡ Err f
 unfolding message_of
-option_fault_read s f w = rw (head_again s w.code w.token w.body w.head, body_fault_again 0 w.options w.body w.rest f w.bytes w.wrong) refl
+option_fault_read s f w =
+    rw (head_again s w.code w.token w.body w.head, body_fault_again 0 w.options w.body w.rest f w.bytes w.wrong) refl
 
 head_fault_read : (s : List ℕ) (f : FormatFault) → head_at s ≡ Err f → message_of s ≡ Err f
 unfolding message_of
 head_fault_read s f h = rw h refl
 
-no_frame_from : (s : List ℕ) (e : FormatFault) → (HasBadToken s → ⊥) → (IsFrame s → ⊥) → head_at s ≡ Err e → IsFirstFault s e → head_at s ≡ Err NotOneFrame
+no_frame_from : (s : List ℕ) (e : FormatFault) → (HasBadToken s → ⊥) → (IsFrame s → ⊥) → head_at s ≡ Err e
+    → IsFirstFault s e → head_at s ≡ Err NotOneFrame
 no_frame_from s NotOneFrame p q h w = h
 no_frame_from s TokenLength p q h w = absurd (p w)
 no_frame_from s EmptyPayload p q h w = absurd (q (head_frame s w.code w.token w.body w.head))

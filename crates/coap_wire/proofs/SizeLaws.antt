@@ -19,9 +19,11 @@ spelling_is_frame s m spelled = head_frame s m.code m.token spelled.body spelled
 -- No frame begins with another frame.
 pub frames_prefix_free : (s x : List ℕ) → IsFrame s → IsFrame (s ++ x) → x ≡ []
 frames_prefix_free s x short long =
-    let same : length s ≡ length (s ++ x) = size_only (s ++ x) (length s) (length (s ++ x)) (size_more s x (length s) short) long in
+    let same : length s ≡ length (s ++ x) =
+    size_only (s ++ x) (length s) (length (s ++ x)) (size_more s x (length s) short) long in
     nil_from_length x (omega (arith, length-append s x))
 
 -- No encoding begins with another encoding.
 pub no_proper_prefix : (s x : List ℕ) (m n : Message) → Spells s m → Spells (s ++ x) n → x ≡ []
-no_proper_prefix s x m n short long = frames_prefix_free s x (spelling_is_frame s m short) (spelling_is_frame (s ++ x) n long)
+no_proper_prefix s x m n short long =
+    frames_prefix_free s x (spelling_is_frame s m short) (spelling_is_frame (s ++ x) n long)

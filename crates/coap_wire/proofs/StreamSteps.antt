@@ -1,7 +1,10 @@
 -- Splitting a stream step by step: the classification of its first bytes, and the effect of more bytes.
-use Rattle.std.proofs.Common.{◌≡◌, ◌≢◌, ℕ, zero, suc, ◌+◌, ◌-◌, ◌/◌, ◌%◌, ◌<◌, ◌≤◌, Bool, true, false, cond, eqb, ltb, List, [], ◌∷◌, ◌++◌, length, take, drop, Option, Some, None, Result, Ok, Err, ◌⊎◌, inl, inr, refl, sym, ap, subst, ◌∙◌, arith}
+use Rattle.std.proofs.Common.{◌≡◌, ◌≢◌, ℕ, zero, suc, ◌+◌, ◌-◌, ◌/◌, ◌%◌, ◌<◌, ◌≤◌, Bool, true, false, cond, eqb, ltb}
+use Rattle.std.proofs.Common.{List, [], ◌∷◌, ◌++◌, length, take, drop, Option, Some, None, Result, Ok, Err, ◌⊎◌, inl}
+use Rattle.std.proofs.Common.{inr, refl, sym, ap, subst, ◌∙◌, arith}
 use Rattle.std.proofs.lemmas.Bool.{eq-eqb, ne_eqb, lt-ltb, le-ltb, cases_lt, cases_eq}
-use Rattle.std.proofs.lemmas.List.{length-append, length-drop, length-take, length-take-le, take-append-drop, take-append-le, drop-append-le, take_all, drop_all}
+use Rattle.std.proofs.lemmas.List.{length-append, length-drop, length-take, length-take-le, take-append-drop}
+use Rattle.std.proofs.lemmas.List.{take-append-le, drop-append-le, take_all, drop_all}
 use Rattle.coap_wire.specs.Prelude.{Message, extension_of, option_extension, greatest_token, code_and_extension}
 use Rattle.coap_wire.specs.Prelude.{StatesLengths, Declared, Unknown, Size, BadToken, FormatFault, one_byte_at}
 use Rattle.coap_wire.specs.Prelude.{two_bytes_at, plus, option_number_at, declared_of, message_of, FrameFault}
@@ -13,9 +16,12 @@ use Rattle.coap_wire.specs.Prelude.{sized_split, split, stream_then, continued, 
 use Rattle.coap_wire.specs.declared.fault.FrameFault.TheVariants.{TokenLength}
 use Rattle.coap_wire.proofs.BodySteps.{some_is}
 use Rattle.coap_wire.proofs.FormLaws.{option_extension_none, option_extension_some}
-use Rattle.coap_wire.proofs.NumberLaws.{option_number_none, option_number_one, option_number_two, none_or_some, option_number_more, option_number_length, option_number_short, length_at_more, length_at_taken, length_at_missing}
+use Rattle.coap_wire.proofs.NumberLaws.{option_number_none, option_number_one, option_number_two, none_or_some}
+use Rattle.coap_wire.proofs.NumberLaws.{option_number_more, option_number_length, option_number_short, length_at_more}
+use Rattle.coap_wire.proofs.NumberLaws.{length_at_taken, length_at_missing}
 use Rattle.coap_wire.proofs.BodyLaws.{result_cases}
-use Rattle.coap_wire.proofs.HeadLaws.{ReadsLengths, IsCutHead, head_cases, widths, frame_size, declared_nothing, declared_no_length, declared_cut, declared_size, declared_long, stated_read}
+use Rattle.coap_wire.proofs.HeadLaws.{ReadsLengths, IsCutHead, head_cases, widths, frame_size, declared_nothing}
+use Rattle.coap_wire.proofs.HeadLaws.{declared_no_length, declared_cut, declared_size, declared_long, stated_read}
 
 -- ---- the declared size
 
@@ -72,7 +78,8 @@ token_bytes_some x h = rw (le-ltb x 13 h) refl
 pub size_bytes_first : (b : ℕ) (s : List ℕ) → b % 16 ≡ 15 → size_bytes (b ∷ s) ≡ 1
 size_bytes_first b s h = rw (eq-eqb (b % 16) 15 h) refl
 
-size_bytes_by : (b : ℕ) (s : List ℕ) → b % 16 ≢ 15 → size_bytes (b ∷ s) ≡ 1 + extension_of (b / 16) + token_bytes (b % 16)
+size_bytes_by : (b : ℕ) (s : List ℕ) → b % 16 ≢ 15
+    → size_bytes (b ∷ s) ≡ 1 + extension_of (b / 16) + token_bytes (b % 16)
 size_bytes_by b s h = rw (ne_eqb (b % 16) 15 h) refl
 
 pub size_bytes_some : (s : List ℕ) → 1 ≤ length s → 1 ≤ size_bytes s
@@ -84,7 +91,8 @@ size_bytes_some (b ∷ s) h =
     ]
 
 -- The code and the extension of the token length have `token_bytes` bytes.
-code_and_extension_bytes : (x code : ℕ) (extension : List ℕ) → length extension ≡ option_extension x → length (code_and_extension code extension) ≡ token_bytes x
+code_and_extension_bytes : (x code : ℕ) (extension : List ℕ) → length extension ≡ option_extension x
+    → length (code_and_extension code extension) ≡ token_bytes x
 code_and_extension_bytes x code [] h =
     elim (cases_lt x 13) [
       | inl lt ↦ sym (token_bytes_none x lt)
@@ -102,12 +110,15 @@ stated_bytes head more t n h =
     let r = stated_read head more t n h in
     let front = code_and_extension h.code h.token_extension in
     let k = code_and_extension_bytes (r.first % 16) h.code h.token_extension r.token_extension in
-    let is : size_bytes (head ++ more) ≡ 1 + extension_of (r.first / 16) + token_bytes (r.first % 16) = ap size_bytes r.bytes ∙ size_bytes_by r.first r.behind r.read.nibble in
+    let is : size_bytes (head ++ more) ≡ 1 + extension_of (r.first / 16) + token_bytes (r.first % 16) =
+    ap size_bytes r.bytes ∙ size_bytes_by r.first r.behind r.read.nibble in
     omega (arith, is, ap (λ (l : List ℕ). length l) h.head, length-append h.extension front, r.extension, k)
 
 plus_above : (k : ℕ) (o : Option (ℕ × List ℕ)) (y : ℕ × List ℕ) → plus k o ≡ Some y → k ≤ y.0
 plus_above k None y e = absurd (none_or_some y e)
-plus_above k (Some x) y e = let same : x.0 + k ≡ y.0 = ap (λ (z : ℕ × List ℕ). z.0) (some_is (x.0 + k, x.1) y e) in omega (arith, same)
+plus_above k (Some x) y e =
+    let same : x.0 + k ≡ y.0 = ap (λ (z : ℕ × List ℕ). z.0) (some_is (x.0 + k, x.1) y e) in
+    omega (arith, same)
 
 -- A token length with an extension is at least 13.
 extended_above : (x : ℕ) (s : List ℕ) (y : ℕ × List ℕ) → 13 ≤ x → option_number_at x s ≡ Some y → 13 ≤ y.0
@@ -118,7 +129,8 @@ extended_above x s y h e =
     ]
 
 -- If the lengths are decoded, the bytes that state them are present, and the size is above their number.
-reads_bytes : (b : ℕ) (s : List ℕ) (t n : ℕ) → ReadsLengths b s t n → (size_bytes (b ∷ s) < frame_size b t n) × (size_bytes (b ∷ s) ≤ length (b ∷ s))
+reads_bytes : (b : ℕ) (s : List ℕ) (t n : ℕ) → ReadsLengths b s t n
+    → (size_bytes (b ∷ s) < frame_size b t n) × (size_bytes (b ∷ s) ≤ length (b ∷ s))
 reads_bytes b s t n r =
     let w = widths b s t n r in
     let is = size_bytes_by b s r.nibble in
@@ -141,7 +153,14 @@ cut_head_bytes b s c =
           let short = option_number_short (b % 16) (drop 1 y.0.1) y.2 in
           elim (cases_lt (b % 16) 13) [
             | inl lt ↦ absurd (omega (arith, short, option_extension_none (b % 16) lt))
-            | inr ge ↦ omega (arith, is, short, token_bytes_some (b % 16) ge, length_at_taken (b / 16) s y.0 y.1, length-drop 1 y.0.1)
+            | inr ge ↦ omega (
+              arith,
+              is,
+              short,
+              token_bytes_some (b % 16) ge,
+              length_at_taken (b / 16) s y.0 y.1,
+              length-drop 1 y.0.1,
+            )
           ]
     ]
 
@@ -181,11 +200,13 @@ size_has_bytes (b ∷ s) n e =
 
 -- ---- a declaration stays the same when more bytes follow
 
-token_length_more : (x : ℕ) (s more : List ℕ) (y : ℕ × List ℕ) → option_number_at x (drop 1 s) ≡ Some y → (behind : List ℕ) × (option_number_at x (drop 1 (s ++ more)) ≡ Some (y.0, behind))
+token_length_more : (x : ℕ) (s more : List ℕ) (y : ℕ × List ℕ) → option_number_at x (drop 1 s) ≡ Some y
+    → (behind : List ℕ) × (option_number_at x (drop 1 (s ++ more)) ≡ Some (y.0, behind))
 token_length_more x [] more y e =
     elim (cases_lt x 13) [
       | inl lt ↦
-          let same : x ≡ y.0 = ap (λ (z : ℕ × List ℕ). z.0) (some_is (x, []) y (sym (option_number_none x [] lt) ∙ e)) in
+          let same : x ≡ y.0 =
+          ap (λ (z : ℕ × List ℕ). z.0) (some_is (x, []) y (sym (option_number_none x [] lt) ∙ e)) in
           (drop 1 more, option_number_none x (drop 1 more) lt ∙ ap (λ (n : ℕ). Some (n, drop 1 more)) same)
       | inr ge ↦ absurd (omega (arith, option_extension_some x ge, option_number_length x [] y e))
     ]
@@ -207,7 +228,8 @@ pub declared_more : (s t : List ℕ) (n : ℕ) → declared_of s ≡ Size n → 
 declared_more [] t n e = absurd (unknown_not_size n (sym declared_nothing ∙ e))
 declared_more (b ∷ s) t n e =
     let h = size_at b s n e in
-    declared_size b (s ++ t) h.token_length h.body_length (reads_more b s t h.token_length h.body_length h.read) h.short ∙ ap Size (sym h.size)
+    declared_size b (s ++ t) h.token_length h.body_length (reads_more b s t h.token_length h.body_length h.read) h.short
+    ∙ ap Size (sym h.size)
 
 -- An invalid token length stays declared when more bytes follow.
 pub bad_token_more : (s t : List ℕ) → declared_of s ≡ BadToken → declared_of (s ++ t) ≡ BadToken
@@ -246,13 +268,21 @@ declared_some [] h = absurd (h declared_nothing)
 declared_some (b ∷ s) h = omega arith
 
 -- If one more byte makes the declaration known, that byte is the last one that states it.
-pub known_at_last : (s : List ℕ) (b : ℕ) → declared_of s ≡ Unknown → (declared_of (s ++ b ∷ []) ≡ Unknown → ⊥) → size_bytes (s ++ b ∷ []) ≡ length (s ++ b ∷ [])
+pub known_at_last : (s : List ℕ) (b : ℕ) → declared_of s ≡ Unknown → (declared_of (s ++ b ∷ []) ≡ Unknown → ⊥)
+    → size_bytes (s ++ b ∷ []) ≡ length (s ++ b ∷ [])
 known_at_last [] b u known = omega (arith, known_bytes (b ∷ []) known, size_bytes_some (b ∷ []) (omega arith))
 known_at_last (a ∷ s) b u known =
-    omega (arith, known_bytes (a ∷ (s ++ b ∷ [])) known, unknown_at a s u, size_bytes_more (a ∷ s) (b ∷ []) (omega arith), length-append s (b ∷ []))
+    omega (
+      arith,
+      known_bytes (a ∷ (s ++ b ∷ [])) known,
+      unknown_at a s u,
+      size_bytes_more (a ∷ s) (b ∷ []) (omega arith),
+      length-append s (b ∷ []),
+    )
 
 -- If one more byte makes the size known, that byte is the last one that states it.
-pub size_at_last : (s : List ℕ) (b n : ℕ) → declared_of s ≡ Unknown → declared_of (s ++ b ∷ []) ≡ Size n → size_bytes (s ++ b ∷ []) ≡ length (s ++ b ∷ [])
+pub size_at_last : (s : List ℕ) (b n : ℕ) → declared_of s ≡ Unknown → declared_of (s ++ b ∷ []) ≡ Size n
+    → size_bytes (s ++ b ∷ []) ≡ length (s ++ b ∷ [])
 size_at_last s b n u e = known_at_last s b u (λ v. unknown_not_size n (sym v ∙ e))
 
 -- ---- the classification of the first bytes
@@ -273,12 +303,14 @@ unfolding prefix_kind
 begin_too_large M s n e h = ap (begins_with M s) e ∙ rw (lt-ltb M n h) refl
 
 -- A byte of a frame of at most M bytes is missing: the frame is unfinished.
-pub begin_short : (M : ℕ) (s : List ℕ) (n : ℕ) → declared_of s ≡ Size n → n ≤ M → length s < n → prefix_kind M s ≡ Unfinished
+pub begin_short : (M : ℕ) (s : List ℕ) (n : ℕ) → declared_of s ≡ Size n → n ≤ M → length s < n
+    → prefix_kind M s ≡ Unfinished
 unfolding prefix_kind
 begin_short M s n e h k = ap (begins_with M s) e ∙ rw (le-ltb M n h, lt-ltb (length s) n k) refl
 
 -- All bytes of a frame of at most M bytes are present.
-pub begin_whole : (M : ℕ) (s : List ℕ) (n : ℕ) → declared_of s ≡ Size n → n ≤ M → n ≤ length s → prefix_kind M s ≡ Whole (take n s) (drop n s)
+pub begin_whole : (M : ℕ) (s : List ℕ) (n : ℕ) → declared_of s ≡ Size n → n ≤ M → n ≤ length s
+    → prefix_kind M s ≡ Whole (take n s) (drop n s)
 unfolding prefix_kind
 begin_whole M s n e h k = ap (begins_with M s) e ∙ rw (le-ltb M n h, le-ltb (length s) n k) refl
 
@@ -310,8 +342,12 @@ front_of_size M s n e =
     elim (cases_lt M n) [
       | inl large ↦ subst (IsFront M s) (sym (begin_too_large M s n e large)) (n, e, large)
       | inr small ↦ elim (cases_lt (length s) n) [
-        | inl short ↦ subst (IsFront M s) (sym (begin_short M s n e small short)) (inr (record { size = n; declared = e; small = small; short = short }))
-        | inr long ↦ subst (IsFront M s) (sym (begin_whole M s n e small long)) (record { size = n; declared = e; small = small; long = long; front = refl; behind = refl })
+        | inl short ↦
+            subst (IsFront M s) (sym (begin_short M s n e small short))
+            (inr (record { size = n; declared = e; small = small; short = short }))
+        | inr long ↦
+            subst (IsFront M s) (sym (begin_whole M s n e small long))
+            (record { size = n; declared = e; small = small; long = long; front = refl; behind = refl })
       ]
     ]
 
@@ -357,24 +393,29 @@ pub token_length_declared : (M : ℕ) (s : List ℕ) → prefix_kind M s ≡ Fau
 token_length_declared M s e = front_is M s (Faulty TokenLength) e
 
 -- If the error is a size above M, `declared_of` returns the size.
-pub too_large_declared : (M : ℕ) (s : List ℕ) → prefix_kind M s ≡ Faulty TooLarge → (n : ℕ) × (declared_of s ≡ Size n) × (M < n)
+pub too_large_declared : (M : ℕ) (s : List ℕ) → prefix_kind M s ≡ Faulty TooLarge
+    → (n : ℕ) × (declared_of s ≡ Size n) × (M < n)
 too_large_declared M s e = front_is M s (Faulty TooLarge) e
 
 -- A frame stays the same when more bytes follow.
-pub whole_more : (M : ℕ) (s t frame rest : List ℕ) → prefix_kind M s ≡ Whole frame rest → prefix_kind M (s ++ t) ≡ Whole frame (rest ++ t)
+pub whole_more : (M : ℕ) (s t frame rest : List ℕ) → prefix_kind M s ≡ Whole frame rest
+    → prefix_kind M (s ++ t) ≡ Whole frame (rest ++ t)
 whole_more M s t frame rest e =
     let w : IsWhole M s frame rest = front_is M s (Whole frame rest) e in
-    begin_whole M (s ++ t) w.size (declared_more s t w.size w.declared) w.small (omega (arith, length-append s t, w.long))
+    begin_whole M (s ++ t) w.size (declared_more s t w.size w.declared) w.small
+    (omega (arith, length-append s t, w.long))
     ∙ rw (take-append-le w.size s t w.long, drop-append-le w.size s t w.long) (λ i. Whole (w.front i) (w.behind i ++ t))
 
 -- An error stays the same when more bytes follow.
-pub faulty_more : (M : ℕ) (s t : List ℕ) (fault : FrameFault) → prefix_kind M s ≡ Faulty fault → prefix_kind M (s ++ t) ≡ Faulty fault
+pub faulty_more : (M : ℕ) (s t : List ℕ) (fault : FrameFault) → prefix_kind M s ≡ Faulty fault
+    → prefix_kind M (s ++ t) ≡ Faulty fault
 faulty_more M s t TokenLength e = begin_bad_token M (s ++ t) (bad_token_more s t (front_is M s (Faulty TokenLength) e))
 faulty_more M s t TooLarge e =
     let f : (n : ℕ) × (declared_of s ≡ Size n) × (M < n) = front_is M s (Faulty TooLarge) e in
     begin_too_large M (s ++ t) f.0 (declared_more s t f.0 f.1) f.2
 
-whole_alone : (M : ℕ) (s frame rest : List ℕ) → IsCut M s frame rest → prefix_kind M s ≡ Whole frame rest → (d : Declared) → declared_of frame ≡ d → prefix_kind M frame ≡ Whole frame []
+whole_alone : (M : ℕ) (s frame rest : List ℕ) → IsCut M s frame rest → prefix_kind M s ≡ Whole frame rest
+    → (d : Declared) → declared_of frame ≡ d → prefix_kind M frame ≡ Whole frame []
 whole_alone M s [] rest c e d is = absurd (omega (arith, c.some))
 whole_alone M s (b ∷ f) rest c e Unknown is =
     let few = unknown_at b f is in
@@ -382,64 +423,83 @@ whole_alone M s (b ∷ f) rest c e Unknown is =
     let same : size_bytes s ≡ size_bytes (b ∷ f) = ap size_bytes c.bytes ∙ size_bytes_more (b ∷ f) rest (omega arith) in
     absurd (omega (arith, few, many, same))
 whole_alone M s (b ∷ f) rest c e (Size n) is =
-    let same : Size n ≡ Size (length (b ∷ f)) = sym (declared_more (b ∷ f) rest n is) ∙ ap declared_of (sym c.bytes) ∙ c.declared in
+    let same : Size n ≡ Size (length (b ∷ f)) =
+    sym (declared_more (b ∷ f) rest n is) ∙ ap declared_of (sym c.bytes) ∙ c.declared in
     let count : n ≡ length (b ∷ f) = cc in
     begin_whole M (b ∷ f) (length (b ∷ f)) (is ∙ ap Size count) c.small (omega arith)
     ∙ rw (take_all (length (b ∷ f)) (b ∷ f) (omega arith), drop_all (length (b ∷ f)) (b ∷ f) (omega arith)) refl
 whole_alone M s (b ∷ f) rest c e BadToken is =
-    let bad : ◌≡◌ {A = StreamPrefix} (Faulty TokenLength) (Whole (b ∷ f) rest) = sym (faulty_more M (b ∷ f) rest TokenLength (begin_bad_token M (b ∷ f) is)) ∙ ap (prefix_kind M) (sym c.bytes) ∙ e in
+    let bad : ◌≡◌ {A = StreamPrefix} (Faulty TokenLength) (Whole (b ∷ f) rest) =
+    sym (faulty_more M (b ∷ f) rest TokenLength (begin_bad_token M (b ∷ f) is))
+    ∙ ap (prefix_kind M) (sym c.bytes) ∙ e in
     absurd cc
 
 -- A frame is found without the bytes after it.
-pub whole_itself : (M : ℕ) (s frame rest : List ℕ) → prefix_kind M s ≡ Whole frame rest → prefix_kind M frame ≡ Whole frame []
+pub whole_itself : (M : ℕ) (s frame rest : List ℕ) → prefix_kind M s ≡ Whole frame rest
+    → prefix_kind M frame ≡ Whole frame []
 whole_itself M s frame rest e = whole_alone M s frame rest (whole_parts M s frame rest e) e (declared_of frame) refl
 
-pub unfinished_not_faulty : (M : ℕ) (s : List ℕ) (fault : FrameFault) → prefix_kind M s ≡ Unfinished → prefix_kind M s ≡ Faulty fault → ⊥
+pub unfinished_not_faulty : (M : ℕ) (s : List ℕ) (fault : FrameFault) → prefix_kind M s ≡ Unfinished
+    → prefix_kind M s ≡ Faulty fault → ⊥
 unfinished_not_faulty M s fault u e = cc
 
 faulty_known : (M : ℕ) (s : List ℕ) (fault : FrameFault) → prefix_kind M s ≡ Faulty fault → declared_of s ≡ Unknown → ⊥
 faulty_known M s fault e u = unfinished_not_faulty M s fault (begin_unknown M s u) e
 
 -- The bytes that show an error are present.
-pub fault_has_bytes : (M : ℕ) (s : List ℕ) (fault : FrameFault) → prefix_kind M s ≡ Faulty fault → size_bytes s ≤ length s
+pub fault_has_bytes : (M : ℕ) (s : List ℕ) (fault : FrameFault) → prefix_kind M s ≡ Faulty fault
+    → size_bytes s ≤ length s
 fault_has_bytes M s fault e = known_bytes s (faulty_known M s fault e)
 
 -- The bytes that show an error stay the same when more bytes follow.
-pub fault_bytes_more : (M : ℕ) (s t : List ℕ) (fault : FrameFault) → prefix_kind M s ≡ Faulty fault → fault_bytes (s ++ t) ≡ fault_bytes s
+pub fault_bytes_more : (M : ℕ) (s t : List ℕ) (fault : FrameFault) → prefix_kind M s ≡ Faulty fault
+    → fault_bytes (s ++ t) ≡ fault_bytes s
 fault_bytes_more M s t fault e =
     let known = faulty_known M s fault e in
-    ap (λ (n : ℕ). take n (s ++ t)) (size_bytes_more s t (declared_some s known)) ∙ take-append-le (size_bytes s) s t (known_bytes s known)
+    ap (λ (n : ℕ). take n (s ++ t)) (size_bytes_more s t (declared_some s known))
+    ∙ take-append-le (size_bytes s) s t (known_bytes s known)
 
-last_is_size : (M : ℕ) (s : List ℕ) (b size : ℕ) → prefix_kind M s ≡ Unfinished → declared_of (s ++ b ∷ []) ≡ Size size → size ≤ length (s ++ b ∷ []) → size ≡ length (s ++ b ∷ [])
+last_is_size : (M : ℕ) (s : List ℕ) (b size : ℕ) → prefix_kind M s ≡ Unfinished → declared_of (s ++ b ∷ []) ≡ Size size
+    → size ≤ length (s ++ b ∷ []) → size ≡ length (s ++ b ∷ [])
 last_is_size M s b size u d long =
     let len : length (s ++ b ∷ []) ≡ length s + 1 = length-append s (b ∷ []) in
     elim (front_is M s Unfinished u) [
       | inl unknown ↦ absurd (omega (arith, size_at_last s b size unknown d, size_has_bytes (s ++ b ∷ []) size d))
       | inr short ↦
-          let same : short.size ≡ size = same_size short.size size (sym (declared_more s (b ∷ []) short.size short.declared) ∙ d) in
+          let same : short.size ≡ size =
+          same_size short.size size (sym (declared_more s (b ∷ []) short.size short.declared) ∙ d) in
           omega (arith, short.short)
     ]
 
 -- A frame that one more byte completes ends with that byte.
-pub whole_at_last : (M : ℕ) (s : List ℕ) (b : ℕ) (frame rest : List ℕ) → prefix_kind M s ≡ Unfinished → prefix_kind M (s ++ b ∷ []) ≡ Whole frame rest → (rest ≡ []) × (frame ≡ s ++ b ∷ [])
+pub whole_at_last : (M : ℕ) (s : List ℕ) (b : ℕ) (frame rest : List ℕ) → prefix_kind M s ≡ Unfinished
+    → prefix_kind M (s ++ b ∷ []) ≡ Whole frame rest → (rest ≡ []) × (frame ≡ s ++ b ∷ [])
 whole_at_last M s b frame rest u e =
     let w : IsWhole M (s ++ b ∷ []) frame rest = front_is M (s ++ b ∷ []) (Whole frame rest) e in
-    let size = last_is_size M s b w.size u w.declared w.long in
-    (sym w.behind ∙ drop_all w.size (s ++ b ∷ []) (omega arith), sym w.front ∙ take_all w.size (s ++ b ∷ []) (omega arith))
+    let size = last_is_size M s b w.size u w.declared w.long in (
+      sym w.behind ∙ drop_all w.size (s ++ b ∷ []) (omega arith),
+      sym w.front ∙ take_all w.size (s ++ b ∷ []) (omega arith),
+    )
 
 -- A known size of at most M excludes an error.
-no_fault_of_size : (M : ℕ) (s : List ℕ) (n : ℕ) (fault : FrameFault) → declared_of s ≡ Size n → n ≤ M → prefix_kind M s ≡ Faulty fault → ⊥
+no_fault_of_size : (M : ℕ) (s : List ℕ) (n : ℕ) (fault : FrameFault) → declared_of s ≡ Size n → n ≤ M
+    → prefix_kind M s ≡ Faulty fault → ⊥
 no_fault_of_size M s n TokenLength d small e = bad_not_size n (sym (front_is M s (Faulty TokenLength) e) ∙ d)
 no_fault_of_size M s n TooLarge d small e =
     let f : (n : ℕ) × (declared_of s ≡ Size n) × (M < n) = front_is M s (Faulty TooLarge) e in
     omega (arith, small, f.2, same_size f.0 n (sym f.1 ∙ d))
 
 -- If one more byte shows an error, that byte is the last one needed.
-pub fault_at_last : (M : ℕ) (s : List ℕ) (b : ℕ) (fault : FrameFault) → prefix_kind M s ≡ Unfinished → prefix_kind M (s ++ b ∷ []) ≡ Faulty fault → fault_bytes (s ++ b ∷ []) ≡ s ++ b ∷ []
+pub fault_at_last : (M : ℕ) (s : List ℕ) (b : ℕ) (fault : FrameFault) → prefix_kind M s ≡ Unfinished
+    → prefix_kind M (s ++ b ∷ []) ≡ Faulty fault → fault_bytes (s ++ b ∷ []) ≡ s ++ b ∷ []
 fault_at_last M s b fault u e =
     elim (front_is M s Unfinished u) [
-      | inl unknown ↦ take_all (size_bytes (s ++ b ∷ [])) (s ++ b ∷ []) (omega (arith, known_at_last s b unknown (faulty_known M (s ++ b ∷ []) fault e)))
-      | inr short ↦ absurd (no_fault_of_size M (s ++ b ∷ []) short.size fault (declared_more s (b ∷ []) short.size short.declared) short.small e)
+      | inl unknown ↦
+          take_all (size_bytes (s ++ b ∷ [])) (s ++ b ∷ [])
+          (omega (arith, known_at_last s b unknown (faulty_known M (s ++ b ∷ []) fault e)))
+      | inr short ↦
+          absurd (no_fault_of_size M (s ++ b ∷ []) short.size fault
+          (declared_more s (b ∷ []) short.size short.declared) short.small e)
     ]
 
 extension_by_small : (small one two : Bool) → cond small 0 (cond one 1 (cond two 2 4)) ≤ 4
@@ -512,31 +572,38 @@ size_for_more sizes s t some = ap (λ (n : ℕ). sizes (n - 1)) (size_bytes_more
 -- ---- the limit of the recursion
 
 -- Two searches that agree after each frame give the same result.
-then_same : (go hop : List ℕ → List ℕ → Frames) (s : List ℕ) (b : StreamPrefix) → ((frame rest : List ℕ) → b ≡ Whole frame rest → go frame rest ≡ hop frame rest) → frames_then go s b ≡ frames_then hop s b
+then_same : (go hop : List ℕ → List ℕ → Frames) (s : List ℕ) (b : StreamPrefix)
+    → ((frame rest : List ℕ) → b ≡ Whole frame rest → go frame rest ≡ hop frame rest)
+    → frames_then go s b ≡ frames_then hop s b
 then_same go hop s Unfinished h = refl
 then_same go hop s (Faulty fault) h = refl
 then_same go hop s (Whole frame rest) h = ap (with_frame frame) (h frame rest refl)
 
-within_end : (turns : ℕ) (sizes : Sizes) → frames_within turns sizes [] ≡ record { frames = []; rest = []; fault = None }
+within_end : (turns : ℕ) (sizes : Sizes)
+    → frames_within turns sizes [] ≡ record { frames = []; rest = []; fault = None }
 unfolding frames_within
 within_end zero sizes = refl
 within_end (suc turns) sizes =
-    ap (frames_then (λ frame. frames_within turns (sizes_behind (length frame) sizes)) []) (unfinished_empty (size_for sizes []))
+    ap (frames_then (λ frame. frames_within turns (sizes_behind (length frame) sizes)) [])
+    (unfinished_empty (size_for sizes []))
 
-within_same : (m n : ℕ) (sizes : Sizes) (s : List ℕ) → length s ≤ m → length s ≤ n → frames_within m sizes s ≡ frames_within n sizes s
+within_same : (m n : ℕ) (sizes : Sizes) (s : List ℕ) → length s ≤ m → length s ≤ n
+    → frames_within m sizes s ≡ frames_within n sizes s
 unfolding frames_within
 within_same m n sizes [] p q = within_end m sizes ∙ sym (within_end n sizes)
 within_same zero n sizes (b ∷ s) p q = absurd (omega arith)
 within_same (suc m) zero sizes (b ∷ s) p q = absurd (omega arith)
 within_same (suc m) (suc n) sizes (b ∷ s) p q =
-    then_same (λ frame. frames_within m (sizes_behind (length frame) sizes)) (λ frame. frames_within n (sizes_behind (length frame) sizes)) (b ∷ s)
+    then_same (λ frame. frames_within m (sizes_behind (length frame) sizes))
+    (λ frame. frames_within n (sizes_behind (length frame) sizes)) (b ∷ s)
     (prefix_kind (size_for sizes (b ∷ s)) (b ∷ s))
     (λ frame rest e.
     let k : length rest < length (b ∷ s) = whole_shorter (size_for sizes (b ∷ s)) (b ∷ s) frame rest e in
     within_same m n (sizes_behind (length frame) sizes) rest (omega arith) (omega arith))
 
 -- The number of bytes is a sufficient limit of the recursion.
-pub frames_enough : (turns : ℕ) (sizes : Sizes) (s : List ℕ) → length s ≤ turns → frames_within turns sizes s ≡ sized_frames sizes s
+pub frames_enough : (turns : ℕ) (sizes : Sizes) (s : List ℕ) → length s ≤ turns
+    → frames_within turns sizes s ≡ sized_frames sizes s
 unfolding sized_frames
 frames_enough turns sizes s h = within_same turns (length s) sizes s h (omega arith)
 
@@ -551,24 +618,30 @@ abbrev pub stream_from : Sizes → List ℕ → List ℕ → Stream
 stream_from sizes frame rest = sized_split (sizes_behind (length frame) sizes) rest
 
 -- The frames of a stream are the first one, followed by the frames of the other bytes.
-pub frames_step : (sizes : Sizes) (s : List ℕ) → sized_frames sizes s ≡ frames_then (frames_from sizes) s (prefix_kind (size_for sizes s) s)
+pub frames_step : (sizes : Sizes) (s : List ℕ)
+    → sized_frames sizes s ≡ frames_then (frames_from sizes) s (prefix_kind (size_for sizes s) s)
 unfolding frames_within
 frames_step sizes s =
     sym (frames_enough (suc (length s)) sizes s (omega arith))
-    ∙ then_same (λ frame. frames_within (length s) (sizes_behind (length frame) sizes)) (frames_from sizes) s (prefix_kind (size_for sizes s) s)
-    (λ frame rest e. frames_enough (length s) (sizes_behind (length frame) sizes) rest (omega (arith, whole_shorter (size_for sizes s) s frame rest e)))
+    ∙ then_same (λ frame. frames_within (length s) (sizes_behind (length frame) sizes)) (frames_from sizes) s
+    (prefix_kind (size_for sizes s) s)
+    (λ frame rest e. frames_enough (length s) (sizes_behind (length frame) sizes) rest
+    (omega (arith, whole_shorter (size_for sizes s) s frame rest e)))
 
 module _ (sizes : Sizes) (s : List ℕ) where
   -- An unfinished frame is the rest.
-  pub frames_unfinished : prefix_kind (size_for sizes s) s ≡ Unfinished → sized_frames sizes s ≡ record { frames = []; rest = s; fault = None }
+  pub frames_unfinished : prefix_kind (size_for sizes s) s ≡ Unfinished
+      → sized_frames sizes s ≡ record { frames = []; rest = s; fault = None }
   frames_unfinished e = frames_step sizes s ∙ ap (frames_then (frames_from sizes) s) e
 
   -- An error ends the frames.
-  pub frames_faulty : (fault : FrameFault) → prefix_kind (size_for sizes s) s ≡ Faulty fault → sized_frames sizes s ≡ record { frames = []; rest = fault_bytes s; fault = Some fault }
+  pub frames_faulty : (fault : FrameFault) → prefix_kind (size_for sizes s) s ≡ Faulty fault
+      → sized_frames sizes s ≡ record { frames = []; rest = fault_bytes s; fault = Some fault }
   frames_faulty fault e = frames_step sizes s ∙ ap (frames_then (frames_from sizes) s) e
 
   -- One frame, followed by the frames of the other bytes.
-  pub frames_whole : (frame rest : List ℕ) → prefix_kind (size_for sizes s) s ≡ Whole frame rest → sized_frames sizes s ≡ with_frame frame (frames_from sizes frame rest)
+  pub frames_whole : (frame rest : List ℕ) → prefix_kind (size_for sizes s) s ≡ Whole frame rest
+      → sized_frames sizes s ≡ with_frame frame (frames_from sizes frame rest)
   frames_whole frame rest e = frames_step sizes s ∙ ap (frames_then (frames_from sizes) s) e
 
 -- ---- induction over the frames of a stream
@@ -579,20 +652,27 @@ Holding = Sizes → List ℕ → Type 0
 
 -- The property holds for the bytes after the first frame.
 abbrev pub HoldsBehind : Holding → Sizes → List ℕ → Type 0
-HoldsBehind P sizes s = (frame rest : List ℕ) → prefix_kind (size_for sizes s) s ≡ Whole frame rest → P (sizes_behind (length frame) sizes) rest
+HoldsBehind P sizes s =
+    (frame rest : List ℕ) → prefix_kind (size_for sizes s) s ≡ Whole frame rest
+    → P (sizes_behind (length frame) sizes) rest
 
-by_turns : (turns : ℕ) (P : Holding) → ((sizes : Sizes) (s : List ℕ) → HoldsBehind P sizes s → P sizes s) → (sizes : Sizes) (s : List ℕ) → length s ≤ turns → P sizes s
-by_turns zero P step sizes s k = step sizes s (λ frame rest e. absurd (omega (arith, k, whole_shorter (size_for sizes s) s frame rest e)))
+by_turns : (turns : ℕ) (P : Holding) → ((sizes : Sizes) (s : List ℕ) → HoldsBehind P sizes s → P sizes s)
+    → (sizes : Sizes) (s : List ℕ) → length s ≤ turns → P sizes s
+by_turns zero P step sizes s k =
+    step sizes s (λ frame rest e. absurd (omega (arith, k, whole_shorter (size_for sizes s) s frame rest e)))
 by_turns (suc turns) P step sizes s k =
-    step sizes s (λ frame rest e. by_turns turns P step (sizes_behind (length frame) sizes) rest (omega (arith, k, whole_shorter (size_for sizes s) s frame rest e)))
+    step sizes s (λ frame rest e. by_turns turns P step (sizes_behind (length frame) sizes) rest
+    (omega (arith, k, whole_shorter (size_for sizes s) s frame rest e)))
 
 -- A property of every stream follows if it passes from the bytes after the first frame to the whole stream.
-pub by_frames : (P : Holding) → ((sizes : Sizes) (s : List ℕ) → HoldsBehind P sizes s → P sizes s) → (sizes : Sizes) (s : List ℕ) → P sizes s
+pub by_frames : (P : Holding) → ((sizes : Sizes) (s : List ℕ) → HoldsBehind P sizes s → P sizes s)
+    → (sizes : Sizes) (s : List ℕ) → P sizes s
 by_frames P step sizes s = by_turns (length s) P step sizes s (omega arith)
 
 -- ---- the stream, step by step
 
-split_by : (sizes : Sizes) (s : List ℕ) (b : StreamPrefix) → prefix_kind (size_for sizes s) s ≡ b → sized_split sizes s ≡ stream_then (stream_from sizes) s b
+split_by : (sizes : Sizes) (s : List ℕ) (b : StreamPrefix) → prefix_kind (size_for sizes s) s ≡ b
+    → sized_split sizes s ≡ stream_then (stream_from sizes) s b
 unfolding sized_split
 split_by sizes s Unfinished e = ap read_found (frames_unfinished sizes s e)
 split_by sizes s (Faulty fault) e = ap read_found (frames_faulty sizes s fault e)
@@ -604,20 +684,28 @@ module _ (sizes : Sizes) (s : List ℕ) where
   sized_step = split_by sizes s (prefix_kind (size_for sizes s) s) refl
 
   -- An unfinished frame is the rest.
-  pub sized_unfinished : prefix_kind (size_for sizes s) s ≡ Unfinished → sized_split sizes s ≡ record { messages = []; rest = s; fault = None }
+  pub sized_unfinished : prefix_kind (size_for sizes s) s ≡ Unfinished
+      → sized_split sizes s ≡ record { messages = []; rest = s; fault = None }
   sized_unfinished e = split_by sizes s Unfinished e
 
   -- An error ends the stream.
-  pub sized_faulty : (fault : FrameFault) → prefix_kind (size_for sizes s) s ≡ Faulty fault → sized_split sizes s ≡ record { messages = []; rest = fault_bytes s; fault = Some (OfFrame fault) }
+  pub sized_faulty : (fault : FrameFault) → prefix_kind (size_for sizes s) s ≡ Faulty fault
+      → sized_split sizes s ≡ record { messages = []; rest = fault_bytes s; fault = Some (OfFrame fault) }
   sized_faulty fault e = split_by sizes s (Faulty fault) e
 
   -- A frame that encodes a message, followed by the result for the other bytes.
-  pub sized_message : (frame rest : List ℕ) (m : Message) → prefix_kind (size_for sizes s) s ≡ Whole frame rest → message_of frame ≡ Ok m → sized_split sizes s ≡ with_message m (stream_from sizes frame rest)
-  sized_message frame rest m e is = split_by sizes s (Whole frame rest) e ∙ ap (λ (r : Result Message FormatFault). frame_then frame r (stream_from sizes frame rest)) is
+  pub sized_message : (frame rest : List ℕ) (m : Message) → prefix_kind (size_for sizes s) s ≡ Whole frame rest
+      → message_of frame ≡ Ok m → sized_split sizes s ≡ with_message m (stream_from sizes frame rest)
+  sized_message frame rest m e is =
+      split_by sizes s (Whole frame rest) e
+      ∙ ap (λ (r : Result Message FormatFault). frame_then frame r (stream_from sizes frame rest)) is
 
   -- A frame that encodes no message ends the stream.
-  pub sized_bad : (frame rest : List ℕ) (e : FormatFault) → prefix_kind (size_for sizes s) s ≡ Whole frame rest → message_of frame ≡ Err e → sized_split sizes s ≡ record { messages = []; rest = frame; fault = Some Format }
-  sized_bad frame rest e is bad = split_by sizes s (Whole frame rest) is ∙ ap (λ (r : Result Message FormatFault). frame_then frame r (stream_from sizes frame rest)) bad
+  pub sized_bad : (frame rest : List ℕ) (e : FormatFault) → prefix_kind (size_for sizes s) s ≡ Whole frame rest
+      → message_of frame ≡ Err e → sized_split sizes s ≡ record { messages = []; rest = frame; fault = Some Format }
+  sized_bad frame rest e is bad =
+      split_by sizes s (Whole frame rest) is
+      ∙ ap (λ (r : Result Message FormatFault). frame_then frame r (stream_from sizes frame rest)) bad
 
 -- ---- more bytes of a stream
 
@@ -628,23 +716,33 @@ not_both_fault_and_none o fault e h = none_or_some fault (sym h ∙ e)
 abbrev IsWithin : Holding
 IsWithin sizes s = length (sized_split sizes s).rest ≤ length s
 
-within_step : (sizes : Sizes) (s : List ℕ) (b : StreamPrefix) → HoldsBehind IsWithin sizes s → prefix_kind (size_for sizes s) s ≡ b → IsWithin sizes s
+within_step : (sizes : Sizes) (s : List ℕ) (b : StreamPrefix) → HoldsBehind IsWithin sizes s
+    → prefix_kind (size_for sizes s) s ≡ b → IsWithin sizes s
 within_step sizes s Unfinished again e = omega (arith, ap (λ (u : Stream). length u.rest) (sized_unfinished sizes s e))
 within_step sizes s (Faulty fault) again e =
     omega (arith, ap (λ (u : Stream). length u.rest) (sized_faulty sizes s fault e), length-take (size_bytes s) s)
 within_step sizes s (Whole frame rest) again e =
     let c = whole_parts (size_for sizes s) s frame rest e in
-    let all : length s ≡ length frame + length rest = ap (λ (l : List ℕ). length l) c.bytes ∙ length-append frame rest in
+    let all : length s ≡ length frame + length rest =
+    ap (λ (l : List ℕ). length l) c.bytes ∙ length-append frame rest in
     elim (result_cases (message_of frame)) [
-      | inl good ↦ omega (arith, all, again frame rest e, ap (λ (u : Stream). length u.rest) (sized_message sizes s frame rest good.0 e good.1))
+      | inl good ↦ omega (
+        arith,
+        all,
+        again frame rest e,
+        ap (λ (u : Stream). length u.rest) (sized_message sizes s frame rest good.0 e good.1),
+      )
       | inr bad ↦ omega (arith, all, ap (λ (u : Stream). length u.rest) (sized_bad sizes s frame rest bad.0 e bad.1))
     ]
 
 pub rest_within : (sizes : Sizes) (s : List ℕ) → length (sized_split sizes s).rest ≤ length s
-rest_within sizes s = by_frames IsWithin (λ at r again. within_step at r (prefix_kind (size_for at r) r) again refl) sizes s
+rest_within sizes s =
+    by_frames IsWithin (λ at r again. within_step at r (prefix_kind (size_for at r) r) again refl) sizes s
 
 -- The sizes of the rest, if a frame comes before.
-pub rest_behind : (sizes : Sizes) (frame rest s left : List ℕ) → length s ≡ length frame + length rest → length left ≤ length rest → sizes_of_rest (sizes_behind (length frame) sizes) rest left ≡ sizes_of_rest sizes s left
+pub rest_behind : (sizes : Sizes) (frame rest s left : List ℕ) → length s ≡ length frame + length rest
+    → length left ≤ length rest
+    → sizes_of_rest (sizes_behind (length frame) sizes) rest left ≡ sizes_of_rest sizes s left
 rest_behind sizes frame rest s left all within =
     let same : length frame + (length rest - length left) ≡ length s - length left = omega (arith, all, within) in
     behind_twice (length frame) (length rest - length left) sizes ∙ ap (λ (n : ℕ). sizes_behind n sizes) same
@@ -657,49 +755,62 @@ rest_is_all sizes s =
 
 -- If there is an error or a frame, there is a byte.
 pub faulty_some : (M : ℕ) (s : List ℕ) (fault : FrameFault) → prefix_kind M s ≡ Faulty fault → 1 ≤ length s
-faulty_some M [] fault e = let bad : ◌≡◌ {A = StreamPrefix} Unfinished (Faulty fault) = sym (unfinished_empty M) ∙ e in absurd cc
+faulty_some M [] fault e =
+    let bad : ◌≡◌ {A = StreamPrefix} Unfinished (Faulty fault) = sym (unfinished_empty M) ∙ e in
+    absurd cc
 faulty_some M (b ∷ s) fault e = omega arith
 
 pub whole_some : (M : ℕ) (s frame rest : List ℕ) → prefix_kind M s ≡ Whole frame rest → 1 ≤ length s
 whole_some M s frame rest e = omega (arith, whole_shorter M s frame rest e)
 
 -- More bytes change neither the error or frame found nor the maximum size for it.
-pub sized_faulty_more : (sizes : Sizes) (s t : List ℕ) (fault : FrameFault) → prefix_kind (size_for sizes s) s ≡ Faulty fault → prefix_kind (size_for sizes (s ++ t)) (s ++ t) ≡ Faulty fault
+pub sized_faulty_more : (sizes : Sizes) (s t : List ℕ) (fault : FrameFault)
+    → prefix_kind (size_for sizes s) s ≡ Faulty fault → prefix_kind (size_for sizes (s ++ t)) (s ++ t) ≡ Faulty fault
 sized_faulty_more sizes s t fault e =
-    ap (λ (M : ℕ). prefix_kind M (s ++ t)) (size_for_more sizes s t (faulty_some (size_for sizes s) s fault e)) ∙ faulty_more (size_for sizes s) s t fault e
+    ap (λ (M : ℕ). prefix_kind M (s ++ t)) (size_for_more sizes s t (faulty_some (size_for sizes s) s fault e))
+    ∙ faulty_more (size_for sizes s) s t fault e
 
-pub sized_whole_more : (sizes : Sizes) (s t frame rest : List ℕ) → prefix_kind (size_for sizes s) s ≡ Whole frame rest → prefix_kind (size_for sizes (s ++ t)) (s ++ t) ≡ Whole frame (rest ++ t)
+pub sized_whole_more : (sizes : Sizes) (s t frame rest : List ℕ) → prefix_kind (size_for sizes s) s ≡ Whole frame rest
+    → prefix_kind (size_for sizes (s ++ t)) (s ++ t) ≡ Whole frame (rest ++ t)
 sized_whole_more sizes s t frame rest e =
-    ap (λ (M : ℕ). prefix_kind M (s ++ t)) (size_for_more sizes s t (whole_some (size_for sizes s) s frame rest e)) ∙ whole_more (size_for sizes s) s t frame rest e
+    ap (λ (M : ℕ). prefix_kind M (s ++ t)) (size_for_more sizes s t (whole_some (size_for sizes s) s frame rest e))
+    ∙ whole_more (size_for sizes s) s t frame rest e
 
 -- One more message before the others stays before them when more bytes follow.
-message_on : (m : Message) (stream others : Stream) (fault : Option StreamFault) → continued (with_message m stream) fault others ≡ with_message m (continued stream fault others)
+message_on : (m : Message) (stream others : Stream) (fault : Option StreamFault)
+    → continued (with_message m stream) fault others ≡ with_message m (continued stream fault others)
 message_on m stream others None = refl
 message_on m stream others (Some fault) = refl
 
 -- The result for s, continued with t, is that for both together.
 abbrev StreamGoesOn : List ℕ → Holding
-StreamGoesOn t sizes s = sized_split sizes (s ++ t) ≡ sized_split_on (sizes_of_rest sizes s (sized_split sizes s).rest) (sized_split sizes s) t
+StreamGoesOn t sizes s =
+    sized_split sizes (s ++ t)
+    ≡ sized_split_on (sizes_of_rest sizes s (sized_split sizes s).rest) (sized_split sizes s) t
 
 -- The result first, continued with t.
 abbrev on_with : Sizes → List ℕ → List ℕ → Stream → Stream
 on_with sizes s t first = sized_split_on (sizes_of_rest sizes s first.rest) first t
 
-on_step : (t : List ℕ) (sizes : Sizes) (s : List ℕ) (b : StreamPrefix) → HoldsBehind (StreamGoesOn t) sizes s → prefix_kind (size_for sizes s) s ≡ b → StreamGoesOn t sizes s
+on_step : (t : List ℕ) (sizes : Sizes) (s : List ℕ) (b : StreamPrefix) → HoldsBehind (StreamGoesOn t) sizes s
+    → prefix_kind (size_for sizes s) s ≡ b → StreamGoesOn t sizes s
 on_step t sizes s Unfinished again e =
     ap (λ (f : Sizes). sized_split f (s ++ t)) (sym (rest_is_all sizes s))
     ∙ sym (ap (on_with sizes s t) (sized_unfinished sizes s e))
 on_step t sizes s (Faulty fault) again e =
     sized_faulty sizes (s ++ t) fault (sized_faulty_more sizes s t fault e)
-    ∙ ap (λ (r : List ℕ). record { messages = []; rest = r; fault = Some (OfFrame fault) }) (fault_bytes_more (size_for sizes s) s t fault e)
+    ∙ ap (λ (r : List ℕ). record { messages = []; rest = r; fault = Some (OfFrame fault) })
+    (fault_bytes_more (size_for sizes s) s t fault e)
     ∙ sym (ap (on_with sizes s t) (sized_faulty sizes s fault e))
 on_step t sizes s (Whole frame rest) again e =
     elim (result_cases (message_of frame)) [
       | inl good ↦
           let first : Stream = stream_from sizes frame rest in
           let c = whole_parts (size_for sizes s) s frame rest e in
-          let all : length s ≡ length frame + length rest = ap (λ (l : List ℕ). length l) c.bytes ∙ length-append frame rest in
-          let same = rest_behind sizes frame rest s first.rest all (rest_within (sizes_behind (length frame) sizes) rest) in
+          let all : length s ≡ length frame + length rest =
+          ap (λ (l : List ℕ). length l) c.bytes ∙ length-append frame rest in
+          let same =
+          rest_behind sizes frame rest s first.rest all (rest_within (sizes_behind (length frame) sizes) rest) in
           sized_message sizes (s ++ t) frame (rest ++ t) good.0 (sized_whole_more sizes s t frame rest e) good.1
           ∙ ap (with_message good.0) (again frame rest e)
           ∙ ap (λ (f : Sizes). with_message good.0 (sized_split_on f first t)) same
@@ -711,39 +822,54 @@ on_step t sizes s (Whole frame rest) again e =
     ]
 
 -- The segmentation of a stream does not change its messages.
-pub sized_goes_on : (sizes : Sizes) (s more : List ℕ) → sized_split sizes (s ++ more) ≡ sized_split_on (sizes_of_rest sizes s (sized_split sizes s).rest) (sized_split sizes s) more
-sized_goes_on sizes s more = by_frames (StreamGoesOn more) (λ at r again. on_step more at r (prefix_kind (size_for at r) r) again refl) sizes s
+pub sized_goes_on : (sizes : Sizes) (s more : List ℕ) → sized_split sizes (s ++ more)
+    ≡ sized_split_on (sizes_of_rest sizes s (sized_split sizes s).rest) (sized_split sizes s) more
+sized_goes_on sizes s more =
+    by_frames (StreamGoesOn more) (λ at r again. on_step more at r (prefix_kind (size_for at r) r) again refl) sizes s
 
 -- If s has no error, its rest is unfinished.
 abbrev LeavesUnfinished : Holding
-LeavesUnfinished sizes s = (sized_split sizes s).fault ≡ None → prefix_kind (size_for (sizes_of_rest sizes s (sized_split sizes s).rest) (sized_split sizes s).rest) (sized_split sizes s).rest ≡ Unfinished
+LeavesUnfinished sizes s =
+    (sized_split sizes s).fault ≡ None
+    → prefix_kind (size_for (sizes_of_rest sizes s (sized_split sizes s).rest) (sized_split sizes s).rest)
+    (sized_split sizes s).rest ≡ Unfinished
 
 -- The classification of the first bytes of the rest.
 abbrev front_of_rest : Sizes → List ℕ → List ℕ → StreamPrefix
 front_of_rest sizes s left = prefix_kind (size_for (sizes_of_rest sizes s left) left) left
 
-rest_step : (sizes : Sizes) (s : List ℕ) (b : StreamPrefix) → HoldsBehind LeavesUnfinished sizes s → prefix_kind (size_for sizes s) s ≡ b → LeavesUnfinished sizes s
+rest_step : (sizes : Sizes) (s : List ℕ) (b : StreamPrefix) → HoldsBehind LeavesUnfinished sizes s
+    → prefix_kind (size_for sizes s) s ≡ b → LeavesUnfinished sizes s
 rest_step sizes s Unfinished again e h =
-    ap (λ (u : Stream). front_of_rest sizes s u.rest) (sized_unfinished sizes s e) ∙ ap (λ (f : Sizes). prefix_kind (size_for f s) s) (rest_is_all sizes s) ∙ e
+    ap (λ (u : Stream). front_of_rest sizes s u.rest) (sized_unfinished sizes s e)
+    ∙ ap (λ (f : Sizes). prefix_kind (size_for f s) s) (rest_is_all sizes s) ∙ e
 rest_step sizes s (Faulty fault) again e h =
-    absurd (not_both_fault_and_none (sized_split sizes s).fault (OfFrame fault) (ap (λ (u : Stream). u.fault) (sized_faulty sizes s fault e)) h)
+    absurd (not_both_fault_and_none (sized_split sizes s).fault (OfFrame fault)
+    (ap (λ (u : Stream). u.fault) (sized_faulty sizes s fault e)) h)
 rest_step sizes s (Whole frame rest) again e h =
     elim (result_cases (message_of frame)) [
       | inl good ↦
           let first : Stream = stream_from sizes frame rest in
           let c = whole_parts (size_for sizes s) s frame rest e in
-          let all : length s ≡ length frame + length rest = ap (λ (l : List ℕ). length l) c.bytes ∙ length-append frame rest in
-          let same = rest_behind sizes frame rest s first.rest all (rest_within (sizes_behind (length frame) sizes) rest) in
+          let all : length s ≡ length frame + length rest =
+          ap (λ (l : List ℕ). length l) c.bytes ∙ length-append frame rest in
+          let same =
+          rest_behind sizes frame rest s first.rest all (rest_within (sizes_behind (length frame) sizes) rest) in
           let is = sized_message sizes s frame rest good.0 e good.1 in
           ap (λ (u : Stream). front_of_rest sizes s u.rest) is
           ∙ ap (λ (f : Sizes). prefix_kind (size_for f first.rest) first.rest) (sym same)
           ∙ again frame rest e (sym (ap (λ (u : Stream). u.fault) is) ∙ h)
-      | inr bad ↦ absurd (not_both_fault_and_none (sized_split sizes s).fault Format (ap (λ (u : Stream). u.fault) (sized_bad sizes s frame rest bad.0 e bad.1)) h)
+      | inr bad ↦
+          absurd (not_both_fault_and_none (sized_split sizes s).fault Format
+          (ap (λ (u : Stream). u.fault) (sized_bad sizes s frame rest bad.0 e bad.1)) h)
     ]
 
 -- If there is no error, the rest is unfinished.
-pub sized_rest : (sizes : Sizes) (s : List ℕ) → (sized_split sizes s).fault ≡ None → prefix_kind (size_for (sizes_of_rest sizes s (sized_split sizes s).rest) (sized_split sizes s).rest) (sized_split sizes s).rest ≡ Unfinished
-sized_rest sizes s = by_frames LeavesUnfinished (λ at r again. rest_step at r (prefix_kind (size_for at r) r) again refl) sizes s
+pub sized_rest : (sizes : Sizes) (s : List ℕ) → (sized_split sizes s).fault ≡ None
+    → prefix_kind (size_for (sizes_of_rest sizes s (sized_split sizes s).rest) (sized_split sizes s).rest)
+    (sized_split sizes s).rest ≡ Unfinished
+sized_rest sizes s =
+    by_frames LeavesUnfinished (λ at r again. rest_step at r (prefix_kind (size_for at r) r) again refl) sizes s
 
 -- ---- sizes that agree
 
@@ -759,7 +885,8 @@ front_cases M s u =
     ]
 
 -- If the size is known, a larger maximum does not change the classification.
-begins_same : (M N : ℕ) (s : List ℕ) (n : ℕ) → declared_of s ≡ Size n → n ≤ M → M ≤ N → prefix_kind M s ≡ prefix_kind N s
+begins_same : (M N : ℕ) (s : List ℕ) (n : ℕ) → declared_of s ≡ Size n → n ≤ M → M ≤ N
+    → prefix_kind M s ≡ prefix_kind N s
 begins_same M N s n e small larger =
     elim (cases_lt (length s) n) [
       | inl short ↦ begin_short M s n e small short ∙ sym (begin_short N s n e (omega (arith, small, larger)) short)
@@ -773,22 +900,37 @@ pub record AreAlikeBehind (F G : Sizes) (kept : List ℕ) : Type 0 where
   pub larger : size_for F kept ≤ size_for G kept
   pub same : (at : ℕ) → length kept ≤ at → F at ≡ G at
 
-front_agrees : (F G : Sizes) (kept more : List ℕ) → AreAlikeBehind F G kept → prefix_kind (size_for F (kept ++ more)) (kept ++ more) ≡ prefix_kind (size_for G (kept ++ more)) (kept ++ more)
+front_agrees : (F G : Sizes) (kept more : List ℕ) → AreAlikeBehind F G kept
+    → prefix_kind (size_for F (kept ++ more)) (kept ++ more) ≡ prefix_kind (size_for G (kept ++ more)) (kept ++ more)
 front_agrees F G [] more alike = ap (λ (M : ℕ). prefix_kind M more) (alike.same (size_bytes more - 1) (omega arith))
 front_agrees F G (b ∷ s) more alike =
     elim (front_cases (size_for F (b ∷ s)) (b ∷ s) alike.unfinished) [
-      | inl unknown ↦ ap (λ (M : ℕ). prefix_kind M (b ∷ (s ++ more))) (alike.same (size_bytes (b ∷ s) - 1) (omega (arith, unknown_at b s unknown)))
-      | inr told ↦ begins_same (size_for F (b ∷ s)) (size_for G (b ∷ s)) (b ∷ (s ++ more)) told.0 (declared_more (b ∷ s) more told.0 told.1) told.2 alike.larger
+      | inl unknown ↦
+          ap (λ (M : ℕ). prefix_kind M (b ∷ (s ++ more)))
+          (alike.same (size_bytes (b ∷ s) - 1) (omega (arith, unknown_at b s unknown)))
+      | inr told ↦
+          begins_same (size_for F (b ∷ s)) (size_for G (b ∷ s)) (b ∷ (s ++ more)) told.0
+          (declared_more (b ∷ s) more told.0 told.1) told.2 alike.larger
     ]
 
 -- A frame has at least the bytes that were kept of it.
-frame_has_kept : (M N : ℕ) (kept more frame rest : List ℕ) → prefix_kind M kept ≡ Unfinished → prefix_kind N (kept ++ more) ≡ Whole frame rest → length kept ≤ length frame
+frame_has_kept : (M N : ℕ) (kept more frame rest : List ℕ) → prefix_kind M kept ≡ Unfinished
+    → prefix_kind N (kept ++ more) ≡ Whole frame rest → length kept ≤ length frame
 frame_has_kept M N [] more frame rest u e = omega arith
 frame_has_kept M N (b ∷ s) more frame rest u e =
     let declared = (whole_parts N ((b ∷ s) ++ more) frame rest e).declared in
     elim (front_cases M (b ∷ s) u) [
-      | inl unknown ↦ omega (arith, unknown_at b s unknown, (size_has_bytes ((b ∷ s) ++ more) (length frame) declared).0, size_bytes_more (b ∷ s) more (omega arith))
-      | inr told ↦ omega (arith, told.3, same_size told.0 (length frame) (sym (declared_more (b ∷ s) more told.0 told.1) ∙ declared))
+      | inl unknown ↦ omega (
+        arith,
+        unknown_at b s unknown,
+        (size_has_bytes ((b ∷ s) ++ more) (length frame) declared).0,
+        size_bytes_more (b ∷ s) more (omega arith),
+      )
+      | inr told ↦ omega (
+        arith,
+        told.3,
+        same_size told.0 (length frame) (sym (declared_more (b ∷ s) more told.0 told.1) ∙ declared),
+      )
     ]
 
 behind_same : (F G : Sizes) (m n : ℕ) → ((at : ℕ) → m ≤ at → F at ≡ G at) → m ≤ n → sizes_behind n F ≡ sizes_behind n G
@@ -796,22 +938,30 @@ behind_same F G m n same h =
     let above : (at : ℕ) → m ≤ n + at = λ at. omega (arith, h) in
     λ i at. same (n + at) (above at) i
 
-alike_at : (F G : Sizes) (kept more : List ℕ) (b : StreamPrefix) → AreAlikeBehind F G kept → prefix_kind (size_for G (kept ++ more)) (kept ++ more) ≡ b → sized_frames F (kept ++ more) ≡ sized_frames G (kept ++ more)
+alike_at : (F G : Sizes) (kept more : List ℕ) (b : StreamPrefix) → AreAlikeBehind F G kept
+    → prefix_kind (size_for G (kept ++ more)) (kept ++ more) ≡ b
+    → sized_frames F (kept ++ more) ≡ sized_frames G (kept ++ more)
 alike_at F G kept more Unfinished alike e =
-    frames_unfinished F (kept ++ more) (front_agrees F G kept more alike ∙ e) ∙ sym (frames_unfinished G (kept ++ more) e)
+    frames_unfinished F (kept ++ more) (front_agrees F G kept more alike ∙ e)
+    ∙ sym (frames_unfinished G (kept ++ more) e)
 alike_at F G kept more (Faulty fault) alike e =
-    frames_faulty F (kept ++ more) fault (front_agrees F G kept more alike ∙ e) ∙ sym (frames_faulty G (kept ++ more) fault e)
+    frames_faulty F (kept ++ more) fault (front_agrees F G kept more alike ∙ e)
+    ∙ sym (frames_faulty G (kept ++ more) fault e)
 alike_at F G kept more (Whole frame rest) alike e =
     let long = frame_has_kept (size_for F kept) (size_for G (kept ++ more)) kept more frame rest alike.unfinished e in
     frames_whole F (kept ++ more) frame rest (front_agrees F G kept more alike ∙ e)
-    ∙ ap (λ (f : Sizes). with_frame frame (sized_frames f rest)) (behind_same F G (length kept) (length frame) alike.same long)
+    ∙ ap (λ (f : Sizes). with_frame frame (sized_frames f rest))
+    (behind_same F G (length kept) (length frame) alike.same long)
     ∙ sym (frames_whole G (kept ++ more) frame rest e)
 
 -- A larger maximum for an unfinished frame gives the same result.
-pub frames_alike : (F G : Sizes) (kept more : List ℕ) → AreAlikeBehind F G kept → sized_frames F (kept ++ more) ≡ sized_frames G (kept ++ more)
-frames_alike F G kept more alike = alike_at F G kept more (prefix_kind (size_for G (kept ++ more)) (kept ++ more)) alike refl
+pub frames_alike : (F G : Sizes) (kept more : List ℕ) → AreAlikeBehind F G kept
+    → sized_frames F (kept ++ more) ≡ sized_frames G (kept ++ more)
+frames_alike F G kept more alike =
+    alike_at F G kept more (prefix_kind (size_for G (kept ++ more)) (kept ++ more)) alike refl
 
-pub split_alike : (F G : Sizes) (kept more : List ℕ) → AreAlikeBehind F G kept → sized_split F (kept ++ more) ≡ sized_split G (kept ++ more)
+pub split_alike : (F G : Sizes) (kept more : List ℕ) → AreAlikeBehind F G kept
+    → sized_split F (kept ++ more) ≡ sized_split G (kept ++ more)
 unfolding sized_split
 split_alike F G kept more alike = ap read_found (frames_alike F G kept more alike)
 
@@ -820,7 +970,8 @@ split_alike F G kept more alike = ap read_found (frames_alike F G kept more alik
 abbrev AgreeTo : ℕ → Sizes → Sizes → Type 0
 AgreeTo n F G = (at : ℕ) → at < n → F at ≡ G at
 
-front_by_size : (F G : Sizes) (s : List ℕ) (d : Declared) → AgreeTo (length s) F G → declared_of s ≡ d → prefix_kind (size_for F s) s ≡ prefix_kind (size_for G s) s
+front_by_size : (F G : Sizes) (s : List ℕ) (d : Declared) → AgreeTo (length s) F G → declared_of s ≡ d
+    → prefix_kind (size_for F s) s ≡ prefix_kind (size_for G s) s
 front_by_size F G s Unknown same e = begin_unknown (size_for F s) s e ∙ sym (begin_unknown (size_for G s) s e)
 front_by_size F G s BadToken same e = begin_bad_token (size_for F s) s e ∙ sym (begin_bad_token (size_for G s) s e)
 front_by_size F G s (Size n) same e =
@@ -830,24 +981,30 @@ front_by_size F G s (Size n) same e =
 abbrev IsSameTo : Holding
 IsSameTo F s = (G : Sizes) → AgreeTo (length s) F G → sized_frames F s ≡ sized_frames G s
 
-same_to_step : (F : Sizes) (s : List ℕ) (b : StreamPrefix) → HoldsBehind IsSameTo F s → prefix_kind (size_for F s) s ≡ b → IsSameTo F s
+same_to_step : (F : Sizes) (s : List ℕ) (b : StreamPrefix) → HoldsBehind IsSameTo F s
+    → prefix_kind (size_for F s) s ≡ b → IsSameTo F s
 same_to_step F s Unfinished again e G same =
     frames_unfinished F s e ∙ sym (frames_unfinished G s (sym (front_by_size F G s (declared_of s) same refl) ∙ e))
 same_to_step F s (Faulty fault) again e G same =
     frames_faulty F s fault e ∙ sym (frames_faulty G s fault (sym (front_by_size F G s (declared_of s) same refl) ∙ e))
 same_to_step F s (Whole frame rest) again e G same =
     let c = whole_parts (size_for F s) s frame rest e in
-    let all : length s ≡ length frame + length rest = ap (λ (l : List ℕ). length l) c.bytes ∙ length-append frame rest in
+    let all : length s ≡ length frame + length rest =
+    ap (λ (l : List ℕ). length l) c.bytes ∙ length-append frame rest in
     let there : (at : ℕ) → at < length rest → length frame + at < length s = λ at h. omega (arith, all, h) in
     frames_whole F s frame rest e
-    ∙ ap (with_frame frame) (again frame rest e (sizes_behind (length frame) G) (λ at h. same (length frame + at) (there at h)))
+    ∙ ap (with_frame frame)
+    (again frame rest e (sizes_behind (length frame) G) (λ at h. same (length frame + at) (there at h)))
     ∙ sym (frames_whole G s frame rest (sym (front_by_size F G s (declared_of s) same refl) ∙ e))
 
 -- The sizes after the last byte have no effect.
-pub frames_same_to : (F G : Sizes) (s : List ℕ) → ((at : ℕ) → at < length s → F at ≡ G at) → sized_frames F s ≡ sized_frames G s
-frames_same_to F G s same = by_frames IsSameTo (λ sizes r again. same_to_step sizes r (prefix_kind (size_for sizes r) r) again refl) F s G same
+pub frames_same_to : (F G : Sizes) (s : List ℕ) → ((at : ℕ) → at < length s → F at ≡ G at)
+    → sized_frames F s ≡ sized_frames G s
+frames_same_to F G s same =
+    by_frames IsSameTo (λ sizes r again. same_to_step sizes r (prefix_kind (size_for sizes r) r) again refl) F s G same
 
-pub split_same_to : (F G : Sizes) (s : List ℕ) → ((at : ℕ) → at < length s → F at ≡ G at) → sized_split F s ≡ sized_split G s
+pub split_same_to : (F G : Sizes) (s : List ℕ) → ((at : ℕ) → at < length s → F at ≡ G at)
+    → sized_split F s ≡ sized_split G s
 unfolding sized_split
 split_same_to F G s same = ap read_found (frames_same_to F G s same)
 
@@ -866,7 +1023,8 @@ module _ (M : ℕ) (s : List ℕ) where
   unfolding split
   split_unfinished e = sized_unfinished (constant_size M) s e
 
-  pub split_faulty : (fault : FrameFault) → prefix_kind M s ≡ Faulty fault → split M s ≡ record { messages = []; rest = fault_bytes s; fault = Some (OfFrame fault) }
+  pub split_faulty : (fault : FrameFault) → prefix_kind M s ≡ Faulty fault
+      → split M s ≡ record { messages = []; rest = fault_bytes s; fault = Some (OfFrame fault) }
   unfolding split
   split_faulty fault e = sized_faulty (constant_size M) s fault e
 

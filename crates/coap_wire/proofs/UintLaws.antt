@@ -24,21 +24,24 @@ bytes_are_one m n p q same = sym (uint_of_bytes m p) ∙ ap uint_of same ∙ uin
 
 -- ---- numbers below 2^32
 
-zeros_first : (a b c d : ℕ) (s : List ℕ) → a ≡ 0 → b ≡ 0 → c ≡ 0 → d ≡ 0 → without_leading_zeros (a ∷ b ∷ c ∷ d ∷ s) ≡ without_leading_zeros s
+zeros_first : (a b c d : ℕ) (s : List ℕ) → a ≡ 0 → b ≡ 0 → c ≡ 0 → d ≡ 0
+    → without_leading_zeros (a ∷ b ∷ c ∷ d ∷ s) ≡ without_leading_zeros s
 zeros_first a b c d s p q r t = rw (p, q, r, t) refl
 
 -- The shortest encoding of a number below 2^32 is that of its last 4 bytes.
 pub four_bytes_of : (n : ℕ) → n < 2 ^ 32 → bytes_of_uint n ≡ without_leading_zeros (to_be_bytes w32 n)
 unfolding bytes_of_uint
 four_bytes_of n fits =
-    zeros_first (byte_at 7 n) (byte_at 6 n) (byte_at 5 n) (byte_at 4 n) (to_be_bytes w32 n) (omega arith) (omega arith) (omega arith) (omega arith)
+    zeros_first (byte_at 7 n) (byte_at 6 n) (byte_at 5 n) (byte_at 4 n) (to_be_bytes w32 n) (omega arith) (omega arith)
+    (omega arith) (omega arith)
 
 -- The shortest encoding of 0 has no byte.
 pub no_byte_of_zero : bytes_of_uint 0 ≡ []
 unfolding bytes_of_uint
 no_byte_of_zero = refl
 
-one_byte_left : (a b c d e f g h : ℕ) → a ≡ 0 → b ≡ 0 → c ≡ 0 → d ≡ 0 → e ≡ 0 → f ≡ 0 → g ≡ 0 → without_leading_zeros (a ∷ b ∷ c ∷ d ∷ e ∷ f ∷ g ∷ suc h ∷ []) ≡ suc h ∷ []
+one_byte_left : (a b c d e f g h : ℕ) → a ≡ 0 → b ≡ 0 → c ≡ 0 → d ≡ 0 → e ≡ 0 → f ≡ 0 → g ≡ 0
+    → without_leading_zeros (a ∷ b ∷ c ∷ d ∷ e ∷ f ∷ g ∷ suc h ∷ []) ≡ suc h ∷ []
 one_byte_left a b c d e f g h p q r s t u v = rw (p, q, r, s, t, u, v) refl
 
 -- The shortest encoding of a number from 1 to 255 has one byte.
@@ -47,5 +50,8 @@ unfolding bytes_of_uint
 one_byte_of zero some fits = absurd (omega arith)
 one_byte_of (suc n) some fits =
     let last : byte_at 0 (suc n) ≡ suc n = omega arith in
-    ap (λ (b : ℕ). without_leading_zeros (byte_at 7 (suc n) ∷ byte_at 6 (suc n) ∷ byte_at 5 (suc n) ∷ byte_at 4 (suc n) ∷ byte_at 3 (suc n) ∷ byte_at 2 (suc n) ∷ byte_at 1 (suc n) ∷ b ∷ [])) last
-    ∙ one_byte_left (byte_at 7 (suc n)) (byte_at 6 (suc n)) (byte_at 5 (suc n)) (byte_at 4 (suc n)) (byte_at 3 (suc n)) (byte_at 2 (suc n)) (byte_at 1 (suc n)) n (omega arith) (omega arith) (omega arith) (omega arith) (omega arith) (omega arith) (omega arith)
+    ap (λ (b : ℕ). without_leading_zeros (byte_at 7 (suc n) ∷ byte_at 6 (suc n) ∷ byte_at 5 (suc n) ∷ byte_at 4 (suc n)
+    ∷ byte_at 3 (suc n) ∷ byte_at 2 (suc n) ∷ byte_at 1 (suc n) ∷ b ∷ [])) last
+    ∙ one_byte_left (byte_at 7 (suc n)) (byte_at 6 (suc n)) (byte_at 5 (suc n)) (byte_at 4 (suc n)) (byte_at 3 (suc n))
+    (byte_at 2 (suc n)) (byte_at 1 (suc n)) n (omega arith) (omega arith) (omega arith) (omega arith) (omega arith)
+    (omega arith) (omega arith)

@@ -7,7 +7,8 @@ use Rattle.coap_wire.specs.declared.builder.MessageBuilder.TheInside.{Inside}
 
 -- The message in the builder.
 abbrev pub built_message : {N : ℕ} → Inside N → Message
-built_message b = record { code = b.code; token = b.token; options = coap_options b.options.items; payload = b.payload.now }
+built_message b =
+    record { code = b.code; token = b.token; options = coap_options b.options.items; payload = b.payload.now }
 
 -- The message in the builder can be built, and `options_size` is the length of its encoded options. An encoded option
 -- has at most 65,809 bytes.

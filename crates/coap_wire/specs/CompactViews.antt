@@ -10,7 +10,8 @@ use Rattle.coap_wire.specs.declared.sizes.TheConstants.{MAX_EXTENDED_LENGTH, LAR
 
 -- The message in the builder. Its options are decoded from the encoded ones.
 abbrev pub compact_message : {N : ℕ} → Inside N → Message
-compact_message b = record { code = b.code; token = b.token; options = options_in 0 b.options.items; payload = b.payload.now }
+compact_message b =
+    record { code = b.code; token = b.token; options = options_in 0 b.options.items; payload = b.payload.now }
 
 -- The length of the encoded options of a message.
 abbrev pub encoded_size : Message → ℕ

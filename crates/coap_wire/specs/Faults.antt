@@ -6,7 +6,8 @@ use Rattle.coap_wire.specs.Forms.{option_extension}
 use Rattle.coap_wire.specs.Spelling.{IsOptionHead, IsOptionBytes, IsHeadAndBody}
 use Rattle.coap_wire.specs.Size.{IsFrame, HasBadToken}
 use Rattle.coap_wire.specs.declared.fault.FormatFault.{FormatFault}
-use Rattle.coap_wire.specs.declared.fault.FormatFault.TheVariants.{TokenLength, OptionDelta, OptionLength, OptionCut, OptionNumber, EmptyPayload, NotOneFrame}
+use Rattle.coap_wire.specs.declared.fault.FormatFault.TheVariants.{TokenLength, OptionDelta, OptionLength, OptionCut}
+use Rattle.coap_wire.specs.declared.fault.FormatFault.TheVariants.{OptionNumber, EmptyPayload, NotOneFrame}
 
 -- The bytes `s` are the start of an option, and end before the two extensions are complete.
 pub record IsOptionHeadCut (s : List ℕ) : Type 0 where

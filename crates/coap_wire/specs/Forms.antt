@@ -10,7 +10,8 @@ use Rattle.coap_wire.specs.Message.{IsByte}
 abbrev pub IsLengthForm : ℕ → List ℕ → ℕ → Type 0
 IsLengthForm x [] n = (x < 13) × (n ≡ x)
 IsLengthForm x (a ∷ []) n = (x ≡ 13) × IsByte a × (n ≡ a + 13)
-IsLengthForm x (a ∷ b ∷ []) n = (x ≡ 14) × AllByRecursion IsByte (a ∷ b ∷ []) × (n ≡ from_be_bytes w16 (a ∷ b ∷ []) + 269)
+IsLengthForm x (a ∷ b ∷ []) n =
+    (x ≡ 14) × AllByRecursion IsByte (a ∷ b ∷ []) × (n ≡ from_be_bytes w16 (a ∷ b ∷ []) + 269)
 IsLengthForm x (a ∷ b ∷ c ∷ []) n = ⊥
 IsLengthForm x (a ∷ b ∷ c ∷ d ∷ []) n =
     (x ≡ 15) × AllByRecursion IsByte (a ∷ b ∷ c ∷ d ∷ []) × (n ≡ from_be_bytes w32 (a ∷ b ∷ c ∷ d ∷ []) + 65805)
@@ -37,7 +38,8 @@ length_form n =
 abbrev pub IsOptionForm : ℕ → List ℕ → ℕ → Type 0
 IsOptionForm x [] n = (x < 13) × (n ≡ x)
 IsOptionForm x (a ∷ []) n = (x ≡ 13) × IsByte a × (n ≡ a + 13)
-IsOptionForm x (a ∷ b ∷ []) n = (x ≡ 14) × AllByRecursion IsByte (a ∷ b ∷ []) × (n ≡ from_be_bytes w16 (a ∷ b ∷ []) + 269)
+IsOptionForm x (a ∷ b ∷ []) n =
+    (x ≡ 14) × AllByRecursion IsByte (a ∷ b ∷ []) × (n ≡ from_be_bytes w16 (a ∷ b ∷ []) + 269)
 IsOptionForm x (a ∷ b ∷ c ∷ es) n = ⊥
 
 -- The number of bytes that extend the nibble `x`, below 15, of an option delta or an option length.

@@ -1,9 +1,11 @@
 -- RFC 8323 sections 3.2, 5.3.1: the frames of a stream, before they are decoded, with a maximum size that may change
 -- during the stream.
-use Rattle.std.specs.Prelude.{◌≡◌, ℕ, zero, suc, ◌+◌, ◌-◌, ◌≤◌, List, [], ◌∷◌, ◌++◌, length, Option, Some, None, nat_lt, if◌then◌else◌}
+use Rattle.std.specs.Prelude.{◌≡◌, ℕ, zero, suc, ◌+◌, ◌-◌, ◌≤◌, List, [], ◌∷◌, ◌++◌, length, Option, Some, None, nat_lt}
+use Rattle.std.specs.Prelude.{if◌then◌else◌}
 use Rattle.std.specs.List.{concat}
 use Rattle.coap_wire.specs.Size.{IsFrame}
-use Rattle.coap_wire.specs.StreamPrefix.{IsFrameFault, IsUnfinished, StreamPrefix, Unfinished, Whole, Faulty, prefix_kind, size_bytes, fault_bytes}
+use Rattle.coap_wire.specs.StreamPrefix.{IsFrameFault, IsUnfinished, StreamPrefix, Unfinished, Whole, Faulty}
+use Rattle.coap_wire.specs.StreamPrefix.{prefix_kind, size_bytes, fault_bytes}
 use Rattle.coap_wire.specs.declared.fault.FrameFault.{FrameFault}
 
 -- The frames of a stream, its rest, and the error that ended it, if there is one. The rest is an unfinished frame,

@@ -1,5 +1,6 @@
 -- RFC 8323 section 3.2, RFC 8974 section 2.1: the positions of the parts of a frame, as its first bytes state them.
-use Rattle.std.specs.Prelude.{◌≡◌, ℕ, ◌+◌, ◌-◌, ◌/◌, ◌%◌, List, [], ◌∷◌, length, drop, Option, Some, None, nat_lt, ◌==◌, if◌then◌else◌}
+use Rattle.std.specs.Prelude.{◌≡◌, ℕ, ◌+◌, ◌-◌, ◌/◌, ◌%◌, List, [], ◌∷◌, length, drop, Option, Some, None, nat_lt, ◌==◌}
+use Rattle.std.specs.Prelude.{if◌then◌else◌}
 use Rattle.coap_wire.specs.Forms.{greatest_token}
 use Rattle.coap_wire.specs.Reading.{length_at, token_length_at}
 use Rattle.coap_wire.specs.declared.declaration.Declared.{Declared}
@@ -14,7 +15,8 @@ abbrev pub outline_with : ℕ → ℕ → List ℕ → Option (ℕ × List ℕ) 
 outline_with code_at n behind None = Unknown
 outline_with code_at n behind (Some token) =
     if nat_lt greatest_token token.0 then BadToken
-    else Known (code_at + 1 + (length behind - length token.1) + token.0 + n) (record { code_at = code_at; token_at = code_at + 1 + (length behind - length token.1); token_length = token.0 })
+    else Known (code_at + 1 + (length behind - length token.1) + token.0 + n)
+    (record { code_at = code_at; token_at = code_at + 1 + (length behind - length token.1); token_length = token.0 })
 
 -- The outline of a frame whose token length has nibble `x`. The bytes `s` are those after the first byte. The last
 -- argument is the length of the body with the bytes after its extension, or `None`.

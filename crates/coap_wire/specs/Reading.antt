@@ -1,13 +1,15 @@
 -- RFC 8323 section 3.2, RFC 7252 section 3.1, RFC 8974 section 2.1: decoding of a frame, to its message or its first
 -- error.
-use Rattle.std.specs.Prelude.{ℕ, zero, suc, ◌+◌, ◌-◌, ◌/◌, ◌%◌, List, [], ◌∷◌, length, take, drop, Option, Some, None, Result, Ok, Err, nat_lt, ◌==◌, if◌then◌else◌}
+use Rattle.std.specs.Prelude.{ℕ, zero, suc, ◌+◌, ◌-◌, ◌/◌, ◌%◌, List, [], ◌∷◌, length, take, drop, Option, Some, None}
+use Rattle.std.specs.Prelude.{Result, Ok, Err, nat_lt, ◌==◌, if◌then◌else◌}
 use Rattle.std.specs.Int.{w16, w32, from_be_bytes}
 use Rattle.coap_wire.specs.Message.{CoapOption, Message, BodyValue}
 use Rattle.coap_wire.specs.Forms.{greatest_token}
 use Rattle.coap_wire.specs.declared.declaration.Declared.{Declared}
 use Rattle.coap_wire.specs.declared.declaration.Declared.TheVariants as declared
 use Rattle.coap_wire.specs.declared.fault.FormatFault.{FormatFault}
-use Rattle.coap_wire.specs.declared.fault.FormatFault.TheVariants.{TokenLength, OptionDelta, OptionLength, OptionCut, OptionNumber, EmptyPayload, NotOneFrame}
+use Rattle.coap_wire.specs.declared.fault.FormatFault.TheVariants.{TokenLength, OptionDelta, OptionLength, OptionCut}
+use Rattle.coap_wire.specs.declared.fault.FormatFault.TheVariants.{OptionNumber, EmptyPayload, NotOneFrame}
 
 -- The result of `f` for the value on the left, or the error on the left.
 infixl 10 ◌>>=◌
@@ -146,7 +148,8 @@ body_within turns base [] = Ok ([], [])
 body_within zero base (b ∷ s) = Err NotOneFrame
 body_within (suc turns) base (b ∷ s) =
     if b == 255 then (if length s == 0 then Err EmptyPayload else Ok ([], s))
-    else (option_at base b s >>= λ first. body_within turns first.0.number first.1 >>= λ others. Ok (first.0 ∷ others.0, others.1))
+    else (option_at base b s
+    >>= λ first. body_within turns first.0.number first.1 >>= λ others. Ok (first.0 ∷ others.0, others.1))
 
 -- The options and the payload of the body `s`, or its first error. The delta of the first option counts from `base`.
 unfoldable pub body_at : ℕ → List ℕ → Result (List CoapOption × List ℕ) FormatFault

@@ -1,5 +1,6 @@
 -- RFC 7252 sections 5.4, 5.10: the recognised options of a message.
-use Rattle.std.specs.Prelude.{◌≡◌, ◌≢◌, ℕ, ◌%◌, ◌≤◌, List, [], ◌∷◌, ◌++◌, length, map, filter, find, Option, Some, None, option_map, Bool, true, false, not, ◌&&◌, ◌||◌, ◌==◌, nat_le, All}
+use Rattle.std.specs.Prelude.{◌≡◌, ◌≢◌, ℕ, ◌%◌, ◌≤◌, List, [], ◌∷◌, ◌++◌, length, map, filter, find, Option, Some, None}
+use Rattle.std.specs.Prelude.{option_map, Bool, true, false, not, ◌&&◌, ◌||◌, ◌==◌, nat_le, All}
 use Rattle.std.specs.List.{list_all}
 use Rattle.coap_wire.specs.Message.{CoapOption}
 use Rattle.coap_wire.specs.OptionNumbers as numbers
@@ -102,7 +103,8 @@ is_critical o = o.number % 2 == 1
 -- them. `None` if there is none.
 unfoldable pub first_critical_behind : List CoapOption → List CoapOption → Option ℕ
 first_critical_behind earlier os =
-    option_map (λ p. p.option.number) (find (λ p. is_critical p.option && not (is_recognised p.before p.option)) (placed earlier os))
+    option_map (λ p. p.option.number)
+    (find (λ p. is_critical p.option && not (is_recognised p.before p.option)) (placed earlier os))
 
 -- The number of the first option of a message that is critical and not recognised. `None` if there is none.
 abbrev pub first_critical : List CoapOption → Option ℕ

@@ -3,7 +3,8 @@
 use Rattle.std.specs.Prelude.{◌≡◌, ℕ, ◌+◌, ◌-◌, ◌*◌, ◌≤◌, List, [], ◌∷◌, ◌++◌, length}
 use Rattle.std.specs.List.{AllByRecursion}
 use Rattle.coap_wire.specs.Message.{CoapOption, Message, AreOrdered}
-use Rattle.coap_wire.specs.Forms.{IsLengthForm, length_form, IsOptionForm, option_form, greatest_token, IsTokenForm, token_form, greatest_length}
+use Rattle.coap_wire.specs.Forms.{IsLengthForm, length_form, IsOptionForm, option_form, greatest_token, IsTokenForm}
+use Rattle.coap_wire.specs.Forms.{token_form, greatest_length}
 use Rattle.coap_wire.specs.declared.sizes.TheConstants.{MAX_EXTENDED_LENGTH}
 
 -- The bytes `s` are the head of an option, followed by `after`. A head is a byte of two nibbles, the extension of the
@@ -76,7 +77,8 @@ body_spelling m = options_spelling 0 m.options ++ payload_bytes m.payload
 -- The head of a message with this code, this token and a body of `n` bytes.
 abbrev pub head_spelling : ℕ → List ℕ → ℕ → List ℕ
 head_spelling code token n =
-    (16 * (length_form n).0 + (token_form (length token)).0) ∷ ((length_form n).1 ++ code ∷ ((token_form (length token)).1 ++ token))
+    (16 * (length_form n).0 + (token_form (length token)).0)
+    ∷ ((length_form n).1 ++ code ∷ ((token_form (length token)).1 ++ token))
 
 -- The encoding of a message. If the message has one (`HasSpelling`), it is this one alone.
 unfoldable pub spelling : Message → List ℕ
@@ -91,7 +93,9 @@ payload_marker (b ∷ bs) = 255 ∷ []
 
 -- The encoding of a message without the payload at its end.
 unfoldable pub front_spelling : Message → List ℕ
-front_spelling m = head_spelling m.code m.token (length (body_spelling m)) ++ (options_spelling 0 m.options ++ payload_marker m.payload)
+front_spelling m =
+    head_spelling m.code m.token (length (body_spelling m))
+    ++ (options_spelling 0 m.options ++ payload_marker m.payload)
 
 -- ---- messages that have an encoding
 

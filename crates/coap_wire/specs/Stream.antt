@@ -5,7 +5,8 @@ use Rattle.coap_wire.specs.Message.{Message}
 use Rattle.coap_wire.specs.Spelling.{Spells}
 use Rattle.coap_wire.specs.Size.{IsFrame}
 use Rattle.coap_wire.specs.Reading.{message_of}
-use Rattle.coap_wire.specs.StreamPrefix.{IsFrameFault, IsUnfinished, StreamPrefix, Unfinished, Whole, Faulty, fault_bytes}
+use Rattle.coap_wire.specs.StreamPrefix.{IsFrameFault, IsUnfinished, StreamPrefix, Unfinished, Whole, Faulty}
+use Rattle.coap_wire.specs.StreamPrefix.{fault_bytes}
 use Rattle.coap_wire.specs.Frames.{Frames, Sizes, constant_size, AreAtMost, StandsBehind, size_behind, sized_frames}
 use Rattle.coap_wire.specs.declared.fault.FormatFault.{FormatFault}
 use Rattle.coap_wire.specs.declared.fault.FrameFault.{FrameFault}
@@ -41,7 +42,8 @@ SpellEach (f ∷ fs) [] = ⊥
 
 -- The stream `bytes` is the encodings of these messages, followed by a rest and, after an error, by bytes that are not
 -- checked. Each frame has at most as many bytes as the maximum in effect for it.
-pub record Splits (sizes : Sizes) (bytes : List ℕ) (messages : List Message) (rest : List ℕ) (fault : Option StreamFault) : Type 0 where
+pub record Splits (sizes : Sizes) (bytes : List ℕ) (messages : List Message) (rest : List ℕ)
+    (fault : Option StreamFault) : Type 0 where
   pub frames : List (List ℕ)
   pub more : List ℕ
   pub whole : bytes ≡ concat frames ++ (rest ++ more)

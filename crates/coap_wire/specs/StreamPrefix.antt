@@ -1,6 +1,7 @@
 -- RFC 8323 sections 3.2, 5.3.1: the classification of the first bytes of a stream as an unfinished frame, a whole frame
 -- or an error. A frame may have at most `M` bytes.
-use Rattle.std.specs.Prelude.{◌≡◌, ℕ, ◌+◌, ◌/◌, ◌%◌, ◌<◌, List, [], ◌∷◌, ◌++◌, length, take, drop, nat_lt, ◌==◌, if◌then◌else◌}
+use Rattle.std.specs.Prelude.{◌≡◌, ℕ, ◌+◌, ◌/◌, ◌%◌, ◌<◌, List, [], ◌∷◌, ◌++◌, length, take, drop, nat_lt, ◌==◌}
+use Rattle.std.specs.Prelude.{if◌then◌else◌}
 use Rattle.coap_wire.specs.Forms.{extension_of, option_extension}
 use Rattle.coap_wire.specs.Size.{IsTokenLengthFault, IsSizeHead, IsFrame}
 use Rattle.coap_wire.specs.Reading.{declared_of}

@@ -1,5 +1,6 @@
 -- Defined by this project: the values that contracts see for the types of this crate, and the errors of a builder.
-use Rattle.std.specs.Prelude.{◌≡◌, ℕ, ◌≤◌, List, [], ◌∷◌, ◌++◌, length, map, Option, Some, None, Result, Ok, Err, nat_lt, if◌then◌else◌}
+use Rattle.std.specs.Prelude.{◌≡◌, ℕ, ◌≤◌, List, [], ◌∷◌, ◌++◌, length, map, Option, Some, None, Result, Ok, Err}
+use Rattle.std.specs.Prelude.{nat_lt, if◌then◌else◌}
 use Rattle.std.specs.List.{AllByRecursion}
 use Rattle.std.specs.Borrow.{Bor}
 use Rattle.coap_wire.specs.Message.{CoapOption, Message, AreOrdered, last_number}
@@ -54,7 +55,8 @@ abbrev pub option_refusal : ℕ → Message → ℕ → List ℕ → Option Buil
 option_refusal room m number value =
     if nat_lt number (last_number 0 m.options) then Some Order
     else (if nat_lt MAX_EXTENDED_LENGTH (length value) then Some TooLong
-    else (if nat_lt (length m.options) room then (if nat_lt (length m.options) most_options then None else Some Full) else Some Full))
+    else (if nat_lt (length m.options) room
+    then (if nat_lt (length m.options) most_options then None else Some Full) else Some Full))
 
 -- The error of a builder if this payload is set. `None` if it can be set.
 abbrev pub payload_refusal : List ℕ → Option BuildFault

@@ -30,7 +30,8 @@ pub(crate) fn option_size(base: u16, option: &OptionRef) -> u64
 pub(crate) fn head_size(token: usize, body: u64) -> u64
     requires token { token ≤ greatest_token }
     requires body { body ≤ greatest_length }
-    ensures size { (code : ℕ) (bytes : List ℕ) → length bytes ≡ token → result ≡ length (head_spelling code bytes body) }
+    ensures size { (code : ℕ) (bytes : List ℕ) → length bytes ≡ token
+        → result ≡ length (head_spelling code bytes body) }
     ensures bound { result ≤ 72 }
 {
     2 + length_extension_size(body) + option_extension_size(token as u32) + token as u64

@@ -136,8 +136,8 @@ pub fn stream_is_read_in_order()
         prefix_kind M (split M s).rest ≡ Unfinished }
 {}
 
-/// States that `prefix_kind` agrees with the relations `IsFrame`, `IsFrameFault` and `IsUnfinished`. The first bytes are
-/// a frame of at most `M` bytes, or `fault_bytes` shows an error, or the frame is unfinished.
+/// States that `prefix_kind` agrees with the relations `IsFrame`, `IsFrameFault` and `IsUnfinished`. The first bytes
+/// are a frame of at most `M` bytes, or `fault_bytes` shows an error, or the frame is unfinished.
 pub fn prefix_kind_finds_first_frame()
     ensures frame_found { (M : ℕ) (frame rest : List ℕ) → IsFrame frame → length frame ≤ M →
         prefix_kind M (frame ++ rest) ≡ Whole frame rest }
@@ -151,7 +151,8 @@ pub fn prefix_kind_finds_first_frame()
     ensures neither_stands { (M : ℕ) (s : List ℕ) → prefix_kind M s ≡ Unfinished → IsUnfinished M s }
 {}
 
-/// States that a frame found by `prefix_kind` is the first 2 to `M` bytes of the stream, and is found without later ones.
+/// States that a frame found by `prefix_kind` is the first 2 to `M` bytes of the stream, and is found
+/// without later ones.
 pub fn frame_at_the_front_is_the_first_bytes()
     ensures bytes { (M : ℕ) (s frame rest : List ℕ) → prefix_kind M s ≡ Whole frame rest → s ≡ frame ++ rest }
     ensures at_least { (M : ℕ) (s frame rest : List ℕ) → prefix_kind M s ≡ Whole frame rest → 2 ≤ length frame }
@@ -182,7 +183,8 @@ pub fn unfinished_beginning_needs_more_bytes()
         prefix_kind M (s ++ b ∷ []) ≡ Faulty fault → fault_bytes (s ++ b ∷ []) ≡ s ++ b ∷ [] }
 {}
 
-/// States that the bytes of a number below 2^64 encode it, so numbers with equal bytes are equal (RFC 7252 section 3.2).
+/// States that the bytes of a number below 2^64 encode it, so numbers with equal bytes are equal (RFC
+/// 7252 section 3.2).
 pub fn bytes_of_a_number_mean_it()
     ensures mean { (n : ℕ) → n < 2 ^ 64 → uint_of (bytes_of_uint n) ≡ n }
     ensures distinct { (m n : ℕ) → m < 2 ^ 64 → n < 2 ^ 64 → bytes_of_uint m ≡ bytes_of_uint n → m ≡ n }

@@ -31,7 +31,8 @@ impl<'a> Model for MessageRef<'a> {
 
     ghost Value = { Message };
 
-    ghost view = { λ m. record { code = m.code; token = m.token; options = options_in 0 m.body.now; payload = m.payload.now } };
+    ghost view = { λ m.
+        record { code = m.code; token = m.token; options = options_in 0 m.body.now; payload = m.payload.now } };
 
     ghost invariant = { λ m. body_at 0 m.body.now ≡ Ok (options_in 0 m.body.now, m.payload.now) };
 }
@@ -46,7 +47,8 @@ impl<'a> MessageRef<'a> {
         payload: &'a [u8],
     ) -> MessageRef<'a>
         requires { body_at 0 body.now ≡ Ok (options_in 0 body.now, payload.now) }
-        ensures { result ≡ record { code = code; token = token.entry; options = options_in 0 body.now; payload = payload.now } }
+        ensures { result
+            ≡ record { code = code; token = token.entry; options = options_in 0 body.now; payload = payload.now } }
     {
         MessageRef {
             token,

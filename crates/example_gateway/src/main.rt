@@ -69,8 +69,8 @@ fn turn<R: Files + AllocGlobal, D: Door>(
     Ok(())
 }
 
-/// Serves the contents of a file at an address, as long as the file can be read. Each error says what could not be done,
-/// and `main` prints it with its cause.
+/// Serves the contents of a file at an address, as long as the file can be read. Each error says what could not be
+/// done, and `main` prints it with its cause.
 fn serve(
     rt: &(impl Eprint + Files + Net + time::Clock + AllocGlobal),
     address: SocketAddr,
@@ -98,8 +98,8 @@ fn serve(
     )
 }
 
-/// Serves the connections in a loop. A function that owns the server drops it at each `?`, which makes its proof long, so
-/// this one borrows it.
+/// Serves the connections in a loop. A function that owns the server drops it at each `?`, which makes its proof long,
+/// so this one borrows it.
 fn run<R: Files + AllocGlobal, D: Door>(
     rt: &R,
     file: &str,

@@ -39,7 +39,7 @@ def spec_numbers():
               for variant, number in re.findall(r"^reason_number \(?(\w+)[^=\n]*= (\d+)$",
                                                 text("coap_conn/specs/Reasons.antt"), re.M)]
     found += [(f"event.{variant}", int(number), (f"EVENT_{snake(variant)}",))
-              for variant, number in re.findall(r"^ShowsEvent \(Some \(?event\.(\w+).*? = Is\w+ (\d) ",
+              for variant, number in re.findall(r"^ShowsEvent \(Some \(?event\.(\w+).*? =\s+Is\w+ (\d) ",
                                                 text("coap_c/specs/ClientEvents.antt"), re.M)]
     found += [(f"method.{variant}", int(number), (snake(variant),))
               for number, variant in re.findall(r"n == (\d) then Some method\.(\w+)",

@@ -79,8 +79,10 @@ pub(super) fn matches_in<'a, S: AsStr>(
 ) -> Result<ArgMatches<'a>, WordsFault>
     requires simple { is_simple (spec.program_app name.now arguments.now) ≡ true }
     requires free { is_simple_and_free (spec.program_app name.now arguments.now) ≡ true }
-    ensures kinds { IfOk result (λ m. fault_of (spec.program_app name.entry.now arguments.entry.now) (map S.text words.entry.now) ≡ []) }
-    ensures rows { IfOk result (λ m. rows_of (found_of m) ≡ matches_of (spec.program_app name.entry.now arguments.entry.now)
+    ensures kinds { IfOk result
+        (λ m. fault_of (spec.program_app name.entry.now arguments.entry.now) (map S.text words.entry.now) ≡ []) }
+    ensures rows { IfOk result
+        (λ m. rows_of (found_of m) ≡ matches_of (spec.program_app name.entry.now arguments.entry.now)
         (map S.text words.entry.now)) }
     ensures refusal { IfErr result (IsTurnedDown (fault_of (spec.program_app name.entry.now arguments.entry.now)
         (map S.text words.entry.now))) }

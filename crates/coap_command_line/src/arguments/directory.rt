@@ -135,8 +135,8 @@ pub fn directory_words<'a, S: AsStr>(
     directory_plan(alloc, &matches)
 }
 
-/// Returns the reason for an error that `directory_words` reported for these arguments: a line with what was given and what
-/// is allowed. There is no reason for arguments that `clap` rejects, and none for a failed allocation.
+/// Returns the reason for an error that `directory_words` reported for these arguments: a line with what was given and
+/// what is allowed. There is no reason for arguments that `clap` rejects, and none for a failed allocation.
 ///
 /// # Errors
 ///
@@ -146,7 +146,8 @@ pub fn directory_reason<'a, S: AsStr>(
     words: &'a [S],
     fault: &WordsFault,
 ) -> Result<Option<Line>, AllocError>
-    ensures { IfOk result (λ line. line ≡ option_map line_of (spec.directory_reason (map S.text words.entry.now) fault.now)) }
+    ensures { IfOk result
+        (λ line. line ≡ option_map line_of (spec.directory_reason (map S.text words.entry.now) fault.now)) }
 {
     match matches_in(alloc, "coap-directory", help::DIRECTORY, DIRECTORY, words) {
         Ok(matches) => Ok(directory_line(&matches, fault)),

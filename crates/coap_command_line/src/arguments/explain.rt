@@ -82,8 +82,8 @@ pub fn explain_words<'a, S: AsStr>(alloc: Global, words: &'a [S]) -> Result<Expl
     explain_plan(alloc, &matches)
 }
 
-/// Returns the reason for an error that `explain_words` reported for these arguments: a line with what was given and what
-/// is allowed. There is no reason for arguments that `clap` rejects, and none for a failed allocation.
+/// Returns the reason for an error that `explain_words` reported for these arguments: a line with what was given and
+/// what is allowed. There is no reason for arguments that `clap` rejects, and none for a failed allocation.
 ///
 /// # Errors
 ///
@@ -93,7 +93,8 @@ pub fn explain_reason<'a, S: AsStr>(
     words: &'a [S],
     fault: &WordsFault,
 ) -> Result<Option<Line>, AllocError>
-    ensures { IfOk result (λ line. line ≡ option_map line_of (spec.explain_reason (map S.text words.entry.now) fault.now)) }
+    ensures { IfOk result
+        (λ line. line ≡ option_map line_of (spec.explain_reason (map S.text words.entry.now) fault.now)) }
 {
     match matches_in(alloc, "coap-explain", help::EXPLAIN, EXPLAIN, words) {
         Ok(matches) => Ok(explain_line(&matches, fault)),

@@ -181,7 +181,8 @@ fn least_queue(matches: &ArgMatches<'_>) -> u64
     }
 }
 
-/// Returns the line for an option with its minimum and the rest of the values that it takes, and the value that was given.
+/// Returns the line for an option with its minimum and the rest of the values that it takes, and the value
+/// that was given.
 fn least_line(option: &str, least: u64, rest: &str, given: &str) -> Line
     requires option { is_text option.now ≡ true }
     requires rest { is_text rest.now ≡ true }

@@ -208,8 +208,8 @@ impl Link {
         self.pong_fitted(token, custody)
     }
 
-    /// Queues the Pong as `pong` does, without Custody if only that fits the peer's limit. (A separate function: a function
-    /// clears all its locals, so these would slow down `pong`.)
+    /// Queues the Pong as `pong` does, without Custody if only that fits the peer's limit. (A separate function: a
+    /// function clears all its locals, so these would slow down `pong`.)
     #[inline(never)]
     fn pong_fitted(&mut self, token: &TokenRef, custody: bool) -> Verdict<'static>
         requires { IsReady self.old }

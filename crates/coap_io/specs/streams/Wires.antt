@@ -37,7 +37,8 @@ write_outcome Failed = Failed
 
 -- Holds if a wire was written once with this outcome, as far as the wire records results.
 pub data IsOneWrite (before after : Option (List Got)) (outcome : Got) : Type 0 where
-  Answered : (answer : Got) → TellsMore before after (answer ∷ []) → outcome ≡ write_outcome answer → IsOneWrite before after outcome
+  Answered : (answer : Got) → TellsMore before after (answer ∷ []) → outcome ≡ write_outcome answer
+      → IsOneWrite before after outcome
 
 -- The same wait, but until `moment` at the latest.
 abbrev pub wait_at_most : ℕ → Wait → Wait
@@ -56,8 +57,10 @@ pub record WireTrace : Type 0 where
   pub rooms : Option (List ℕ)
 
 -- The records of a wire, by the ghost members of its type.
-abbrev pub trace_by : {W : Type 0} (given written : W → Option (List ℕ)) (answers : W → Option (List Got)) (rooms : W → Option (List ℕ)) → W → WireTrace
-trace_by given written answers rooms wire = record { given = given wire; written = written wire; answers = answers wire; rooms = rooms wire }
+abbrev pub trace_by : {W : Type 0} (given written : W → Option (List ℕ)) (answers : W → Option (List Got))
+    (rooms : W → Option (List ℕ)) → W → WireTrace
+trace_by given written answers rooms wire =
+    record { given = given wire; written = written wire; answers = answers wire; rooms = rooms wire }
 
 -- Holds if a wire was read once, into a buffer of `room` bytes, with this result and these bytes.
 pub record IsReadOnce (room : ℕ) (before after : WireTrace) (heard : Got) (bytes : List ℕ) : Type 0 where

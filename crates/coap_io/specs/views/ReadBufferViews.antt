@@ -1,5 +1,5 @@
--- Defined by this project: the value of a `ReadBuffer` in contracts, which is the bytes read from a wire and not accepted
--- yet.
+-- Defined by this project: the value of a `ReadBuffer` in contracts, which is the bytes read from a wire and
+-- not accepted yet.
 use Rattle.std.specs.Prelude.{◌≡◌, ℕ, ◌≤◌, ◌-◌, List, length, take, drop}
 use Rattle.coap_io.specs.declared.read_buffer.ReadBuffer.TheInside.{Inside}
 use Rattle.coap_io.specs.declared.read_buffer.TheConstants.{READ_SIZE}

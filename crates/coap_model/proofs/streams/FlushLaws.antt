@@ -1,5 +1,6 @@
 -- A flush leaves no queued bytes. If none are queued, a flush changes nothing.
-use Rattle.std.proofs.Common.{◌≡◌, ℕ, zero, suc, ◌+◌, ◌≤◌, List, [], ◌∷◌, ◌++◌, length, map, Option, Some, refl, sym, ap, subst, ◌∙◌, ◌⊎◌, inl, inr, arith, nat_le, append_assoc}
+use Rattle.std.proofs.Common.{◌≡◌, ℕ, zero, suc, ◌+◌, ◌≤◌, List, [], ◌∷◌, ◌++◌, length, map, Option, Some, refl, sym}
+use Rattle.std.proofs.Common.{ap, subst, ◌∙◌, ◌⊎◌, inl, inr, arith, nat_le, append_assoc}
 use Rattle.coap_model.specs.Prelude.{AllByRecursion, Message, LimitValues, bytes_of, StoreValue, is_due, Connection}
 use Rattle.coap_model.specs.Prelude.{waiting_on, side_written, settled_once, settled_within, settled, IsUpToDate}
 use Rattle.coap_model.specs.Prelude.{ConnectionEntry, World, Step, side_of, acted, settled_place, all_settled, step}
@@ -24,14 +25,17 @@ use Rattle.coap_model.proofs.world.LimitLaws.{step_fits}
 -- A write does not change the observers.
 written_observers : (s : Connection) (n : ℕ) → (side_written s n).observers ≡ s.observers
 unfolding side_written
-written_observers s n = cond_both (nat_le n (length (waiting_on s))) _ _ (λ (t : Connection). t.observers ≡ s.observers) (λ does. refl) (λ fails. refl)
+written_observers s n =
+    cond_both (nat_le n (length (waiting_on s))) _ _ (λ (t : Connection). t.observers ≡ s.observers)
+    (λ does. refl) (λ fails. refl)
 
 -- After all queued bytes were written, none are queued.
 written_empties : (s : Connection) → waiting_on (side_written s (length (waiting_on s))) ≡ []
 unfolding side_written
 written_empties s =
     let n : ℕ = length (waiting_on s) in
-    rw (le-leb n n (omega arith)) (drop_all (s.history.written + n) (bytes_of s.history.queued) (omega (arith, length-drop s.history.written (bytes_of s.history.queued))))
+    rw (le-leb n n (omega arith)) (drop_all (s.history.written + n) (bytes_of s.history.queued)
+    (omega (arith, length-drop s.history.written (bytes_of s.history.queued))))
 
 -- Writing zero bytes does not change the connection.
 none_written : (s : Connection) → side_written s 0 ≡ s
@@ -41,23 +45,32 @@ none_written s = rw (le-leb 0 (length (waiting_on s)) (omega arith), add-zero) r
 -- ---- the number of messages still to be sent
 
 -- Settling does not increase the number.
-within_left : (turns : ℕ) (store : StoreValue) (now : ℕ) (s : Connection) → left_on store now (settled_within turns store now s) ≤ left_on store now s
+within_left : (turns : ℕ) (store : StoreValue) (now : ℕ) (s : Connection)
+    → left_on store now (settled_within turns store now s) ≤ left_on store now s
 unfolding settled_within
 within_left zero store now s = omega arith
-within_left (suc turns) store now s = grind (arith, once_less store now s, at_rest (suc turns) store now s, within_left turns store now (settled_once store now s))
+within_left (suc turns) store now s = grind (
+  arith,
+  once_less store now s,
+  at_rest (suc turns) store now s,
+  within_left turns store now (settled_once store now s),
+)
 
 -- If settling sends anything, the number decreases.
-within_less : (turns : ℕ) (store : StoreValue) (now : ℕ) (s : Connection) → left_on store now s ≤ turns → IsAtRest store now s ⊎ (left_on store now (settled_within turns store now s) + 1 ≤ left_on store now s)
+within_less : (turns : ℕ) (store : StoreValue) (now : ℕ) (s : Connection) → left_on store now s ≤ turns
+    → IsAtRest store now s ⊎ (left_on store now (settled_within turns store now s) + 1 ≤ left_on store now s)
 unfolding settled_within
 within_less zero store now s few = grind (arith, once_less store now s)
-within_less (suc turns) store now s few = grind (arith, once_less store now s, within_left turns store now (settled_once store now s))
+within_less (suc turns) store now s few =
+    grind (arith, once_less store now s, within_left turns store now (settled_once store now s))
 
 -- The number is at most that of pending entries and observers together.
 left_within : (store : StoreValue) (now : ℕ) (s : Connection) → left_on store now s ≤ more_of (Some s)
 left_within store now s = omega (arith, count_within (is_due store now) s.observers)
 
 -- Settling sends nothing, or the number decreases.
-settled_less : (store : StoreValue) (now : ℕ) (s : Connection) → IsAtRest store now s ⊎ (left_on store now (settled store now s) + 1 ≤ left_on store now s)
+settled_less : (store : StoreValue) (now : ℕ) (s : Connection)
+    → IsAtRest store now s ⊎ (left_on store now (settled store now s) + 1 ≤ left_on store now s)
 unfolding settled
 settled_less store now s = within_less (more_of (Some s)) store now s (left_within store now s)
 
@@ -71,31 +84,40 @@ side_once store now s = settled store now (side_written s (length (waiting_on s)
 abbrev IsFlushedAndAtRest : StoreValue → ℕ → Connection → Type 0
 IsFlushedAndAtRest store now s = (waiting_on s ≡ []) × IsAtRest store now s
 
-once_stays : (store : StoreValue) (now : ℕ) (s : Connection) → IsFlushedAndAtRest store now s → side_once store now s ≡ s
+once_stays : (store : StoreValue) (now : ℕ) (s : Connection) → IsFlushedAndAtRest store now s
+    → side_once store now s ≡ s
 unfolding settled
 once_stays store now s rests = rw (rests.0, none_written) (at_rest (more_of (Some s)) store now s rests.1)
 
 -- After a round no bytes are queued, or fewer messages are to be sent.
-once_turn : (store : StoreValue) (now : ℕ) (s : Connection) → IsFlushedAndAtRest store now (side_once store now s) ⊎ (left_on store now (side_once store now s) + 1 ≤ left_on store now s)
+once_turn : (store : StoreValue) (now : ℕ) (s : Connection) → IsFlushedAndAtRest store now (side_once store now s)
+    ⊎ (left_on store now (side_once store now s) + 1 ≤ left_on store now s)
 unfolding settled
 once_turn store now s =
     let n : ℕ = length (waiting_on s) in
     let u : Connection = side_written s n in
     let same : left_on store now u ≡ left_on store now s = cc (written_same s n, written_observers s n) in
     elim (settled_less store now u) [
-      | inl rests ↦ inl (ap waiting_on (at_rest (more_of (Some u)) store now u rests) ∙ written_empties s, settled_rests store now u)
+      | inl rests ↦ inl (
+        ap waiting_on (at_rest (more_of (Some u)) store now u rests) ∙ written_empties s,
+        settled_rests store now u,
+      )
       | inr less ↦ inr (omega (arith, less, same))
     ]
 
 -- If nothing is pending and there is no observer, a round leaves this so and does not change the phase.
-once_alone : (store : StoreValue) (now : ℕ) (s : Connection) → more_of (Some s) ≡ 0 → (more_of (Some (side_once store now s)) ≡ 0) × ((side_once store now s).history.phase ≡ s.history.phase)
+once_alone : (store : StoreValue) (now : ℕ) (s : Connection) → more_of (Some s) ≡ 0
+    → (more_of (Some (side_once store now s)) ≡ 0) × ((side_once store now s).history.phase ≡ s.history.phase)
 unfolding settled settled_within
 once_alone store now s none =
     let n : ℕ = length (waiting_on s) in
     let u : Connection = side_written s n in
     let none_left : more_of (Some u) ≡ 0 = cc (written_same s n, written_observers s n, none) in
-    let stays : side_once store now s ≡ u = ap (λ (turns : ℕ). settled_within turns store now u) none_left in
-    (ap (λ (t : Connection). more_of (Some t)) stays ∙ none_left, ap (λ (t : Connection). t.history.phase) stays ∙ written_between (λ h k. k.phase ≡ h.phase) (λ h. refl) (λ h n within. refl) s n)
+    let stays : side_once store now s ≡ u = ap (λ (turns : ℕ). settled_within turns store now u) none_left in (
+      ap (λ (t : Connection). more_of (Some t)) stays ∙ none_left,
+      ap (λ (t : Connection). t.history.phase) stays
+          ∙ written_between (λ h k. k.phase ≡ h.phase) (λ h. refl) (λ h n within. refl) s n,
+    )
 
 -- ---- a world, round by round
 
@@ -112,10 +134,20 @@ pub record IsLeft (id turns : ℕ) (w : World) (s : Connection) (v : World) : Ty
   pub alone : more_of (Some s) ≡ 0 → (more_of (Some side) ≡ 0) × (side.history.phase ≡ s.history.phase)
   pub rests : IsFlushedAndAtRest v.store v.now side ⊎ (left_on v.store v.now side + turns ≤ left_on v.store v.now s)
 
-turns_leave : (limits : LimitValues) (id turns : ℕ) (w : World) (s : Connection) → side_of id w.sides ≡ Some s → IsLeft id turns w s (written_times limits id turns w)
+turns_leave : (limits : LimitValues) (id turns : ℕ) (w : World) (s : Connection) → side_of id w.sides ≡ Some s
+    → IsLeft id turns w s (written_times limits id turns w)
 unfolding written_times step acted
 turns_leave limits id zero w s there =
-    record { side = s; there = there; distinct = λ are. are; more = []; queued = sym (append-nil s.history.queued); handled = refl; alone = λ none. (none, refl); rests = inr (omega arith) }
+    record {
+      side = s;
+      there = there;
+      distinct = λ are. are;
+      more = [];
+      queued = sym (append-nil s.history.queued);
+      handled = refl;
+      alone = λ none. (none, refl);
+      rests = inr (omega arith);
+    }
 turns_leave limits id (suc turns) w s there =
     let v : World = written_times limits id turns w in
     let so_far = turns_leave limits id turns w s there in
@@ -123,33 +155,46 @@ turns_leave limits id (suc turns) w s there =
     let st : Step = world.Written id (length (waiting_of (side_of id v.sides))) in
     let n : ℕ = length (waiting_on t) in
     let next : Connection = side_once v.store v.now t in
-    let there_now : side_of id (written_once limits id v).sides ≡ Some next = rw so_far.there (written_there limits v id n t so_far.there) in
+    let there_now : side_of id (written_once limits id v).sides ≡ Some next =
+    rw so_far.there (written_there limits v id n t so_far.there) in
     let fits = step_fits limits v st id t next so_far.there there_now in
     record {
       side = next;
       there = there_now;
       distinct = λ are. step_distinct limits v st (so_far.distinct are);
       more = so_far.more ++ fits.0;
-      queued = fits.1 ∙ ap (λ (ms : List Message). ms ++ fits.0) so_far.queued ∙ append_assoc s.history.queued so_far.more fits.0;
+      queued =
+          fits.1 ∙ ap (λ (ms : List Message). ms ++ fits.0) so_far.queued
+          ∙ append_assoc s.history.queued so_far.more fits.0;
       handled = settled_handled v.store v.now (side_written t n) ∙ written_handled t n ∙ so_far.handled;
-      alone = λ none. (let before = so_far.alone none in let after = once_alone v.store v.now t before.0 in (after.0, after.1 ∙ before.1));
+      alone = λ none. (let before = so_far.alone none in let after = once_alone v.store v.now t before.0 in
+          (after.0, after.1 ∙ before.1));
       rests = elim so_far.rests [
         | inl rests ↦ inl (subst (IsFlushedAndAtRest v.store v.now) (sym (once_stays v.store v.now t rests)) rests)
-        | inr few ↦ elim (once_turn v.store v.now t) [ inl rests ↦ inl rests | inr less ↦ inr (omega (arith, few, less)) ]
+        | inr few ↦
+            elim (once_turn v.store v.now t) [ inl rests ↦ inl rests | inr less ↦ inr (omega (arith, few, less)) ]
       ];
     }
 
 -- The number of rounds that a flush has on this connection.
-pub flushed_so : (limits : LimitValues) (id : ℕ) (w : World) (s : Connection) → side_of id w.sides ≡ Some s → flushed limits id w ≡ written_times limits id (suc (more_of (Some s))) w
+pub flushed_so : (limits : LimitValues) (id : ℕ) (w : World) (s : Connection) → side_of id w.sides ≡ Some s
+    → flushed limits id w ≡ written_times limits id (suc (more_of (Some s))) w
 unfolding flushed
 flushed_so limits id w s there = ap (λ (o : Option Connection). written_times limits id (suc (more_of o)) w) there
 
 -- A flush leaves no queued bytes: one round more than the number of pending entries and observers is enough.
-pub flush_leaves : (limits : LimitValues) (id : ℕ) (w : World) (s : Connection) → side_of id w.sides ≡ Some s → (left : IsLeft id (suc (more_of (Some s))) w s (flushed limits id w)) × (waiting_on left.side ≡ [])
+pub flush_leaves : (limits : LimitValues) (id : ℕ) (w : World) (s : Connection) → side_of id w.sides ≡ Some s
+    → (left : IsLeft id (suc (more_of (Some s))) w s (flushed limits id w)) × (waiting_on left.side ≡ [])
 flush_leaves limits id w s there =
     let turns : ℕ = suc (more_of (Some s)) in
-    let left = subst (IsLeft id turns w s) (sym (flushed_so limits id w s there)) (turns_leave limits id turns w s there) in
-    (left, elim left.rests [ inl rests ↦ rests.0 | inr few ↦ absurd (omega (arith, few, left_within (flushed limits id w).store (flushed limits id w).now s)) ])
+    let left =
+    subst (IsLeft id turns w s) (sym (flushed_so limits id w s there)) (turns_leave limits id turns w s there) in (
+      left,
+      elim left.rests [
+        | inl rests ↦ rests.0
+        | inr few ↦ absurd (omega (arith, few, left_within (flushed limits id w).store (flushed limits id w).now s))
+      ],
+    )
 
 -- ---- no queued bytes
 
@@ -159,33 +204,48 @@ map_stays f [] each = refl
 map_stays f (x ∷ xs) each = cc (each.0, map_stays f xs each.1)
 
 -- In a world in which no change is lost, a step without an effect of its own changes nothing.
-pub idle_step : (limits : LimitValues) (w : World) (st : Step) → AllHear w → acted limits w st ≡ w → step limits w st ≡ w
+pub idle_step : (limits : LimitValues) (w : World) (st : Step) → AllHear w
+    → acted limits w st ≡ w → step limits w st ≡ w
 unfolding step
 idle_step limits w st hear idle =
-    let stays = all_to (λ (p : ConnectionEntry). IsUpToDate w.store w.now p.side) (λ p. settled_place w.store w.now p ≡ p)
-    (λ p takes_input. ap (λ (s : Connection). record p { side = s }) (side_at_rest_stays w.store w.now p.side takes_input)) w.sides hear in
-    ap all_settled idle ∙ ap (λ (ps : List ConnectionEntry). record w { sides = ps }) (map_stays (settled_place w.store w.now) w.sides stays)
+    let stays =
+    all_to (λ (p : ConnectionEntry). IsUpToDate w.store w.now p.side) (λ p. settled_place w.store w.now p ≡ p)
+    (λ p takes_input. ap (λ (s : Connection). record p { side = s })
+    (side_at_rest_stays w.store w.now p.side takes_input)) w.sides hear in
+    ap all_settled idle ∙ ap (λ (ps : List ConnectionEntry). record w { sides = ps })
+    (map_stays (settled_place w.store w.now) w.sides stays)
 
 -- If no bytes are queued, a round does not change the world.
-quiet_once : (limits : LimitValues) (id : ℕ) (w : World) (s : Connection) → AllHear w → side_of id w.sides ≡ Some s → waiting_on s ≡ [] → written_once limits id w ≡ w
+quiet_once : (limits : LimitValues) (id : ℕ) (w : World) (s : Connection) → AllHear w → side_of id w.sides ≡ Some s
+    → waiting_on s ≡ [] → written_once limits id w ≡ w
 unfolding acted
-quiet_once limits id w s hear there none = rw (there, none) (idle_step limits w (world.Written id 0) hear (simp (none_written, places_unchanged)))
+quiet_once limits id w s hear there none =
+    rw (there, none) (idle_step limits w (world.Written id 0) hear (simp (none_written, places_unchanged)))
 
 -- A property of a number that passes on to the next number holds of all larger numbers.
 pub from_there_on : (P : ℕ → Type 0) (few many : ℕ) → few ≤ many → P few → ((n : ℕ) → P n → P (suc n)) → P many
 from_there_on P few zero within first on = let same : few ≡ 0 = omega (arith, within) in subst P same first
 from_there_on P few (suc many) within first on =
-    elim (cases_eq few (suc many)) [ inl same ↦ subst P same first | inr apart ↦ on many (from_there_on P few many (omega (arith, within, apart)) first on) ]
+    elim (cases_eq few (suc many)) [
+      | inl same ↦ subst P same first
+      | inr apart ↦ on many (from_there_on P few many (omega (arith, within, apart)) first on)
+    ]
 
 -- Further rounds of a flush do not change it either.
-pub times_further : (limits : LimitValues) (id turns most : ℕ) (w : World) (t : Connection) → AllHear w → side_of id (written_times limits id turns w).sides ≡ Some t → waiting_on t ≡ [] → turns ≤ most → written_times limits id turns w ≡ written_times limits id most w
+pub times_further : (limits : LimitValues) (id turns most : ℕ) (w : World) (t : Connection) → AllHear w
+    → side_of id (written_times limits id turns w).sides ≡ Some t → waiting_on t ≡ [] → turns ≤ most
+    → written_times limits id turns w ≡ written_times limits id most w
 unfolding written_times
 times_further limits id turns most w t hear there none within =
     let v : World = written_times limits id turns w in
-    let takes_input : AllHear v = from_there_on (λ n. AllHear (written_times limits id n w)) 0 turns (omega arith) hear (λ n is. step_hears limits (written_times limits id n w) _) in
-    from_there_on (λ n. v ≡ written_times limits id n w) turns most within refl (λ n same. sym (quiet_once limits id v t takes_input there none) ∙ ap (written_once limits id) same)
+    let takes_input : AllHear v = from_there_on (λ n. AllHear (written_times limits id n w)) 0 turns (omega arith) hear
+    (λ n is. step_hears limits (written_times limits id n w) _) in
+    from_there_on (λ n. v ≡ written_times limits id n w) turns most within refl
+    (λ n same. sym (quiet_once limits id v t takes_input there none) ∙ ap (written_once limits id) same)
 
 -- A flush does not change it either.
-pub quiet_flush : (limits : LimitValues) (id : ℕ) (w : World) (s : Connection) → AllHear w → side_of id w.sides ≡ Some s → waiting_on s ≡ [] → flushed limits id w ≡ w
+pub quiet_flush : (limits : LimitValues) (id : ℕ) (w : World) (s : Connection) → AllHear w → side_of id w.sides ≡ Some s
+    → waiting_on s ≡ [] → flushed limits id w ≡ w
 unfolding flushed written_times
-quiet_flush limits id w s hear there none = sym (times_further limits id 0 (suc (more_of (side_of id w.sides))) w s hear there none (omega arith))
+quiet_flush limits id w s hear there none =
+    sym (times_further limits id 0 (suc (more_of (side_of id w.sides))) w s hear there none (omega arith))

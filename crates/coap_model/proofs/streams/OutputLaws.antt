@@ -1,9 +1,11 @@
 -- The world of one connection whose input steps are each followed by a flush. More input continues this world, the
 -- output only grows, and a stopped connection does not change.
-use Rattle.std.proofs.Common.{◌≡◌, ℕ, false, List, [], ◌∷◌, ◌++◌, map, Some, None, refl, sym, ap, subst, ◌∙◌, ◌==◌, append_assoc, length, is_none}
+use Rattle.std.proofs.Common.{◌≡◌, ℕ, false, List, [], ◌∷◌, ◌++◌, map, Some, None, refl, sym, ap, subst, ◌∙◌, ◌==◌}
+use Rattle.std.proofs.Common.{append_assoc, length, is_none}
 use Rattle.coap_model.specs.Prelude.{AllByRecursion, Message, StreamFault, Stream, split_on, Reason, takes_messages}
 use Rattle.coap_model.specs.Prelude.{stop_of, LimitValues, bytes_of, ConfigValues, Connection, side_after, change_after}
-use Rattle.coap_model.specs.Prelude.{side_faulted, settled, new_side, waiting_on, settled_within, ConnectionEntry, World}
+use Rattle.coap_model.specs.Prelude.{side_faulted, settled, new_side, waiting_on, settled_within, ConnectionEntry}
+use Rattle.coap_model.specs.Prelude.{World}
 use Rattle.coap_model.specs.Prelude.{side_of, acted, step, Step, new_world, AcceptedCall, Opened, Took, spelled_on}
 use Rattle.coap_model.specs.Prelude.{taken_in, size_by, beyond, steps_by, steps_behind, steps_of, written_times}
 use Rattle.coap_model.specs.Prelude.{flushed, flushed_after, only_id, stream_of, steps_for, world_for, side_for}
@@ -20,7 +22,8 @@ use Rattle.coap_model.proofs.world.HearingLaws.{AllHear, step_hears}
 use Rattle.coap_model.proofs.world.AcrossLaws.{handled_there, faulted_there}
 use Rattle.coap_model.proofs.world.ReachedLaws.{step_distinct}
 use Rattle.coap_model.proofs.world.LimitLaws.{step_fits}
-use Rattle.coap_model.proofs.world.StepLaws.{steps_of_more, spelled_by, spelled_then, spelled_same, first_spelled, taken_here, each_beyond}
+use Rattle.coap_model.proofs.world.StepLaws.{steps_of_more, spelled_by, spelled_then, spelled_same, first_spelled}
+use Rattle.coap_model.proofs.world.StepLaws.{taken_here, each_beyond}
 use Rattle.coap_model.proofs.world.CutLaws.{cut_steps}
 
 -- ---- steps of input bytes
@@ -31,24 +34,32 @@ pub data IsOfBytes (id : ℕ) : Step → Type 0 where
   OfFault : (fault : StreamFault) → IsOfBytes id (world.Faulted id fault)
 
 -- The connection exists after such a step.
-stays_there : (limits : LimitValues) (id : ℕ) (w : World) (st : Step) (s : Connection) → IsOfBytes id st → side_of id w.sides ≡ Some s → (t : Connection) × (side_of id (step limits w st).sides ≡ Some t)
-stays_there limits id w st s (OfMessage m) there = let then = handled_there limits w id m s there in (settled then.0 w.now (side_after w.store w.now s m), then.1)
-stays_there limits id w st s (OfFault fault) there = (settled w.store w.now (side_faulted s fault), faulted_there limits w id fault s there)
+stays_there : (limits : LimitValues) (id : ℕ) (w : World) (st : Step) (s : Connection) → IsOfBytes id st
+    → side_of id w.sides ≡ Some s → (t : Connection) × (side_of id (step limits w st).sides ≡ Some t)
+stays_there limits id w st s (OfMessage m) there =
+    let then = handled_there limits w id m s there in (settled then.0 w.now (side_after w.store w.now s m), then.1)
+stays_there limits id w st s (OfFault fault) there =
+    (settled w.store w.now (side_faulted s fault), faulted_there limits w id fault s there)
 
 -- ---- a connection that has stopped
 
 -- Ids are distinct, so it is enough that this connection does not change.
-one_stays : (id : ℕ) (f : Connection → Connection) (s : Connection) (ps : List ConnectionEntry) → AreDistinct ps → side_of id ps ≡ Some s → f s ≡ s → map (changed_at id f) ps ≡ ps
+one_stays : (id : ℕ) (f : Connection → Connection) (s : Connection) (ps : List ConnectionEntry) → AreDistinct ps
+    → side_of id ps ≡ Some s → f s ≡ s → map (changed_at id f) ps ≡ ps
 one_stays id f s ps distinct there stays =
     map_stays (changed_at id f) ps
     (of_each (λ n t. changed_at id f (record { id = n; side = t }) ≡ record { id = n; side = t }) ps distinct
-    (λ n t at. cond_both (n == id) _ _ (λ (p : ConnectionEntry). p ≡ record { id = n; side = t }) (λ same. let here = eqb-true n id same in cc) (λ apart. refl)))
+    (λ n t at. cond_both (n == id) _ _ (λ (p : ConnectionEntry). p ≡ record { id = n; side = t })
+    (λ same. let here = eqb-true n id same in cc) (λ apart. refl)))
 
 -- If the connection no longer accepts messages, nothing changes.
-nothing_acted : (limits : LimitValues) (id : ℕ) (w : World) (st : Step) (s : Connection) → AreDistinct w.sides → side_of id w.sides ≡ Some s → takes_messages s.history.phase ≡ false → IsOfBytes id st → acted limits w st ≡ w
+nothing_acted : (limits : LimitValues) (id : ℕ) (w : World) (st : Step) (s : Connection) → AreDistinct w.sides
+    → side_of id w.sides ≡ Some s → takes_messages s.history.phase ≡ false → IsOfBytes id st → acted limits w st ≡ w
 unfolding acted side_after change_after side_faulted
-nothing_acted limits id w st s distinct there over (OfMessage m) = rw (one_stays id (λ t. side_after w.store w.now t m) s w.sides distinct there (rw over), there, over) refl
-nothing_acted limits id w st s distinct there over (OfFault fault) = rw (one_stays id (λ t. side_faulted t fault) s w.sides distinct there (rw over)) refl
+nothing_acted limits id w st s distinct there over (OfMessage m) =
+    rw (one_stays id (λ t. side_after w.store w.now t m) s w.sides distinct there (rw over), there, over) refl
+nothing_acted limits id w st s distinct there over (OfFault fault) =
+    rw (one_stays id (λ t. side_faulted t fault) s w.sides distinct there (rw over)) refl
 
 -- ---- the state after each step and its flush
 
@@ -64,7 +75,9 @@ pub record IsWrittenOut (id : ℕ) (s : Connection) (w : World) : Type 0 where
   pub takes_input : AllHear w
 
 -- This holds after a flush.
-written_out : (limits : LimitValues) (id : ℕ) (w : World) (s t : Connection) (more : List Message) → side_of id w.sides ≡ Some t → AreDistinct w.sides → t.history.queued ≡ s.history.queued ++ more → IsWrittenOut id s (flushed limits id w)
+written_out : (limits : LimitValues) (id : ℕ) (w : World) (s t : Connection) (more : List Message)
+    → side_of id w.sides ≡ Some t → AreDistinct w.sides → t.history.queued ≡ s.history.queued ++ more
+    → IsWrittenOut id s (flushed limits id w)
 unfolding flushed written_times
 written_out limits id w s t more there distinct queued =
     let left = flush_leaves limits id w t there in
@@ -73,30 +86,39 @@ written_out limits id w s t more there distinct queued =
       there = left.0.there;
       waits = left.1;
       more = more ++ left.0.more;
-      queued = left.0.queued ∙ ap (λ (ms : List Message). ms ++ left.0.more) queued ∙ append_assoc s.history.queued more left.0.more;
+      queued =
+          left.0.queued ∙ ap (λ (ms : List Message). ms ++ left.0.more) queued
+          ∙ append_assoc s.history.queued more left.0.more;
       distinct = left.0.distinct distinct;
       takes_input = step_hears limits _ _;
     }
 
-after_bytes : (limits : LimitValues) (id : ℕ) (w : World) (ss : List Step) (s : Connection) → AllByRecursion (IsOfBytes id) ss → IsWrittenOut id s w → IsWrittenOut id s (flushed_after limits id w ss)
+after_bytes : (limits : LimitValues) (id : ℕ) (w : World) (ss : List Step) (s : Connection)
+    → AllByRecursion (IsOfBytes id) ss → IsWrittenOut id s w → IsWrittenOut id s (flushed_after limits id w ss)
 unfolding flushed_after
 after_bytes limits id w [] s all one = one
 after_bytes limits id w (st ∷ ss) s all one =
     let now = stays_there limits id w st one.side all.0 one.there in
     let fits = step_fits limits w st id one.side now.0 one.there now.1 in
     after_bytes limits id (flushed limits id (step limits w st)) ss s all.1
-    (written_out limits id (step limits w st) s now.0 (one.more ++ fits.0) now.1 (step_distinct limits w st one.distinct)
+    (written_out limits id (step limits w st) s now.0 (one.more ++ fits.0) now.1
+    (step_distinct limits w st one.distinct)
     (fits.1 ∙ ap (λ (ms : List Message). ms ++ fits.0) one.queued ∙ append_assoc s.history.queued one.more fits.0))
 
-after_stopped : (c : ConfigValues) (id : ℕ) (w : World) (ss : List Step) (s : Connection) (one : IsWrittenOut id s w) → AllByRecursion (IsOfBytes id) ss → takes_messages one.side.history.phase ≡ false → flushed_after c.limits id w ss ≡ w
+after_stopped : (c : ConfigValues) (id : ℕ) (w : World) (ss : List Step) (s : Connection) (one : IsWrittenOut id s w)
+    → AllByRecursion (IsOfBytes id) ss → takes_messages one.side.history.phase ≡ false
+    → flushed_after c.limits id w ss ≡ w
 unfolding flushed_after
 after_stopped c id w [] s one all over = refl
 after_stopped c id w (st ∷ ss) s one all over =
-    ap (λ (v : World). flushed_after c.limits id (flushed c.limits id v) ss) (idle_step c.limits w st one.takes_input (nothing_acted c.limits id w st one.side one.distinct one.there over all.0))
-    ∙ ap (λ (v : World). flushed_after c.limits id v ss) (quiet_flush c.limits id w one.side one.takes_input one.there one.waits)
+    ap (λ (v : World). flushed_after c.limits id (flushed c.limits id v) ss) (idle_step c.limits w st one.takes_input
+    (nothing_acted c.limits id w st one.side one.distinct one.there over all.0))
+    ∙ ap (λ (v : World). flushed_after c.limits id v ss)
+    (quiet_flush c.limits id w one.side one.takes_input one.there one.waits)
     ∙ after_stopped c id w ss s one all.1 over
 
-after_then : (limits : LimitValues) (id : ℕ) (w : World) (ss ts : List Step) → flushed_after limits id w (ss ++ ts) ≡ flushed_after limits id (flushed_after limits id w ss) ts
+after_then : (limits : LimitValues) (id : ℕ) (w : World) (ss ts : List Step)
+    → flushed_after limits id w (ss ++ ts) ≡ flushed_after limits id (flushed_after limits id w ss) ts
 unfolding flushed_after
 after_then limits id w [] ts = refl
 after_then limits id w (s ∷ ss) ts = after_then limits id (flushed limits id (step limits w s)) ss ts
@@ -118,7 +140,9 @@ module _ (c : ConfigValues) where
   no_bytes_spell = split_unfinished M [] (unfinished_empty M)
 
   pub nothing_yet : spelled_on M id opening ≡ (stream_of c [], M)
-  nothing_yet = spelled_same M id [] (Opened id) refl (λ N. refl) ∙ first_spelled M id ∙ ap (λ (s : Stream). (s, M)) (sym no_bytes_spell)
+  nothing_yet =
+      spelled_same M id [] (Opened id) refl (λ N. refl) ∙ first_spelled M id
+      ∙ ap (λ (s : Stream). (s, M)) (sym no_bytes_spell)
 
   -- Events after which the stream has these bytes, and more bytes after them.
   module _ (es : List AcceptedCall) (bytes more : List ℕ) (spelled : spelled_on M id es ≡ (stream_of c bytes, M)) where
@@ -126,7 +150,8 @@ module _ (c : ConfigValues) where
     spelled_more =
         spelled_then M id es (Took id more)
         ∙ ap (λ (s : Stream × ℕ). spelled_by s (taken_in id (Took id more)) (size_by id (Took id more))) spelled
-        ∙ ap (λ (s : Stream). (s, M)) (ap (split_on M (stream_of c bytes)) (taken_here id more) ∙ sym (split_goes_on M bytes more))
+        ∙ ap (λ (s : Stream). (s, M))
+        (ap (split_on M (stream_of c bytes)) (taken_here id more) ∙ sym (split_goes_on M bytes more))
 
     pub steps_taken : steps_by M es (Took id more) ≡ beyond id (stream_of c bytes) (stream_of c (bytes ++ more))
     unfolding steps_by
@@ -135,20 +160,25 @@ module _ (c : ConfigValues) where
   -- ---- the world for input bytes
 
   -- The steps that more bytes make continue the world.
-  pub world_goes_on : (xs ys : List ℕ) → world_for c (xs ++ ys) ≡ flushed_after c.limits id (world_for c xs) (beyond id (stream_of c xs) (stream_of c (xs ++ ys)))
+  pub world_goes_on : (xs ys : List ℕ) → world_for c (xs ++ ys)
+      ≡ flushed_after c.limits id (world_for c xs) (beyond id (stream_of c xs) (stream_of c (xs ++ ys)))
   unfolding world_for
   world_goes_on xs ys =
       let fed : List AcceptedCall = opening ++ Took id xs ∷ [] in
       ap (flushed_after c.limits id (new_world c))
-      (cut_steps M opening [] id xs ys ∙ steps_of_more M fed (Took id ys) ∙ ap (λ (ss : List Step). steps_for c xs ++ ss) (steps_taken fed xs ys (spelled_more opening [] xs nothing_yet)))
+      (cut_steps M opening [] id xs ys ∙ steps_of_more M fed (Took id ys)
+      ∙ ap (λ (ss : List Step). steps_for c xs ++ ss) (steps_taken fed xs ys (spelled_more opening [] xs nothing_yet)))
       ∙ after_then c.limits id (new_world c) (steps_for c xs) (beyond id (stream_of c xs) (stream_of c (xs ++ ys)))
 
   -- More bytes make only steps of input bytes.
   beyond_are : (xs ys : List ℕ) → AllByRecursion (IsOfBytes id) (beyond id (stream_of c xs) (stream_of c (xs ++ ys)))
   beyond_are xs ys = each_beyond (IsOfBytes id) id (stream_of c xs) (stream_of c (xs ++ ys)) OfMessage OfFault
 
-  more_written_out : (xs ys : List ℕ) (s : Connection) → IsWrittenOut id s (world_for c xs) → IsWrittenOut id s (world_for c (xs ++ ys))
-  more_written_out xs ys s before = subst (IsWrittenOut id s) (sym (world_goes_on xs ys)) (after_bytes c.limits id (world_for c xs) _ s (beyond_are xs ys) before)
+  more_written_out : (xs ys : List ℕ) (s : Connection) → IsWrittenOut id s (world_for c xs)
+      → IsWrittenOut id s (world_for c (xs ++ ys))
+  more_written_out xs ys s before =
+      subst (IsWrittenOut id s) (sym (world_goes_on xs ys))
+      (after_bytes c.limits id (world_for c xs) _ s (beyond_are xs ys) before)
 
   -- The world in which the connection was opened: its CSM is queued.
   abbrev world_opened : World
@@ -163,47 +193,74 @@ module _ (c : ConfigValues) where
   unfolding world_for flushed_after steps_of steps_behind steps_by
   world_for_none =
       ap (flushed_after c.limits id (new_world c))
-      (steps_of_more M opening (Took id []) ∙ ap (λ (ss : List Step). world.Opened id ∷ ss) (steps_taken opening [] [] nothing_yet ∙ ap (λ (s : Stream). beyond id s s) no_bytes_spell))
+      (steps_of_more M opening (Took id []) ∙ ap (λ (ss : List Step). world.Opened id ∷ ss)
+      (steps_taken opening [] [] nothing_yet ∙ ap (λ (s : Stream). beyond id s s) no_bytes_spell))
 
   -- The connection exists, and no bytes are queued on it.
   pub world_for_written : (bytes : List ℕ) → IsWrittenOut id (new_side c.limits) (world_for c bytes)
   world_for_written bytes =
       let new : Connection = new_side c.limits in
       more_written_out [] bytes new
-      (subst (IsWrittenOut id new) (sym world_for_none) (written_out c.limits id world_opened new new [] opened_alone (step_distinct c.limits (new_world c) (world.Opened id) tt) (sym (append-nil new.history.queued))))
+      (subst (IsWrittenOut id new) (sym world_for_none) (written_out c.limits id world_opened new new [] opened_alone
+      (step_distinct c.limits (new_world c) (world.Opened id) tt) (sym (append-nil new.history.queued))))
 
   -- ---- the outcome
 
-  pub outcome_there : (bytes : List ℕ) (s : Connection) → side_for c bytes ≡ Some s → outcome c bytes ≡ outcome_on (Some s)
+  pub outcome_there : (bytes : List ℕ) (s : Connection) → side_for c bytes ≡ Some s
+      → outcome c bytes ≡ outcome_on (Some s)
   unfolding outcome
   outcome_there bytes s there = ap outcome_on there
 
   -- The connection accepts messages until it stops.
-  pub takes_unless_stopped : (bytes : List ℕ) → takes_messages (world_for_written bytes).side.history.phase ≡ is_none (outcome c bytes).stop
-  takes_unless_stopped bytes = let all = world_for_written bytes in ap (λ (o : Outcome). is_none o.stop) (sym (outcome_there bytes all.side all.there))
+  pub takes_unless_stopped : (bytes : List ℕ)
+      → takes_messages (world_for_written bytes).side.history.phase ≡ is_none (outcome c bytes).stop
+  takes_unless_stopped bytes =
+      let all = world_for_written bytes in
+      ap (λ (o : Outcome). is_none o.stop) (sym (outcome_there bytes all.side all.there))
 
   -- At first no message was handled, and the connection has not stopped.
   pub outcome_at_first : ((outcome c []).messages ≡ 0) × ((outcome c []).stop ≡ None)
   outcome_at_first =
       let left = flush_leaves c.limits id world_opened (new_side c.limits) opened_alone in
-      let is = outcome_there [] left.0.side (ap (λ (w : World). side_of id w.sides) world_for_none ∙ left.0.there) in
-      (ap (λ (o : Outcome). o.messages) is ∙ ap length left.0.handled, ap (λ (o : Outcome). o.stop) is ∙ ap stop_of (left.0.alone refl).1)
+      let is = outcome_there [] left.0.side (ap (λ (w : World). side_of id w.sides) world_for_none ∙ left.0.there) in (
+        ap (λ (o : Outcome). o.messages) is ∙ ap length left.0.handled,
+        ap (λ (o : Outcome). o.stop) is ∙ ap stop_of (left.0.alone refl).1,
+      )
 
   -- The output for some bytes is a prefix of the output for more bytes.
   pub output_grows : (xs ys : List ℕ) → (more : List ℕ) × (stdio_output c (xs ++ ys) ≡ stdio_output c xs ++ more)
   output_grows xs ys =
       let all = world_for_written xs in
       let s : Connection = all.side in
-      let before : IsWrittenOut id s (world_for c xs) = record { side = s; there = all.there; waits = all.waits; more = []; queued = sym (append-nil s.history.queued); distinct = all.distinct; takes_input = all.takes_input } in
-      let now = more_written_out xs ys s before in
-      (bytes_of now.more, cc (outcome_there xs s all.there, outcome_there (xs ++ ys) now.side now.there, now.queued, bytes_more s.history.queued now.more))
+      let before : IsWrittenOut id s (world_for c xs) = record {
+        side = s;
+        there = all.there;
+        waits = all.waits;
+        more = [];
+        queued = sym (append-nil s.history.queued);
+        distinct = all.distinct;
+        takes_input = all.takes_input;
+      } in
+      let now = more_written_out xs ys s before in (
+        bytes_of now.more,
+        cc (
+          outcome_there xs s all.there,
+          outcome_there (xs ++ ys) now.side now.there,
+          now.queued,
+          bytes_more s.history.queued now.more,
+        ),
+      )
 
   -- After the connection has stopped, more bytes change nothing.
-  pub stopped_output : (xs ys : List ℕ) (why : Reason) → (outcome c xs).stop ≡ Some why → world_for c (xs ++ ys) ≡ world_for c xs
+  pub stopped_output : (xs ys : List ℕ) (why : Reason) → (outcome c xs).stop ≡ Some why
+      → world_for c (xs ++ ys) ≡ world_for c xs
   stopped_output xs ys why stopped =
       let over = takes_unless_stopped xs ∙ ap is_none stopped in
-      world_goes_on xs ys ∙ after_stopped c id (world_for c xs) _ (new_side c.limits) (world_for_written xs) (beyond_are xs ys) over
+      world_goes_on xs ys
+      ∙ after_stopped c id (world_for c xs) _ (new_side c.limits) (world_for_written xs) (beyond_are xs ys) over
 
-  pub stopped_outcome : (xs ys : List ℕ) (why : Reason) → (outcome c xs).stop ≡ Some why → outcome c (xs ++ ys) ≡ outcome c xs
+  pub stopped_outcome : (xs ys : List ℕ) (why : Reason) → (outcome c xs).stop ≡ Some why
+      → outcome c (xs ++ ys) ≡ outcome c xs
   unfolding outcome
-  stopped_outcome xs ys why stopped = ap (λ (w : World). outcome_on (side_of id w.sides)) (stopped_output xs ys why stopped)
+  stopped_outcome xs ys why stopped =
+      ap (λ (w : World). outcome_on (side_of id w.sides)) (stopped_output xs ys why stopped)

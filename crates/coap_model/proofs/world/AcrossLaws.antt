@@ -1,18 +1,24 @@
 -- A relation between a connection before and after. If it holds across every effect on a connection, it holds across
 -- settling and across each step. So a property that every effect keeps is kept by all events.
-use Rattle.std.proofs.Common.{◌≡◌, ℕ, List, Bool, cond, ◌++◌, [], ◌∷◌, map, Option, Some, None, refl, sym, subst, ◌∙◌, ◌⊎◌, inl, inr, is_none}
+use Rattle.std.proofs.Common.{◌≡◌, ℕ, List, Bool, cond, ◌++◌, [], ◌∷◌, map, Option, Some, None, refl, sym, subst, ◌∙◌}
+use Rattle.std.proofs.Common.{◌⊎◌, inl, inr, is_none}
 use Rattle.std.proofs.lemmas.Bool.{cases_eq, cond_both}
 use Rattle.coap_model.specs.Prelude.{Message, StreamFault, Server, LimitValues, History, new_history, StoreValue}
 use Rattle.coap_model.specs.Prelude.{change_after, changed, Change, Nothing, Put, Delete}
 use Rattle.coap_model.specs.Prelude.{put_refusal, ConfigValues, Connection, new_side, side_after, side_faulted}
-use Rattle.coap_model.specs.Prelude.{side_written, side_ended, side_released, side_announced, side_responded, settled_once, settled}
+use Rattle.coap_model.specs.Prelude.{side_written, side_ended, side_released, side_announced, side_responded}
+use Rattle.coap_model.specs.Prelude.{settled_once, settled}
 use Rattle.coap_model.specs.Prelude.{ConnectionEntry, World, Step, new_world, side_of, stored_after, ticks, acted}
 use Rattle.coap_model.specs.Prelude.{settled_place, AcceptedCall, steps_of, world_after}
 use Rattle.coap_model.specs.world.World.{changed_at}
 use Rattle.coap_model.specs.world.World as world
 use Rattle.coap_model.proofs.world.StepLaws.{steps_keep}
-use Rattle.coap_model.proofs.world.PlaceLaws.{first_there, found, nobody, all_there, changed_here, changed_elsewhere, still_there, new_there, dropped_here, dropped_elsewhere}
-use Rattle.coap_model.proofs.world.WalkLaws.{settled_keeps, Between, Hears, Replies, Holds, LetsGo, Pongs, Rejects, Ends, Releases, Announces, Responds, Writes, Composes, once_between, after_between, faulted_between, written_between, ended_between, released_between, announced_between, responded_between}
+use Rattle.coap_model.proofs.world.PlaceLaws.{first_there, found, nobody, all_there, changed_here, changed_elsewhere}
+use Rattle.coap_model.proofs.world.PlaceLaws.{still_there, new_there, dropped_here, dropped_elsewhere}
+use Rattle.coap_model.proofs.world.WalkLaws.{settled_keeps, Between, Hears, Replies, Holds, LetsGo, Pongs, Rejects}
+use Rattle.coap_model.proofs.world.WalkLaws.{Ends, Releases, Announces, Responds, Writes, Composes, once_between}
+use Rattle.coap_model.proofs.world.WalkLaws.{after_between, faulted_between, written_between, ended_between}
+use Rattle.coap_model.proofs.world.WalkLaws.{released_between, announced_between, responded_between}
 use Rattle.coap_model.proofs.OptionLemmas.{one_made}
 use Rattle.coap_wire.proofs.NumberLaws.{none_or_some}
 
@@ -33,18 +39,22 @@ pub record HoldsOf (R : Connection → Connection → Type 0) (w : World) (st : 
 
 -- The relation holds between the connection before a step and after it, or from a new connection if the step opened it.
 abbrev pub HoldsFrom : (Connection → Connection → Type 0) → LimitValues → World → Step → ℕ → Connection → Type 0
-HoldsFrom R limits w st id t = ((s : Connection) × (side_of id w.sides ≡ Some s) × R s t) ⊎ ((side_of id w.sides ≡ None) × (st ≡ world.Opened id) × R (new_side limits) t)
+HoldsFrom R limits w st id t =
+    ((s : Connection) × (side_of id w.sides ≡ Some s) × R s t)
+    ⊎ ((side_of id w.sides ≡ None) × (st ≡ world.Opened id) × R (new_side limits) t)
 
 -- The world with a new connection.
 abbrev pub opened_world : LimitValues → World → ℕ → World
 opened_world limits w id = record w { sides = w.sides ++ record { id = id; side = new_side limits } ∷ []; ids = id }
 
-module _ (R : Connection → Connection → Type 0) (limits : LimitValues) (w : World) (st : Step) (id : ℕ) (holds : HoldsOf R w st id) where
+module _ (R : Connection → Connection → Type 0) (limits : LimitValues) (w : World) (st : Step) (id : ℕ)
+    (holds : HoldsOf R w st id) where
   same_across : (t : Connection) → side_of id w.sides ≡ Some t → HoldsFrom R limits w st id t
   same_across t e = inl (t, e, holds.same t)
 
   -- If the step changes only the connection with one id, the relation is known only of that one.
-  changed_across : (at : ℕ) (f : Connection → Connection) (t : Connection) → (at ≡ id → (s : Connection) → R s (f s)) → side_of id (map (changed_at at f) w.sides) ≡ Some t → HoldsFrom R limits w st id t
+  changed_across : (at : ℕ) (f : Connection → Connection) (t : Connection) → (at ≡ id → (s : Connection) → R s (f s))
+      → side_of id (map (changed_at at f) w.sides) ≡ Some t → HoldsFrom R limits w st id t
   changed_across at f t go e =
       elim (cases_eq at id) [
         | inl here ↦
@@ -53,7 +63,9 @@ module _ (R : Connection → Connection → Type 0) (limits : LimitValues) (w : 
         | inr apart ↦ same_across t (sym (changed_elsewhere at id f w.sides apart) ∙ e)
       ]
 
-  opened_across : (at : ℕ) (t : Connection) (there : Option Connection) → st ≡ world.Opened at → side_of id w.sides ≡ there → side_of id (w.sides ++ record { id = at; side = new_side limits } ∷ []) ≡ Some t → HoldsFrom R limits w st id t
+  opened_across : (at : ℕ) (t : Connection) (there : Option Connection) → st ≡ world.Opened at
+      → side_of id w.sides ≡ there → side_of id (w.sides ++ record { id = at; side = new_side limits } ∷ []) ≡ Some t
+      → HoldsFrom R limits w st id t
   opened_across at t None is none e =
       elim (found id t (record { id = at; side = new_side limits }) [] (sym (new_there id w.sides _ none) ∙ e)) [
         | inl here ↦ inr (none, cc (here.0), subst (R (new_side limits)) here.1 (holds.same (new_side limits)))
@@ -61,28 +73,40 @@ module _ (R : Connection → Connection → Type 0) (limits : LimitValues) (w : 
       ]
   opened_across at t (Some s) is there e = same_across t (there ∙ sym (still_there id s w.sides _ there) ∙ e)
 
-  if_across : (v : World) (t : Connection) (does : Bool) → (side_of id v.sides ≡ Some t → HoldsFrom R limits w st id t) → side_of id (cond does v w).sides ≡ Some t → HoldsFrom R limits w st id t
-  if_across v t does go = cond_both does v w (λ u. side_of id u.sides ≡ Some t → HoldsFrom R limits w st id t) (λ so. go) (λ not_so. same_across t)
+  if_across : (v : World) (t : Connection) (does : Bool) → (side_of id v.sides ≡ Some t → HoldsFrom R limits w st id t)
+      → side_of id (cond does v w).sides ≡ Some t → HoldsFrom R limits w st id t
+  if_across v t does go =
+      cond_both does v w (λ u. side_of id u.sides ≡ Some t → HoldsFrom R limits w st id t)
+      (λ so. go) (λ not_so. same_across t)
 
-  acted_across : (did : Step) → st ≡ did → (t : Connection) → side_of id (acted limits w did).sides ≡ Some t → HoldsFrom R limits w st id t
+  acted_across : (did : Step) → st ≡ did → (t : Connection) → side_of id (acted limits w did).sides ≡ Some t
+      → HoldsFrom R limits w st id t
   unfolding acted
-  acted_across (world.Opened at) is t = if_across (opened_world limits w at) t (is_none (side_of at w.sides)) (opened_across at t (side_of id w.sides) is refl)
-  acted_across (world.Handled at m) is t = changed_across at (λ s. side_after w.store w.now s m) t (λ here s. holds.handled m (cc) s)
-  acted_across (world.Faulted at fault) is t = changed_across at (λ s. side_faulted s fault) t (λ here s. holds.faulted fault (cc) s)
+  acted_across (world.Opened at) is t =
+      if_across (opened_world limits w at) t (is_none (side_of at w.sides))
+      (opened_across at t (side_of id w.sides) is refl)
+  acted_across (world.Handled at m) is t =
+      changed_across at (λ s. side_after w.store w.now s m) t (λ here s. holds.handled m (cc) s)
+  acted_across (world.Faulted at fault) is t =
+      changed_across at (λ s. side_faulted s fault) t (λ here s. holds.faulted fault (cc) s)
   acted_across (world.Written at n) is t = changed_across at (λ s. side_written s n) t (λ here s. holds.written s n)
   acted_across (world.Ticked now) is t = if_across _ t (ticks w.now now) (same_across t)
-  acted_across (world.Stored path format bytes) is t = if_across _ t (is_none (put_refusal w.store path bytes)) (same_across t)
+  acted_across (world.Stored path format bytes) is t =
+      if_across _ t (is_none (put_refusal w.store path bytes)) (same_across t)
   acted_across (world.Removed path) is t = same_across t
   acted_across (world.Ended at cut) is t = changed_across at (λ s. side_ended s cut) t (λ here s. holds.ended s cut)
   acted_across (world.Released at) is t = changed_across at side_released t (λ here s. holds.released s)
-  acted_across (world.Announced at size) is t = changed_across at (λ s. side_announced s size) t (λ here s. holds.announced size (cc) s)
-  acted_across (world.Responded at m) is t = changed_across at (λ s. side_responded s m) t (λ here s. holds.responded s m)
+  acted_across (world.Announced at size) is t =
+      changed_across at (λ s. side_announced s size) t (λ here s. holds.announced size (cc) s)
+  acted_across (world.Responded at m) is t =
+      changed_across at (λ s. side_responded s m) t (λ here s. holds.responded s m)
   acted_across (world.Dropped at) is t = λ e. elim (cases_eq at id) [
     | inl here ↦ absurd (none_or_some t (cc (dropped_here at w.sides)))
     | inr apart ↦ same_across t (sym (dropped_elsewhere at id w.sides apart) ∙ e)
   ]
 
-  once_across : (store : StoreValue) (now : ℕ) (t : Connection) → HoldsFrom R limits w st id t → HoldsFrom R limits w st id (settled_once store now t)
+  once_across : (store : StoreValue) (now : ℕ) (t : Connection) → HoldsFrom R limits w st id t
+      → HoldsFrom R limits w st id (settled_once store now t)
   once_across store now t (inl old) = inl (old.0, old.1, holds.told store now old.0 t old.2)
   once_across store now t (inr new) = inr (new.0, new.1, holds.told store now (new_side limits) t new.2)
 
@@ -90,35 +114,55 @@ module _ (R : Connection → Connection → Type 0) (limits : LimitValues) (w : 
   unfolding world.step
   step_across t e =
       let did : World = acted limits w st in
-      let made = one_made (settled did.store did.now) (side_of id did.sides) t (sym (all_there id (settled did.store did.now) did.sides) ∙ e) in
+      let made = one_made (settled did.store did.now) (side_of id did.sides) t
+      (sym (all_there id (settled did.store did.now) did.sides) ∙ e) in
       let From : Connection → Type 0 = HoldsFrom R limits w st id in
-      subst From made.2 (settled_keeps From did.store did.now (once_across did.store did.now) made.0 (acted_across st refl made.0 made.1))
+      subst From made.2
+      (settled_keeps From did.store did.now (once_across did.store did.now) made.0 (acted_across st refl made.0 made.1))
 
 -- ---- the effect of a step on an existing connection
 
-pub settles_there : (id : ℕ) (store : StoreValue) (now : ℕ) (f : Connection → Connection) (ps : List ConnectionEntry) (s : Connection) → side_of id ps ≡ Some s → side_of id (map (settled_place store now) (map (changed_at id f) ps)) ≡ Some (settled store now (f s))
-settles_there id store now f ps s there = rw (all_there id (settled store now) (map (changed_at id f) ps), changed_here id f ps, there) refl
+pub settles_there : (id : ℕ) (store : StoreValue) (now : ℕ) (f : Connection → Connection) (ps : List ConnectionEntry)
+    (s : Connection) → side_of id ps ≡ Some s
+    → side_of id (map (settled_place store now) (map (changed_at id f) ps)) ≡ Some (settled store now (f s))
+settles_there id store now f ps s there =
+    rw (all_there id (settled store now) (map (changed_at id f) ps), changed_here id f ps, there) refl
 
 module _ (limits : LimitValues) (w : World) (id : ℕ) where
-  pub opened_there : side_of id w.sides ≡ None → side_of id (world.step limits w (world.Opened id)).sides ≡ Some (settled w.store w.now (new_side limits))
+  pub opened_there : side_of id w.sides ≡ None
+      → side_of id (world.step limits w (world.Opened id)).sides ≡ Some (settled w.store w.now (new_side limits))
   unfolding world.step acted
   opened_there none =
       let place : ConnectionEntry = record { id = id; side = new_side limits } in
-      rw (none, all_there id (settled w.store w.now) (w.sides ++ place ∷ []), new_there id w.sides (place ∷ []) none, first_there id place [] refl) refl
+      rw (
+        none,
+        all_there id (settled w.store w.now) (w.sides ++ place ∷ []),
+        new_there id w.sides (place ∷ []) none,
+        first_there id place [] refl,
+      ) refl
 
-  pub handled_there : (m : Message) (s : Connection) → side_of id w.sides ≡ Some s → (store : StoreValue) × (side_of id (world.step limits w (world.Handled id m)).sides ≡ Some (settled store w.now (side_after w.store w.now s m)))
+  pub handled_there : (m : Message) (s : Connection) → side_of id w.sides ≡ Some s
+      → (store : StoreValue) × (side_of id (world.step limits w (world.Handled id m)).sides
+      ≡ Some (settled store w.now (side_after w.store w.now s m)))
   unfolding world.step acted
-  handled_there m s there = (stored_after w m (side_of id w.sides), settles_there id _ w.now (λ u. side_after w.store w.now u m) w.sides s there)
+  handled_there m s there = (
+    stored_after w m (side_of id w.sides),
+    settles_there id _ w.now (λ u. side_after w.store w.now u m) w.sides s there,
+  )
 
-  pub faulted_there : (fault : StreamFault) (s : Connection) → side_of id w.sides ≡ Some s → side_of id (world.step limits w (world.Faulted id fault)).sides ≡ Some (settled w.store w.now (side_faulted s fault))
+  pub faulted_there : (fault : StreamFault) (s : Connection) → side_of id w.sides ≡ Some s
+      → side_of id (world.step limits w (world.Faulted id fault)).sides
+      ≡ Some (settled w.store w.now (side_faulted s fault))
   unfolding world.step acted
   faulted_there fault s there = settles_there id w.store w.now (λ u. side_faulted u fault) w.sides s there
 
-  pub written_there : (n : ℕ) (s : Connection) → side_of id w.sides ≡ Some s → side_of id (world.step limits w (world.Written id n)).sides ≡ Some (settled w.store w.now (side_written s n))
+  pub written_there : (n : ℕ) (s : Connection) → side_of id w.sides ≡ Some s
+      → side_of id (world.step limits w (world.Written id n)).sides ≡ Some (settled w.store w.now (side_written s n))
   unfolding world.step acted
   written_there n s there = settles_there id w.store w.now (λ u. side_written u n) w.sides s there
 
-  pub ended_there : (cut : Bool) (s : Connection) → side_of id w.sides ≡ Some s → side_of id (world.step limits w (world.Ended id cut)).sides ≡ Some (settled w.store w.now (side_ended s cut))
+  pub ended_there : (cut : Bool) (s : Connection) → side_of id w.sides ≡ Some s
+      → side_of id (world.step limits w (world.Ended id cut)).sides ≡ Some (settled w.store w.now (side_ended s cut))
   unfolding world.step acted
   ended_there cut s there = settles_there id w.store w.now (λ u. side_ended u cut) w.sides s there
 
@@ -141,7 +185,9 @@ pub record KeepsAll (R : History → History → Type 0) : Type 0 where
 
 module _ (R : History → History → Type 0) (keeps : KeepsAll R) where
   pub after_all : (store : StoreValue) (now : ℕ) (s : Connection) (m : Message) → Between R s (side_after store now s m)
-  after_all = after_between R R keeps.composes.same keeps.composes.then keeps.takes_input keeps.composes.same keeps.replies keeps.holds
+  after_all =
+      after_between R R keeps.composes.same keeps.composes.then keeps.takes_input keeps.composes.same
+      keeps.replies keeps.holds
 
   pub faulted_all : (s : Connection) (fault : StreamFault) → Between R s (side_faulted s fault)
   faulted_all = faulted_between R keeps.composes.same keeps.rejects
@@ -157,19 +203,24 @@ module _ (R : History → History → Type 0) (keeps : KeepsAll R) where
     announced = λ size is s. announced_between R keeps.composes.same keeps.announces s size;
     responded = responded_between R keeps.composes.same keeps.responds;
     told = λ store now s t is.
-        keeps.composes.then s.history t.history _ is (once_between R R keeps.composes.same keeps.composes.then keeps.replies keeps.lets_go keeps.pongs store now t);
+        keeps.composes.then s.history t.history _ is
+        (once_between R R keeps.composes.same keeps.composes.then keeps.replies keeps.lets_go keeps.pongs store now t);
   }
 
 -- ---- properties kept by steps are kept by events
 
-pub world_keeps : (c : ConfigValues) (P : World → Type 0) → ((w : World) (st : Step) → P w → P (world.step c.limits w st)) → P (new_world c) → (es : List AcceptedCall) → P (world_after c es)
+pub world_keeps : (c : ConfigValues) (P : World → Type 0)
+    → ((w : World) (st : Step) → P w → P (world.step c.limits w st)) → P (new_world c)
+    → (es : List AcceptedCall) → P (world_after c es)
 unfolding world_after
 world_keeps c P keeps first es = steps_keep P c.limits keeps (new_world c) (steps_of c.limits.max_message es) first
 
 -- A property P of a new connection holds of every connection after any events, if two conditions hold. The relation R
 -- keeps P. In the worlds that the events reach, which have the property W, R holds across every effect.
-pub kept_where : (c : ConfigValues) (W : World → Type 0) → W (new_world c) → ((w : World) (st : Step) → W w → W (world.step c.limits w st))
-    → (R : Connection → Connection → Type 0) (P : Connection → Type 0) → P (new_side c.limits) → ((s t : Connection) → R s t → P s → P t) → ((w : World) (st : Step) (id : ℕ) → W w → HoldsOf R w st id)
+pub kept_where : (c : ConfigValues) (W : World → Type 0) → W (new_world c)
+    → ((w : World) (st : Step) → W w → W (world.step c.limits w st))
+    → (R : Connection → Connection → Type 0) (P : Connection → Type 0) → P (new_side c.limits)
+    → ((s t : Connection) → R s t → P s → P t) → ((w : World) (st : Step) (id : ℕ) → W w → HoldsOf R w st id)
     → (es : List AcceptedCall) (id : ℕ) (s : Connection) → side_of id (world_after c es).sides ≡ Some s → P s
 kept_where c W start goes R P first keeps holds es =
     let Each : World → Type 0 = λ w. (id : ℕ) (s : Connection) → side_of id w.sides ≡ Some s → P s in
@@ -181,12 +232,16 @@ kept_where c W start goes R P first keeps holds es =
         | inr new ↦ keeps (new_side c.limits) t new.2 first
       ],
     ) in
-    (world_keeps c (λ w. W w × Each w) kept (start, λ id s there. absurd (none_or_some s (sym (nobody id) ∙ there))) es).1
+    (world_keeps c (λ w. W w × Each w) kept
+    (start, λ id s there. absurd (none_or_some s (sym (nobody id) ∙ there))) es).1
 
 -- The same, if the relation holds across every effect.
-pub kept_by : (c : ConfigValues) (R : Connection → Connection → Type 0) (P : Connection → Type 0) → P (new_side c.limits) → ((s t : Connection) → R s t → P s → P t) → ((w : World) (st : Step) (id : ℕ) → HoldsOf R w st id)
+pub kept_by : (c : ConfigValues) (R : Connection → Connection → Type 0) (P : Connection → Type 0)
+    → P (new_side c.limits) → ((s t : Connection) → R s t → P s → P t)
+    → ((w : World) (st : Step) (id : ℕ) → HoldsOf R w st id)
     → (es : List AcceptedCall) (id : ℕ) (s : Connection) → side_of id (world_after c es).sides ≡ Some s → P s
-kept_by c R P first keeps holds = kept_where c (λ w. Unit {0}) tt (λ w st is. tt) R P first keeps (λ w st id is. holds w st id)
+kept_by c R P first keeps holds =
+    kept_where c (λ w. Unit {0}) tt (λ w st is. tt) R P first keeps (λ w st id is. holds w st id)
 
 -- ---- the applications
 
@@ -195,18 +250,25 @@ changed_applications store Nothing = refl
 changed_applications store (Put path format bytes) = refl
 changed_applications store (Delete path) = refl
 
-stored_applications : (w : World) (m : Message) (there : Option Connection) → (stored_after w m there).applications ≡ w.store.applications
+stored_applications : (w : World) (m : Message) (there : Option Connection)
+    → (stored_after w m there).applications ≡ w.store.applications
 stored_applications w m None = refl
 stored_applications w m (Some s) = changed_applications w.store (change_after w.store w.now s m)
 
 -- No step changes the applications of the store.
-pub applications_stay : (limits : LimitValues) (w : World) (st : Step) → (world.step limits w st).store.applications ≡ w.store.applications
+pub applications_stay : (limits : LimitValues) (w : World) (st : Step)
+    → (world.step limits w st).store.applications ≡ w.store.applications
 unfolding world.step acted
-applications_stay limits w (world.Opened id) = cond_both (is_none (side_of id w.sides)) _ w (λ (u : World). u.store.applications ≡ w.store.applications) (λ none. refl) (λ there. refl)
+applications_stay limits w (world.Opened id) =
+    cond_both (is_none (side_of id w.sides)) _ w (λ (u : World). u.store.applications ≡ w.store.applications)
+    (λ none. refl) (λ there. refl)
 applications_stay limits w (world.Handled id m) = stored_applications w m (side_of id w.sides)
-applications_stay limits w (world.Ticked now) = cond_both (ticks w.now now) _ w (λ (u : World). u.store.applications ≡ w.store.applications) (λ may. refl) (λ early. refl)
+applications_stay limits w (world.Ticked now) =
+    cond_both (ticks w.now now) _ w (λ (u : World). u.store.applications ≡ w.store.applications)
+    (λ may. refl) (λ early. refl)
 applications_stay limits w (world.Stored path format bytes) =
-    cond_both (is_none (put_refusal w.store path bytes)) _ w (λ (u : World). u.store.applications ≡ w.store.applications) (λ may. refl) (λ refused. refl)
+    cond_both (is_none (put_refusal w.store path bytes)) _ w
+    (λ (u : World). u.store.applications ≡ w.store.applications) (λ may. refl) (λ refused. refl)
 applications_stay limits w other = refl
 
 -- Keeping a property composes.
@@ -214,6 +276,9 @@ pub keeping_composes : (P : History → Type 0) → Composes (λ h k. P h → P 
 keeping_composes P = record { same = λ h is. is; then = λ h k g one two is. two (one is) }
 
 -- The same for a property of a history that every part of an effect keeps.
-pub kept_history : (c : ConfigValues) (P : History → Type 0) → P (new_history Server c.limits 0) → KeepsAll (λ h k. P h → P k)
+pub kept_history : (c : ConfigValues) (P : History → Type 0) → P (new_history Server c.limits 0)
+    → KeepsAll (λ h k. P h → P k)
     → (es : List AcceptedCall) (id : ℕ) (s : Connection) → side_of id (world_after c es).sides ≡ Some s → P s.history
-kept_history c P first keeps = kept_by c (Between (λ h k. P h → P k)) (λ s. P s.history) first (λ s t kept. kept) (all_across (λ h k. P h → P k) keeps)
+kept_history c P first keeps =
+    kept_by c (Between (λ h k. P h → P k)) (λ s. P s.history) first (λ s t kept. kept)
+    (all_across (λ h k. P h → P k) keeps)

@@ -2,7 +2,8 @@
 use Rattle.std.proofs.Common.{◌≡◌, ℕ, Bool, true, ◌||◌, ◌==◌, Option, Some, None, refl, arith}
 use Rattle.coap_model.specs.Prelude.{Message, class_of, bare_code, Path, Representation, StoreValue, RequestTarget}
 use Rattle.coap_model.specs.Prelude.{target_of, path_of, get_answer, stored_under, store_answer, read_answer}
-use Rattle.coap_model.specs.Prelude.{method_answer, resource_answer, answer_at, answer_of, immediate_answer, prompt_answer}
+use Rattle.coap_model.specs.Prelude.{method_answer, resource_answer, answer_at, answer_of, immediate_answer}
+use Rattle.coap_model.specs.Prelude.{prompt_answer}
 use Rattle.coap_store.specs.Answer.{Answer}
 use Rattle.coap_store.proofs.ApplicationLaws.{prompt_cases}
 use Rattle.coap_path.specs.declared.resource_kind.ResourceKind.{ResourceKind}

@@ -1,8 +1,11 @@
 -- For each token, as many responses are queued or pending as requests with it were handled: the counts, and
 -- consequences of this statement.
-use Rattle.std.proofs.Common.{◌≡◌, ℕ, ◌+◌, ◌≤◌, Bool, true, false, List, [], ◌∷◌, ◌++◌, refl, ap, ◌∙◌, append_assoc, arith, sym, inl, inr}
-use Rattle.coap_model.specs.Prelude.{AllByRecursion, Message, PendingEntryValue, Answer, Pong, is_custody_pong, same_bytes}
-use Rattle.coap_model.specs.Prelude.{responds, asks_pong, asks_with, awaits, is_asking, HasResponse, HaveDistinctAnswers}
+use Rattle.std.proofs.Common.{◌≡◌, ℕ, ◌+◌, ◌≤◌, Bool, true, false, List, [], ◌∷◌, ◌++◌, refl, ap, ◌∙◌, append_assoc}
+use Rattle.std.proofs.Common.{arith, sym, inl, inr}
+use Rattle.coap_model.specs.Prelude.{AllByRecursion, Message, PendingEntryValue, Answer, Pong, is_custody_pong}
+use Rattle.coap_model.specs.Prelude.{same_bytes}
+use Rattle.coap_model.specs.Prelude.{responds, asks_pong, asks_with, awaits, is_asking, HasResponse}
+use Rattle.coap_model.specs.Prelude.{HaveDistinctAnswers}
 use Rattle.std.proofs.lemmas.Bool.{cases_Bool}
 use Rattle.std.proofs.lemmas.List.{append-nil}
 use lib.Pointwise.{bytes_decides}
@@ -52,7 +55,8 @@ pub record IsBehind (ms : List Message) (n : Tally) (token : List ℕ) : Type 0 
   pub asks : asks_pong ping token ≡ true
   pub few : AtMost (requests earlier) n
 
-still_behind : (ms more ns : List Message) (n k : Tally) → ns ≡ ms ++ more → AtMost n k → (token : List ℕ) → IsBehind ms n token → IsBehind ns k token
+still_behind : (ms more ns : List Message) (n k : Tally) → ns ≡ ms ++ more → AtMost n k → (token : List ℕ)
+    → IsBehind ms n token → IsBehind ns k token
 still_behind ms more ns n k grown grows token is = record {
   earlier = is.earlier;
   ping = is.ping;
@@ -73,7 +77,11 @@ pub record RowOf (A : Type 0) : Type 1 where
 
 -- The queued messages.
 abbrev pub queue : RowOf Message
-queue = record { Claims = λ q P. is_custody_pong q ≡ true → P q.token; to = λ q P Q go is pong. go q.token (is pong); counts = responds }
+queue = record {
+  Claims = λ q P. is_custody_pong q ≡ true → P q.token;
+  to = λ q P Q go is pong. go q.token (is pong);
+  counts = responds;
+}
 
 -- The pending entries.
 abbrev pub IfPong : PendingEntryValue → (List ℕ → Type 0) → Type 0
@@ -93,11 +101,13 @@ module _ {A : Type 0} (row : RowOf A) where
   Behind ms n [] = Unit {0}
   Behind ms n (x ∷ xs) = row.Claims x (IsBehind ms n) × Behind ms (plus n (tally_of (x ∷ []))) xs
 
-  pub behind_longer : (ms more ns : List Message) (n k : Tally) (xs : List A) → ns ≡ ms ++ more → AtMost n k → Behind ms n xs → Behind ns k xs
+  pub behind_longer : (ms more ns : List Message) (n k : Tally) (xs : List A) → ns ≡ ms ++ more → AtMost n k
+      → Behind ms n xs → Behind ns k xs
   behind_longer ms more ns n k [] grown grows is = tt
   behind_longer ms more ns n k (x ∷ xs) grown grows is = (
     row.to x (IsBehind ms n) (IsBehind ns k) (still_behind ms more ns n k grown grows) is.0,
-    behind_longer ms more ns (plus n (tally_of (x ∷ []))) (plus k (tally_of (x ∷ []))) xs grown (λ t. omega (arith, grows t)) is.1,
+    behind_longer ms more ns (plus n (tally_of (x ∷ []))) (plus k (tally_of (x ∷ []))) xs grown
+        (λ t. omega (arith, grows t)) is.1,
   )
 
   -- The same without a further message.
@@ -105,57 +115,77 @@ module _ {A : Type 0} (row : RowOf A) where
   behind_grows ms n k xs = behind_longer ms [] ms n k xs (sym (append-nil ms))
 
   -- The same for items after others.
-  pub behind_then : (ms : List Message) (n k : Tally) (xs ys : List A) → AtMost k (plus n (tally_of xs)) → Behind ms n xs → Behind ms k ys → Behind ms n (xs ++ ys)
+  pub behind_then : (ms : List Message) (n k : Tally) (xs ys : List A) → AtMost k (plus n (tally_of xs))
+      → Behind ms n xs → Behind ms k ys → Behind ms n (xs ++ ys)
   behind_then ms n k [] ys few is then = behind_grows ms k n ys (λ t. omega (arith, few t)) then
-  behind_then ms n k (x ∷ xs) ys few is then = (is.0, behind_then ms (plus n (tally_of (x ∷ []))) k xs ys (λ t. omega (arith, few t)) is.1 then)
+  behind_then ms n k (x ∷ xs) ys few is then =
+      (is.0, behind_then ms (plus n (tally_of (x ∷ []))) k xs ys (λ t. omega (arith, few t)) is.1 then)
 
   -- The same for one of the items.
-  pub behind_at : (ms : List Message) (n k : Tally) (xs : List A) (y : A) (ys : List A) → AtMost (plus n (tally_of xs)) k → Behind ms n (xs ++ y ∷ ys) → row.Claims y (IsBehind ms k)
+  pub behind_at : (ms : List Message) (n k : Tally) (xs : List A) (y : A) (ys : List A)
+      → AtMost (plus n (tally_of xs)) k → Behind ms n (xs ++ y ∷ ys) → row.Claims y (IsBehind ms k)
   behind_at ms n k [] y ys few is = (behind_grows ms n k (y ∷ []) (λ t. omega (arith, few t)) (is.0, tt)).0
-  behind_at ms n k (x ∷ xs) y ys few is = behind_at ms (plus n (tally_of (x ∷ []))) k xs y ys (λ t. omega (arith, few t)) is.1
+  behind_at ms n k (x ∷ xs) y ys few is =
+      behind_at ms (plus n (tally_of (x ∷ []))) k xs y ys (λ t. omega (arith, few t)) is.1
 
   -- The same without one item, which is now before the first.
-  pub behind_without : (ms : List Message) (n k : Tally) (xs : List A) (y : A) (ys : List A) → AtMost (plus n (tally_of (y ∷ []))) k → Behind ms n (xs ++ y ∷ ys) → Behind ms k (xs ++ ys)
+  pub behind_without : (ms : List Message) (n k : Tally) (xs : List A) (y : A) (ys : List A)
+      → AtMost (plus n (tally_of (y ∷ []))) k → Behind ms n (xs ++ y ∷ ys) → Behind ms k (xs ++ ys)
   behind_without ms n k [] y ys grows is = behind_grows ms (plus n (tally_of (y ∷ []))) k ys grows is.1
   behind_without ms n k (x ∷ xs) y ys grows is = (
     (behind_grows ms n k (x ∷ []) (λ t. omega (arith, grows t)) (is.0, tt)).0,
-    behind_without ms (plus n (tally_of (x ∷ []))) (plus k (tally_of (x ∷ []))) xs y ys (λ t. omega (arith, grows t)) is.1,
+    behind_without ms (plus n (tally_of (x ∷ []))) (plus k (tally_of (x ∷ []))) xs y ys
+        (λ t. omega (arith, grows t)) is.1,
   )
 
 -- Messages among which there is no such Pong.
-pub pongs_other : (ms : List Message) (n : Tally) (qs : List Message) → AllByRecursion (λ q. is_custody_pong q ≡ false) qs → Behind queue ms n qs
+pub pongs_other : (ms : List Message) (n : Tally) (qs : List Message)
+    → AllByRecursion (λ q. is_custody_pong q ≡ false) qs → Behind queue ms n qs
 pongs_other ms n [] others = tt
 pongs_other ms n (q ∷ qs) others = (λ pong. absurd cc, pongs_other ms (plus n (responses (q ∷ []))) qs others.1)
 
 -- ---- distinct responses
 
 -- The first response with a token, if there is one.
-response_by : (token : List ℕ) (q : Message) (qs : List Message) (is : Bool) → responds token q ≡ is → 1 ≤ responses (q ∷ qs) token → (1 ≤ responses qs token → HasResponse token qs) → HasResponse token (q ∷ qs)
-response_by token q qs true is some later = record { before = []; response = q; behind = qs; there = refl; responds_to = is }
+response_by : (token : List ℕ) (q : Message) (qs : List Message) (is : Bool) → responds token q ≡ is
+    → 1 ≤ responses (q ∷ qs) token → (1 ≤ responses qs token → HasResponse token qs) → HasResponse token (q ∷ qs)
+response_by token q qs true is some later =
+    record { before = []; response = q; behind = qs; there = refl; responds_to = is }
 response_by token q qs false is some later =
     let found = later (omega (arith, some, ap one is)) in
-    record { before = q ∷ found.before; response = found.response; behind = found.behind; responds_to = found.responds_to; there = ap (λ (xs : List Message). q ∷ xs) found.there }
+    record {
+      before = q ∷ found.before;
+      response = found.response;
+      behind = found.behind;
+      responds_to = found.responds_to;
+      there = ap (λ (xs : List Message). q ∷ xs) found.there;
+    }
 
 response_found : (token : List ℕ) (qs : List Message) → 1 ≤ responses qs token → HasResponse token qs
 response_found token [] some = absurd (omega (arith, some))
 response_found token (q ∷ qs) some = response_by token q qs (responds token q) refl some (response_found token qs)
 
 -- A response with one token has no other token.
-one_token : (token other : List ℕ) (q : Message) → responds token q ≡ true → one (responds other q) ≡ one (same_bytes token other)
+one_token : (token other : List ℕ) (q : Message) → responds token q ≡ true
+    → one (responds other q) ≡ one (same_bytes token other)
 one_token token other q is = grind (arith, (bytes_decides q.token token).0)
 
 -- Without that response, enough are left for the later requests.
-own_rest : (m : Message) (ms qs : List Message) (place : HasResponse m.token qs) → is_asking m ≡ true → AtMost (requests (m ∷ ms)) (responses qs) → AtMost (requests ms) (responses (place.before ++ place.behind))
+own_rest : (m : Message) (ms qs : List Message) (place : HasResponse m.token qs) → is_asking m ≡ true
+    → AtMost (requests (m ∷ ms)) (responses qs) → AtMost (requests ms) (responses (place.before ++ place.behind))
 own_rest m ms qs place asks few t = grind (arith, few t, one_token m.token t, count_more (responds t))
 
-own_first : (m : Message) (ms qs : List Message) → is_asking m ≡ true → AtMost (requests (m ∷ ms)) (responses qs) → HasResponse m.token qs
-own_first m ms qs asks few = response_found m.token qs (grind (arith, few m.token, (bytes_decides m.token m.token).1 refl))
+own_first : (m : Message) (ms qs : List Message) → is_asking m ≡ true → AtMost (requests (m ∷ ms)) (responses qs)
+    → HasResponse m.token qs
+own_first m ms qs asks few =
+    response_found m.token qs (grind (arith, few m.token, (bytes_decides m.token m.token).1 refl))
 
 pub own_answers : (ms qs : List Message) → AtMost (requests ms) (responses qs) → HaveDistinctAnswers ms qs
 unfolding HaveDistinctAnswers
 own_answers [] qs few = tt
 own_answers (m ∷ ms) qs few =
     elim (cases_Bool (is_asking m)) [
-      | inl asks ↦ let place = own_first m ms qs asks few in rw asks (place, own_answers ms (place.before ++ place.behind) (own_rest m ms qs place asks few))
+      | inl asks ↦ let place = own_first m ms qs asks few in
+          rw asks (place, own_answers ms (place.before ++ place.behind) (own_rest m ms qs place asks few))
       | inr other ↦ rw other (own_answers ms qs (λ t. omega (arith, few t)))
     ]

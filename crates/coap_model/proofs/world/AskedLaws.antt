@@ -1,10 +1,14 @@
 -- A message that the caller answers is a request. A server asks its caller to answer each request, or stops.
-use Rattle.std.proofs.Common.{◌≡◌, ℕ, Bool, true, false, ◌&&◌, ◌==◌, cond, Option, Some, None, refl, ap, inl, inr, ◌⊎◌, not, is_none, length, nat_lt, find}
+use Rattle.std.proofs.Common.{◌≡◌, ℕ, Bool, true, false, ◌&&◌, ◌==◌, cond, Option, Some, None, refl, ap, inl, inr, ◌⊎◌}
+use Rattle.std.proofs.Common.{not, is_none, length, nat_lt, find}
 use Rattle.std.proofs.lemmas.Bool.{both_ways, and_from, cond_both}
-use Rattle.coap_model.specs.Prelude.{list_any, Message, Reason, Reply, Whole, Bare, Stopped, Server, stop_of, takes_messages, fit}
-use Rattle.coap_model.specs.Prelude.{ConnectionState, Reaction, reaction_unless, react, live_reaction, is_asking, asks_custody, pong_with}
+use Rattle.coap_model.specs.Prelude.{list_any, Message, Reason, Reply, Whole, Bare, Stopped, Server, stop_of}
+use Rattle.coap_model.specs.Prelude.{takes_messages, fit}
+use Rattle.coap_model.specs.Prelude.{ConnectionState, Reaction, reaction_unless, react, live_reaction, is_asking}
+use Rattle.coap_model.specs.Prelude.{asks_custody, pong_with}
 use Rattle.coap_model.specs.Prelude.{has_stopped, bad_csm_option, is_request}
-use Rattle.coap_conn.specs.Reaction.{open_reaction, ping_reaction, csm_reaction, answered, told_of, is_reserved, is_signal, is_method, checks_critical_options, pong_of}
+use Rattle.coap_conn.specs.Reaction.{open_reaction, ping_reaction, csm_reaction, answered, told_of, is_reserved}
+use Rattle.coap_conn.specs.Reaction.{is_signal, is_method, checks_critical_options, pong_of}
 use Rattle.coap_conn.specs.Announced.{has_critical_option}
 use Rattle.coap_conn.specs.Fit.{without_options}
 use Rattle.coap_conn.specs.Outstanding.{OutstandingValue, is_last, matches_pong, matches_response}
@@ -36,7 +40,8 @@ ping_none : (s : ConnectionState) (m : Message) → IsNoRequest (ping_reaction s
 ping_none s m =
     let late : Message = pong_with false m.token in
     cond_both (asks_custody m && nat_lt 0 (length s.held)) _ _ IsNoRequest
-    (λ e. cond_both (nat_lt (length s.held) s.most) _ _ IsNoRequest (λ room. refl) (λ full. told_none (fit s.limit late late)))
+    (λ e. cond_both (nat_lt (length s.held) s.most) _ _ IsNoRequest (λ room. refl)
+    (λ full. told_none (fit s.limit late late)))
     (λ e. told_none (fit s.limit (pong_of m) (without_options (pong_of m))))
 
 answered_none : (s : ConnectionState) (m : Message) (e : Option OutstandingValue) → IsNoRequest (answered s m e)
@@ -53,9 +58,11 @@ module _ (s : ConnectionState) (m : Message) where
       cond_both (checks_critical_options m.code && has_critical_option m) _ _ Asks (λ e asks. absurd cc)
       (λ e. cond_both (m.code == code.ping) _ _ Asks (λ e asks. absurd (both_ways _ (ping_none s m) asks))
       (λ e. cond_both (m.code == code.release) _ _ Asks (λ e asks. absurd cc)
-      (λ e. cond_both (m.code == code.pong) _ _ Asks (λ e. cond_both (list_any (matches_pong m.token) s.outstanding) _ _ Asks (λ e asks. absurd cc) (λ e asks. absurd cc))
+      (λ e. cond_both (m.code == code.pong) _ _ Asks (λ e. cond_both (list_any (matches_pong m.token) s.outstanding) _ _
+      Asks (λ e asks. absurd cc) (λ e asks. absurd cc))
       (λ e. cond_both (is_signal m.code) _ _ Asks (λ e asks. absurd cc)
-      (λ e. cond_both (is_method m.code) _ _ Asks (λ method asks. and_from (is_method m.code) (not (m.code == code.empty)) method (ap not some))
+      (λ e. cond_both (is_method m.code) _ _ Asks
+      (λ method asks. and_from (is_method m.code) (not (m.code == code.empty)) method (ap not some))
       (λ e asks. absurd (both_ways _ (answered_none s m (find (matches_response m.token) s.outstanding)) asks)))))))
 
   live_asks : Asks (live_reaction s m)
@@ -64,7 +71,8 @@ module _ (s : ConnectionState) (m : Message) where
       cond_both (is_reserved m.code) _ _ Asks (λ e asks. absurd cc)
       (λ e. cond_both (m.code == code.empty) _ _ Asks (λ e asks. absurd cc)
       (λ some. cond_both (m.code == code.abort) _ _ Asks (λ e asks. absurd cc)
-      (λ e. cond_both (m.code == code.csm) _ _ Asks (λ e asks. absurd (both_ways _ (csm_none s (bad_csm_option m)) asks))
+      (λ e. cond_both (m.code == code.csm) _ _ Asks
+      (λ e asks. absurd (both_ways _ (csm_none s (bad_csm_option m)) asks))
       (λ e. cond_both (is_waiting s.phase) _ _ Asks (λ e asks. absurd cc) (λ e. open_asks some)))))
 
   unless_asks : (over : Option Reason) → Asks (reaction_unless s m over)
@@ -81,7 +89,8 @@ module _ (s : ConnectionState) (m : Message) where
 abbrev IsAskedOrOver : Reaction → Type 0
 IsAskedOrOver r = (is_request r.verdict ≡ true) ⊎ (has_stopped r.effect.phase ≡ true)
 
-pub asked_or_over : (s : ConnectionState) (m : Message) → s.role ≡ Server → takes_messages s.phase ≡ true → is_asking m ≡ true → IsAskedOrOver (react s m)
+pub asked_or_over : (s : ConnectionState) (m : Message) → s.role ≡ Server → takes_messages s.phase ≡ true
+    → is_asking m ≡ true → IsAskedOrOver (react s m)
 unfolding react
 asked_or_over s m server live asks = by (stop_of s.phase) live
   where

@@ -7,7 +7,8 @@ use Rattle.std.proofs.lemmas.List.{append-nil}
 use Rattle.coap_model.specs.Prelude.{Message, StreamFault, Stream, Phase, Reject, Reason, takes_messages, answers}
 use Rattle.coap_model.specs.Prelude.{is_open, fit, pong_with, PendingEntryValue, without_due, due_index, reject_of}
 use Rattle.coap_model.specs.Prelude.{reject_reason, History, standing_now, limit_now, StoreValue, ConfigValues}
-use Rattle.coap_model.specs.Prelude.{Connection, handles, side_after, side_faulted, settled, new_side, settled_once, World}
+use Rattle.coap_model.specs.Prelude.{Connection, handles, side_after, side_faulted, settled, new_side, settled_once}
+use Rattle.coap_model.specs.Prelude.{World}
 use Rattle.coap_model.specs.Prelude.{Step, side_of, AcceptedCall, Took, stream_on, steps_by, world_after, spelled_on}
 use Rattle.coap_model.specs.Prelude.{message_reason, LimitValues}
 use Rattle.coap_model.proofs.world.StepLaws.{world_same, world_step, nothing_spelled, world_first}
@@ -15,7 +16,8 @@ use Rattle.coap_model.proofs.world.TookLaws.{Adds}
 use Rattle.coap_conn.proofs.ReactionLaws.{StopsAtMost}
 use Rattle.coap_model.proofs.world.ToldMessages.{sent_either}
 use Rattle.coap_model.specs.Prelude.{without_request, bare_response}
-use Rattle.coap_model.proofs.world.WalkLaws.{sent, Replies, LetsGo, Pongs, Responds, responded_between, settled_between, Between, once_between}
+use Rattle.coap_model.proofs.world.WalkLaws.{sent, Replies, LetsGo, Pongs, Responds, responded_between, settled_between}
+use Rattle.coap_model.proofs.world.WalkLaws.{Between, once_between}
 use Rattle.coap_model.proofs.world.WalkLaws.{written_between, ended_between, released_between, announced_between}
 use Rattle.coap_model.proofs.world.WalkLaws.{holding}
 use Rattle.coap_model.proofs.world.AcrossLaws.{handled_there, faulted_there, HoldsOf}
@@ -34,7 +36,8 @@ abbrev pub HasStopped : History → Reason → Type 0
 HasStopped h why = (h.phase ≡ phase.Stopped why) × (h.held ≡ [])
 
 -- No message was handled since this history, and a stop is final.
-pub record HandlesNothing (before : History) (heard : List Message) (now : Phase) (held : List PendingEntryValue) : Type 0 where
+pub record HandlesNothing (before : History) (heard : List Message) (now : Phase)
+    (held : List PendingEntryValue) : Type 0 where
   pub handled : heard ≡ before.handled
   pub stopped : (why : Reason) → HasStopped before why → (now ≡ phase.Stopped why) × (held ≡ [])
   pub stops : StopsAtMost before.phase → StopsAtMost now
@@ -53,15 +56,18 @@ rests_then h k g p q = record {
 }
 
 -- A message is sent on a connection that has not stopped.
-sent_rests : (h : History) (held : List PendingEntryValue) (m less : Message) → ((why : Reason) → HasStopped h why → ⊥) → HandlesNone h (sent (holding h held) m less)
+sent_rests : (h : History) (held : List PendingEntryValue) (m less : Message) → ((why : Reason) → HasStopped h why → ⊥)
+    → HandlesNone h (sent (holding h held) m less)
 sent_rests h held m less live = record {
   handled = refl;
   stopped = λ why is. absurd (live why is);
-  stops = λ is. sent_either (standing_now (holding h held)) m less (fit (limit_now h) m less) (λ es now. StopsAtMost now) is refl;
+  stops = λ is. sent_either (standing_now (holding h held)) m less (fit (limit_now h) m less)
+      (λ es now. StopsAtMost now) is refl;
 }
 
 response_rests : Replies HandlesNone
-response_rests h token observe r does room = sent_rests h h.held _ _ (λ why is. both_ways (answers h.phase) (ap answers is.0) does)
+response_rests h token observe r does room =
+    sent_rests h h.held _ _ (λ why is. both_ways (answers h.phase) (ap answers is.0) does)
 
 -- If nothing is pending, nothing is due.
 first_rests : LetsGo HandlesNone
@@ -75,11 +81,14 @@ pong_rests h now token due room =
 
 respond_rests : Responds HandlesNone
 respond_rests h m answering none =
-    sent_rests h (without_request m.token h.held) m (bare_response m) (λ why is. both_ways (answers h.phase) (ap answers is.0) answering)
+    sent_rests h (without_request m.token h.held) m (bare_response m)
+    (λ why is. both_ways (answers h.phase) (ap answers is.0) answering)
 
 -- Settling handles no message.
-pub settled_handles_none : (store : StoreValue) (now : ℕ) (s : Connection) → HandlesNone s.history (settled store now s).history
-settled_handles_none = settled_between HandlesNone (record { same = rests_self; then = rests_then }) response_rests first_rests pong_rests
+pub settled_handles_none : (store : StoreValue) (now : ℕ) (s : Connection)
+    → HandlesNone s.history (settled store now s).history
+settled_handles_none =
+    settled_between HandlesNone (record { same = rests_self; then = rests_then }) response_rests first_rests pong_rests
 
 -- ---- an error
 
@@ -88,7 +97,8 @@ pub record HasRejected (fault : StreamFault) (h k : History) : Type 0 where
   pub handled : k.handled ≡ h.handled
   pub stopped : HasStopped k (reject_reason (reject_of fault))
 
-pub side_rejects : (s : Connection) (fault : StreamFault) → handles s ≡ true → HasRejected fault s.history (side_faulted s fault).history
+pub side_rejects : (s : Connection) (fault : StreamFault) → handles s ≡ true
+    → HasRejected fault s.history (side_faulted s fault).history
 unfolding side_faulted
 side_rejects s fault does = grind arith
 
@@ -101,9 +111,13 @@ no_message_reason fault = grind arith
 -- The steps of a take: none, or that of the message or error that it completes. The flag says whether it handled a
 -- message.
 pub data TakesSo (M id : ℕ) (es : List AcceptedCall) (bytes : List ℕ) (s : Connection) (message : Bool) : Type 0 where
-  NoStep : message ≡ false → steps_by M es (Took id bytes) ≡ [] → (stream_on M id (es ++ Took id bytes ∷ [])).messages ≡ (stream_on M id es).messages → (stream_on M id (es ++ Took id bytes ∷ [])).fault ≡ (stream_on M id es).fault → TakesSo M id es bytes s message
-  OneMessage : message ≡ true → handles s ≡ true → (m : Message) → Adds M id es bytes (record { messages = m ∷ []; rest = []; fault = None }) → TakesSo M id es bytes s message
-  OneFault : message ≡ false → handles s ≡ true → (fault : StreamFault) (rest : List ℕ) → Adds M id es bytes (record { messages = []; rest = rest; fault = Some fault }) → TakesSo M id es bytes s message
+  NoStep : message ≡ false → steps_by M es (Took id bytes) ≡ []
+      → (stream_on M id (es ++ Took id bytes ∷ [])).messages ≡ (stream_on M id es).messages
+      → (stream_on M id (es ++ Took id bytes ∷ [])).fault ≡ (stream_on M id es).fault → TakesSo M id es bytes s message
+  OneMessage : message ≡ true → handles s ≡ true → (m : Message)
+      → Adds M id es bytes (record { messages = m ∷ []; rest = []; fault = None }) → TakesSo M id es bytes s message
+  OneFault : message ≡ false → handles s ≡ true → (fault : StreamFault) (rest : List ℕ)
+      → Adds M id es bytes (record { messages = []; rest = rest; fault = Some fault }) → TakesSo M id es bytes s message
 
 -- ---- the connection after a take
 
@@ -112,41 +126,59 @@ pub data TakesSo (M id : ℕ) (es : List AcceptedCall) (bytes : List ℕ) (s : C
 -- - one message was handled, which may stop the connection;
 -- - the error stopped the connection.
 pub data Became (before after : Stream) (s t : Connection) (message : Bool) : Type 0 where
-  Stayed : message ≡ false → t ≡ s → after.messages ≡ before.messages → after.fault ≡ before.fault → Became before after s t message
-  Heard : message ≡ true → handles s ≡ true → (m : Message) → t.history.handled ≡ s.history.handled ++ m ∷ [] → StopsAtMost t.history.phase → after.messages ≡ before.messages ++ m ∷ [] → after.fault ≡ None → Became before after s t message
-  Rejected : message ≡ false → handles s ≡ true → (fault : StreamFault) → HasRejected fault s.history t.history → after.messages ≡ before.messages → after.fault ≡ Some fault → Became before after s t message
+  Stayed : message ≡ false → t ≡ s → after.messages ≡ before.messages → after.fault ≡ before.fault
+      → Became before after s t message
+  Heard : message ≡ true → handles s ≡ true → (m : Message) → t.history.handled ≡ s.history.handled ++ m ∷ []
+      → StopsAtMost t.history.phase → after.messages ≡ before.messages ++ m ∷ [] → after.fault ≡ None
+      → Became before after s t message
+  Rejected : message ≡ false → handles s ≡ true → (fault : StreamFault) → HasRejected fault s.history t.history
+      → after.messages ≡ before.messages → after.fault ≡ Some fault → Became before after s t message
 
 -- A connection that accepts messages has not stopped.
 live_stop : (s : Connection) → handles s ≡ true → StopsAtMost s.history.phase
 live_stop s does = grind arith
 
-module _ (c : ConfigValues) (es : List AcceptedCall) (id : ℕ) (bytes : List ℕ) (s : Connection) (message : Bool) (there : side_of id (world_after c es).sides ≡ Some s) where
+module _ (c : ConfigValues) (es : List AcceptedCall) (id : ℕ) (bytes : List ℕ) (s : Connection) (message : Bool)
+    (there : side_of id (world_after c es).sides ≡ Some s) where
   abbrev w : World
   w = world_after c es
 
   abbrev pub BecameOne : Type 0
   BecameOne = (t : Connection) × (side_of id (world_after c (es ++ Took id bytes ∷ [])).sides ≡ Some t)
-      × Became (stream_on c.limits.max_message id es) (stream_on c.limits.max_message id (es ++ Took id bytes ∷ [])) s t message
+      × Became (stream_on c.limits.max_message id es)
+      (stream_on c.limits.max_message id (es ++ Took id bytes ∷ [])) s t message
 
   pub became : TakesSo c.limits.max_message id es bytes s message → BecameOne
   unfolding side_after
-  became (NoStep e steps messages fault) = (s, ap (λ (v : World). side_of id v.sides) (world_same c es (Took id bytes) steps) ∙ there, Stayed e refl messages fault)
+  became (NoStep e steps messages fault) = (
+    s,
+    ap (λ (v : World). side_of id v.sides) (world_same c es (Took id bytes) steps) ∙ there,
+    Stayed e refl messages fault,
+  )
   became (OneMessage e does m adds) =
       let after = handled_there c.limits w id m s there in
-      let heard : HasHeard w.store.applications m s.history (side_after w.store w.now s m).history = rw does (handled_hears w.store w.now s m) in
+      let heard : HasHeard w.store.applications m s.history (side_after w.store w.now s m).history =
+      rw does (handled_hears w.store w.now s m) in
       let rests = settled_handles_none after.0 w.now (side_after w.store w.now s m) in (
         settled after.0 w.now (side_after w.store w.now s m),
-        ap (λ (v : World). side_of id v.sides) (world_step c es (Took id bytes) (world.Handled id m) adds.steps) ∙ after.1,
-        Heard e does m (rests.handled ∙ heard.handled_more (handles_parts s does).0) (rests.stops (heard.stops (live_stop s does)))
+        ap (λ (v : World). side_of id v.sides) (world_step c es (Took id bytes) (world.Handled id m) adds.steps)
+            ∙ after.1,
+        Heard e does m (rests.handled ∙ heard.handled_more (handles_parts s does).0)
+            (rests.stops (heard.stops (live_stop s does)))
             (ap (λ (u : Stream). u.messages) adds.stream) (ap (λ (u : Stream). u.fault) adds.stream),
       )
   became (OneFault e does fault rest adds) =
       let rejects = side_rejects s fault does in
       let rests = settled_handles_none w.store w.now (side_faulted s fault) in (
         settled w.store w.now (side_faulted s fault),
-        ap (λ (v : World). side_of id v.sides) (world_step c es (Took id bytes) (world.Faulted id fault) adds.steps) ∙ faulted_there c.limits w id fault s there,
-        Rejected e does fault (record { handled = rests.handled ∙ rejects.handled; stopped = rests.stopped (reject_reason (reject_of fault)) rejects.stopped })
-            (ap (λ (u : Stream). u.messages) adds.stream ∙ append-nil (stream_on c.limits.max_message id es).messages) (ap (λ (u : Stream). u.fault) adds.stream),
+        ap (λ (v : World). side_of id v.sides) (world_step c es (Took id bytes) (world.Faulted id fault) adds.steps)
+            ∙ faulted_there c.limits w id fault s there,
+        Rejected e does fault (record {
+          handled = rests.handled ∙ rejects.handled;
+          stopped = rests.stopped (reject_reason (reject_of fault)) rejects.stopped;
+        })
+            (ap (λ (u : Stream). u.messages) adds.stream ∙ append-nil (stream_on c.limits.max_message id es).messages)
+            (ap (λ (u : Stream). u.fault) adds.stream),
       )
 
 -- ---- other steps
@@ -164,9 +196,17 @@ rests_of w st id away = record {
   faulted = λ fault is s. absurd (subst (λ (did : Step). IsElsewhere did id) is away refl);
   written = written_between HandlesNone rests_self (λ h n within. rests_self h);
   ended = ended_between HandlesNone rests_self
-      (λ h cut takes. record { handled = refl; stopped = λ why is. absurd (both_ways _ (ap takes_messages is.0) takes); stops = λ is. grind arith });
+      (λ h cut takes. record {
+        handled = refl;
+        stopped = λ why is. absurd (both_ways _ (ap takes_messages is.0) takes);
+        stops = λ is. grind arith;
+      });
   released = released_between HandlesNone rests_self
-      (λ h opened none. record { handled = refl; stopped = λ why is. absurd (both_ways _ (ap is_open is.0) opened); stops = λ is. refl });
+      (λ h opened none. record {
+        handled = refl;
+        stopped = λ why is. absurd (both_ways _ (ap is_open is.0) opened);
+        stops = λ is. refl;
+      });
   announced = λ size is s. announced_between HandlesNone rests_self (λ h n opened room fit. rests_self h) s size;
   responded = responded_between HandlesNone rests_self respond_rests;
   told = λ store now s t is. rests_then s.history t.history (settled_once store now t).history is
@@ -185,10 +225,12 @@ rests_agrees u s t is rests = record {
   stopped = λ fault e. rests.stopped (reject_reason (reject_of fault)) (is.stopped fault e);
 }
 
-pub silent_agrees : (limits : LimitValues) (M id : ℕ) (es : List AcceptedCall) → spelled_on M id es ≡ nothing_spelled M → Agrees (stream_on M id es) (new_side limits)
+pub silent_agrees : (limits : LimitValues) (M id : ℕ) (es : List AcceptedCall) → spelled_on M id es ≡ nothing_spelled M
+    → Agrees (stream_on M id es) (new_side limits)
 silent_agrees limits M id es none = grind arith
 
-pub became_agrees : (u v : Stream) (s t : Connection) (message : Bool) → Became u v s t message → Agrees u s → Agrees v t
+pub became_agrees : (u v : Stream) (s t : Connection) (message : Bool) → Became u v s t message
+    → Agrees u s → Agrees v t
 became_agrees u v s t message (Stayed none same messages fault) is =
     rw same (record { handled = is.handled ∙ sym messages; stopped = λ f e. is.stopped f (sym fault ∙ e) })
 became_agrees u v s t message (Heard one does m handled stops messages fault) is = grind arith
@@ -197,7 +239,9 @@ became_agrees u v s t message (Rejected none does fault rejects messages at) is 
 -- ---- after accepted events
 
 abbrev pub AgreesOn : ConfigValues → List AcceptedCall → ℕ → Type 0
-AgreesOn c es id = (s : Connection) → side_of id (world_after c es).sides ≡ Some s → Agrees (stream_on c.limits.max_message id es) s
+AgreesOn c es id =
+    (s : Connection) → side_of id (world_after c es).sides ≡ Some s → Agrees (stream_on c.limits.max_message id es) s
 
 pub first_agrees : (c : ConfigValues) (id : ℕ) → AgreesOn c [] id
-first_agrees c id s there = absurd (none_or_some s (sym (ap (λ (w : World). side_of id w.sides) (world_first c) ∙ nobody id) ∙ there))
+first_agrees c id s there =
+    absurd (none_or_some s (sym (ap (λ (w : World). side_of id w.sides) (world_first c) ∙ nobody id) ∙ there))

@@ -1,16 +1,19 @@
 -- Pending entries are in the order of the messages that asked for them. A Pong with Custody is queued only if no entry
 -- from before its Ping is pending.
-use Rattle.std.proofs.Common.{◌≡◌, ℕ, zero, suc, Bool, true, false, cond, ◌&&◌, ◌==◌, List, [], ◌∷◌, ◌++◌, length, Option, Some, None, refl, sym, ap, subst, ◌∙◌, inl, inr, ◌⊎◌, arith, append_assoc}
+use Rattle.std.proofs.Common.{◌≡◌, ℕ, zero, suc, Bool, true, false, cond, ◌&&◌, ◌==◌, List, [], ◌∷◌, ◌++◌, length}
+use Rattle.std.proofs.Common.{Option, Some, None, refl, sym, ap, subst, ◌∙◌, inl, inr, ◌⊎◌, arith, append_assoc}
 use Rattle.coap_model.specs.Prelude.{Responder, Engine, Application}
 use Rattle.coap_model.specs.Prelude.{AllByRecursion, list_any, remove, Message, Phase, LimitValues, takes_messages}
 use Rattle.coap_model.specs.Prelude.{answers, is_open, fit, bare_response, PendingEntryValue, Answer, Pong, without_due}
-use Rattle.coap_model.specs.Prelude.{ConnectionState, send, is_custody_pong, pong_with, History, limit_now, standing_now}
+use Rattle.coap_model.specs.Prelude.{ConnectionState, send, is_custody_pong, pong_with, History, limit_now}
+use Rattle.coap_model.specs.Prelude.{standing_now}
 use Rattle.coap_model.specs.Prelude.{after, may_hold, StoreValue, Response, answer_of, prompt_answer, each_at}
 use Rattle.coap_model.specs.Prelude.{ApplicationsValue, application_deadline, Delay, delay_or, delay_of, asks_delayed}
 use Rattle.coap_model.specs.Prelude.{response_with_observe, Observer, without_token, notification}
 use Rattle.coap_model.specs.Prelude.{notification_message, Connection, handles, with_history, held_for, moment_after}
 use Rattle.coap_model.specs.Prelude.{asks_answer, side_handled, side_after, next_held, held_message, settled_once}
-use Rattle.coap_model.specs.Prelude.{side_written, next_due, notified, side_answered, side_with, asks_pending, CorrespondTo}
+use Rattle.coap_model.specs.Prelude.{side_written, next_due, notified, side_answered, side_with, asks_pending}
+use Rattle.coap_model.specs.Prelude.{CorrespondTo}
 use Rattle.coap_model.specs.Prelude.{QueuesCustody, IsFirstHeld, KeepsPending, AddsAsked, KeepsPendingOver, Reason}
 use Rattle.coap_model.specs.Prelude.{PeerTooSmall, standing_due, standing_without, without_request}
 use Rattle.std.proofs.lemmas.Bool.{and_from, both_ways, cond-true, cond_both, or_from}
@@ -22,7 +25,10 @@ use Rattle.coap_conn.proofs.RequestLemmas.{react_asks}
 use Rattle.coap_store.proofs.HoldLaws.{held_of}
 use Rattle.coap_model.proofs.OptionLemmas.{same_there}
 use Rattle.coap_model.proofs.world.EntryLemmas.{all_to}
-use Rattle.coap_model.proofs.world.WalkLaws.{held_is, there_where, said_request, sent, without_first, Replies, after_between, faulted_between, written_between, ended_between, released_between, announced_between, responded_between, once_between, heard, holding}
+use Rattle.coap_model.proofs.world.WalkLaws.{held_is, there_where, said_request, sent, without_first, Replies}
+use Rattle.coap_model.proofs.world.WalkLaws.{after_between, faulted_between, written_between, ended_between}
+use Rattle.coap_model.proofs.world.WalkLaws.{released_between, announced_between, responded_between, once_between}
+use Rattle.coap_model.proofs.world.WalkLaws.{heard, holding}
 use Rattle.coap_model.proofs.world.GoingOn.{Keeps}
 use Rattle.coap_conn.proofs.ReactionLaws.{IsPlain, react_so, IsNoPong, StopsAtMost}
 use Rattle.coap_model.proofs.world.ToldMessages.{Queues, sent_either, sent_all, reply_either}
@@ -47,11 +53,16 @@ gives_none G h k same = ([], same ∙ sym (append-nil h.queued), λ pong. absurd
 
 -- Further messages without such a Pong do not change this.
 gives_then : (G : Type 0) (h k g : History) → Gives G h k → Gives ⊥ k g → Gives G h g
-gives_then G h k g one two =
-    (one.0 ++ two.0, two.1 ∙ ap (λ ms. ms ++ two.0) one.1 ∙ append_assoc h.queued one.0 two.0, λ pong. grind (arith, list_any-append))
+gives_then G h k g one two = (
+  one.0 ++ two.0,
+  two.1 ∙ ap (λ ms. ms ++ two.0) one.1 ∙ append_assoc h.queued one.0 two.0,
+  λ pong. grind (arith, list_any-append),
+)
 
 custody_gives : (G : Type 0) (s t : Connection) → Gives G s.history t.history → QueuesCustody s t → G
-custody_gives G s t gives custody = let same = append_cancel_left s.history.queued custody.more gives.0 (sym custody.queued ∙ gives.1) in grind arith
+custody_gives G s t gives custody =
+    let same = append_cancel_left s.history.queued custody.more gives.0 (sym custody.queued ∙ gives.1) in
+    grind arith
 
 none_pass : {X : Type 0} (p : X → Bool) (xs : List X) → AllByRecursion (λ x. p x ≡ false) xs → list_any p xs ≡ false
 none_pass p [] none = refl
@@ -60,11 +71,13 @@ none_pass p (x ∷ xs) none = or_from (p x) (list_any p xs) none.0 (none_pass p 
 -- ---- responses
 
 -- No option of a response is Custody.
-path_no_custody : (path : List (List ℕ)) → list_any (λ o. o.number == option.custody && length o.value == 0) (each_at numbers.location_path path) ≡ false
+path_no_custody : (path : List (List ℕ))
+    → list_any (λ o. o.number == option.custody && length o.value == 0) (each_at numbers.location_path path) ≡ false
 path_no_custody [] = refl
 path_no_custody (segment ∷ path) = path_no_custody path
 
-pub response_no_pong : (token : List ℕ) (observe : Bool) (r : Response) → IsNoPong (response_with_observe token observe r)
+pub response_no_pong : (token : List ℕ) (observe : Bool) (r : Response)
+    → IsNoPong (response_with_observe token observe r)
 response_no_pong token observe r = grind (arith, list_any-append, path_no_custody)
 
 pub bare_no_pong : (m : Message) → IsNoPong (bare_response m)
@@ -73,46 +86,61 @@ bare_no_pong m = grind arith
 -- A response is no Pong with Custody.
 reply_gives : Replies (Gives ⊥)
 reply_gives h token observe r does room =
-    let m : Message = response_with_observe token observe r in
-    ((send (standing_now h) m (bare_response m)).queued, refl, λ pong. grind (arith, response_no_pong token observe r, bare_no_pong m))
+    let m : Message = response_with_observe token observe r in (
+      (send (standing_now h) m (bare_response m)).queued,
+      refl,
+      λ pong. grind (arith, response_no_pong token observe r, bare_no_pong m),
+    )
 
 -- ---- effects that queue such a Pong
 
-pub custody_waits : (store : StoreValue) (now : ℕ) (s : Connection) (m : Message) → QueuesCustody s (side_after store now s m) → s.history.held ≡ []
+pub custody_waits : (store : StoreValue) (now : ℕ) (s : Connection) (m : Message)
+    → QueuesCustody s (side_after store now s m) → s.history.held ≡ []
 custody_waits store now s m =
     custody_gives (s.history.held ≡ []) s (side_after store now s m)
-    (after_between (λ h. Gives (h.held ≡ []) h) (Gives ⊥) (λ h. gives_none (h.held ≡ []) h h refl) (λ h. gives_then (h.held ≡ []) h)
+    (after_between (λ h. Gives (h.held ≡ []) h) (Gives ⊥) (λ h. gives_none (h.held ≡ []) h h refl)
+    (λ h. gives_then (h.held ≡ []) h)
     (λ h m takes room. (_, refl, custody_at_once (standing_now h) m)) (λ h. gives_none ⊥ h h refl) reply_gives
-    (λ h by token moment opened may. gives_none ⊥ h (holding h (h.held ++ Answer by token moment ∷ [])) refl) store now s m)
+    (λ h by token moment opened may. gives_none ⊥ h (holding h (h.held ++ Answer by token moment ∷ [])) refl) store
+    now s m)
 
 -- Plain effects queue no such Pong.
 pub plain_queues_no_custody : (s t : Connection) → Queues IsPlain s.history t.history → QueuesCustody s t → ⊥
 plain_queues_no_custody s t queues =
-    custody_gives ⊥ s t
-    (queues.more, queues.same, both_ways _ (none_pass is_custody_pong queues.more (all_to IsPlain IsNoPong (λ m is. is.1) queues.more queues.such)))
+    custody_gives ⊥ s t (
+      queues.more,
+      queues.same,
+      both_ways _
+          (none_pass is_custody_pong queues.more (all_to IsPlain IsNoPong (λ m is. is.1) queues.more queues.such)),
+    )
 
 -- The first pending entry is a Pong.
 abbrev IsPongFirst : History → Type 0
 IsPongFirst h = (token : List ℕ) × (rest : List PendingEntryValue) × (h.held ≡ Pong token ∷ rest)
 
-pub custody_comes_first : (store : StoreValue) (now : ℕ) (s : Connection) → QueuesCustody s (settled_once store now s) → (token : List ℕ) × IsFirstHeld s token
+pub custody_comes_first : (store : StoreValue) (now : ℕ) (s : Connection) → QueuesCustody s (settled_once store now s)
+    → (token : List ℕ) × IsFirstHeld s token
 custody_comes_first store now s custody =
     let first = custody_gives (IsPongFirst s.history) s (settled_once store now s)
-    (once_between (λ h. Gives (IsPongFirst h) h) (Gives ⊥) (λ h. gives_none (IsPongFirst h) h h refl) (λ h. gives_then (IsPongFirst h) h) reply_gives
+    (once_between (λ h. Gives (IsPongFirst h) h) (Gives ⊥) (λ h. gives_none (IsPongFirst h) h h refl)
+    (λ h. gives_then (IsPongFirst h) h) reply_gives
     (λ h now. gives_none (IsPongFirst h) h (without_first h now) refl)
-    (λ h now token due room. (_, refl, λ pong. (token, without_due now h.held, due_pong now h.held token due))) store now s) custody in
+    (λ h now token due room. (_, refl, λ pong. (token, without_due now h.held, due_pong now h.held token due))) store
+    now s) custody in
     (first.0, record { rest = first.1; first = first.2 })
 
 -- ---- the order of pending entries
 
 -- One more message.
-stand_skip : (a : Option ApplicationsValue) (m : Message) (ms : List Message) (es : List PendingEntryValue) → CorrespondTo a ms es → CorrespondTo a (m ∷ ms) es
+stand_skip : (a : Option ApplicationsValue) (m : Message) (ms : List Message) (es : List PendingEntryValue)
+    → CorrespondTo a ms es → CorrespondTo a (m ∷ ms) es
 unfolding CorrespondTo
 stand_skip a m ms [] stand = tt
 stand_skip a m ms (e ∷ es) stand = inr stand
 
 -- More messages, with the entries that they ask for.
-stand_append : (a : Option ApplicationsValue) (ms ns : List Message) (es fs : List PendingEntryValue) → CorrespondTo a ms es → CorrespondTo a ns fs → CorrespondTo a (ms ++ ns) (es ++ fs)
+stand_append : (a : Option ApplicationsValue) (ms ns : List Message) (es fs : List PendingEntryValue)
+    → CorrespondTo a ms es → CorrespondTo a ns fs → CorrespondTo a (ms ++ ns) (es ++ fs)
 unfolding CorrespondTo
 stand_append a [] ns [] fs stand more = more
 stand_append a [] ns (e ∷ es) fs stand more = absurd stand
@@ -121,20 +149,23 @@ stand_append a (m ∷ ms) ns (e ∷ es) fs (inl here) more = inl (here.0, stand_
 stand_append a (m ∷ ms) ns (e ∷ es) fs (inr later) more = inr (stand_append a ms ns (e ∷ es) fs later more)
 
 -- A message asks for the entry that it adds.
-stand_added : (a : Option ApplicationsValue) (m : Message) (es : List PendingEntryValue) → AddsAsked a m es → CorrespondTo a (m ∷ []) es
+stand_added : (a : Option ApplicationsValue) (m : Message) (es : List PendingEntryValue) → AddsAsked a m es
+    → CorrespondTo a (m ∷ []) es
 unfolding CorrespondTo
 stand_added a m [] adds = tt
 stand_added a m (e ∷ []) adds = inl (adds.asked.0, tt)
 stand_added a m (e ∷ d ∷ es) adds = absurd (omega (arith, adds.few))
 
 -- The same without the first entry, and without any entry.
-stand_tail : (a : Option ApplicationsValue) (ms : List Message) (e : PendingEntryValue) (es : List PendingEntryValue) → CorrespondTo a ms (e ∷ es) → CorrespondTo a ms es
+stand_tail : (a : Option ApplicationsValue) (ms : List Message) (e : PendingEntryValue) (es : List PendingEntryValue)
+    → CorrespondTo a ms (e ∷ es) → CorrespondTo a ms es
 unfolding CorrespondTo
 stand_tail a [] e es stand = absurd stand
 stand_tail a (m ∷ ms) e es (inl here) = stand_skip a m ms es here.1
 stand_tail a (m ∷ ms) e es (inr later) = stand_skip a m ms es (stand_tail a ms e es later)
 
-stand_removed : (a : Option ApplicationsValue) (ms : List Message) (es : List PendingEntryValue) (i : ℕ) → CorrespondTo a ms es → CorrespondTo a ms (remove es i)
+stand_removed : (a : Option ApplicationsValue) (ms : List Message) (es : List PendingEntryValue) (i : ℕ)
+    → CorrespondTo a ms es → CorrespondTo a ms (remove es i)
 unfolding CorrespondTo
 stand_removed a ms [] zero stand = stand
 stand_removed a ms [] (suc i) stand = stand
@@ -143,55 +174,76 @@ stand_removed a [] (e ∷ es) (suc i) stand = absurd stand
 stand_removed a (m ∷ ms) (e ∷ es) (suc i) (inl here) = inl (here.0, stand_removed a ms es i here.1)
 stand_removed a (m ∷ ms) (e ∷ es) (suc i) (inr later) = inr (stand_removed a ms (e ∷ es) (suc i) later)
 
-stand_due : (a : Option ApplicationsValue) (ms : List Message) (now : ℕ) (es : List PendingEntryValue) → CorrespondTo a ms es → CorrespondTo a ms (without_due now es)
+stand_due : (a : Option ApplicationsValue) (ms : List Message) (now : ℕ) (es : List PendingEntryValue)
+    → CorrespondTo a ms es → CorrespondTo a ms (without_due now es)
 unfolding without_due
 stand_due a ms now es stand = grind (arith, stand_removed)
 
 -- The same without the first request with a token that waits for the application.
-stand_request : (a : Option ApplicationsValue) (ms : List Message) (token : List ℕ) (es : List PendingEntryValue) → CorrespondTo a ms es → CorrespondTo a ms (without_request token es)
+stand_request : (a : Option ApplicationsValue) (ms : List Message) (token : List ℕ) (es : List PendingEntryValue)
+    → CorrespondTo a ms es → CorrespondTo a ms (without_request token es)
 unfolding without_request
 stand_request a ms token es stand = grind (arith, stand_removed)
 
 -- Each entry was asked for.
-pub stand_asked : (a : Option ApplicationsValue) (ms : List Message) (before : List PendingEntryValue) (e : PendingEntryValue) (after : List PendingEntryValue) → CorrespondTo a ms (before ++ e ∷ after) → list_any (λ m. asks_pending a m e) ms ≡ true
+pub stand_asked : (a : Option ApplicationsValue) (ms : List Message) (before : List PendingEntryValue)
+    (e : PendingEntryValue) (after : List PendingEntryValue) → CorrespondTo a ms (before ++ e ∷ after)
+    → list_any (λ m. asks_pending a m e) ms ≡ true
 unfolding CorrespondTo
 stand_asked a [] [] e after stand = absurd stand
 stand_asked a [] (b ∷ before) e after stand = absurd stand
 stand_asked a (m ∷ ms) [] e after stand = grind (arith, stand_asked a ms [] e after)
-stand_asked a (m ∷ ms) (b ∷ before) e after stand = grind (arith, stand_asked a ms before e after, stand_asked a ms (b ∷ before) e after)
+stand_asked a (m ∷ ms) (b ∷ before) e after stand =
+    grind (arith, stand_asked a ms before e after, stand_asked a ms (b ∷ before) e after)
 
 -- ---- a request
 
 -- A request does not change the pending entries, and the connection stays open.
-pub asked_quiet : (s : Connection) (m : Message) → asks_answer s m ≡ true → ((after s.history (call.Handle m)).held ≡ s.history.held) × (is_open (after s.history (call.Handle m)).phase ≡ true)
-asked_quiet s m asks = let quiet = react_asks (standing_now s.history) m (said_request _ asks) in grind (arith, told_over (standing_now s.history) m)
+pub asked_quiet : (s : Connection) (m : Message) → asks_answer s m ≡ true
+    → ((after s.history (call.Handle m)).held ≡ s.history.held)
+    × (is_open (after s.history (call.Handle m)).phase ≡ true)
+asked_quiet s m asks =
+    let quiet = react_asks (standing_now s.history) m (said_request _ asks) in
+    grind (arith, told_over (standing_now s.history) m)
 
 -- So its delayed response is appended to them.
-pub held_when_asked : (store : StoreValue) (now : ℕ) (s : Connection) (m : Message) (d : Delay) → handles s ≡ true → asks_answer s m ≡ true → held_for (after s.history (call.Handle m)) (delay_of store now m) ≡ Some d → (side_after store now s m).history.held ≡ s.history.held ++ Answer d.by m.token (moment_after now d.seconds) ∷ []
+pub held_when_asked : (store : StoreValue) (now : ℕ) (s : Connection) (m : Message) (d : Delay) → handles s ≡ true
+    → asks_answer s m ≡ true → held_for (after s.history (call.Handle m)) (delay_of store now m) ≡ Some d
+    → (side_after store now s m).history.held ≡ s.history.held ++ Answer d.by m.token (moment_after now d.seconds) ∷ []
 unfolding side_after
 held_when_asked store now s m d does asks is = grind (arith, asked_quiet s m asks, held_is)
 
 -- A delayed response is pending only if the list has a place for it.
-pub held_where : (h : History) (delay : Option Delay) (d : Delay) → held_for h delay ≡ Some d → (may_hold h ≡ true) × (delay ≡ Some d)
+pub held_where : (h : History) (delay : Option Delay) (d : Delay) → held_for h delay ≡ Some d
+    → (may_hold h ≡ true) × (delay ≡ Some d)
 held_where h None d is = absurd cc
 held_where h (Some e) d is = there_where (may_hold h) (Some e) d is
 
 -- The message asks for the responder of its delay.
-asked_by : (store : StoreValue) (now : ℕ) (m : Message) (d : Delay) (deadline : Option ℕ) (hold : Option ℕ) → application_deadline store.applications m ≡ deadline → (answer_of store now m).hold ≡ hold → delay_or deadline hold ≡ Some d → asks_delayed store.applications d.by m ≡ true
+asked_by : (store : StoreValue) (now : ℕ) (m : Message) (d : Delay) (deadline : Option ℕ) (hold : Option ℕ)
+    → application_deadline store.applications m ≡ deadline → (answer_of store now m).hold ≡ hold
+    → delay_or deadline hold ≡ Some d → asks_delayed store.applications d.by m ≡ true
 asked_by store now m d None None by holds is = absurd cc
 asked_by store now m d None (Some seconds) by holds is =
-    subst (λ (e : Delay). asks_delayed store.applications e.by m ≡ true) (same_there (record { by = Engine; seconds = seconds }) d is) (held_of store now m seconds holds).asked
+    subst (λ (e : Delay). asks_delayed store.applications e.by m ≡ true)
+    (same_there (record { by = Engine; seconds = seconds }) d is) (held_of store now m seconds holds).asked
 asked_by store now m d (Some deadline) hold by holds is =
-    subst (λ (e : Delay). asks_delayed store.applications e.by m ≡ true) (same_there (record { by = Application; seconds = deadline }) d is) (ap is_some by)
+    subst (λ (e : Delay). asks_delayed store.applications e.by m ≡ true)
+    (same_there (record { by = Application; seconds = deadline }) d is) (ap is_some by)
 
-delayed_asked : (store : StoreValue) (now : ℕ) (m : Message) (d : Delay) → delay_of store now m ≡ Some d → asks_delayed store.applications d.by m ≡ true
-delayed_asked store now m d is = asked_by store now m d (application_deadline store.applications m) (answer_of store now m).hold refl refl is
+delayed_asked : (store : StoreValue) (now : ℕ) (m : Message) (d : Delay) → delay_of store now m ≡ Some d
+    → asks_delayed store.applications d.by m ≡ true
+delayed_asked store now m d is =
+    asked_by store now m d (application_deadline store.applications m) (answer_of store now m).hold refl refl is
 
 -- The possible cases of a message: no request, a request with a delayed response, and one with an immediate response.
 pub handled_cases : (store : StoreValue) (now : ℕ) (s : Connection) (m : Message) (P : Connection → Type 0)
     → (asks_answer s m ≡ false → P (with_history s (after s.history (call.Handle m))))
-    → (asks_answer s m ≡ true → (by : Responder) (moment : ℕ) → asks_delayed store.applications by m ≡ true → P (side_with (holding (after s.history (call.Handle m)) ((after s.history (call.Handle m)).held ++ Answer by m.token moment ∷ [])) (without_token m.token s.observers)))
-    → (asks_answer s m ≡ true → P (side_answered store now (after s.history (call.Handle m)) (without_token m.token s.observers) m (prompt_answer store now m)))
+    → (asks_answer s m ≡ true → (by : Responder) (moment : ℕ) → asks_delayed store.applications by m ≡ true
+    → P (side_with (holding (after s.history (call.Handle m))
+    ((after s.history (call.Handle m)).held ++ Answer by m.token moment ∷ [])) (without_token m.token s.observers)))
+    → (asks_answer s m ≡ true → P (side_answered store now (after s.history (call.Handle m))
+    (without_token m.token s.observers) m (prompt_answer store now m)))
     → P (side_handled store now s m)
 handled_cases store now s m P other late prompt =
     let h : History = after s.history (call.Handle m) in
@@ -199,7 +251,8 @@ handled_cases store now s m P other late prompt =
     let delay : Option Delay = delay_of store now m in
     cond_both (asks_answer s m) _ _ P (λ asks. replied_cases store now h others m delay P (λ d is. (
     let both : (may_hold h ≡ true) × (delay ≡ Some d) = held_where h delay d is in
-    subst (λ (k : History). P (side_with k others)) (sym (held_is h d.by m.token (moment_after now d.seconds) ∙ cond-true _ _ h (and_from _ _ (asked_quiet s m asks).1 both.0)))
+    subst (λ (k : History). P (side_with k others)) (sym (held_is h d.by m.token (moment_after now d.seconds)
+    ∙ cond-true _ _ h (and_from _ _ (asked_quiet s m asks).1 both.0)))
     (late asks d.by (moment_after now d.seconds) (delayed_asked store now m d both.1))
     )) (λ none. prompt asks)) other
 
@@ -207,16 +260,21 @@ handled_cases store now s m P other late prompt =
 
 -- More entries are pending, and the message asks for each new one; or the connection has stopped and has none.
 abbrev Over : Option ApplicationsValue → Message → List PendingEntryValue → List PendingEntryValue → Phase → Type 0
-Over a m before after now = ((more : List PendingEntryValue) × (after ≡ before ++ more) × AddsAsked a m more) ⊎ ((why : Reason) × (now ≡ phase.Stopped why) × (after ≡ []))
+Over a m before after now =
+    ((more : List PendingEntryValue) × (after ≡ before ++ more) × AddsAsked a m more)
+    ⊎ ((why : Reason) × (now ≡ phase.Stopped why) × (after ≡ []))
 
-adds_none : (a : Option ApplicationsValue) (m : Message) (es : List PendingEntryValue) (now : Phase) → Over a m es es now
+adds_none : (a : Option ApplicationsValue) (m : Message) (es : List PendingEntryValue) (now : Phase)
+    → Over a m es es now
 adds_none a m es now = inl ([], sym (append-nil es), record { few = omega arith; asked = tt })
 
-adds_one : (a : Option ApplicationsValue) (m : Message) (before : List PendingEntryValue) (e : PendingEntryValue) (now : Phase) → asks_pending a m e ≡ true → Over a m before (before ++ e ∷ []) now
+adds_one : (a : Option ApplicationsValue) (m : Message) (before : List PendingEntryValue) (e : PendingEntryValue)
+    (now : Phase) → asks_pending a m e ≡ true → Over a m before (before ++ e ∷ []) now
 adds_one a m before e now asks = inl (e ∷ [], refl, record { few = omega arith; asked = (asks, tt) })
 
 -- A message was handled while messages were accepted, and it may have stopped the connection.
-pub record HandlesOne (a : Option ApplicationsValue) (m : Message) (before : History) (handled : List Message) (held : List PendingEntryValue) (now : Phase) : Type 0 where
+pub record HandlesOne (a : Option ApplicationsValue) (m : Message) (before : History) (handled : List Message)
+    (held : List PendingEntryValue) (now : Phase) : Type 0 where
   pub handled_more : takes_messages before.phase ≡ true → handled ≡ before.handled ++ m ∷ []
   pub stops : StopsAtMost before.phase → StopsAtMost now
   pub adds : Over a m before.held held now
@@ -227,17 +285,27 @@ HasHeard a m h k = HandlesOne a m h k.handled k.held k.phase
 message_hears : (a : Option ApplicationsValue) (h : History) (m : Message) → HasHeard a m h (after h (call.Handle m))
 message_hears a h m =
     let s : ConnectionState = standing_now h in
-    let does = react_so s m (λ e. (StopsAtMost s.phase → StopsAtMost e.phase) × Over a m s.held e.held e.phase) (record {
+    let does =
+    react_so s m (λ e. (StopsAtMost s.phase → StopsAtMost e.phase) × Over a m s.held e.held e.phase) (record {
       stays = (λ is. is, adds_none a m s.held s.phase);
       stands = λ now outstanding stands. (stands, adds_none a m s.held now);
       stops = λ why farewell plain one may. (λ is. may, inr (why, refl, refl));
       queues = λ n none. (λ is. is, adds_none a m s.held s.phase);
-      keeps = λ ping custody some. (λ is. is, adds_one a m s.held (Pong m.token) s.phase (rw (ping, custody, (bytes_decides m.token m.token).1 refl) refl));
+      keeps = λ ping custody some. (
+        λ is. is,
+        adds_one a m s.held (Pong m.token) s.phase (rw (ping, custody, (bytes_decides m.token m.token).1 refl) refl),
+      );
     }) in
-    cond_both (takes_messages h.phase) (heard h m) h (HasHeard a m h) (λ takes. record { handled_more = λ takes. refl; stops = does.0; adds = does.1 })
-    (λ off. record { handled_more = λ takes. absurd (both_ways _ off takes); stops = λ is. is; adds = adds_none a m h.held h.phase })
+    cond_both (takes_messages h.phase) (heard h m) h (HasHeard a m h)
+    (λ takes. record { handled_more = λ takes. refl; stops = does.0; adds = does.1 })
+    (λ off. record {
+      handled_more = λ takes. absurd (both_ways _ off takes);
+      stops = λ is. is;
+      adds = adds_none a m h.held h.phase;
+    })
 
-pub handled_hears : (store : StoreValue) (now : ℕ) (s : Connection) (m : Message) → HasHeard store.applications m s.history (side_handled store now s m).history
+pub handled_hears : (store : StoreValue) (now : ℕ) (s : Connection) (m : Message)
+    → HasHeard store.applications m s.history (side_handled store now s m).history
 handled_hears store now s m =
     let a : Option ApplicationsValue = store.applications in
     let h : History = after s.history (call.Handle m) in
@@ -246,15 +314,19 @@ handled_hears store now s m =
     (λ asks by moment asked. record {
       handled_more = heard.handled_more;
       stops = heard.stops;
-      adds = rw (asked_quiet s m asks).0 (adds_one a m s.history.held (Answer by m.token moment) h.phase (rw (asked, (bytes_decides m.token m.token).1 refl) refl));
+      adds =
+          rw (asked_quiet s m asks).0 (adds_one a m s.history.held (Answer by m.token moment) h.phase
+          (rw (asked, (bytes_decides m.token m.token).1 refl) refl));
     })
     (λ asks. reply_either h _ (HandlesOne a m s.history) heard
     (record { handled_more = heard.handled_more; stops = λ is. refl; adds = inr (PeerTooSmall, refl, refl) }))
 
-pub handled_over : (store : StoreValue) (now : ℕ) (s : Connection) (m : Message) → KeepsPendingOver store.applications m s (side_handled store now s m)
+pub handled_over : (store : StoreValue) (now : ℕ) (s : Connection) (m : Message)
+    → KeepsPendingOver store.applications m s (side_handled store now s m)
 handled_over store now s m = grind (arith, handled_hears store now s m)
 
-pub if_over : (a : Option ApplicationsValue) (m : Message) (does : Bool) (s t : Connection) → KeepsPendingOver a m s t → KeepsPendingOver a m s (cond does t s)
+pub if_over : (a : Option ApplicationsValue) (m : Message) (does : Bool) (s t : Connection) → KeepsPendingOver a m s t
+    → KeepsPendingOver a m s (cond does t s)
 if_over a m true s t over = over
 if_over a m false s t over = inl ([], sym (append-nil s.history.held), record { few = omega arith; asked = tt })
 
@@ -263,12 +335,15 @@ if_over a m false s t over = inl ([], sym (append-nil s.history.held), record { 
 abbrev pub Stands : Option ApplicationsValue → History → Type 0
 Stands a h = CorrespondTo a h.handled h.held
 
-sent_still_stands : (a : Option ApplicationsValue) (h : History) (m less : Message) → Stands a h → Stands a (sent h m less)
+sent_still_stands : (a : Option ApplicationsValue) (h : History) (m less : Message) → Stands a h
+    → Stands a (sent h m less)
 unfolding CorrespondTo
-sent_still_stands a h m less stand = sent_either (standing_now h) m less (fit (limit_now h) m less) (λ es now. CorrespondTo a h.handled es) stand tt
+sent_still_stands a h m less stand =
+    sent_either (standing_now h) m less (fit (limit_now h) m less) (λ es now. CorrespondTo a h.handled es) stand tt
 
 -- The message asks for the entries that it added.
-heard_stands : (a : Option ApplicationsValue) (m : Message) (h k : History) → takes_messages h.phase ≡ true → HasHeard a m h k → Stands a h → Stands a k
+heard_stands : (a : Option ApplicationsValue) (m : Message) (h k : History) → takes_messages h.phase ≡ true
+    → HasHeard a m h k → Stands a h → Stands a k
 unfolding CorrespondTo
 heard_stands a m h k takes heard stand = rw (heard.handled_more takes) (by heard.adds)
   where
@@ -280,20 +355,26 @@ pub stands_keeps : (limits : LimitValues) (a : Option ApplicationsValue) → Kee
 unfolding side_after CorrespondTo
 stands_keeps limits a = let R : History → History → Type 0 = λ h k. Stands a h → Stands a k in record {
   first = tt;
-  handled = λ store now s m same is stand. cond_both (handles s) (side_handled store now s m) s (λ t. Stands a t.history)
+  handled =
+      λ store now s m same is stand. cond_both (handles s) (side_handled store now s m) s (λ t. Stands a t.history)
       (λ does. heard_stands a m s.history (side_handled store now s m).history (handles_parts s does).0
-      (subst (λ b. HasHeard b m s.history (side_handled store now s m).history) same (handled_hears store now s m)) stand) (λ off. stand);
+      (subst (λ b. HasHeard b m s.history (side_handled store now s m).history) same (handled_hears store now s m))
+      stand) (λ off. stand);
   faulted = faulted_between R (λ h stand. stand) (λ h fault takes room stand. tt);
   written = written_between R (λ h stand. stand) (λ h n within stand. stand);
   ended = ended_between R (λ h stand. stand) (λ h cut takes stand. tt);
   released = released_between R (λ h stand. stand) (λ h opened none stand. tt);
   announced = announced_between R (λ h stand. stand) (λ h n opened room fit stand. stand);
   responded = responded_between R (λ h stand. stand) (λ h m answering none stand.
-      sent_either (standing_without m.token (standing_now h)) m (bare_response m) (fit (limit_now h) m (bare_response m)) (λ es now. CorrespondTo a h.handled es)
+      sent_either (standing_without m.token (standing_now h)) m (bare_response m)
+      (fit (limit_now h) m (bare_response m)) (λ es now. CorrespondTo a h.handled es)
       (stand_request a h.handled m.token h.held stand) tt);
-  told = once_between R R (λ h stand. stand) (λ h k g one two stand. two (one stand)) (λ h token observe r does room. sent_still_stands a h _ _)
+  told =
+      once_between R R (λ h stand. stand) (λ h k g one two stand. two (one stand))
+      (λ h token observe r does room. sent_still_stands a h _ _)
       (λ h now. stand_due a h.handled now h.held)
-      (λ h now token due room stand. sent_still_stands a (without_first h now) _ _ (stand_due a h.handled now h.held stand));
+      (λ h now token due room stand. sent_still_stands a (without_first h now) _ _
+      (stand_due a h.handled now h.held stand));
 }
 
 -- ---- effects that do not change the pending entries
@@ -310,31 +391,39 @@ pub written_same : (s : Connection) (n : ℕ) → (side_written s n).history.hel
 written_same s n = written_between (λ h k. k.held ≡ h.held) (λ h. refl) (λ h n within. refl) s n
 
 -- A response of the application removes the request that it answers.
-pub responded_keeps : (s : Connection) (m : Message) → answers s.history.phase ≡ true → response_refusal (link_of s.history) m ≡ None → KeepsBut (without_request m.token s.history.held) (side_responded s m)
+pub responded_keeps : (s : Connection) (m : Message) → answers s.history.phase ≡ true
+    → response_refusal (link_of s.history) m ≡ None
+    → KeepsBut (without_request m.token s.history.held) (side_responded s m)
 unfolding side_responded
 responded_keeps s m answering none =
     let h : History = s.history in
     let less : Message = bare_response m in
     let e = send (standing_without m.token (standing_now h)) m less in
-    subst (λ (b : Bool). KeepsBut (without_request m.token h.held) (with_history s (cond b (with_effect h e) h))) (sym (and_from _ _ answering (ap (λ (o : Option RespondFault). is_none o) none)))
+    subst (λ (b : Bool). KeepsBut (without_request m.token h.held) (with_history s (cond b (with_effect h e) h)))
+    (sym (and_from _ _ answering (ap (λ (o : Option RespondFault). is_none o) none)))
     (sent_either (standing_without m.token (standing_now h)) m less (fit (limit_now h) m less)
-    (λ es now. (es ≡ without_request m.token h.held) ⊎ ((why : Reason) × (now ≡ phase.Stopped why))) (inl refl) (inr (PeerTooSmall, refl)))
+    (λ es now. (es ≡ without_request m.token h.held) ⊎ ((why : Reason) × (now ≡ phase.Stopped why))) (inl refl)
+    (inr (PeerTooSmall, refl)))
 
 -- It queues no Pong.
 pub responded_no_custody : (s : Connection) (m : Message) → QueuesCustody s (side_responded s m) → ⊥
-responded_no_custody s m = custody_gives ⊥ s (side_responded s m) (responded_between (Gives ⊥) (λ h. gives_none ⊥ h h refl) (λ h n answering none. (
+responded_no_custody s m =
+    custody_gives ⊥ s (side_responded s m)
+    (responded_between (Gives ⊥) (λ h. gives_none ⊥ h h refl) (λ h n answering none. (
     let codes = plain_codes n (allowed (link_of h) n none).plain in
     let s : ConnectionState = standing_without n.token (standing_now h) in (
       (send s n (bare_response n)).queued,
       refl,
       λ pong.
           (let quiet = none_pass is_custody_pong (send s n (bare_response n)).queued
-          (sent_all IsNoPong s n (bare_response n) (fit (limit_now h) n (bare_response n)) (response_is_no_pong n codes.0) (response_is_no_pong (bare_response n) codes.1)) in
+          (sent_all IsNoPong s n (bare_response n) (fit (limit_now h) n (bare_response n))
+          (response_is_no_pong n codes.0) (response_is_no_pong (bare_response n) codes.1)) in
           both_ways _ quiet pong),
     ))) s m)
 
 -- If no entry is due, settling only notifies an observer.
-pub told_keeps : (store : StoreValue) (now : ℕ) (s : Connection) → next_held now s ≡ None → KeepsPending s (settled_once store now s)
+pub told_keeps : (store : StoreValue) (now : ℕ) (s : Connection) → next_held now s ≡ None
+    → KeepsPending s (settled_once store now s)
 unfolding settled_once
 told_keeps store now s is = rw is (by (next_due store now s))
   where
@@ -343,26 +432,34 @@ told_keeps store now s is = rw is (by (next_due store now s))
     by (Some o) =
         left_kept s (notified store now s (Some o))
         (reply_either s.history (notification_message o.token (notification store now o))
-        (λ ms es now. (es ≡ s.history.held) ⊎ ((why : Reason) × (now ≡ phase.Stopped why))) (inl refl) (inr (PeerTooSmall, refl)))
+        (λ ms es now. (es ≡ s.history.held) ⊎ ((why : Reason) × (now ≡ phase.Stopped why))) (inl refl)
+        (inr (PeerTooSmall, refl)))
 
 -- ---- the first due entry is removed
 
-pub sent_when_due : (store : StoreValue) (now : ℕ) (s : Connection) (by : Responder) (token : List ℕ) (moment : ℕ) → next_held now s ≡ Some (Answer by token moment) → (settled_once store now s).history ≡ after (after s.history (call.Due now)) (call.Reply (held_message by token))
+pub sent_when_due : (store : StoreValue) (now : ℕ) (s : Connection) (by : Responder) (token : List ℕ) (moment : ℕ)
+    → next_held now s ≡ Some (Answer by token moment)
+    → (settled_once store now s).history ≡ after (after s.history (call.Due now)) (call.Reply (held_message by token))
 unfolding settled_once
 sent_when_due store now s by token moment is = rw is refl
 
-pub taken_out : (store : StoreValue) (now : ℕ) (s : Connection) (e : PendingEntryValue) → next_held now s ≡ Some e → answers s.history.phase ≡ true → (settled_once store now s).history.phase ≡ s.history.phase → (settled_once store now s).history.held ≡ without_due now s.history.held
+pub taken_out : (store : StoreValue) (now : ℕ) (s : Connection) (e : PendingEntryValue) → next_held now s ≡ Some e
+    → answers s.history.phase ≡ true → (settled_once store now s).history.phase ≡ s.history.phase
+    → (settled_once store now s).history.held ≡ without_due now s.history.held
 unfolding settled_once
 taken_out store now s e is answering same = grind arith
 
 -- ---- its message is sent
 
-pub answer_sent : (store : StoreValue) (now : ℕ) (s : Connection) (by : Responder) (token : List ℕ) (moment : ℕ) → next_held now s ≡ Some (Answer by token moment) → answers s.history.phase ≡ true
-    → (settled_once store now s).history.queued ≡ s.history.queued ++ (send (standing_due now (standing_now s.history)) (held_message by token) (bare_response (held_message by token))).queued
+pub answer_sent : (store : StoreValue) (now : ℕ) (s : Connection) (by : Responder) (token : List ℕ) (moment : ℕ)
+    → next_held now s ≡ Some (Answer by token moment) → answers s.history.phase ≡ true
+    → (settled_once store now s).history.queued ≡ s.history.queued ++ (send (standing_due now (standing_now s.history))
+    (held_message by token) (bare_response (held_message by token))).queued
 unfolding settled_once
 answer_sent store now s by token moment is answering = grind (arith, append-nil)
 
 pub pong_sent : (store : StoreValue) (now : ℕ) (s : Connection) (token : List ℕ) → next_held now s ≡ Some (Pong token)
-    → (settled_once store now s).history.queued ≡ s.history.queued ++ (send (standing_due now (standing_now s.history)) (pong_with true token) (pong_with false token)).queued
+    → (settled_once store now s).history.queued ≡ s.history.queued
+    ++ (send (standing_due now (standing_now s.history)) (pong_with true token) (pong_with false token)).queued
 unfolding settled_once
 pong_sent store now s token is = grind arith

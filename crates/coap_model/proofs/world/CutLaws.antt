@@ -1,12 +1,14 @@
 -- The split of the input does not matter: an input slice makes the same steps as its two parts in turn.
-use Rattle.std.proofs.Common.{◌≡◌, ℕ, List, [], ◌∷◌, ◌++◌, Option, Some, None, refl, sym, ap, ◌∙◌, append_assoc, ◌==◌, inl, inr}
+use Rattle.std.proofs.Common.{◌≡◌, ℕ, List, [], ◌∷◌, ◌++◌, Option, Some, None, refl, sym, ap, ◌∙◌, append_assoc, ◌==◌}
+use Rattle.std.proofs.Common.{inl, inr}
 use Rattle.std.proofs.lemmas.Bool.{cases_Bool}
 use Rattle.std.proofs.lemmas.List.{append-nil, map-append}
 use Rattle.std.proofs.Math.Seq.{drop-append_seam}
 use Rattle.coap_model.specs.Prelude.{StreamFault, Stream, split, behind, continued, split_on, ConfigValues, new_world}
 use Rattle.coap_model.specs.Prelude.{after_steps, AcceptedCall, Took, Ended, taken_in, taken_on, size_by, size_on}
 use Rattle.coap_model.specs.Prelude.{stream_on, spelled_on, beyond, steps_by, steps_behind, steps_of, world_after}
-use Rattle.coap_model.proofs.world.StepLaws.{taken_then, steps_behind_more, size_then, sizes_then, read_before, stream_more, spelled_by, spelled_then}
+use Rattle.coap_model.proofs.world.StepLaws.{taken_then, steps_behind_more, size_then, sizes_then, read_before}
+use Rattle.coap_model.proofs.world.StepLaws.{stream_more, spelled_by, spelled_then}
 use Rattle.coap_model.proofs.world.TookLaws.{nothing_beyond}
 
 -- ---- only the stream matters
@@ -15,36 +17,48 @@ use Rattle.coap_model.proofs.world.TookLaws.{nothing_beyond}
 abbrev pub SpellAlike : ℕ → List AcceptedCall → List AcceptedCall → Type 0
 SpellAlike M es fs = (id : ℕ) → spelled_on M id es ≡ spelled_on M id fs
 
-alike_by : (M : ℕ) (es fs : List AcceptedCall) (e : AcceptedCall) → SpellAlike M es fs → SpellAlike M (es ++ e ∷ []) (fs ++ e ∷ [])
-alike_by M es fs e alike id = spelled_then M id es e ∙ ap (λ (s : Stream × ℕ). spelled_by s (taken_in id e) (size_by id e)) (alike id) ∙ sym (spelled_then M id fs e)
+alike_by : (M : ℕ) (es fs : List AcceptedCall) (e : AcceptedCall) → SpellAlike M es fs
+    → SpellAlike M (es ++ e ∷ []) (fs ++ e ∷ [])
+alike_by M es fs e alike id =
+    spelled_then M id es e ∙ ap (λ (s : Stream × ℕ). spelled_by s (taken_in id e) (size_by id e)) (alike id)
+    ∙ sym (spelled_then M id fs e)
 
 pub stream_alike : (M id : ℕ) (es fs : List AcceptedCall) → SpellAlike M es fs → stream_on M id es ≡ stream_on M id fs
 stream_alike M id es fs alike = ap (λ (s : Stream × ℕ). s.0) (alike id)
 
-by_alike : (M : ℕ) (es fs : List AcceptedCall) (e : AcceptedCall) → SpellAlike M es fs → steps_by M es e ≡ steps_by M fs e
+by_alike : (M : ℕ) (es fs : List AcceptedCall) (e : AcceptedCall) → SpellAlike M es fs
+    → steps_by M es e ≡ steps_by M fs e
 unfolding steps_by
 by_alike M es fs (Took id bytes) alike =
-    cc (stream_alike M id es fs alike, stream_alike M id (es ++ Took id bytes ∷ []) (fs ++ Took id bytes ∷ []) (alike_by M es fs (Took id bytes) alike))
+    cc (
+      stream_alike M id es fs alike,
+      stream_alike M id (es ++ Took id bytes ∷ []) (fs ++ Took id bytes ∷ []) (alike_by M es fs (Took id bytes) alike),
+    )
 by_alike M es fs (Ended id) alike = cc (stream_alike M id es fs alike)
 by_alike M es fs e alike = refl
 
 behind_alike : (M : ℕ) (es fs gs : List AcceptedCall) → SpellAlike M es fs → steps_behind M es gs ≡ steps_behind M fs gs
 unfolding steps_behind
 behind_alike M es fs [] alike = refl
-behind_alike M es fs (g ∷ gs) alike = cc (by_alike M es fs g alike, behind_alike M (es ++ g ∷ []) (fs ++ g ∷ []) gs (alike_by M es fs g alike))
+behind_alike M es fs (g ∷ gs) alike =
+    cc (by_alike M es fs g alike, behind_alike M (es ++ g ∷ []) (fs ++ g ∷ []) gs (alike_by M es fs g alike))
 
 -- ---- a stream continued in two parts
 
 -- A stream continued by s and then by t.
 parts : (id : ℕ) (before s t : Stream) (fault : Option StreamFault) → before.fault ≡ None → s.fault ≡ fault
-    → beyond id before (continued (behind before.messages s) fault t) ≡ beyond id before (behind before.messages s) ++ beyond id (behind before.messages s) (continued (behind before.messages s) fault t)
+    → beyond id before (continued (behind before.messages s) fault t) ≡ beyond id before (behind before.messages s)
+    ++ beyond id (behind before.messages s) (continued (behind before.messages s) fault t)
 parts id before s t None none is =
-    rw (drop-append_seam (before.messages ++ s.messages) t.messages) (simp (none, is, append_assoc, drop-append_seam, map-append, append-nil))
-parts id before s t (Some fault) none is = rw (nothing_beyond id (behind before.messages s)) (sym (append-nil (beyond id before (behind before.messages s))))
+    rw (drop-append_seam (before.messages ++ s.messages) t.messages)
+    (simp (none, is, append_assoc, drop-append_seam, map-append, append-nil))
+parts id before s t (Some fault) none is =
+    rw (nothing_beyond id (behind before.messages s)) (sym (append-nil (beyond id before (behind before.messages s))))
 
 -- A stream continued by xs and then by ys.
 beyond_parts : (M id : ℕ) (before : Stream) (fault : Option StreamFault) (xs ys : List ℕ) → before.fault ≡ fault
-    → beyond id before (split_on M (split_on M before xs) ys) ≡ beyond id before (split_on M before xs) ++ beyond id (split_on M before xs) (split_on M (split_on M before xs) ys)
+    → beyond id before (split_on M (split_on M before xs) ys)
+    ≡ beyond id before (split_on M before xs) ++ beyond id (split_on M before xs) (split_on M (split_on M before xs) ys)
 beyond_parts M id before None xs ys none =
     let s : Stream = split M (before.rest ++ xs) in
     let on : split_on M before xs ≡ behind before.messages s = rw none refl in
@@ -55,28 +69,41 @@ beyond_parts M id before (Some fault) xs ys is =
 
 -- ---- an input slice in two parts
 
-pub spelled_twice : (M : ℕ) (es : List AcceptedCall) (other : ℕ) (xs ys : List ℕ) → SpellAlike M (es ++ Took other (xs ++ ys) ∷ []) ((es ++ Took other xs ∷ []) ++ Took other ys ∷ [])
+pub spelled_twice : (M : ℕ) (es : List AcceptedCall) (other : ℕ) (xs ys : List ℕ)
+    → SpellAlike M (es ++ Took other (xs ++ ys) ∷ []) ((es ++ Took other xs ∷ []) ++ Took other ys ∷ [])
 spelled_twice M es other xs ys id =
     let half : List AcceptedCall = es ++ Took other xs ∷ [] in
-    rw (read_before M id es (Took other (xs ++ ys)), read_before M id half (Took other ys), sizes_then M id es (Took other xs) (λ N. refl))
-    (rw (taken_then id es (Took other xs), size_then M id es (Took other (xs ++ ys)), size_then M id half (Took other ys), size_then M id es (Took other xs))
+    rw (
+      read_before M id es (Took other (xs ++ ys)),
+      read_before M id half (Took other ys),
+      sizes_then M id es (Took other xs) (λ N. refl),
+    )
+    (rw (
+      taken_then id es (Took other xs),
+      size_then M id es (Took other (xs ++ ys)),
+      size_then M id half (Took other ys),
+      size_then M id es (Took other xs),
+    )
     (elim (cases_Bool (other == id)) [
       | inl here ↦ rw (here, append_assoc (taken_on id es) xs ys) refl
       | inr away ↦ rw (away, append-nil (taken_on id es), append-nil (taken_on id es)) refl
     ]))
 
 -- The steps of a slice are those of its parts.
-by_parts : (M : ℕ) (es : List AcceptedCall) (id : ℕ) (xs ys : List ℕ) → steps_by M es (Took id (xs ++ ys)) ≡ steps_by M es (Took id xs) ++ steps_by M (es ++ Took id xs ∷ []) (Took id ys)
+by_parts : (M : ℕ) (es : List AcceptedCall) (id : ℕ) (xs ys : List ℕ)
+    → steps_by M es (Took id (xs ++ ys)) ≡ steps_by M es (Took id xs) ++ steps_by M (es ++ Took id xs ∷ []) (Took id ys)
 unfolding steps_by
 by_parts M es id xs ys =
     let half : List AcceptedCall = es ++ Took id xs ∷ [] in
-    let whole = stream_alike M id (es ++ Took id (xs ++ ys) ∷ []) (half ++ Took id ys ∷ []) (spelled_twice M es id xs ys) in
+    let whole =
+    stream_alike M id (es ++ Took id (xs ++ ys) ∷ []) (half ++ Took id ys ∷ []) (spelled_twice M es id xs ys) in
     rw (whole, stream_more M id half ys, size_then M id es (Took id xs), stream_more M id es xs)
     (beyond_parts (size_on M id es) id (stream_on M id es) (stream_on M id es).fault xs ys refl)
 
 -- ---- the theorem
 
-pub cut_steps : (M : ℕ) (es fs : List AcceptedCall) (id : ℕ) (xs ys : List ℕ) → steps_of M (es ++ Took id (xs ++ ys) ∷ fs) ≡ steps_of M (es ++ Took id xs ∷ Took id ys ∷ fs)
+pub cut_steps : (M : ℕ) (es fs : List AcceptedCall) (id : ℕ) (xs ys : List ℕ)
+    → steps_of M (es ++ Took id (xs ++ ys) ∷ fs) ≡ steps_of M (es ++ Took id xs ∷ Took id ys ∷ fs)
 unfolding steps_of steps_behind
 cut_steps M es fs id xs ys =
     let half : List AcceptedCall = es ++ Took id xs ∷ [] in
@@ -85,9 +112,11 @@ cut_steps M es fs id xs ys =
       steps_behind_more M [] es (Took id xs ∷ Took id ys ∷ fs),
       by_parts M es id xs ys,
       behind_alike M (es ++ Took id (xs ++ ys) ∷ []) (half ++ Took id ys ∷ []) fs (spelled_twice M es id xs ys),
-      append_assoc (steps_by M es (Took id xs)) (steps_by M half (Took id ys)) (steps_behind M (half ++ Took id ys ∷ []) fs),
+      append_assoc (steps_by M es (Took id xs)) (steps_by M half (Took id ys))
+          (steps_behind M (half ++ Took id ys ∷ []) fs),
     ) refl
 
-pub cut_worlds : (c : ConfigValues) (es fs : List AcceptedCall) (id : ℕ) (xs ys : List ℕ) → world_after c (es ++ Took id (xs ++ ys) ∷ fs) ≡ world_after c (es ++ Took id xs ∷ Took id ys ∷ fs)
+pub cut_worlds : (c : ConfigValues) (es fs : List AcceptedCall) (id : ℕ) (xs ys : List ℕ)
+    → world_after c (es ++ Took id (xs ++ ys) ∷ fs) ≡ world_after c (es ++ Took id xs ∷ Took id ys ∷ fs)
 unfolding world_after
 cut_worlds c es fs id xs ys = ap (after_steps c.limits (new_world c)) (cut_steps c.limits.max_message es fs id xs ys)

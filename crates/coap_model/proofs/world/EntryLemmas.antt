@@ -1,5 +1,6 @@
 -- Lists of observers and other lists: facts on each element, and the first element that is due.
-use Rattle.std.proofs.Common.{◌≡◌, ℕ, ◌+◌, ◌≤◌, Bool, true, false, List, [], ◌∷◌, ◌++◌, length, map, Some, None, refl, subst, arith, filter, find, if◌then◌else◌, inl, inr}
+use Rattle.std.proofs.Common.{◌≡◌, ℕ, ◌+◌, ◌≤◌, Bool, true, false, List, [], ◌∷◌, ◌++◌, length, map, Some, None, refl}
+use Rattle.std.proofs.Common.{subst, arith, filter, find, if◌then◌else◌, inl, inr}
 use Rattle.coap_model.specs.Prelude.{AllByRecursion}
 use Rattle.coap_model.specs.Prelude.{with_entry, first_becomes}
 use Rattle.coap_model.specs.Prelude.{asks_entry, Watch}
@@ -9,34 +10,47 @@ use Rattle.coap_model.proofs.OptionLemmas.{same_there}
 
 -- ---- properties of each element
 
-pub all_to : {O : Type 0} (P Q : O → Type 0) → ((o : O) → P o → Q o) → (os : List O) → AllByRecursion P os → AllByRecursion Q os
+pub all_to : {O : Type 0} (P Q : O → Type 0) → ((o : O) → P o → Q o) → (os : List O)
+    → AllByRecursion P os → AllByRecursion Q os
 all_to P Q to [] all = tt
 all_to P Q to (o ∷ os) all = (to o all.0, all_to P Q to os all.1)
 
-pub all_append : {O : Type 0} (P : O → Type 0) (os ps : List O) → AllByRecursion P os → AllByRecursion P ps → AllByRecursion P (os ++ ps)
+pub all_append : {O : Type 0} (P : O → Type 0) (os ps : List O) → AllByRecursion P os → AllByRecursion P ps
+    → AllByRecursion P (os ++ ps)
 all_append P [] ps all more = more
 all_append P (o ∷ os) ps all more = (all.0, all_append P os ps all.1 more)
 
-pub all_filter : {O : Type 0} (P : O → Type 0) (test : O → Bool) (os : List O) → AllByRecursion P os → AllByRecursion P (filter test os)
+pub all_filter : {O : Type 0} (P : O → Type 0) (test : O → Bool) (os : List O) → AllByRecursion P os
+    → AllByRecursion P (filter test os)
 all_filter P test [] all = tt
-all_filter P test (o ∷ os) all = elim (cases_Bool (test o)) [ inl is ↦ rw is (all.0, all_filter P test os all.1) | inr is ↦ rw is (all_filter P test os all.1) ]
+all_filter P test (o ∷ os) all = elim (cases_Bool (test o)) [
+  | inl is ↦ rw is (all.0, all_filter P test os all.1)
+  | inr is ↦ rw is (all_filter P test os all.1)
+]
 
-pub all_map : {O R : Type 0} (P : O → Type 0) (Q : R → Type 0) (f : O → R) → ((o : O) → P o → Q (f o)) → (os : List O) → AllByRecursion P os → AllByRecursion Q (map f os)
+pub all_map : {O R : Type 0} (P : O → Type 0) (Q : R → Type 0) (f : O → R) → ((o : O) → P o → Q (f o)) → (os : List O)
+    → AllByRecursion P os → AllByRecursion Q (map f os)
 all_map P Q f to [] all = tt
 all_map P Q f to (o ∷ os) all = (to o all.0, all_map P Q f to os all.1)
 
-pub all_if : {O : Type 0} (P : O → Type 0) (b : Bool) (os : List O) → AllByRecursion P os → AllByRecursion P (if b then os else [])
+pub all_if : {O : Type 0} (P : O → Type 0) (b : Bool) (os : List O) → AllByRecursion P os
+    → AllByRecursion P (if b then os else [])
 all_if P b os all = cond_both b os [] (AllByRecursion P) (λ is. all) (λ is. tt)
 
-pub all_entered : {O : Type 0} (P : O → Type 0) (enters : Bool) (os : List O) (o : O) → AllByRecursion P os → (enters ≡ true → P o) → AllByRecursion P (with_entry enters os o)
+pub all_entered : {O : Type 0} (P : O → Type 0) (enters : Bool) (os : List O) (o : O) → AllByRecursion P os
+    → (enters ≡ true → P o) → AllByRecursion P (with_entry enters os o)
 all_entered P true os o all new = all_append P os (o ∷ []) all (new refl, tt)
 all_entered P false os o all new = all
 
-pub all_become : {O : Type 0} (P : O → Type 0) (due : O → Bool) (after os : List O) → AllByRecursion P os → AllByRecursion P after → AllByRecursion P (first_becomes due after os)
+pub all_become : {O : Type 0} (P : O → Type 0) (due : O → Bool) (after os : List O) → AllByRecursion P os
+    → AllByRecursion P after → AllByRecursion P (first_becomes due after os)
 unfolding first_becomes
 all_become P due after [] all new = tt
 all_become P due after (o ∷ os) all new =
-    elim (due o) as (λ b. AllByRecursion P (if b then after ++ os else o ∷ first_becomes due after os)) [ true ↦ all_append P after os new all.1 | false ↦ (all.0, all_become P due after os all.1 new) ]
+    elim (due o) as (λ b. AllByRecursion P (if b then after ++ os else o ∷ first_becomes due after os)) [
+      | true ↦ all_append P after os new all.1
+      | false ↦ (all.0, all_become P due after os all.1 new)
+    ]
 
 -- ---- the entry that a request asks for
 
@@ -46,7 +60,8 @@ asks_to_enter other e = absurd cc
 
 -- ---- lists that functions compute
 
-pub maps_alike : {A B C D : Type 0} (f : A → B) (g : B → D) (h : A → C) (k : C → D) (xs : List A) → AllByRecursion (λ x. g (f x) ≡ k (h x)) xs → map g (map f xs) ≡ map k (map h xs)
+pub maps_alike : {A B C D : Type 0} (f : A → B) (g : B → D) (h : A → C) (k : C → D) (xs : List A)
+    → AllByRecursion (λ x. g (f x) ≡ k (h x)) xs → map g (map f xs) ≡ map k (map h xs)
 maps_alike f g h k [] same = refl
 maps_alike f g h k (x ∷ xs) same = cc (same.0, maps_alike f g h k xs same.1)
 
@@ -54,13 +69,15 @@ pub all_stay : {A : Type 0} (f : A → A) (xs : List A) → AllByRecursion (λ x
 all_stay f [] same = refl
 all_stay f (x ∷ xs) same = cc (same.0, all_stay f xs same.1)
 
-pub mapped_filter : {A B : Type 0} (f : A → B) (test : B → Bool) (xs : List A) → map f (filter (λ x. test (f x)) xs) ≡ filter test (map f xs)
+pub mapped_filter : {A B : Type 0} (f : A → B) (test : B → Bool) (xs : List A)
+    → map f (filter (λ x. test (f x)) xs) ≡ filter test (map f xs)
 mapped_filter f test [] = refl
 mapped_filter f test (x ∷ xs) = grind (arith, mapped_filter f test xs)
 
 -- ---- the first element that is due
 
-pub found_all : {O : Type 0} (P : O → Type 0) (due : O → Bool) (os : List O) (o : O) → AllByRecursion P os → find due os ≡ Some o → P o
+pub found_all : {O : Type 0} (P : O → Type 0) (due : O → Bool) (os : List O) (o : O) → AllByRecursion P os
+    → find due os ≡ Some o → P o
 found_all P due [] o all e = absurd cc
 found_all P due (p ∷ os) o all e =
     cond_both (due p) (Some p) (find due os) (λ found. found ≡ Some o → P o)
@@ -70,7 +87,8 @@ pub none_due : {O : Type 0} (due : O → Bool) (os : List O) → find due os ≡
 none_due due [] e = tt
 none_due due (o ∷ os) e = elim (cases_Bool (due o)) [ inl is ↦ absurd cc | inr is ↦ (is, none_due due os (rw is at e)) ]
 
-pub none_found : {O : Type 0} (due : O → Bool) (os : List O) → AllByRecursion (λ o. due o ≡ false) os → find due os ≡ None
+pub none_found : {O : Type 0} (due : O → Bool) (os : List O)
+    → AllByRecursion (λ o. due o ≡ false) os → find due os ≡ None
 none_found due [] quiet = refl
 none_found due (o ∷ os) quiet = rw quiet.0 (none_found due os quiet.1)
 
@@ -90,13 +108,16 @@ unfolding count_due
 none_counted due [] e = refl
 none_counted due (o ∷ os) e = grind (arith, none_counted due os)
 
-count_behind : {O : Type 0} (due : O → Bool) (front os : List O) → count_due due front ≡ 0 → count_due due (front ++ os) ≡ count_due due os
+count_behind : {O : Type 0} (due : O → Bool) (front os : List O) → count_due due front ≡ 0
+    → count_due due (front ++ os) ≡ count_due due os
 unfolding count_due
 count_behind due [] os none = refl
 count_behind due (q ∷ front) os none = grind (arith, count_behind due front os)
 
 -- The count decreases by one if elements that are not due replace the first due one.
-pub count_less : {O : Type 0} (due : O → Bool) (os : List O) (o : O) (after : List O) → count_due due after ≡ 0 → find due os ≡ Some o → count_due due (first_becomes due after os) + 1 ≡ count_due due os
+pub count_less : {O : Type 0} (due : O → Bool) (os : List O) (o : O) (after : List O) → count_due due after ≡ 0
+    → find due os ≡ Some o → count_due due (first_becomes due after os) + 1 ≡ count_due due os
 unfolding count_due first_becomes
 count_less due [] o after quiet e = absurd cc
-count_less due (p ∷ os) o after quiet e = grind (arith, count_behind due after os quiet, count_less due os o after quiet)
+count_less due (p ∷ os) o after quiet e =
+    grind (arith, count_behind due after os quiet, count_less due os o after quiet)

@@ -1,18 +1,24 @@
 -- A connection that does not exist has no requests, or it was dropped and its requests are those before the drop.
-use Rattle.std.proofs.Common.{◌≡◌, ◌≢◌, ℕ, ◌==◌, List, [], ◌∷◌, ◌++◌, map, Option, Some, None, refl, sym, ap, subst, ◌∙◌, inl, inr, append_assoc, is_none, option_map}
+use Rattle.std.proofs.Common.{◌≡◌, ◌≢◌, ℕ, ◌==◌, List, [], ◌∷◌, ◌++◌, map, Option, Some, None, refl, sym, ap, subst}
+use Rattle.std.proofs.Common.{◌∙◌, inl, inr, append_assoc, is_none, option_map}
 use Rattle.std.proofs.lemmas.Bool.{cond_both, cases_eq, ne_eqb}
 use Rattle.std.proofs.lemmas.List.{append-nil}
-use Rattle.coap_model.specs.Prelude.{AllByRecursion, LimitValues, ConfigValues, Connection, new_side, put_refusal, ticks}
-use Rattle.coap_model.specs.Prelude.{side_after, side_faulted, side_written, side_ended, side_released, side_announced, side_responded, settled}
-use Rattle.coap_model.specs.Prelude.{World, Step, ConnectionEntry, side_of, acted, after_steps, AcceptedCall, steps_of, steps_by, steps_behind, world_after, stream_on, IsAccepted, AreAccepted}
-use Rattle.coap_model.specs.Prelude.{ApplicationRequest, if_there, requests_after, requests_responded, requests_settled, requests_acted, requests_then, requests_by, requests_on}
+use Rattle.coap_model.specs.Prelude.{AllByRecursion, LimitValues, ConfigValues, Connection, new_side, put_refusal}
+use Rattle.coap_model.specs.Prelude.{ticks}
+use Rattle.coap_model.specs.Prelude.{side_after, side_faulted, side_written, side_ended, side_released, side_announced}
+use Rattle.coap_model.specs.Prelude.{side_responded, settled}
+use Rattle.coap_model.specs.Prelude.{World, Step, ConnectionEntry, side_of, acted, after_steps, AcceptedCall, steps_of}
+use Rattle.coap_model.specs.Prelude.{steps_by, steps_behind, world_after, stream_on, IsAccepted, AreAccepted}
+use Rattle.coap_model.specs.Prelude.{ApplicationRequest, if_there, requests_after, requests_responded, requests_settled}
+use Rattle.coap_model.specs.Prelude.{requests_acted, requests_then, requests_by, requests_on}
 use Rattle.coap_model.specs.Prelude.{given_in, given_on, IsGone, WasDropped, response_refusal, link_of}
 use Rattle.coap_model.specs.world.World.{changed_at}
 use Rattle.coap_model.specs.world.World as world
 use Rattle.coap_model.specs.world.Events as event
 use Rattle.coap_model.proofs.OptionLemmas.{none_made}
 use Rattle.coap_model.proofs.world.WalkLaws.{there_or_not}
-use Rattle.coap_model.proofs.world.PlaceLaws.{but, all_there, changed_here, changed_elsewhere, still_there, other_more, none_mapped, dropped_here, dropped_elsewhere}
+use Rattle.coap_model.proofs.world.PlaceLaws.{but, all_there, changed_here, changed_elsewhere, still_there, other_more}
+use Rattle.coap_model.proofs.world.PlaceLaws.{none_mapped, dropped_here, dropped_elsewhere}
 use Rattle.coap_model.proofs.world.AcrossLaws.{opened_there}
 use Rattle.coap_model.proofs.world.StepLaws.{by_events, world_more, world_step, each_beyond}
 use Rattle.coap_model.proofs.world.ReachedLaws.{step_keeps, on_one}
@@ -26,9 +32,11 @@ abbrev OpensNot : ℕ → Step → Type 0
 OpensNot id (world.Opened other) = other ≢ id
 OpensNot id other = Unit {0}
 
-step_gone : (limits : LimitValues) (id : ℕ) (w : World) (st : Step) → OpensNot id st → side_of id w.sides ≡ None → side_of id (world.step limits w st).sides ≡ None
+step_gone : (limits : LimitValues) (id : ℕ) (w : World) (st : Step) → OpensNot id st → side_of id w.sides ≡ None
+    → side_of id (world.step limits w st).sides ≡ None
 step_gone limits id w st apart none = step_keeps (λ v. side_of id v.sides ≡ None) limits w none st (record {
-  opened = λ other is free. other_more id w.sides (record { id = other; side = new_side limits }) (subst (OpensNot id) is apart) ∙ none;
+  opened = λ other is free.
+      other_more id w.sides (record { id = other; side = new_side limits }) (subst (OpensNot id) is apart) ∙ none;
   changed = λ v g keeps still. none_mapped id g keeps v.sides still;
   told = λ v store now still. still;
   dropped = λ other. elim (cases_eq other id) [
@@ -37,32 +45,41 @@ step_gone limits id w st apart none = step_keeps (λ v. side_of id v.sides ≡ N
   ];
 })
 
-acted_gone : (limits : LimitValues) (id : ℕ) (w : World) (st : Step) → OpensNot id st → side_of id w.sides ≡ None → side_of id (acted limits w st).sides ≡ None
+acted_gone : (limits : LimitValues) (id : ℕ) (w : World) (st : Step) → OpensNot id st → side_of id w.sides ≡ None
+    → side_of id (acted limits w st).sides ≡ None
 unfolding world.step
 acted_gone limits id w st apart none =
     let did : World = acted limits w st in
-    none_made (settled did.store did.now) (side_of id did.sides) (sym (all_there id (settled did.store did.now) did.sides) ∙ step_gone limits id w st apart none)
+    none_made (settled did.store did.now) (side_of id did.sides)
+    (sym (all_there id (settled did.store did.now) did.sides) ∙ step_gone limits id w st apart none)
 
 -- It has the same requests after a step.
-acted_same : (id : ℕ) (w : World) (st : Step) (rs : List ApplicationRequest) → OpensNot id st → side_of id w.sides ≡ None → requests_acted id w st rs ≡ rs
+acted_same : (id : ℕ) (w : World) (st : Step) (rs : List ApplicationRequest) → OpensNot id st
+    → side_of id w.sides ≡ None → requests_acted id w st rs ≡ rs
 unfolding requests_acted
 acted_same id w (world.Opened other) rs apart none = rw (ne_eqb other id apart) refl
 acted_same id w (world.Handled other m) rs apart none =
-    cond_both (other == id) _ rs (λ qs. qs ≡ rs) (λ here. ap (λ (found : Option Connection). if_there found (λ s. requests_after w.store w.now s m) rs) none) (λ away. refl)
+    cond_both (other == id) _ rs (λ qs. qs ≡ rs)
+    (λ here. ap (λ (found : Option Connection). if_there found (λ s. requests_after w.store w.now s m) rs) none)
+    (λ away. refl)
 acted_same id w (world.Responded other m) rs apart none =
-    cond_both (other == id) _ rs (λ qs. qs ≡ rs) (λ here. ap (λ (found : Option Connection). if_there found (λ s. requests_responded s m) rs) none) (λ away. refl)
+    cond_both (other == id) _ rs (λ qs. qs ≡ rs)
+    (λ here. ap (λ (found : Option Connection). if_there found (λ s. requests_responded s m) rs) none) (λ away. refl)
 acted_same id w other rs apart none = refl
 
 then_same : (id : ℕ) (w : World) (rs : List ApplicationRequest) → side_of id w.sides ≡ None → requests_then id w rs ≡ rs
 unfolding requests_then
 then_same id w rs none = ap (λ (found : Option Connection). if_there found (requests_settled w.store w.now) rs) none
 
-steps_same : (limits : LimitValues) (id : ℕ) (w : World) (ss : List Step) (rs : List ApplicationRequest) → AllByRecursion (OpensNot id) ss → side_of id w.sides ≡ None → requests_by limits id w ss rs ≡ rs
+steps_same : (limits : LimitValues) (id : ℕ) (w : World) (ss : List Step) (rs : List ApplicationRequest)
+    → AllByRecursion (OpensNot id) ss → side_of id w.sides ≡ None → requests_by limits id w ss rs ≡ rs
 unfolding requests_by
 steps_same limits id w [] rs apart none = refl
 steps_same limits id w (s ∷ ss) rs apart none =
-    steps_same limits id (world.step limits w s) ss (requests_then id (acted limits w s) (requests_acted id w s rs)) apart.1 (step_gone limits id w s apart.0 none)
-    ∙ then_same id (acted limits w s) (requests_acted id w s rs) (acted_gone limits id w s apart.0 none) ∙ acted_same id w s rs apart.0 none
+    steps_same limits id (world.step limits w s) ss (requests_then id (acted limits w s) (requests_acted id w s rs))
+    apart.1 (step_gone limits id w s apart.0 none)
+    ∙ then_same id (acted limits w s) (requests_acted id w s rs) (acted_gone limits id w s apart.0 none)
+    ∙ acted_same id w s rs apart.0 none
 
 -- ---- a connection that exists
 
@@ -75,35 +92,50 @@ DropsNot id other = Unit {0}
 abbrev Exists : ℕ → List ConnectionEntry → Type 0
 Exists id sides = (s : Connection) × (side_of id sides ≡ Some s)
 
-changed_exists : (id at : ℕ) (f : Connection → Connection) (sides : List ConnectionEntry) → Exists id sides → Exists id (map (changed_at at f) sides)
+changed_exists : (id at : ℕ) (f : Connection → Connection) (sides : List ConnectionEntry) → Exists id sides
+    → Exists id (map (changed_at at f) sides)
 changed_exists id at f sides is = elim (cases_eq at id) [
-  | inl here ↦ (f is.0, ap (λ (n : ℕ). side_of id (map (changed_at n f) sides)) here ∙ changed_here id f sides ∙ ap (option_map f) is.1)
+  | inl here ↦ (
+    f is.0,
+    ap (λ (n : ℕ). side_of id (map (changed_at n f) sides)) here ∙ changed_here id f sides ∙ ap (option_map f) is.1,
+  )
   | inr apart ↦ (is.0, changed_elsewhere at id f sides apart ∙ is.1)
 ]
 
-acted_exists : (limits : LimitValues) (id : ℕ) (w : World) (st : Step) → DropsNot id st → Exists id w.sides → Exists id (acted limits w st).sides
+acted_exists : (limits : LimitValues) (id : ℕ) (w : World) (st : Step) → DropsNot id st → Exists id w.sides
+    → Exists id (acted limits w st).sides
 unfolding acted
 acted_exists limits id w (world.Opened other) stays is =
-    cond_both (is_none (side_of other w.sides)) _ w (λ (v : World). Exists id v.sides) (λ new. (is.0, still_there id is.0 w.sides _ is.1)) (λ old. is)
-acted_exists limits id w (world.Handled at m) stays is = changed_exists id at (λ s. side_after w.store w.now s m) w.sides is
+    cond_both (is_none (side_of other w.sides)) _ w (λ (v : World). Exists id v.sides)
+    (λ new. (is.0, still_there id is.0 w.sides _ is.1)) (λ old. is)
+acted_exists limits id w (world.Handled at m) stays is =
+    changed_exists id at (λ s. side_after w.store w.now s m) w.sides is
 acted_exists limits id w (world.Faulted at fault) stays is = changed_exists id at (λ s. side_faulted s fault) w.sides is
 acted_exists limits id w (world.Written at n) stays is = changed_exists id at (λ s. side_written s n) w.sides is
-acted_exists limits id w (world.Ticked now) stays is = cond_both (ticks w.now now) _ w (λ (v : World). Exists id v.sides) (λ may. is) (λ early. is)
-acted_exists limits id w (world.Stored path format bytes) stays is = cond_both (is_none (put_refusal w.store path bytes)) _ w (λ (v : World). Exists id v.sides) (λ may. is) (λ refused. is)
+acted_exists limits id w (world.Ticked now) stays is =
+    cond_both (ticks w.now now) _ w (λ (v : World). Exists id v.sides) (λ may. is) (λ early. is)
+acted_exists limits id w (world.Stored path format bytes) stays is =
+    cond_both (is_none (put_refusal w.store path bytes)) _ w (λ (v : World). Exists id v.sides)
+    (λ may. is) (λ refused. is)
 acted_exists limits id w (world.Removed path) stays is = is
 acted_exists limits id w (world.Ended at cut) stays is = changed_exists id at (λ s. side_ended s cut) w.sides is
 acted_exists limits id w (world.Released at) stays is = changed_exists id at side_released w.sides is
-acted_exists limits id w (world.Announced at size) stays is = changed_exists id at (λ s. side_announced s size) w.sides is
+acted_exists limits id w (world.Announced at size) stays is =
+    changed_exists id at (λ s. side_announced s size) w.sides is
 acted_exists limits id w (world.Responded at m) stays is = changed_exists id at (λ s. side_responded s m) w.sides is
 acted_exists limits id w (world.Dropped other) stays is = (is.0, dropped_elsewhere other id w.sides stays ∙ is.1)
 
-steps_exist : (limits : LimitValues) (id : ℕ) (w : World) (ss : List Step) → AllByRecursion (DropsNot id) ss → Exists id w.sides → Exists id (after_steps limits w ss).sides
+steps_exist : (limits : LimitValues) (id : ℕ) (w : World) (ss : List Step) → AllByRecursion (DropsNot id) ss
+    → Exists id w.sides → Exists id (after_steps limits w ss).sides
 unfolding after_steps world.step
 steps_exist limits id w [] stays is = is
 steps_exist limits id w (s ∷ ss) stays is =
     let did : World = acted limits w s in
     let made = acted_exists limits id w s stays.0 is in
-    steps_exist limits id (world.step limits w s) ss stays.1 (settled did.store did.now made.0, all_there id (settled did.store did.now) did.sides ∙ ap (option_map (settled did.store did.now)) made.1)
+    steps_exist limits id (world.step limits w s) ss stays.1 (
+      settled did.store did.now made.0,
+      all_there id (settled did.store did.now) did.sides ∙ ap (option_map (settled did.store did.now)) made.1,
+    )
 
 -- ---- events
 
@@ -112,10 +144,13 @@ abbrev OpensNotBy : ℕ → AcceptedCall → Type 0
 OpensNotBy id (event.Opened other) = other ≢ id
 OpensNotBy id other = Unit {0}
 
-not_opened : (id M : ℕ) (es : List AcceptedCall) (e : AcceptedCall) → OpensNotBy id e → AllByRecursion (OpensNot id) (steps_by M es e)
+not_opened : (id M : ℕ) (es : List AcceptedCall) (e : AcceptedCall) → OpensNotBy id e
+    → AllByRecursion (OpensNot id) (steps_by M es e)
 unfolding steps_by
 not_opened id M es (event.Opened other) apart = (apart, tt)
-not_opened id M es (event.Took other bytes) apart = each_beyond (OpensNot id) other (stream_on M other es) (stream_on M other (es ++ event.Took other bytes ∷ [])) (λ m. tt) (λ fault. tt)
+not_opened id M es (event.Took other bytes) apart =
+    each_beyond (OpensNot id) other (stream_on M other es) (stream_on M other (es ++ event.Took other bytes ∷ []))
+    (λ m. tt) (λ fault. tt)
 not_opened id M es e apart = (tt, tt)
 
 -- The event does not drop the connection.
@@ -123,10 +158,13 @@ abbrev DropsNotBy : ℕ → AcceptedCall → Type 0
 DropsNotBy id (event.Dropped other) = other ≢ id
 DropsNotBy id other = Unit {0}
 
-not_dropped : (id M : ℕ) (es : List AcceptedCall) (e : AcceptedCall) → DropsNotBy id e → AllByRecursion (DropsNot id) (steps_by M es e)
+not_dropped : (id M : ℕ) (es : List AcceptedCall) (e : AcceptedCall) → DropsNotBy id e
+    → AllByRecursion (DropsNot id) (steps_by M es e)
 unfolding steps_by
 not_dropped id M es (event.Dropped other) apart = (apart, tt)
-not_dropped id M es (event.Took other bytes) apart = each_beyond (DropsNot id) other (stream_on M other es) (stream_on M other (es ++ event.Took other bytes ∷ [])) (λ m. tt) (λ fault. tt)
+not_dropped id M es (event.Took other bytes) apart =
+    each_beyond (DropsNot id) other (stream_on M other es) (stream_on M other (es ++ event.Took other bytes ∷ []))
+    (λ m. tt) (λ fault. tt)
 not_dropped id M es e apart = (tt, tt)
 
 module _ (c : ConfigValues) (id : ℕ) where
@@ -146,18 +184,22 @@ module _ (c : ConfigValues) (id : ℕ) where
     rs = requests_on c id es
 
     -- The connection did not exist before, and does not after the event.
-    remains : (e : AcceptedCall) → side_of id w.sides ≡ None → OpensNotBy id e → given_in id e ≡ [] → IsGone c id (es ++ e ∷ [])
+    remains : (e : AcceptedCall) → side_of id w.sides ≡ None → OpensNotBy id e → given_in id e ≡ []
+        → IsGone c id (es ++ e ∷ [])
     remains e none apart nothing =
         let requests : requests_on c id (es ++ e ∷ []) ≡ rs =
-        requests_last c id es e ∙ steps_same c.limits id w (steps_by c.limits.max_message es e) rs (not_opened id c.limits.max_message es e apart) none in
-        let given : given_on id (es ++ e ∷ []) ≡ given_on id es = given_then id es e ∙ ap (λ ms. given_on id es ++ ms) nothing ∙ append-nil (given_on id es) in
+        requests_last c id es e ∙ steps_same c.limits id w (steps_by c.limits.max_message es e) rs
+        (not_opened id c.limits.max_message es e apart) none in
+        let given : given_on id (es ++ e ∷ []) ≡ given_on id es =
+        given_then id es e ∙ ap (λ ms. given_on id es ++ ms) nothing ∙ append-nil (given_on id es) in
         elim (before none) [
           | inl never ↦ inl (requests ∙ never.0, given ∙ never.1)
           | inr was ↦ inr (record {
             earlier = was.earlier;
             later = was.later ++ e ∷ [];
             connection = was.connection;
-            parts = ap (λ ds. ds ++ e ∷ []) was.parts ∙ append_assoc was.earlier (event.Dropped id ∷ was.later) (e ∷ []);
+            parts =
+                ap (λ ds. ds ++ e ∷ []) was.parts ∙ append_assoc was.earlier (event.Dropped id ∷ was.later) (e ∷ []);
             accepted = was.accepted;
             there = was.there;
             requests = requests ∙ was.requests;
@@ -168,14 +210,20 @@ module _ (c : ConfigValues) (id : ℕ) where
     -- An event that opens it leaves it there.
     opened_exists : side_of id w.sides ≡ None → Exists id (world_after c (es ++ event.Opened id ∷ [])).sides
     unfolding steps_by
-    opened_exists none = (settled w.store w.now (new_side c.limits), ap (λ (v : World). side_of id v.sides) (world_step c es (event.Opened id) (world.Opened id) refl) ∙ opened_there c.limits w id none)
+    opened_exists none = (
+      settled w.store w.now (new_side c.limits),
+      ap (λ (v : World). side_of id v.sides) (world_step c es (event.Opened id) (world.Opened id) refl)
+          ∙ opened_there c.limits w id none,
+    )
 
-    still_gone : (e : AcceptedCall) → side_of id w.sides ≡ None → IsAccepted c es e → side_of id (world_after c (es ++ e ∷ [])).sides ≡ None → IsGone c id (es ++ e ∷ [])
+    still_gone : (e : AcceptedCall) → side_of id w.sides ≡ None → IsAccepted c es e
+        → side_of id (world_after c (es ++ e ∷ [])).sides ≡ None → IsGone c id (es ++ e ∷ [])
     unfolding IsAccepted
     still_gone (event.Opened other) none own gone = elim (cases_eq other id) [
       | inl here ↦ (
           let opened = opened_exists none in
-          absurd (none_or_some opened.0 (sym gone ∙ ap (λ (n : ℕ). side_of id (world_after c (es ++ event.Opened n ∷ [])).sides) here ∙ opened.1)))
+          absurd (none_or_some opened.0
+          (sym gone ∙ ap (λ (n : ℕ). side_of id (world_after c (es ++ event.Opened n ∷ [])).sides) here ∙ opened.1)))
       | inr apart ↦ remains (event.Opened other) none apart refl
     ]
     still_gone (event.Responded other m) none own gone = elim (cases_eq other id) [
@@ -189,7 +237,9 @@ module _ (c : ConfigValues) (id : ℕ) where
     -- It existed before. So the event drops it.
     dropped_requests : requests_on c id (es ++ event.Dropped id ∷ []) ≡ rs
     unfolding steps_by requests_by requests_acted acted
-    dropped_requests = requests_last c id es (event.Dropped id) ∙ then_same id (acted c.limits w (world.Dropped id)) rs (dropped_here id w.sides)
+    dropped_requests =
+        requests_last c id es (event.Dropped id)
+        ∙ then_same id (acted c.limits w (world.Dropped id)) rs (dropped_here id w.sides)
 
     just_dropped : (s : Connection) → side_of id w.sides ≡ Some s → WasDropped c id (es ++ event.Dropped id ∷ [])
     just_dropped s there = record {
@@ -203,23 +253,30 @@ module _ (c : ConfigValues) (id : ℕ) where
       given = given_then id es (event.Dropped id) ∙ append-nil (given_on id es);
     }
 
-    never_gone : (e : AcceptedCall) (s : Connection) → side_of id w.sides ≡ Some s → DropsNotBy id e → side_of id (world_after c (es ++ e ∷ [])).sides ≡ None → ⊥
+    never_gone : (e : AcceptedCall) (s : Connection) → side_of id w.sides ≡ Some s → DropsNotBy id e
+        → side_of id (world_after c (es ++ e ∷ [])).sides ≡ None → ⊥
     never_gone e s there stays gone =
-        let found = steps_exist c.limits id w (steps_by c.limits.max_message es e) (not_dropped id c.limits.max_message es e stays) (s, there) in
+        let found = steps_exist c.limits id w (steps_by c.limits.max_message es e)
+        (not_dropped id c.limits.max_message es e stays) (s, there) in
         none_or_some found.0 (sym gone ∙ ap (λ (v : World). side_of id v.sides) (world_more c es e) ∙ found.1)
 
-    now_gone : (e : AcceptedCall) (s : Connection) → side_of id w.sides ≡ Some s → side_of id (world_after c (es ++ e ∷ [])).sides ≡ None → IsGone c id (es ++ e ∷ [])
+    now_gone : (e : AcceptedCall) (s : Connection) → side_of id w.sides ≡ Some s
+        → side_of id (world_after c (es ++ e ∷ [])).sides ≡ None → IsGone c id (es ++ e ∷ [])
     now_gone (event.Dropped other) s there gone = elim (cases_eq other id) [
-      | inl here ↦ inr (subst (λ (n : ℕ). WasDropped c id (es ++ event.Dropped n ∷ [])) (sym here) (just_dropped s there))
+      | inl here ↦
+          inr (subst (λ (n : ℕ). WasDropped c id (es ++ event.Dropped n ∷ [])) (sym here) (just_dropped s there))
       | inr apart ↦ absurd (never_gone (event.Dropped other) s there apart gone)
     ]
     now_gone e s there gone = absurd (never_gone e s there tt gone)
 
     event_gone : (e : AcceptedCall) → IsAccepted c es e → GoneAfter (es ++ e ∷ [])
     event_gone e own gone =
-        there_or_not (side_of id w.sides) (λ found. IsGone c id (es ++ e ∷ [])) (λ none. still_gone e none own gone) (λ s there. now_gone e s there gone)
+        there_or_not (side_of id w.sides) (λ found. IsGone c id (es ++ e ∷ [])) (λ none. still_gone e none own gone)
+        (λ s there. now_gone e s there gone)
 
 -- After accepted events, a connection that does not exist has no requests, or it was dropped.
-pub gone_or_dropped : (c : ConfigValues) (es : List AcceptedCall) (id : ℕ) → AreAccepted c es → side_of id (world_after c es).sides ≡ None → IsGone c id es
+pub gone_or_dropped : (c : ConfigValues) (es : List AcceptedCall) (id : ℕ) → AreAccepted c es
+    → side_of id (world_after c es).sides ≡ None → IsGone c id es
 gone_or_dropped c es id accepted =
-    by_events c (GoneAfter c id) (first_gone c id) (λ fs e before own is. event_gone c id fs before is e own) es accepted
+    by_events c (GoneAfter c id) (first_gone c id)
+    (λ fs e before own is. event_gone c id fs before is e own) es accepted

@@ -1,15 +1,24 @@
 -- The requests that an event hands to the application.
-use Rattle.std.proofs.Common.{arith, is_none, ◌≢◌, ◌≡◌, ℕ, zero, suc, ◌+◌, Bool, true, false, cond, ◌&&◌, ◌==◌, List, [], ◌∷◌, ◌++◌, length, map, filter, drop, Option, Some, None, Result, Ok, Err, refl, sym, ap, subst, ◌∙◌, inl, inr}
+use Rattle.std.proofs.Common.{arith, is_none, ◌≢◌, ◌≡◌, ℕ, zero, suc, ◌+◌, Bool, true, false, cond, ◌&&◌, ◌==◌, List}
+use Rattle.std.proofs.Common.{[], ◌∷◌, ◌++◌, length, map, filter, drop, Option, Some, None, Result, Ok, Err, refl, sym}
+use Rattle.std.proofs.Common.{ap, subst, ◌∙◌, inl, inr}
 use Rattle.std.proofs.lemmas.Bool.{both_ways, cond_both, cases_Bool, cases_eq, eq-eqb, ne_eqb}
 use Rattle.std.proofs.lemmas.List.{append-nil, map-append, nil_from_length}
 use Rattle.std.proofs.lemmas.List.Elements.{filter-append}
 use Rattle.std.proofs.Math.Seq.{drop-length, drop-append_seam}
-use Rattle.coap_model.specs.Prelude.{Engine, Application, Message, StreamFault, message_of, FormatFault, FrameEventValue, AFrame, AFault, ConfigValues, standing_now, may_hold, is_asking}
-use Rattle.coap_model.specs.Prelude.{PendingEntryValue, Answer, Pong, StoreValue, answer_of, application_deadline, Connection, Delay, delay_by, delay_or, delay_of, held_for, asks_answer, handles, held_message, next_held, settled_once, settled, side_after, side_faulted}
-use Rattle.coap_model.specs.Prelude.{World, Step, side_of, acted, AcceptedCall, Took, steps_by, world_after, stream_on, size_on, takes, IsAccepted, AreAccepted}
-use Rattle.coap_model.specs.Prelude.{Fate, ApplicationRequest, new_request, fate_by, is_unanswered_with, with_fate, if_there, requests_after, requests_due, requests_once, requests_within, requests_settled, requests_acted, requests_then, requests_by, requests_on}
+use Rattle.coap_model.specs.Prelude.{Engine, Application, Message, StreamFault, message_of, FormatFault}
+use Rattle.coap_model.specs.Prelude.{FrameEventValue, AFrame, AFault, ConfigValues, standing_now, may_hold, is_asking}
+use Rattle.coap_model.specs.Prelude.{PendingEntryValue, Answer, Pong, StoreValue, answer_of, application_deadline}
+use Rattle.coap_model.specs.Prelude.{Connection, Delay, delay_by, delay_or, delay_of, held_for, asks_answer, handles}
+use Rattle.coap_model.specs.Prelude.{held_message, next_held, settled_once, settled, side_after, side_faulted}
+use Rattle.coap_model.specs.Prelude.{World, Step, side_of, acted, AcceptedCall, Took, steps_by, world_after, stream_on}
+use Rattle.coap_model.specs.Prelude.{size_on, takes, IsAccepted, AreAccepted}
+use Rattle.coap_model.specs.Prelude.{Fate, ApplicationRequest, new_request, fate_by, is_unanswered_with, with_fate}
+use Rattle.coap_model.specs.Prelude.{if_there, requests_after, requests_due, requests_once, requests_within}
+use Rattle.coap_model.specs.Prelude.{requests_settled, requests_acted, requests_then, requests_by, requests_on}
 use Rattle.std.specs.List.{flat_map}
-use Rattle.coap_model.specs.Prelude.{frame_then, AllByRecursion, LimitValues, after_steps, requests_responded, response_refusal, link_of}
+use Rattle.coap_model.specs.Prelude.{frame_then, AllByRecursion, LimitValues, after_steps, requests_responded}
+use Rattle.coap_model.specs.Prelude.{response_refusal, link_of}
 use Rattle.coap_model.specs.Prelude.{handed_requests, handed_in, handed_between, is_by_application, History}
 use Rattle.coap_model.specs.world.World as world
 use Rattle.coap_model.specs.world.Events as event
@@ -22,7 +31,8 @@ use Rattle.coap_model.proofs.world.SideLaws.{handles_parts}
 use Rattle.coap_model.proofs.world.AcrossLaws.{handled_there, faulted_there, step_across}
 use Rattle.coap_model.proofs.world.StepLaws.{world_same, world_step, world_more, each_beyond}
 use Rattle.coap_model.proofs.world.TookLaws.{no_bytes_steps, Adds, adds_frame}
-use Rattle.coap_model.proofs.world.ReachedLaws.{IsReached, accepted_is, handling_goes_on, takes_there, on_one, number_given}
+use Rattle.coap_model.proofs.world.ReachedLaws.{IsReached, accepted_is, handling_goes_on, takes_there, on_one}
+use Rattle.coap_model.proofs.world.ReachedLaws.{number_given}
 use Rattle.coap_model.proofs.world.BecameLaws.{settled_handles_none, side_rejects, HandlesNone, IsElsewhere, rests_of}
 use Rattle.coap_model.proofs.world.CustodyLaws.{HasHeard, handled_hears}
 use Rattle.coap_model.proofs.world.AskedLaws.{answered_is_request}
@@ -31,39 +41,50 @@ use Rattle.coap_model.proofs.world.FateGiven.{requests_last}
 
 -- ---- lists of requests
 
-one_handed : (r : ApplicationRequest) (rs : List ApplicationRequest) → handed_requests (r ∷ rs) ≡ cond r.handed (r.request ∷ handed_requests rs) (handed_requests rs)
+one_handed : (r : ApplicationRequest) (rs : List ApplicationRequest)
+    → handed_requests (r ∷ rs) ≡ cond r.handed (r.request ∷ handed_requests rs) (handed_requests rs)
 one_handed r rs = elim (cases_Bool r.handed) [ inl is ↦ rw is refl | inr other ↦ rw other refl ]
 
 handed_more : (rs qs : List ApplicationRequest) → handed_requests (rs ++ qs) ≡ handed_requests rs ++ handed_requests qs
 handed_more rs qs =
     ap (map (λ (r : ApplicationRequest). r.request)) (filter-append (λ (r : ApplicationRequest). r.handed) rs qs)
-    ∙ map-append (λ (r : ApplicationRequest). r.request) (filter (λ (r : ApplicationRequest). r.handed) rs) (filter (λ (r : ApplicationRequest). r.handed) qs)
+    ∙ map-append (λ (r : ApplicationRequest). r.request) (filter (λ (r : ApplicationRequest). r.handed) rs)
+    (filter (λ (r : ApplicationRequest). r.handed) qs)
 
 -- Another fate changes none of them.
-fate_hands : (test : ApplicationRequest → Bool) (fate : Fate) (rs : List ApplicationRequest) → handed_requests (with_fate test fate rs) ≡ handed_requests rs
+fate_hands : (test : ApplicationRequest → Bool) (fate : Fate) (rs : List ApplicationRequest)
+    → handed_requests (with_fate test fate rs) ≡ handed_requests rs
 unfolding with_fate
 fate_hands test fate [] = refl
 fate_hands test fate (r ∷ rs) =
     cond_both (test r) _ _ (λ (qs : List ApplicationRequest). handed_requests qs ≡ handed_requests (r ∷ rs))
     (λ is. one_handed (record r { fate = fate }) rs ∙ sym (one_handed r rs))
-    (λ other. one_handed r (with_fate test fate rs) ∙ ap (λ ms. cond r.handed (r.request ∷ ms) ms) (fate_hands test fate rs) ∙ sym (one_handed r rs))
+    (λ other. one_handed r (with_fate test fate rs)
+    ∙ ap (λ ms. cond r.handed (r.request ∷ ms) ms) (fate_hands test fate rs) ∙ sym (one_handed r rs))
 
-due_hands : (s : Connection) (found : Option PendingEntryValue) (rs : List ApplicationRequest) → handed_requests (requests_due s found rs) ≡ handed_requests rs
+due_hands : (s : Connection) (found : Option PendingEntryValue) (rs : List ApplicationRequest)
+    → handed_requests (requests_due s found rs) ≡ handed_requests rs
 due_hands s None rs = refl
 due_hands s (Some (Answer Engine token moment)) rs = refl
-due_hands s (Some (Answer Application token moment)) rs = fate_hands (λ r. is_unanswered_with token r && r.deadline == moment) (fate_by Engine s.history (held_message Application token)) rs
+due_hands s (Some (Answer Application token moment)) rs =
+    fate_hands (λ r. is_unanswered_with token r && r.deadline == moment)
+    (fate_by Engine s.history (held_message Application token)) rs
 due_hands s (Some (Pong token)) rs = refl
 
-within_hands : (turns : ℕ) (store : StoreValue) (now : ℕ) (s : Connection) (rs : List ApplicationRequest) → handed_requests (requests_within turns store now s rs) ≡ handed_requests rs
+within_hands : (turns : ℕ) (store : StoreValue) (now : ℕ) (s : Connection) (rs : List ApplicationRequest)
+    → handed_requests (requests_within turns store now s rs) ≡ handed_requests rs
 unfolding requests_within requests_once
 within_hands zero store now s rs = refl
 within_hands (suc turns) store now s rs =
-    within_hands turns store now (settled_once store now s) (requests_due s (next_held now s) rs) ∙ due_hands s (next_held now s) rs
+    within_hands turns store now (settled_once store now s) (requests_due s (next_held now s) rs)
+    ∙ due_hands s (next_held now s) rs
 
-then_hands : (id : ℕ) (w : World) (rs : List ApplicationRequest) → handed_requests (requests_then id w rs) ≡ handed_requests rs
+then_hands : (id : ℕ) (w : World) (rs : List ApplicationRequest)
+    → handed_requests (requests_then id w rs) ≡ handed_requests rs
 unfolding requests_then requests_settled
 then_hands id w rs =
-    there_or_not (side_of id w.sides) (λ found. handed_requests (if_there found (requests_settled w.store w.now) rs) ≡ handed_requests rs) (λ none. refl)
+    there_or_not (side_of id w.sides)
+    (λ found. handed_requests (if_there found (requests_settled w.store w.now) rs) ≡ handed_requests rs) (λ none. refl)
     (λ s found. within_hands (length s.history.held + length s.observers) w.store w.now s rs)
 
 -- ---- a message
@@ -87,9 +108,13 @@ module _ (store : StoreValue) (now : ℕ) (s : Connection) (m : Message) where
   application_may : (d : Delay) → d.by ≡ Application → is_by_application (held_for h (Some d)) ≡ may_hold h
   application_may d by = elim (cases_Bool (may_hold h)) [ inl may ↦ rw (may, by) refl | inr full ↦ rw full refl ]
 
-  new_hands : (o : Option ℕ) → handed_requests (new_request now s m o) ≡ only_if (asks_answer s m) (is_by_application (held_for h (delay_or o (answer_of store now m).hold)))
-  new_hands None = sym (ap (only_if (asks_answer s m)) (engine_not (answer_of store now m).hold) ∙ only_none (asks_answer s m))
-  new_hands (Some seconds) = one_handed _ [] ∙ ap (only_if (asks_answer s m)) (sym (application_may (record { by = Application; seconds = seconds }) refl))
+  new_hands : (o : Option ℕ) → handed_requests (new_request now s m o)
+      ≡ only_if (asks_answer s m) (is_by_application (held_for h (delay_or o (answer_of store now m).hold)))
+  new_hands None =
+      sym (ap (only_if (asks_answer s m)) (engine_not (answer_of store now m).hold) ∙ only_none (asks_answer s m))
+  new_hands (Some seconds) =
+      one_handed _ []
+      ∙ ap (only_if (asks_answer s m)) (sym (application_may (record { by = Application; seconds = seconds }) refl))
 
   -- A message that is no request is not handed over.
   other_hands : is_asking m ≡ false → handed_in store now s m ≡ []
@@ -98,13 +123,17 @@ module _ (store : StoreValue) (now : ℕ) (s : Connection) (m : Message) where
     | inr not_asked ↦ ap (λ (b : Bool). only_if b (is_by_application (held_for h (delay_of store now m)))) not_asked
   ]
 
-  after_hands : (rs : List ApplicationRequest) → handles s ≡ true → handed_requests (requests_after store now s m rs) ≡ handed_requests rs ++ handed_in store now s m
+  after_hands : (rs : List ApplicationRequest) → handles s ≡ true
+      → handed_requests (requests_after store now s m rs) ≡ handed_requests rs ++ handed_in store now s m
   unfolding requests_after
   after_hands rs does =
       let new : List ApplicationRequest = new_request now s m (application_deadline store.applications m) in
-      let Goal : Bool → Type 0 = λ b. handed_requests (cond (b && is_asking m) (rs ++ new) rs) ≡ handed_requests rs ++ handed_in store now s m in
-      subst Goal (sym does) (cond_both (is_asking m) (rs ++ new) rs (λ (qs : List ApplicationRequest). handed_requests qs ≡ handed_requests rs ++ handed_in store now s m)
-      (λ asking. handed_more rs new ∙ ap (λ ms. handed_requests rs ++ ms) (new_hands (application_deadline store.applications m)))
+      let Goal : Bool → Type 0 =
+      λ b. handed_requests (cond (b && is_asking m) (rs ++ new) rs) ≡ handed_requests rs ++ handed_in store now s m in
+      subst Goal (sym does) (cond_both (is_asking m) (rs ++ new) rs
+      (λ (qs : List ApplicationRequest). handed_requests qs ≡ handed_requests rs ++ handed_in store now s m)
+      (λ asking. handed_more rs new
+      ∙ ap (λ ms. handed_requests rs ++ ms) (new_hands (application_deadline store.applications m)))
       (λ other. sym (ap (λ ms. handed_requests rs ++ ms) (other_hands other) ∙ append-nil (handed_requests rs))))
 
 -- ---- steps that hand over nothing
@@ -122,7 +151,9 @@ elsewhere id (world.Faulted other fault) apart = apart
 elsewhere id other apart = tt
 
 -- The connection existed before such steps, and handled no message.
-others_before : (limits : LimitValues) (id : ℕ) (w : World) (ss : List Step) (t : Connection) → AllByRecursion (IsOther id) ss → side_of id (after_steps limits w ss).sides ≡ Some t → (s : Connection) × (side_of id w.sides ≡ Some s) × (t.history.handled ≡ s.history.handled)
+others_before : (limits : LimitValues) (id : ℕ) (w : World) (ss : List Step) (t : Connection)
+    → AllByRecursion (IsOther id) ss → side_of id (after_steps limits w ss).sides ≡ Some t
+    → (s : Connection) × (side_of id w.sides ≡ Some s) × (t.history.handled ≡ s.history.handled)
 unfolding after_steps
 others_before limits id w [] t apart there = (t, there, refl)
 others_before limits id w (st ∷ ss) t apart there =
@@ -132,31 +163,40 @@ others_before limits id w (st ∷ ss) t apart there =
       | inr new ↦ absurd ((subst (IsOther id) new.1 apart.0) refl)
     ]
 
-responded_hands : (s : Connection) (m : Message) (rs : List ApplicationRequest) → handed_requests (requests_responded s m rs) ≡ handed_requests rs
+responded_hands : (s : Connection) (m : Message) (rs : List ApplicationRequest)
+    → handed_requests (requests_responded s m rs) ≡ handed_requests rs
 unfolding requests_responded
 responded_hands s m rs =
-    cond_both (is_none (response_refusal (link_of s.history) m)) _ rs (λ (qs : List ApplicationRequest). handed_requests qs ≡ handed_requests rs)
+    cond_both (is_none (response_refusal (link_of s.history) m)) _ rs
+    (λ (qs : List ApplicationRequest). handed_requests qs ≡ handed_requests rs)
     (λ may. fate_hands (is_unanswered_with m.token) (fate_by Application s.history m) rs) (λ refused. refl)
 
-acted_same : (id : ℕ) (w : World) (st : Step) (rs : List ApplicationRequest) → IsOther id st → handed_requests (requests_acted id w st rs) ≡ handed_requests rs
+acted_same : (id : ℕ) (w : World) (st : Step) (rs : List ApplicationRequest) → IsOther id st
+    → handed_requests (requests_acted id w st rs) ≡ handed_requests rs
 unfolding requests_acted
 acted_same id w (world.Opened other) rs apart = rw (ne_eqb other id apart) refl
 acted_same id w (world.Handled other m) rs apart = rw (ne_eqb other id apart) refl
 acted_same id w (world.Responded other m) rs apart =
     cond_both (other == id) _ rs (λ (qs : List ApplicationRequest). handed_requests qs ≡ handed_requests rs)
-    (λ here. there_or_not (side_of id w.sides) (λ found. handed_requests (if_there found (λ u. requests_responded u m) rs) ≡ handed_requests rs) (λ none. refl) (λ s found. responded_hands s m rs)) (λ away. refl)
+    (λ here. there_or_not (side_of id w.sides)
+    (λ found. handed_requests (if_there found (λ u. requests_responded u m) rs) ≡ handed_requests rs) (λ none. refl)
+    (λ s found. responded_hands s m rs)) (λ away. refl)
 acted_same id w other rs apart = refl
 
-others_same : (limits : LimitValues) (id : ℕ) (w : World) (ss : List Step) (rs : List ApplicationRequest) → AllByRecursion (IsOther id) ss → handed_requests (requests_by limits id w ss rs) ≡ handed_requests rs
+others_same : (limits : LimitValues) (id : ℕ) (w : World) (ss : List Step) (rs : List ApplicationRequest)
+    → AllByRecursion (IsOther id) ss → handed_requests (requests_by limits id w ss rs) ≡ handed_requests rs
 unfolding requests_by
 others_same limits id w [] rs apart = refl
 others_same limits id w (s ∷ ss) rs apart =
-    others_same limits id (world.step limits w s) ss (requests_then id (acted limits w s) (requests_acted id w s rs)) apart.1
+    others_same limits id (world.step limits w s) ss
+    (requests_then id (acted limits w s) (requests_acted id w s rs)) apart.1
     ∙ then_hands id (acted limits w s) (requests_acted id w s rs) ∙ acted_same id w s rs apart.0
 
 -- ---- an event
 
-module _ (c : ConfigValues) (es : List AcceptedCall) (id : ℕ) (e : AcceptedCall) (s t : Connection) (reached : IsReached c es) (there : side_of id (world_after c es).sides ≡ Some s) (then : side_of id (world_after c (es ++ e ∷ [])).sides ≡ Some t) where
+module _ (c : ConfigValues) (es : List AcceptedCall) (id : ℕ) (e : AcceptedCall) (s t : Connection)
+    (reached : IsReached c es) (there : side_of id (world_after c es).sides ≡ Some s)
+    (then : side_of id (world_after c (es ++ e ∷ [])).sides ≡ Some t) where
   abbrev w : World
   w = world_after c es
 
@@ -170,19 +210,24 @@ module _ (c : ConfigValues) (es : List AcceptedCall) (id : ℕ) (e : AcceptedCal
   HandsThose = handed_requests (requests_on c id (es ++ e ∷ [])) ≡ handed_requests rs ++ handed_between w s t
 
   -- No message was handled.
-  quiet_hands : t.history.handled ≡ s.history.handled → handed_requests (requests_on c id (es ++ e ∷ [])) ≡ handed_requests rs → HandsThose
+  quiet_hands : t.history.handled ≡ s.history.handled
+      → handed_requests (requests_on c id (es ++ e ∷ [])) ≡ handed_requests rs → HandsThose
   quiet_hands same requests =
       requests ∙ sym (append-nil (handed_requests rs))
-      ∙ ap (λ ms. handed_requests rs ++ flat_map (handed_in w.store w.now s) ms) (sym (ap (drop (length s.history.handled)) same ∙ drop-length s.history.handled))
+      ∙ ap (λ ms. handed_requests rs ++ flat_map (handed_in w.store w.now s) ms)
+      (sym (ap (drop (length s.history.handled)) same ∙ drop-length s.history.handled))
 
   no_step : steps_by M es e ≡ [] → HandsThose
   unfolding requests_by
   no_step none =
-      let same : s ≡ t = same_there s t (sym (ap (λ (v : World). side_of id v.sides) (world_same c es e none) ∙ there) ∙ then) in
-      quiet_hands (ap (λ (u : Connection). u.history.handled) (sym same)) (ap handed_requests (requests_last c id es e ∙ ap (λ ss. requests_by c.limits id w ss rs) none))
+      let same : s ≡ t =
+      same_there s t (sym (ap (λ (v : World). side_of id v.sides) (world_same c es e none) ∙ there) ∙ then) in
+      quiet_hands (ap (λ (u : Connection). u.history.handled) (sym same))
+      (ap handed_requests (requests_last c id es e ∙ ap (λ ss. requests_by c.limits id w ss rs) none))
 
   -- The requests after one step.
-  one_step : (st : Step) → steps_by M es e ≡ st ∷ [] → handed_requests (requests_on c id (es ++ e ∷ [])) ≡ handed_requests (requests_acted id w st rs)
+  one_step : (st : Step) → steps_by M es e ≡ st ∷ []
+      → handed_requests (requests_on c id (es ++ e ∷ [])) ≡ handed_requests (requests_acted id w st rs)
   unfolding requests_by
   one_step st one =
       ap handed_requests (requests_last c id es e ∙ ap (λ ss. requests_by c.limits id w ss rs) one)
@@ -193,9 +238,11 @@ module _ (c : ConfigValues) (es : List AcceptedCall) (id : ℕ) (e : AcceptedCal
   fault_hands fault does one =
       let made : Connection = settled w.store w.now (side_faulted s fault) in
       let same : made ≡ t =
-      same_there made t (sym (ap (λ (v : World). side_of id v.sides) (world_step c es e (world.Faulted id fault) one) ∙ faulted_there c.limits w id fault s there) ∙ then) in
+      same_there made t (sym (ap (λ (v : World). side_of id v.sides) (world_step c es e (world.Faulted id fault) one)
+      ∙ faulted_there c.limits w id fault s there) ∙ then) in
       quiet_hands
-      (ap (λ (u : Connection). u.history.handled) (sym same) ∙ (settled_handles_none w.store w.now (side_faulted s fault)).handled ∙ (side_rejects s fault does).handled)
+      (ap (λ (u : Connection). u.history.handled) (sym same)
+      ∙ (settled_handles_none w.store w.now (side_faulted s fault)).handled ∙ (side_rejects s fault does).handled)
       (one_step (world.Faulted id fault) one)
 
   message_hands : (m : Message) → handles s ≡ true → steps_by M es e ≡ world.Handled id m ∷ [] → HandsThose
@@ -204,13 +251,19 @@ module _ (c : ConfigValues) (es : List AcceptedCall) (id : ℕ) (e : AcceptedCal
       let after = handled_there c.limits w id m s there in
       let made : Connection = settled after.0 w.now (side_after w.store w.now s m) in
       let same : made ≡ t =
-      same_there made t (sym (ap (λ (v : World). side_of id v.sides) (world_step c es e (world.Handled id m) one) ∙ after.1) ∙ then) in
-      let heard : HasHeard w.store.applications m s.history (side_after w.store w.now s m).history = rw does (handled_hears w.store w.now s m) in
+      same_there made t
+      (sym (ap (λ (v : World). side_of id v.sides) (world_step c es e (world.Handled id m) one) ∙ after.1) ∙ then) in
+      let heard : HasHeard w.store.applications m s.history (side_after w.store w.now s m).history =
+      rw does (handled_hears w.store w.now s m) in
       let handled : t.history.handled ≡ s.history.handled ++ m ∷ [] =
-      ap (λ (u : Connection). u.history.handled) (sym same) ∙ (settled_handles_none after.0 w.now (side_after w.store w.now s m)).handled ∙ heard.handled_more (handles_parts s does).0 in
-      let since : drop (length s.history.handled) t.history.handled ≡ m ∷ [] = ap (drop (length s.history.handled)) handled ∙ drop-append_seam s.history.handled (m ∷ []) in
+      ap (λ (u : Connection). u.history.handled) (sym same)
+      ∙ (settled_handles_none after.0 w.now (side_after w.store w.now s m)).handled
+      ∙ heard.handled_more (handles_parts s does).0 in
+      let since : drop (length s.history.handled) t.history.handled ≡ m ∷ [] =
+      ap (drop (length s.history.handled)) handled ∙ drop-append_seam s.history.handled (m ∷ []) in
       let requests : requests_acted id w (world.Handled id m) rs ≡ requests_after w.store w.now s m rs =
-      ap (λ (b : Bool). cond b (if_there (side_of id w.sides) (λ u. requests_after w.store w.now u m) rs) rs) (eq-eqb id id refl)
+      ap (λ (b : Bool). cond b (if_there (side_of id w.sides) (λ u. requests_after w.store w.now u m) rs) rs)
+      (eq-eqb id id refl)
       ∙ ap (λ (o : Option Connection). if_there o (λ u. requests_after w.store w.now u m) rs) there in
       one_step (world.Handled id m) one ∙ ap handed_requests requests ∙ after_hands w.store w.now s m rs does
       ∙ ap (λ ms. handed_requests rs ++ ms) (sym (append-nil (handed_in w.store w.now s m)))
@@ -219,36 +272,45 @@ module _ (c : ConfigValues) (es : List AcceptedCall) (id : ℕ) (e : AcceptedCal
   -- The steps are no messages on the connection, and do not open it.
   others_hand : AllByRecursion (IsOther id) (steps_by M es e) → HandsThose
   others_hand apart =
-      let before = others_before c.limits id w (steps_by M es e) t apart (ap (λ (v : World). side_of id v.sides) (sym (world_more c es e)) ∙ then) in
+      let before = others_before c.limits id w (steps_by M es e) t apart
+      (ap (λ (v : World). side_of id v.sides) (sym (world_more c es e)) ∙ then) in
       quiet_hands (before.2 ∙ ap (λ (u : Connection). u.history.handled) (same_there before.0 s (sym before.1 ∙ there)))
       (ap handed_requests (requests_last c id es e) ∙ others_same c.limits id w (steps_by M es e) rs apart)
 
 -- ---- a take
 
-module _ (c : ConfigValues) (es : List AcceptedCall) (id : ℕ) (bytes : List ℕ) (s t : Connection) (reached : IsReached c es) (there : side_of id (world_after c es).sides ≡ Some s) (then : side_of id (world_after c (es ++ Took id bytes ∷ [])).sides ≡ Some t) where
+module _ (c : ConfigValues) (es : List AcceptedCall) (id : ℕ) (bytes : List ℕ) (s t : Connection)
+    (reached : IsReached c es) (there : side_of id (world_after c es).sides ≡ Some s)
+    (then : side_of id (world_after c (es ++ Took id bytes ∷ [])).sides ≡ Some t) where
   abbrev size : ℕ
   size = c.limits.max_message
 
   abbrev Hands : Type 0
   Hands = HandsThose c es id (Took id bytes) s t reached there then
 
-  frame_hands : (frame : List ℕ) (read : Result Message FormatFault) → handles s ≡ true → Adds size id es bytes (frame_then frame read (record { messages = []; rest = []; fault = None })) → Hands
+  frame_hands : (frame : List ℕ) (read : Result Message FormatFault) → handles s ≡ true
+      → Adds size id es bytes (frame_then frame read (record { messages = []; rest = []; fault = None })) → Hands
   frame_hands frame (Ok m) does adds = message_hands c es id (Took id bytes) s t reached there then m does adds.steps
   frame_hands frame (Err f) does adds = fault_hands c es id (Took id bytes) s t reached there then _ does adds.steps
 
-  found_hands : (found : FrameEventValue) → handles s ≡ true → Adds size id es bytes (added_by (stream_on size id es).rest bytes found) → Hands
+  found_hands : (found : FrameEventValue) → handles s ≡ true
+      → Adds size id es bytes (added_by (stream_on size id es).rest bytes found) → Hands
   found_hands Nothing does adds = no_step c es id (Took id bytes) s t reached there then adds.steps
   found_hands (AFrame frame) does adds = frame_hands frame (message_of frame) does adds
   found_hands (AFault fault) does adds = fault_hands c es id (Took id bytes) s t reached there then _ does adds.steps
 
   took_hands : takes c es id bytes ≡ length bytes → Hands
   took_hands all =
-      let taken : cond (handles s) (front_of (size_on size id es) (stream_on size id es).rest bytes) 0 ≡ length bytes = rw (takes_there c es id bytes s there) at all in
+      let taken : cond (handles s) (front_of (size_on size id es) (stream_on size id es).rest bytes) 0 ≡ length bytes =
+      rw (takes_there c es id bytes s there) at all in
       elim (cases_Bool (handles s)) [
-        | inl does ↦ found_hands _ does (adds_frame size id es bytes (handling_goes_on c es id s reached there does) (rw does at taken))
+        | inl does ↦
+            found_hands _ does
+            (adds_frame size id es bytes (handling_goes_on c es id s reached there does) (rw does at taken))
         | inr stopped ↦ (
             let none : bytes ≡ [] = nil_from_length bytes (sym (rw stopped at taken)) in
-            no_step c es id (Took id bytes) s t reached there then (ap (λ (bs : List ℕ). steps_by size es (Took id bs)) none ∙ no_bytes_steps size id es))
+            no_step c es id (Took id bytes) s t reached there
+            then (ap (λ (bs : List ℕ). steps_by size es (Took id bs)) none ∙ no_bytes_steps size id es))
       ]
 
 -- ---- any event
@@ -259,33 +321,43 @@ IsOtherEvent id (event.Opened other) = other ≢ id
 IsOtherEvent id (event.Took other bytes) = other ≢ id
 IsOtherEvent id other = Unit {0}
 
-other_steps : (id M : ℕ) (es : List AcceptedCall) (e : AcceptedCall) → IsOtherEvent id e → AllByRecursion (IsOther id) (steps_by M es e)
+other_steps : (id M : ℕ) (es : List AcceptedCall) (e : AcceptedCall) → IsOtherEvent id e
+    → AllByRecursion (IsOther id) (steps_by M es e)
 unfolding steps_by
 other_steps id M es (event.Opened other) apart = (apart, tt)
 other_steps id M es (event.Took other bytes) apart =
-    each_beyond (IsOther id) other (stream_on M other es) (stream_on M other (es ++ event.Took other bytes ∷ [])) (λ m. apart) (λ fault. apart)
+    each_beyond (IsOther id) other (stream_on M other es) (stream_on M other (es ++ event.Took other bytes ∷ []))
+    (λ m. apart) (λ fault. apart)
 other_steps id M es e apart = (tt, tt)
 
-module _ (c : ConfigValues) (es : List AcceptedCall) (id : ℕ) (s : Connection) (accepted : AreAccepted c es) (there : side_of id (world_after c es).sides ≡ Some s) where
+module _ (c : ConfigValues) (es : List AcceptedCall) (id : ℕ) (s : Connection) (accepted : AreAccepted c es)
+    (there : side_of id (world_after c es).sides ≡ Some s) where
   reached_before : IsReached c es
   reached_before = accepted_is c es accepted
 
   abbrev After : AcceptedCall → Type 0
-  After e = (t : Connection) → side_of id (world_after c (es ++ e ∷ [])).sides ≡ Some t → handed_requests (requests_on c id (es ++ e ∷ [])) ≡ handed_requests (requests_on c id es) ++ handed_between (world_after c es) s t
+  After e =
+      (t : Connection) → side_of id (world_after c (es ++ e ∷ [])).sides ≡ Some t
+      → handed_requests (requests_on c id (es ++ e ∷ []))
+      ≡ handed_requests (requests_on c id es) ++ handed_between (world_after c es) s t
 
   others : (e : AcceptedCall) → IsOtherEvent id e → After e
-  others e apart t then = others_hand c es id e s t reached_before there then (other_steps id c.limits.max_message es e apart)
+  others e apart t then =
+      others_hand c es id e s t reached_before there then (other_steps id c.limits.max_message es e apart)
 
   -- The requests handed to the application after an accepted event: those before it, and those that it hands over.
   pub event_hands : (e : AcceptedCall) → IsAccepted c es e → After e
   unfolding IsAccepted
   event_hands (event.Opened other) own = elim (cases_eq other id) [
-    | inl here ↦ absurd (omega (arith, own.0, here, (number_given c (world_after c es) id s reached_before.numbered there).within))
+    | inl here ↦
+        absurd
+        (omega (arith, own.0, here, (number_given c (world_after c es) id s reached_before.numbered there).within))
     | inr apart ↦ others (event.Opened other) apart
   ]
   event_hands (event.Took other bytes) own = elim (cases_eq other id) [
     | inl here ↦ subst (λ (n : ℕ). IsAccepted c es (event.Took n bytes) → After (event.Took n bytes)) (sym here)
-        (λ its t then. took_hands c es id bytes s t reached_before there then (on_one (λ u. takes c es id bytes ≡ length bytes) (side_of id (world_after c es).sides) its).2) own
+        (λ its t then. took_hands c es id bytes s t reached_before there
+        then (on_one (λ u. takes c es id bytes ≡ length bytes) (side_of id (world_after c es).sides) its).2) own
     | inr apart ↦ others (event.Took other bytes) apart
   ]
   event_hands e own = others e tt

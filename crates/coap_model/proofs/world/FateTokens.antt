@@ -1,21 +1,31 @@
 -- The responses with one token on a connection, across each effect. Let no observer and no response that the engine
 -- delays have the token. Then only a request with the token, or an answer of the application to one, has a response.
-use Rattle.std.proofs.Common.{◌≡◌, ◌≢◌, ℕ, Bool, true, false, ◌&&◌, List, [], ◌∷◌, ◌++◌, find, Option, Some, None, refl, sym, ap, subst, ◌∙◌, arith, not}
+use Rattle.std.proofs.Common.{◌≡◌, ◌≢◌, ℕ, Bool, true, false, ◌&&◌, List, [], ◌∷◌, ◌++◌, find, Option, Some, None, refl}
+use Rattle.std.proofs.Common.{sym, ap, subst, ◌∙◌, arith, not}
 use Rattle.std.proofs.lemmas.Bool.{both_ways, cond_both, and_left, and_right}
 use Rattle.std.proofs.lemmas.List.{append-nil}
 use lib.Pointwise.{bytes_decides}
-use Rattle.coap_model.specs.Prelude.{AllByRecursion, Responder, Engine, Application, Message, StreamFault, Server, takes_messages, answers, is_open, fit, bare_response, same_bytes}
-use Rattle.coap_model.specs.Prelude.{PendingEntryValue, Answer, Pong, first_due, without_due, History, standing_now, react, limit_now, after, with_effect, send}
-use Rattle.coap_model.specs.Prelude.{StoreValue, prompt_answer, Connection, Observer, asks_answer, side_handled, side_with, side_answered, with_history, kept_open, without_token, handles}
-use Rattle.coap_model.specs.Prelude.{side_faulted, side_written, side_ended, side_released, side_announced, notified, next_due, held_message, after_sent, is_due, first_becomes, left_of, notification, with_entry, has_place, entry_for, is_whole, response_with_observe}
+use Rattle.coap_model.specs.Prelude.{AllByRecursion, Responder, Engine, Application, Message, StreamFault, Server}
+use Rattle.coap_model.specs.Prelude.{takes_messages, answers, is_open, fit, bare_response, same_bytes}
+use Rattle.coap_model.specs.Prelude.{PendingEntryValue, Answer, Pong, first_due, without_due, History, standing_now}
+use Rattle.coap_model.specs.Prelude.{react, limit_now, after, with_effect, send}
+use Rattle.coap_model.specs.Prelude.{StoreValue, prompt_answer, Connection, Observer, asks_answer, side_handled}
+use Rattle.coap_model.specs.Prelude.{side_with, side_answered, with_history, kept_open, without_token, handles}
+use Rattle.coap_model.specs.Prelude.{side_faulted, side_written, side_ended, side_released, side_announced, notified}
+use Rattle.coap_model.specs.Prelude.{next_due, held_message, after_sent, is_due, first_becomes, left_of, notification}
+use Rattle.coap_model.specs.Prelude.{with_entry, has_place, entry_for, is_whole, response_with_observe}
 use Rattle.coap_model.specs.Prelude.{responds, is_response, is_asking, asks_with, ApplicationsValue}
 use Rattle.coap_store.specs.Answer as answer
 use Rattle.coap_conn.specs.Calls as call
 use Rattle.coap_conn.proofs.PendingLaws.{due_answer, due_pong}
 use Rattle.coap_conn.proofs.ReactionLaws.{IsNoResponse, IsPlain, react_so}
-use Rattle.coap_model.proofs.world.WalkLaws.{heard, holding, without_first, answer_goes, if_between, kept_open_has, observers_kept, faulted_between, written_between, ended_between, released_between, announced_between}
+use Rattle.coap_model.proofs.world.WalkLaws.{heard, holding, without_first, answer_goes, if_between, kept_open_has}
+use Rattle.coap_model.proofs.world.WalkLaws.{observers_kept, faulted_between, written_between, ended_between}
+use Rattle.coap_model.proofs.world.WalkLaws.{released_between, announced_between}
 use Rattle.coap_model.proofs.world.EntryLemmas.{all_to, all_append, all_filter, all_entered, all_become, found_all}
-use Rattle.coap_model.proofs.world.ToldMessages.{Queues, queues_none, message_queues, reject_queues, end_queues, release_queues, announcing_queues, written_queues, due_queues, reply_queues, reply_either}
+use Rattle.coap_model.proofs.world.ToldMessages.{Queues, queues_none, message_queues, reject_queues, end_queues}
+use Rattle.coap_model.proofs.world.ToldMessages.{release_queues, announcing_queues, written_queues, due_queues}
+use Rattle.coap_model.proofs.world.ToldMessages.{reply_queues, reply_either}
 use Rattle.coap_model.proofs.world.ToldLaws.{HaveOtherTokens}
 use Rattle.coap_model.proofs.world.CustodyLaws.{handled_cases}
 use Rattle.coap_model.proofs.world.AskedLaws.{answered_is_request}
@@ -64,17 +74,21 @@ moves_same s = record {
 -- ---- parts
 
 -- A message with another token is no response with this one.
-other_response : (token other : List ℕ) (m : Message) → same_bytes other token ≡ false → m.token ≡ other → responds token m ≡ false
-other_response token other m apart is = and_right (is_response m) (same_bytes m.token token) (ap (λ t. same_bytes t token) is ∙ apart)
+other_response : (token other : List ℕ) (m : Message) → same_bytes other token ≡ false → m.token ≡ other
+    → responds token m ≡ false
+other_response token other m apart is =
+    and_right (is_response m) (same_bytes m.token token) (ap (λ t. same_bytes t token) is ∙ apart)
 
 same_differs : (token other : List ℕ) → token ≢ other → same_bytes other token ≡ false
 same_differs token other apart = grind (arith, (bytes_decides other token).0)
 
 differs_same : (token other : List ℕ) → same_bytes other token ≡ false → token ≢ other
-differs_same token other apart same = both_ways (same_bytes other token) apart ((bytes_decides other token).1 (sym same))
+differs_same token other apart same =
+    both_ways (same_bytes other token) apart ((bytes_decides other token).1 (sym same))
 
 pub no_response : (token : List ℕ) (ms : List Message) → AllByRecursion IsNoResponse ms → NoneRespond token ms
-no_response token ms none = all_to IsNoResponse (λ m. responds token m ≡ false) (λ m is. and_left (is_response m) _ is) ms none
+no_response token ms none =
+    all_to IsNoResponse (λ m. responds token m ≡ false) (λ m is. and_left (is_response m) _ is) ms none
 
 -- Entries of the engine after a part of an effect.
 abbrev pub Engineless : List ℕ → History → History → Type 0
@@ -82,26 +96,31 @@ Engineless token h k = NoEngine token h.held → NoEngine token k.held
 
 pub message_engineless : (token : List ℕ) (h : History) (m : Message) → Engineless token h (after h (call.Handle m))
 message_engineless token h m =
-    if_between (Engineless token) (takes_messages h.phase) h (heard h m) (λ none. none) (λ takes none. react_so (standing_now h) m (λ e. NoEngine token e.held) (record {
+    if_between (Engineless token) (takes_messages h.phase) h (heard h m) (λ none. none)
+    (λ takes none. react_so (standing_now h) m (λ e. NoEngine token e.held) (record {
       stays = none;
       stands = λ now outstanding may. none;
       stops = λ why farewell plain one is. tt;
       queues = λ n may. none;
-      keeps = λ ping custody some. all_append (λ e. is_engine_for token e ≡ false) h.held (Pong m.token ∷ []) none (refl, tt);
+      keeps = λ ping custody some. all_append (λ e. is_engine_for token e ≡ false) h.held
+          (Pong m.token ∷ []) none (refl, tt);
     }))
 
 pub reply_engineless : (token : List ℕ) (h : History) (m : Message) → Engineless token h (after h (call.Reply m))
 reply_engineless token h m none = reply_either h m (λ ms es now. NoEngine token es) none tt
 
 reply_handled : (h : History) (m : Message) → (after h (call.Reply m)).handled ≡ h.handled
-reply_handled h m = cond_both (answers h.phase) _ h (λ (k : History). k.handled ≡ h.handled) (λ does. refl) (λ off. refl)
+reply_handled h m =
+    cond_both (answers h.phase) _ h (λ (k : History). k.handled ≡ h.handled) (λ does. refl) (λ off. refl)
 
-pub message_handled : (h : History) (m : Message) → takes_messages h.phase ≡ true → (after h (call.Handle m)).handled ≡ h.handled ++ m ∷ []
+pub message_handled : (h : History) (m : Message) → takes_messages h.phase ≡ true
+    → (after h (call.Handle m)).handled ≡ h.handled ++ m ∷ []
 message_handled h m takes = rw takes refl
 
 -- ---- a message
 
-message_moves : (s : Connection) (m : Message) → s.history.role ≡ Server → Moves s (with_history s (after s.history (call.Handle m)))
+message_moves : (s : Connection) (m : Message) → s.history.role ≡ Server
+    → Moves s (with_history s (after s.history (call.Handle m)))
 message_moves s m server =
     let h : History = after s.history (call.Handle m) in
     let queues : Queues IsNoResponse s.history h = message_queues s.history m server in
@@ -111,22 +130,30 @@ message_moves s m server =
       more = queues.more;
       queued = queues.same;
       spares = λ token none calm. (
-        record { others = kept_open_has (HaveOtherTokens token) tt h s.observers calm.others; engine = message_engineless token s.history m calm.engine },
+        record {
+          others = kept_open_has (HaveOtherTokens token) tt h s.observers calm.others;
+          engine = message_engineless token s.history m calm.engine;
+        },
         no_response token queues.more queues.such,
       );
     }
 
 -- The other observers of a request.
-others_left : (token other : List ℕ) (os : List Observer) → HaveOtherTokens token os → HaveOtherTokens token (without_token other os)
+others_left : (token other : List ℕ) (os : List Observer) → HaveOtherTokens token os
+    → HaveOtherTokens token (without_token other os)
 unfolding without_token
 others_left token other os others = all_filter (λ o. token ≢ o.token) (λ o. not (same_bytes o.token other)) os others
 
-module _ (store : StoreValue) (now : ℕ) (s : Connection) (m : Message) (takes : takes_messages s.history.phase ≡ true) (asks : asks_answer s m ≡ true) where
+module _ (store : StoreValue) (now : ℕ) (s : Connection) (m : Message) (takes : takes_messages s.history.phase ≡ true)
+    (asks : asks_answer s m ≡ true) where
   -- The token of the request is another one.
   other_token : (token : List ℕ) → NoneAsk token (m ∷ []) → same_bytes m.token token ≡ false
-  other_token token none = ap (λ b. b && same_bytes m.token token) (sym (answered_is_request (standing_now s.history) m asks)) ∙ none.0
+  other_token token none =
+      ap (λ b. b && same_bytes m.token token) (sym (answered_is_request (standing_now s.history) m asks)) ∙ none.0
 
-  late_moves : (by : Responder) (moment : ℕ) → Moves s (side_with (holding (after_message s m) ((after_message s m).held ++ Answer by m.token moment ∷ [])) (without_token m.token s.observers))
+  late_moves : (by : Responder) (moment : ℕ)
+      → Moves s (side_with (holding (after_message s m) ((after_message s m).held ++ Answer by m.token moment ∷ []))
+      (without_token m.token s.observers))
   late_moves by moment = record {
     heard = m ∷ [];
     handled = message_handled s.history m takes;
@@ -134,18 +161,25 @@ module _ (store : StoreValue) (now : ℕ) (s : Connection) (m : Message) (takes 
     queued = asked_queued None s.history m asks ∙ sym (append-nil s.history.queued);
     spares = λ token none calm. (
       record {
-        others = kept_open_has (HaveOtherTokens token) tt (holding (after_message s m) ((after_message s m).held ++ Answer by m.token moment ∷ [])) (without_token m.token s.observers) (others_left token m.token s.observers calm.others);
-        engine = all_append (λ e. is_engine_for token e ≡ false) (after_message s m).held (Answer by m.token moment ∷ []) (message_engineless token s.history m calm.engine) (new by token (other_token token none), tt);
+        others =
+            kept_open_has (HaveOtherTokens token) tt
+            (holding (after_message s m) ((after_message s m).held ++ Answer by m.token moment ∷ []))
+            (without_token m.token s.observers) (others_left token m.token s.observers calm.others);
+        engine =
+            all_append (λ e. is_engine_for token e ≡ false) (after_message s m).held (Answer by m.token moment ∷ [])
+            (message_engineless token s.history m calm.engine) (new by token (other_token token none), tt);
       },
       tt,
     );
   }
     where
-      new : (by : Responder) (token : List ℕ) → same_bytes m.token token ≡ false → is_engine_for token (Answer by m.token moment) ≡ false
+      new : (by : Responder) (token : List ℕ) → same_bytes m.token token ≡ false
+          → is_engine_for token (Answer by m.token moment) ≡ false
       new Engine token apart = apart
       new Application token apart = refl
 
-  prompt_moves : (r : answer.Answer) → Moves s (side_answered store now (after_message s m) (without_token m.token s.observers) m r)
+  prompt_moves : (r : answer.Answer)
+      → Moves s (side_answered store now (after_message s m) (without_token m.token s.observers) m r)
   prompt_moves r =
       let others : List Observer = without_token m.token s.observers in
       let observes : Bool = has_place (after_message s m).limits.observers others r.watch in
@@ -160,23 +194,32 @@ module _ (store : StoreValue) (now : ℕ) (s : Connection) (m : Message) (takes 
         spares = λ token none calm. (
           record {
             others = kept_open_has (HaveOtherTokens token) tt k _
-                (all_entered (λ o. token ≢ o.token) (observes && is_whole (fit (limit_now (after_message s m)) response (bare_response response))) others (entry_for store now m)
-                (others_left token m.token s.observers calm.others) (λ enters. differs_same token m.token (other_token token none)));
-            engine = reply_engineless token (after_message s m) response (message_engineless token s.history m calm.engine);
+                (all_entered (λ o. token ≢ o.token)
+                (observes && is_whole (fit (limit_now (after_message s m)) response (bare_response response)))
+                others (entry_for store now m)
+                (others_left token m.token s.observers calm.others)
+                (λ enters. differs_same token m.token (other_token token none)));
+            engine =
+                reply_engineless token (after_message s m) response (message_engineless token s.history m calm.engine);
           },
-          all_to (λ n. n.token ≡ m.token) (λ n. responds token n ≡ false) (λ n is. other_response token m.token n (other_token token none) is) queues.more queues.such,
+          all_to (λ n. n.token ≡ m.token) (λ n. responds token n ≡ false)
+              (λ n is. other_response token m.token n (other_token token none) is) queues.more queues.such,
         );
       }
 
-pub handled_moves : (store : StoreValue) (now : ℕ) (s : Connection) (m : Message) → s.history.role ≡ Server → takes_messages s.history.phase ≡ true → Moves s (side_handled store now s m)
+pub handled_moves : (store : StoreValue) (now : ℕ) (s : Connection) (m : Message) → s.history.role ≡ Server
+    → takes_messages s.history.phase ≡ true → Moves s (side_handled store now s m)
 handled_moves store now s m server takes =
-    handled_cases store now s m (Moves s) (λ other. message_moves s m server) (λ asks by moment asked. late_moves store now s m takes asks by moment)
+    handled_cases store now s m (Moves s) (λ other. message_moves s m server)
+    (λ asks by moment asked. late_moves store now s m takes asks by moment)
     (λ asks. prompt_moves store now s m takes asks (prompt_answer store now m))
 
 -- ---- other effects
 
 -- Only plain messages are queued, and the entries and observers stay or are removed.
-plain_moves : (s t : Connection) → Queues IsPlain s.history t.history → ((token : List ℕ) → Engineless token s.history t.history) → ((token : List ℕ) → HaveOtherTokens token s.observers → HaveOtherTokens token t.observers) → Moves s t
+plain_moves : (s t : Connection) → Queues IsPlain s.history t.history
+    → ((token : List ℕ) → Engineless token s.history t.history)
+    → ((token : List ℕ) → HaveOtherTokens token s.observers → HaveOtherTokens token t.observers) → Moves s t
 plain_moves s t queues engine others = record {
   heard = queues.heard;
   handled = queues.handled;
@@ -191,59 +234,80 @@ plain_moves s t queues engine others = record {
 pub faulted_moves : (s : Connection) (fault : StreamFault) → Moves s (side_faulted s fault)
 faulted_moves s fault =
     plain_moves s (side_faulted s fault) (faulted_between (Queues IsPlain) (queues_none IsPlain) reject_queues s fault)
-    (λ token. faulted_between (Engineless token) (λ h none. none) (λ h r takes room none. tt) s fault) (λ token. (observers_kept (HaveOtherTokens token) tt).faulted s fault)
+    (λ token. faulted_between (Engineless token) (λ h none. none) (λ h r takes room none. tt) s fault)
+    (λ token. (observers_kept (HaveOtherTokens token) tt).faulted s fault)
 
 pub written_moves : (s : Connection) (n : ℕ) → Moves s (side_written s n)
 written_moves s n =
-    plain_moves s (side_written s n) (written_between (Queues IsPlain) (queues_none IsPlain) (λ h k within. written_queues IsPlain h k) s n)
-    (λ token. written_between (Engineless token) (λ h none. none) (λ h k within none. none) s n) (λ token. (observers_kept (HaveOtherTokens token) tt).written s n)
+    plain_moves s (side_written s n)
+    (written_between (Queues IsPlain) (queues_none IsPlain) (λ h k within. written_queues IsPlain h k) s n)
+    (λ token. written_between (Engineless token) (λ h none. none) (λ h k within none. none) s n)
+    (λ token. (observers_kept (HaveOtherTokens token) tt).written s n)
 
 pub ended_moves : (s : Connection) (cut : Bool) → Moves s (side_ended s cut)
 ended_moves s cut =
     plain_moves s (side_ended s cut) (ended_between (Queues IsPlain) (queues_none IsPlain) end_queues s cut)
-    (λ token. ended_between (Engineless token) (λ h none. none) (λ h cut takes none. tt) s cut) (λ token. (observers_kept (HaveOtherTokens token) tt).ended s cut)
+    (λ token. ended_between (Engineless token) (λ h none. none) (λ h cut takes none. tt) s cut)
+    (λ token. (observers_kept (HaveOtherTokens token) tt).ended s cut)
 
 pub released_moves : (s : Connection) → Moves s (side_released s)
 released_moves s =
     plain_moves s (side_released s) (released_between (Queues IsPlain) (queues_none IsPlain) release_queues s)
-    (λ token. released_between (Engineless token) (λ h none. none) (λ h opened refusal none. tt) s) (λ token. (observers_kept (HaveOtherTokens token) tt).released s)
+    (λ token. released_between (Engineless token) (λ h none. none) (λ h opened refusal none. tt) s)
+    (λ token. (observers_kept (HaveOtherTokens token) tt).released s)
 
 pub announced_moves : (s : Connection) (size : ℕ) → Moves s (side_announced s size)
 announced_moves s size =
-    plain_moves s (side_announced s size) (announced_between (Queues IsPlain) (queues_none IsPlain) (λ h n opened room fit. announcing_queues h n) s size)
-    (λ token. announced_between (Engineless token) (λ h none. none) (λ h n opened room fit none. none) s size) (λ token. (observers_kept (HaveOtherTokens token) tt).announced s size)
+    plain_moves s (side_announced s size)
+    (announced_between (Queues IsPlain) (queues_none IsPlain) (λ h n opened room fit. announcing_queues h n) s size)
+    (λ token. announced_between (Engineless token) (λ h none. none) (λ h n opened room fit none. none) s size)
+    (λ token. (observers_kept (HaveOtherTokens token) tt).announced s size)
 
 -- ---- settling
 
-pub no_engine_without : (token : List ℕ) (before : List PendingEntryValue) (e : PendingEntryValue) (later : List PendingEntryValue) → NoEngine token (before ++ e ∷ later) → (is_engine_for token e ≡ false) × NoEngine token (before ++ later)
+pub no_engine_without : (token : List ℕ) (before : List PendingEntryValue) (e : PendingEntryValue)
+    (later : List PendingEntryValue) → NoEngine token (before ++ e ∷ later)
+    → (is_engine_for token e ≡ false) × NoEngine token (before ++ later)
 no_engine_without token [] e later none = (none.0, none.1)
-no_engine_without token (b ∷ before) e later none = let rest = no_engine_without token before e later none.1 in (rest.0, (none.0, rest.1))
+no_engine_without token (b ∷ before) e later none =
+    let rest = no_engine_without token before e later none.1 in (rest.0, (none.0, rest.1))
 
 -- The entry that is due first is removed.
-pub due_engineless : (token : List ℕ) (h : History) (now : ℕ) (by : Responder) (own : List ℕ) (moment : ℕ) → first_due now h.held ≡ Some (Answer by own moment) → NoEngine token h.held → (is_engine_for token (Answer by own moment) ≡ false) × NoEngine token (without_due now h.held)
+pub due_engineless : (token : List ℕ) (h : History) (now : ℕ) (by : Responder) (own : List ℕ) (moment : ℕ)
+    → first_due now h.held ≡ Some (Answer by own moment) → NoEngine token h.held
+    → (is_engine_for token (Answer by own moment) ≡ false) × NoEngine token (without_due now h.held)
 due_engineless token h now by own moment is none =
     let first = due_answer now h.held by own moment is in
-    let parts = no_engine_without token first.before (Answer by own moment) first.after (subst (NoEngine token) first.there none) in
+    let parts =
+    no_engine_without token first.before (Answer by own moment) first.after (subst (NoEngine token) first.there none) in
     (parts.0, subst (NoEngine token) (sym first.without) parts.1)
 
-pub engine_moves : (s : Connection) (now : ℕ) (own : List ℕ) (moment : ℕ) → first_due now s.history.held ≡ Some (Answer Engine own moment) → Moves s (with_history s (after_sent s.history now (Answer Engine own moment)))
+pub engine_moves : (s : Connection) (now : ℕ) (own : List ℕ) (moment : ℕ)
+    → first_due now s.history.held ≡ Some (Answer Engine own moment)
+    → Moves s (with_history s (after_sent s.history now (Answer Engine own moment)))
 engine_moves s now own moment is =
     let g : History = without_first s.history now in
     let k : History = after g (call.Reply (held_message Engine own)) in
     let queues : Queues (λ n. n.token ≡ own) g k = reply_queues g (held_message Engine own) in
-    subst (λ (f : History). Moves s (with_history s (after f (call.Reply (held_message Engine own))))) (sym (answer_goes s.history now Engine own moment is)) (record {
+    subst (λ (f : History). Moves s (with_history s (after f (call.Reply (held_message Engine own)))))
+    (sym (answer_goes s.history now Engine own moment is)) (record {
       heard = [];
       handled = reply_handled g (held_message Engine own) ∙ sym (append-nil s.history.handled);
       more = queues.more;
       queued = queues.same;
       spares = λ token none calm. (
           let due = due_engineless token s.history now Engine own moment is calm.engine in (
-            record { others = kept_open_has (HaveOtherTokens token) tt k s.observers calm.others; engine = reply_engineless token g (held_message Engine own) due.1 },
-            all_to (λ n. n.token ≡ own) (λ n. responds token n ≡ false) (λ n same. other_response token own n due.0 same) queues.more queues.such,
+            record {
+              others = kept_open_has (HaveOtherTokens token) tt k s.observers calm.others;
+              engine = reply_engineless token g (held_message Engine own) due.1;
+            },
+            all_to (λ n. n.token ≡ own) (λ n. responds token n ≡ false)
+                (λ n same. other_response token own n due.0 same) queues.more queues.such,
           ));
     })
 
-pub pong_moves : (s : Connection) (now : ℕ) (own : List ℕ) → first_due now s.history.held ≡ Some (Pong own) → Moves s (with_history s (after s.history (call.Due now)))
+pub pong_moves : (s : Connection) (now : ℕ) (own : List ℕ) → first_due now s.history.held ≡ Some (Pong own)
+    → Moves s (with_history s (after s.history (call.Due now)))
 pong_moves s now own is =
     let k : History = after s.history (call.Due now) in
     let queues : Queues IsNoResponse s.history k = due_queues s.history now in
@@ -253,19 +317,29 @@ pong_moves s now own is =
       more = queues.more;
       queued = queues.same;
       spares = λ token none calm. (
-        record { others = kept_open_has (HaveOtherTokens token) tt k s.observers calm.others; engine = pong_engineless token calm.engine },
+        record {
+          others = kept_open_has (HaveOtherTokens token) tt k s.observers calm.others;
+          engine = pong_engineless token calm.engine;
+        },
         no_response token queues.more queues.such,
       );
     }
   where
-    pong_engineless : (token : List ℕ) → NoEngine token s.history.held → NoEngine token (after s.history (call.Due now)).held
-    pong_engineless token none = let there = due_pong now s.history.held own is in let rest = (subst (NoEngine token) there none).1 in grind arith
+    pong_engineless : (token : List ℕ) → NoEngine token s.history.held
+        → NoEngine token (after s.history (call.Due now)).held
+    pong_engineless token none =
+        let there = due_pong now s.history.held own is in
+        let rest = (subst (NoEngine token) there none).1 in
+        grind arith
 
-left_others : (token : List ℕ) (store : StoreValue) (now : ℕ) (o : Observer) (stays : Bool) → token ≢ o.token → HaveOtherTokens token (left_of store now o stays)
+left_others : (token : List ℕ) (store : StoreValue) (now : ℕ) (o : Observer) (stays : Bool) → token ≢ o.token
+    → HaveOtherTokens token (left_of store now o stays)
 left_others token store now o true apart = (apart, tt)
 left_others token store now o false apart = tt
 
-pub notified_moves : (store : StoreValue) (now : ℕ) (s : Connection) (found : Option Observer) → ((o : Observer) → found ≡ Some o → find (is_due store now) s.observers ≡ Some o) → Moves s (notified store now s found)
+pub notified_moves : (store : StoreValue) (now : ℕ) (s : Connection) (found : Option Observer)
+    → ((o : Observer) → found ≡ Some o → find (is_due store now) s.observers ≡ Some o)
+    → Moves s (notified store now s found)
 notified_moves store now s None there = moves_same s
 notified_moves store now s (Some o) there =
     let m : Message = Rattle.coap_model.specs.Prelude.notification_message o.token (notification store now o) in
@@ -280,9 +354,12 @@ notified_moves store now s (Some o) there =
           let apart = found_all (λ p. token ≢ p.token) (is_due store now) s.observers o calm.others (there o refl) in (
             record {
               others = kept_open_has (HaveOtherTokens token) tt k _
-                  (all_become (λ p. token ≢ p.token) (is_due store now) _ s.observers calm.others (left_others token store now o _ apart));
+                  (all_become (λ p. token ≢ p.token) (is_due store now) _ s.observers calm.others
+                  (left_others token store now o _ apart));
               engine = reply_engineless token s.history m calm.engine;
             },
-            all_to (λ n. n.token ≡ o.token) (λ n. responds token n ≡ false) (λ n same. other_response token o.token n (same_differs token o.token apart) same) queues.more queues.such,
+            all_to (λ n. n.token ≡ o.token) (λ n. responds token n ≡ false)
+                (λ n same. other_response token o.token n (same_differs token o.token apart) same)
+                queues.more queues.such,
           ));
     }

@@ -1,21 +1,26 @@
 -- Facts that hold of every world, and the theorem that no change is lost in it.
-use Rattle.std.proofs.Common.{◌≡◌, ℕ, ◌≤◌, Bool, true, false, cond, List, [], ◌∷◌, map, Option, Some, None, refl, ◌==◌, not, is_none, nat_le, arith, ◌&&◌, sym, ap, ◌∙◌}
+use Rattle.std.proofs.Common.{◌≡◌, ℕ, ◌≤◌, Bool, true, false, cond, List, [], ◌∷◌, map, Option, Some, None, refl, ◌==◌}
+use Rattle.std.proofs.Common.{not, is_none, nat_le, arith, ◌&&◌, sym, ap, ◌∙◌}
 use Rattle.coap_model.specs.Prelude.{AllByRecursion, LimitValues, StoreValue, found_in, Change, Put, Delete, changed}
 use Rattle.coap_model.specs.Prelude.{put_refusal, ConfigValues, Connection, side_after, change_after, side_faulted}
-use Rattle.coap_model.specs.Prelude.{side_written, side_ended, side_released, side_announced, side_responded, IsUpToDate, settled}
-use Rattle.coap_model.specs.Prelude.{with_history, ConnectionEntry, World, new_world, side_of, stored_after, Step, Handled}
+use Rattle.coap_model.specs.Prelude.{side_written, side_ended, side_released, side_announced, side_responded}
+use Rattle.coap_model.specs.Prelude.{IsUpToDate, settled}
+use Rattle.coap_model.specs.Prelude.{with_history, ConnectionEntry, World, new_world, side_of, stored_after, Step}
+use Rattle.coap_model.specs.Prelude.{Handled}
 use Rattle.coap_model.specs.Prelude.{Faulted, Written, ticks, acted, settled_place, step, after_steps, AcceptedCall}
 use Rattle.coap_model.specs.Prelude.{steps_of, world_after, takes_messages, stop, end_reason}
 use Rattle.coap_model.specs.Prelude.{standing_now, with_effect}
 use Rattle.coap_model.specs.Prelude.{takes_input, normalised_step, heard_steps, normalised_steps}
 use Rattle.coap_model.specs.Prelude.{all_settled}
 use Rattle.std.proofs.lemmas.Bool.{and_parts, leb-true, eqb-true, cond_both}
-use Rattle.coap_model.specs.world.World.{changed_at, Opened, Ticked, Stored, Removed, Ended, Released, Announced, Responded, Dropped}
+use Rattle.coap_model.specs.world.World.{changed_at, Opened, Ticked, Stored, Removed, Ended, Released, Announced}
+use Rattle.coap_model.specs.world.World.{Responded, Dropped}
 use Rattle.coap_model.proofs.world.KnownLaws.{still_versioned, IsVersioned}
 use Rattle.coap_model.proofs.world.AcrossLaws.{world_keeps}
 use Rattle.coap_model.proofs.world.EntryLemmas.{all_to, all_append, all_filter, all_map}
 use Rattle.coap_model.proofs.world.EntryLemmas.{all_stay}
-use Rattle.coap_model.proofs.world.SideLaws.{IsKnownSide, still_known_side, calls_known, after_known, hears_at_rest, settled_rests, settled_known}
+use Rattle.coap_model.proofs.world.SideLaws.{IsKnownSide, still_known_side, calls_known, after_known, hears_at_rest}
+use Rattle.coap_model.proofs.world.SideLaws.{settled_rests, settled_known}
 use Rattle.coap_model.proofs.world.SideLaws.{side_at_rest_stays}
 use Rattle.coap_model.proofs.world.PlaceLaws.{AreDistinct, of_each}
 use Rattle.coap_model.proofs.world.ReachedLaws.{step_distinct}
@@ -35,50 +40,76 @@ pub record IsKnownWorld (w : World) : Type 0 where
 -- ---- steps
 
 -- A world with these connections has the facts.
-with_places : (w : World) (sides : List ConnectionEntry) → IsKnownWorld w → AllByRecursion (IsKnownPlace w.store) sides → IsKnownWorld (record w { sides = sides })
+with_places : (w : World) (sides : List ConnectionEntry) → IsKnownWorld w → AllByRecursion (IsKnownPlace w.store) sides
+    → IsKnownWorld (record w { sides = sides })
 with_places w sides known places = record { versioned = known.versioned; moment = known.moment; places = places }
 
-on_side_known : (w : World) (id : ℕ) (f : Connection → Connection) → ((s : Connection) → IsKnownSide w.store s → IsKnownSide w.store (f s)) → IsKnownWorld w → IsKnownWorld (record w { sides = map (changed_at id f) w.sides })
+on_side_known : (w : World) (id : ℕ) (f : Connection → Connection)
+    → ((s : Connection) → IsKnownSide w.store s → IsKnownSide w.store (f s)) → IsKnownWorld w
+    → IsKnownWorld (record w { sides = map (changed_at id f) w.sides })
 on_side_known w id f keeps known =
     with_places w _ known (all_map (IsKnownPlace w.store) (IsKnownPlace w.store) (changed_at id f)
-    (λ p is. cond_both (p.id == id) (record p { side = f p.side }) p (IsKnownPlace w.store) (λ here. keeps p.side is) (λ apart. is)) w.sides known.places)
+    (λ p is. cond_both (p.id == id) (record p { side = f p.side }) p (IsKnownPlace w.store) (λ here. keeps p.side is)
+    (λ apart. is)) w.sides known.places)
 
 -- Any change of the store keeps the facts.
-changed_known : (w : World) (change : Change) → IsKnownWorld w → IsKnownWorld (record w { store = changed w.store change })
+changed_known : (w : World) (change : Change) → IsKnownWorld w
+    → IsKnownWorld (record w { store = changed w.store change })
 changed_known w change known = record {
   versioned = still_versioned w.store change known.versioned;
   moment = known.moment;
-  places = all_to (IsKnownPlace w.store) (IsKnownPlace (changed w.store change)) (λ p. still_known_side w.store change p.side known.versioned) w.sides known.places;
+  places =
+      all_to (IsKnownPlace w.store) (IsKnownPlace (changed w.store change))
+      (λ p. still_known_side w.store change p.side known.versioned) w.sides known.places;
 }
 
 pub acted_known : (limits : LimitValues) (w : World) (s : Step) → IsKnownWorld w → IsKnownWorld (acted limits w s)
 unfolding acted
 acted_known limits w (Opened id) known =
     cond_both (is_none (side_of id w.sides)) _ w IsKnownWorld
-    (λ e. record { versioned = known.versioned; moment = known.moment; places = all_append (IsKnownPlace w.store) w.sides _ known.places ((record { is_history = omega arith; told = tt }), tt) })
+    (λ e. record {
+      versioned = known.versioned;
+      moment = known.moment;
+      places = all_append (IsKnownPlace w.store) w.sides _ known.places (
+        (record { is_history = omega arith; told = tt }),
+        tt,
+      );
+    })
     (λ e. known)
 acted_known limits w (Handled id m) known =
     let sides : List ConnectionEntry = map (changed_at id (λ s. side_after w.store w.now s m)) w.sides in
     let after : IsKnownWorld (record w { sides = sides }) =
-    on_side_known w id (λ s. side_after w.store w.now s m) (λ s. after_known w.store w.now known.moment known.versioned s m) known in
+    on_side_known w id (λ s. side_after w.store w.now s m)
+    (λ s. after_known w.store w.now known.moment known.versioned s m) known in
     elim (side_of id w.sides) as (λ found. IsKnownWorld (record w { sides = sides; store = stored_after w m found })) [
       | None ↦ after
       | Some s ↦ changed_known (record w { sides = sides }) (change_after w.store w.now s m) after
     ]
-acted_known limits w (Faulted id fault) known = on_side_known w id (λ s. side_faulted s fault) (λ s. (calls_known w.store).faulted s fault) known
-acted_known limits w (Written id n) known = on_side_known w id (λ s. side_written s n) (λ s. (calls_known w.store).written s n) known
+acted_known limits w (Faulted id fault) known =
+    on_side_known w id (λ s. side_faulted s fault) (λ s. (calls_known w.store).faulted s fault) known
+acted_known limits w (Written id n) known =
+    on_side_known w id (λ s. side_written s n) (λ s. (calls_known w.store).written s n) known
 acted_known limits w (Ticked now) known =
     cond_both (ticks w.now now) (record w { now = now }) w IsKnownWorld
-    (λ e. record { versioned = known.versioned; moment = leb-true now 18446744073709551615 (and_parts (nat_le w.now now) (nat_le now 18446744073709551615) e).1; places = known.places })
+    (λ e. record {
+      versioned = known.versioned;
+      moment = leb-true now 18446744073709551615 (and_parts (nat_le w.now now) (nat_le now 18446744073709551615) e).1;
+      places = known.places;
+    })
     (λ e. known)
 acted_known limits w (Stored path format bytes) known =
-    cond_both (is_none (put_refusal w.store path bytes)) _ w IsKnownWorld (λ e. changed_known w (Put path format bytes) known) (λ e. known)
+    cond_both (is_none (put_refusal w.store path bytes)) _ w IsKnownWorld
+    (λ e. changed_known w (Put path format bytes) known) (λ e. known)
 acted_known limits w (Removed path) known = changed_known w (Delete path) known
-acted_known limits w (Ended id cut) known = on_side_known w id (λ s. side_ended s cut) (λ s. (calls_known w.store).ended s cut) known
+acted_known limits w (Ended id cut) known =
+    on_side_known w id (λ s. side_ended s cut) (λ s. (calls_known w.store).ended s cut) known
 acted_known limits w (Released id) known = on_side_known w id side_released (calls_known w.store).released known
-acted_known limits w (Announced id size) known = on_side_known w id (λ s. side_announced s size) (λ s. (calls_known w.store).announced s size) known
-acted_known limits w (Responded id m) known = on_side_known w id (λ s. side_responded s m) (λ s. (calls_known w.store).responded s m) known
-acted_known limits w (Dropped id) known = with_places w _ known (all_filter (IsKnownPlace w.store) (λ p. not (p.id == id)) w.sides known.places)
+acted_known limits w (Announced id size) known =
+    on_side_known w id (λ s. side_announced s size) (λ s. (calls_known w.store).announced s size) known
+acted_known limits w (Responded id m) known =
+    on_side_known w id (λ s. side_responded s m) (λ s. (calls_known w.store).responded s m) known
+acted_known limits w (Dropped id) known =
+    with_places w _ known (all_filter (IsKnownPlace w.store) (λ p. not (p.id == id)) w.sides known.places)
 
 step_known : (limits : LimitValues) (w : World) (s : Step) → IsKnownWorld w → IsKnownWorld (step limits w s)
 unfolding step
@@ -86,14 +117,18 @@ step_known limits w s before =
     let v : World = acted limits w s in
     let known : IsKnownWorld v = acted_known limits w s before in
     let Known : ConnectionEntry → Type 0 = IsKnownPlace v.store in
-    with_places v _ known (all_map Known Known (settled_place v.store v.now) (λ p. settled_known v.store v.now known.moment known.versioned p.side) v.sides known.places)
+    with_places v _ known (all_map Known Known (settled_place v.store v.now)
+    (λ p. settled_known v.store v.now known.moment known.versioned p.side) v.sides known.places)
 
 -- The facts hold of the world after any events.
-pub world_known : (c : ConfigValues) (events : List AcceptedCall) → c.starts.moment ≤ 18446744073709551615 → IsKnownWorld (world_after c events)
+pub world_known : (c : ConfigValues) (events : List AcceptedCall) → c.starts.moment ≤ 18446744073709551615
+    → IsKnownWorld (world_after c events)
 unfolding found_in
 world_known c events small =
-    let versioned : IsVersioned (new_world c).store = record { distinct = tt; numbered = λ path r found. absurd cc; given = λ path r found. absurd cc } in
-    world_keeps c IsKnownWorld (step_known c.limits) (record { versioned = versioned; moment = small; places = tt }) events
+    let versioned : IsVersioned (new_world c).store =
+    record { distinct = tt; numbered = λ path r found. absurd cc; given = λ path r found. absurd cc } in
+    world_keeps c IsKnownWorld (step_known c.limits)
+    (record { versioned = versioned; moment = small; places = tt }) events
 
 -- ---- no change is lost
 
@@ -101,9 +136,11 @@ world_known c events small =
 abbrev pub AllHear : World → Type 0
 AllHear w = AllByRecursion (λ p. IsUpToDate w.store w.now p.side) w.sides
 
-settled_hear : (store : StoreValue) (now : ℕ) (ps : List ConnectionEntry) → AllByRecursion (λ p. IsUpToDate store now p.side) (map (settled_place store now) ps)
+settled_hear : (store : StoreValue) (now : ℕ) (ps : List ConnectionEntry)
+    → AllByRecursion (λ p. IsUpToDate store now p.side) (map (settled_place store now) ps)
 settled_hear store now [] = tt
-settled_hear store now (p ∷ ps) = (hears_at_rest store now (settled store now p.side) (settled_rests store now p.side), settled_hear store now ps)
+settled_hear store now (p ∷ ps) =
+    (hears_at_rest store now (settled store now p.side) (settled_rests store now p.side), settled_hear store now ps)
 
 pub step_hears : (limits : LimitValues) (w : World) (s : Step) → AllHear (step limits w s)
 unfolding step
@@ -119,7 +156,8 @@ world_stays w hear =
     let settles : ConnectionEntry → ConnectionEntry = settled_place w.store w.now in
     ap (λ (ps : List ConnectionEntry). record w { sides = ps }) (all_stay settles w.sides
     (all_to (λ p. IsUpToDate w.store w.now p.side) (λ p. settles p ≡ p)
-    (λ p takes_input. ap (λ (s : Connection). record p { side = s }) (side_at_rest_stays w.store w.now p.side takes_input)) w.sides hear))
+    (λ p takes_input. ap (λ (s : Connection). record p { side = s })
+    (side_at_rest_stays w.store w.now p.side takes_input)) w.sides hear))
 
 -- ---- the end of input
 
@@ -127,54 +165,76 @@ world_stays w hear =
 ends_if_taking : (s : Connection) (cut : Bool) → side_ended s (takes_messages s.history.phase && cut) ≡ side_ended s cut
 unfolding side_ended
 ends_if_taking s cut =
-    let ended : Bool → Bool → Connection = λ takes cut. with_history s (cond takes (with_effect s.history (stop (standing_now s.history) (end_reason cut) [])) s.history) in
-    elim (takes_messages s.history.phase) as (λ takes. ended takes (takes && cut) ≡ ended takes cut) [ true ↦ refl | false ↦ refl ]
+    let ended : Bool → Bool → Connection = λ takes cut. with_history s
+    (cond takes (with_effect s.history (stop (standing_now s.history) (end_reason cut) [])) s.history) in
+    elim (takes_messages s.history.phase) as (λ takes. ended takes (takes && cut) ≡ ended takes cut) [
+      | true ↦ refl
+      | false ↦ refl
+    ]
 
 -- Two changes have the same effect on a place if they have the same effect on the connection with this id.
-place_same : (id : ℕ) (f g : Connection → Connection) (p : ConnectionEntry) (here : Bool) → (p.id == id) ≡ here → (p.id ≡ id → f p.side ≡ g p.side) → changed_at id f p ≡ changed_at id g p
+place_same : (id : ℕ) (f g : Connection → Connection) (p : ConnectionEntry) (here : Bool) → (p.id == id) ≡ here
+    → (p.id ≡ id → f p.side ≡ g p.side) → changed_at id f p ≡ changed_at id g p
 place_same id f g p true is same = rw is (ap (λ (s : Connection). record p { side = s }) (same (eqb-true p.id id is)))
 place_same id f g p false is same = rw is refl
 
-map_same : {B : Type 0} (f g : ConnectionEntry → B) (ps : List ConnectionEntry) → AllByRecursion (λ p. f p ≡ g p) ps → map f ps ≡ map g ps
+map_same : {B : Type 0} (f g : ConnectionEntry → B) (ps : List ConnectionEntry)
+    → AllByRecursion (λ p. f p ≡ g p) ps → map f ps ≡ map g ps
 map_same f g [] each = refl
 map_same f g (p ∷ ps) each = cc (each.0, map_same f g ps each.1)
 
 -- Two functions agree on all places if they agree on the connection of each id.
-pub each_same : {B : Type 0} (f g : ConnectionEntry → B) (ps : List ConnectionEntry) → AreDistinct ps → ((id : ℕ) (s : Connection) → side_of id ps ≡ Some s → f (record { id = id; side = s }) ≡ g (record { id = id; side = s })) → map f ps ≡ map g ps
-each_same f g ps distinct same = map_same f g ps (of_each (λ id s. f (record { id = id; side = s }) ≡ g (record { id = id; side = s })) ps distinct same)
+pub each_same : {B : Type 0} (f g : ConnectionEntry → B) (ps : List ConnectionEntry) → AreDistinct ps
+    → ((id : ℕ) (s : Connection) → side_of id ps ≡ Some s
+    → f (record { id = id; side = s }) ≡ g (record { id = id; side = s })) → map f ps ≡ map g ps
+each_same f g ps distinct same =
+    map_same f g ps
+    (of_each (λ id s. f (record { id = id; side = s }) ≡ g (record { id = id; side = s })) ps distinct same)
 
 -- ---- a step, and all of them
 
-heard_acted : (limits : LimitValues) (w : World) (s : Step) → AreDistinct w.sides → acted limits w (normalised_step w s) ≡ acted limits w s
+heard_acted : (limits : LimitValues) (w : World) (s : Step) → AreDistinct w.sides
+    → acted limits w (normalised_step w s) ≡ acted limits w s
 unfolding acted
 heard_acted limits w (world.Ended id cut) distinct =
     let f : Connection → Connection = λ t. side_ended t (takes_input (side_of id w.sides) && cut) in
     let g : Connection → Connection = λ t. side_ended t cut in
-    ap (λ (ps : List ConnectionEntry). record w { sides = ps }) (each_same (changed_at id f) (changed_at id g) w.sides distinct (λ other s there.
+    ap (λ (ps : List ConnectionEntry). record w { sides = ps })
+    (each_same (changed_at id f) (changed_at id g) w.sides distinct (λ other s there.
     place_same id f g (record { id = other; side = s }) (other == id) refl
-    (λ same. ap (λ (o : Option Connection). side_ended s (takes_input o && cut)) (ap (λ (n : ℕ). side_of n w.sides) (sym same) ∙ there) ∙ ends_if_taking s cut)))
+    (λ same. ap (λ (o : Option Connection). side_ended s (takes_input o && cut))
+    (ap (λ (n : ℕ). side_of n w.sides) (sym same) ∙ there) ∙ ends_if_taking s cut)))
 heard_acted limits w other distinct = refl
 
-all_heard : (limits : LimitValues) (w : World) (ss : List Step) → AreDistinct w.sides → after_steps limits w (heard_steps limits w ss) ≡ after_steps limits w ss
+all_heard : (limits : LimitValues) (w : World) (ss : List Step) → AreDistinct w.sides
+    → after_steps limits w (heard_steps limits w ss) ≡ after_steps limits w ss
 unfolding after_steps heard_steps world.step
 all_heard limits w [] distinct = refl
 all_heard limits w (s ∷ ss) distinct =
-    rw (heard_acted limits w s distinct, after_steps) (all_heard limits (world.step limits w s) ss (step_distinct limits w s distinct))
+    rw (heard_acted limits w s distinct, after_steps)
+    (all_heard limits (world.step limits w s) ss (step_distinct limits w s distinct))
 
 -- The received steps lead to the same world as the events.
-pub heard_world : (c : ConfigValues) (es : List AcceptedCall) → after_steps c.limits (new_world c) (normalised_steps c es) ≡ world_after c es
+pub heard_world : (c : ConfigValues) (es : List AcceptedCall)
+    → after_steps c.limits (new_world c) (normalised_steps c es) ≡ world_after c es
 unfolding normalised_steps world_after
 heard_world c es = all_heard c.limits (new_world c) (steps_of c.limits.max_message es) tt
 
 -- So if the received steps are equal, the worlds are equal.
-pub same_heard : (c : ConfigValues) (es fs : List AcceptedCall) → normalised_steps c es ≡ normalised_steps c fs → world_after c es ≡ world_after c fs
+pub same_heard : (c : ConfigValues) (es fs : List AcceptedCall) → normalised_steps c es ≡ normalised_steps c fs
+    → world_after c es ≡ world_after c fs
 same_heard c es fs alike = sym (heard_world c es) ∙ ap (after_steps c.limits (new_world c)) alike ∙ heard_world c fs
 
 -- Equal steps are received as equal steps.
-pub heard_alike : (c : ConfigValues) (es fs : List AcceptedCall) → steps_of c.limits.max_message es ≡ steps_of c.limits.max_message fs → normalised_steps c es ≡ normalised_steps c fs
+pub heard_alike : (c : ConfigValues) (es fs : List AcceptedCall)
+    → steps_of c.limits.max_message es ≡ steps_of c.limits.max_message fs
+    → normalised_steps c es ≡ normalised_steps c fs
 unfolding normalised_steps
 heard_alike c es fs alike = ap (heard_steps c.limits (new_world c)) alike
 
 -- The end of input after a stop.
-pub quiet_end : (w : World) (id : ℕ) (s : Connection) (cut : Bool) → side_of id w.sides ≡ Some s → takes_messages s.history.phase ≡ false → normalised_step w (world.Ended id cut) ≡ world.Ended id false
-quiet_end w id s cut there over = ap (λ (o : Option Connection). world.Ended id (takes_input o && cut)) there ∙ ap (λ (b : Bool). world.Ended id (b && cut)) over
+pub quiet_end : (w : World) (id : ℕ) (s : Connection) (cut : Bool) → side_of id w.sides ≡ Some s
+    → takes_messages s.history.phase ≡ false → normalised_step w (world.Ended id cut) ≡ world.Ended id false
+quiet_end w id s cut there over =
+    ap (λ (o : Option Connection). world.Ended id (takes_input o && cut)) there
+    ∙ ap (λ (b : Bool). world.Ended id (b && cut)) over

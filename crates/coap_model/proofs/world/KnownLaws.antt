@@ -1,9 +1,11 @@
 -- Known facts of an observer: the state that it was sent last is a state that its path had.
-use Rattle.std.proofs.Common.{◌≡◌, ℕ, ◌+◌, ◌<◌, ◌≤◌, true, false, List, Option, Some, None, refl, sym, ap, ◌∙◌, arith, ◌==◌, nat_eq, not, ◌&&◌, inl, inr, ◌⊎◌}
+use Rattle.std.proofs.Common.{◌≡◌, ℕ, ◌+◌, ◌<◌, ◌≤◌, true, false, List, Option, Some, None, refl, sym, ap, ◌∙◌, arith}
+use Rattle.std.proofs.Common.{◌==◌, nat_eq, not, ◌&&◌, inl, inr, ◌⊎◌}
 use Rattle.coap_model.specs.Prelude.{decimal, option_eq, Message, Path, same_bytes}
 use Rattle.coap_model.specs.Prelude.{Representation, StoreValue, found_in, kind_of_path, key_for, state_at, state_of}
 use Rattle.coap_model.specs.Prelude.{built, text_plain, is_observable, is_dynamic, RequestTarget, target_of, path_of}
-use Rattle.coap_model.specs.Prelude.{Change, Nothing, Put, Delete, changed, immediate_answer, prompt_answer, only, content, Response}
+use Rattle.coap_model.specs.Prelude.{Change, Nothing, Put, Delete, changed, immediate_answer, prompt_answer, only}
+use Rattle.coap_model.specs.Prelude.{content, Response}
 use Rattle.coap_model.specs.Prelude.{etag_at, is_among, valid, answer_at, removes_watch, with_observe_rule, answer_of}
 use Rattle.coap_model.specs.Prelude.{unheld_by, AreDistinct, notification_at, Time, Dynamic}
 use Rattle.coap_model.specs.Prelude.{Observer, same_state, is_due, entry_for, format_of}
@@ -14,7 +16,8 @@ use lib.Pointwise.{bytes_decides}
 use Rattle.coap_store.specs.Answer.{Answer}
 use Rattle.coap_path.specs.declared.resource_kind.ResourceKind.{ResourceKind}
 use Rattle.coap_store.proofs.CatalogueLemmas.{same_format}
-use Rattle.coap_store.proofs.ChangeLaws.{put_is_stored, other_is_kept_on_put, other_is_kept_on_delete, deleted_is_gone, distinct_stays}
+use Rattle.coap_store.proofs.ChangeLaws.{put_is_stored, other_is_kept_on_put, other_is_kept_on_delete, deleted_is_gone}
+use Rattle.coap_store.proofs.ChangeLaws.{distinct_stays}
 use Rattle.coap_store.proofs.VersionLaws.{by_path}
 use Rattle.coap_store.proofs.ApplicationLaws.{prompt_cases}
 use Rattle.coap_store.proofs.WatchLaws.{promptly_watched_is_there, stored_unwatched, watched_at_once}
@@ -76,7 +79,8 @@ format_is f g e = absurd cc
 pub state_is : (told state : Option Representation) → same_state told state ≡ true → told ≡ state
 state_is None None e = refl
 state_is (Some r) (Some q) e =
-    let first = and_parts (r.version == q.version && world.same_format r.format q.format) (same_bytes r.bytes q.bytes) e in
+    let first =
+    and_parts (r.version == q.version && world.same_format r.format q.format) (same_bytes r.bytes q.bytes) e in
     let second = and_parts (r.version == q.version) (world.same_format r.format q.format) first.0 in
     let version : r.version ≡ q.version = eqb-true r.version q.version second.0 in
     let format : r.format ≡ q.format = format_is r.format q.format second.1 in
@@ -85,26 +89,34 @@ state_is (Some r) (Some q) e =
 state_is told state e = absurd cc
 
 -- An observer that is not due was last sent the current state.
-pub told_now : (store : StoreValue) (now : ℕ) (o : Observer) → is_due store now o ≡ false → o.told ≡ state_of store now o.path
+pub told_now : (store : StoreValue) (now : ℕ) (o : Observer) → is_due store now o ≡ false
+    → o.told ≡ state_of store now o.path
 unfolding is_due
-told_now store now o e = state_is o.told (state_of store now o.path) (not-false (same_state o.told (state_of store now o.path)) e)
+told_now store now o e =
+    state_is o.told (state_of store now o.path) (not-false (same_state o.told (state_of store now o.path)) e)
 
 -- An observer that was last sent the current state is not due.
-pub not_due : (store : StoreValue) (now : ℕ) (o : Observer) → o.told ≡ state_of store now o.path → is_due store now o ≡ false
+pub not_due : (store : StoreValue) (now : ℕ) (o : Observer) → o.told ≡ state_of store now o.path
+    → is_due store now o ≡ false
 unfolding is_due
-not_due store now o e = ap (λ told. not (same_state told (state_of store now o.path))) e ∙ ap not (state_itself (state_of store now o.path))
+not_due store now o e =
+    ap (λ told. not (same_state told (state_of store now o.path))) e ∙ ap not (state_itself (state_of store now o.path))
 
 -- ---- changes of the store
 
 -- A representation found after a change has the version that the change assigned, or was in the store before.
-found_behind : (store : StoreValue) (change : Change) (path : Path) (r : Representation) → AreDistinct store.resources → found_in (changed store change).resources path ≡ Some r
-    → ((store.versions < r.version) × (r.version ≤ (changed store change).versions)) ⊎ (found_in store.resources path ≡ Some r)
+found_behind : (store : StoreValue) (change : Change) (path : Path) (r : Representation) → AreDistinct store.resources
+    → found_in (changed store change).resources path ≡ Some r
+    → ((store.versions < r.version) × (r.version ≤ (changed store change).versions))
+    ⊎ (found_in store.resources path ≡ Some r)
 found_behind store Nothing path r distinct found = inr found
 found_behind store (Put at format bytes) path r distinct found = by_path path at
-    (λ here. (let version : store.versions + 1 ≡ r.version = cc (put_is_stored store at format bytes) in inl (omega arith, omega arith)))
+    (λ here. (let version : store.versions + 1 ≡ r.version = cc (put_is_stored store at format bytes) in
+    inl (omega arith, omega arith)))
     (λ apart. inr (sym (other_is_kept_on_put store at path format bytes apart) ∙ found))
 found_behind store (Delete at) path r distinct found =
-    by_path path at (λ here. absurd (cc (deleted_is_gone store at distinct))) (λ apart. inr (sym (other_is_kept_on_delete store at path apart) ∙ found))
+    by_path path at (λ here. absurd (cc (deleted_is_gone store at distinct)))
+    (λ apart. inr (sym (other_is_kept_on_delete store at path apart) ∙ found))
 
 versions_grow : (store : StoreValue) (change : Change) → store.versions ≤ (changed store change).versions
 versions_grow store (Put at format bytes) = omega arith
@@ -113,14 +125,18 @@ versions_grow store other = omega arith
 pub still_versioned : (store : StoreValue) (change : Change) → IsVersioned store → IsVersioned (changed store change)
 still_versioned store change is = record {
   distinct = distinct_stays store change is.distinct;
-  numbered = λ path r found. elim (found_behind store change path r is.distinct found) [ inl new ↦ omega arith | inr old ↦ is.numbered path r old ];
+  numbered = λ path r found. elim (found_behind store change path r is.distinct found) [
+    | inl new ↦ omega arith
+    | inr old ↦ is.numbered path r old
+  ];
   given = λ path r found. elim (found_behind store change path r is.distinct found) [
     | inl new ↦ new.1
     | inr old ↦ omega (arith, is.given path r old, versions_grow store change)
   ];
 }
 
-known_at_still : (place : ResourceKind) (store : StoreValue) (change : Change) (o : Observer) → IsVersioned store → IsKnownAt place store o → IsKnownAt place (changed store change) o
+known_at_still : (place : ResourceKind) (store : StoreValue) (change : Change) (o : Observer) → IsVersioned store
+    → IsKnownAt place store o → IsKnownAt place (changed store change) o
 known_at_still Dynamic store change o is known = record {
   state = known.state;
   was = known.was;
@@ -134,8 +150,10 @@ known_at_still Dynamic store change o is known = record {
 known_at_still other store change o is known = known
 
 -- The facts on an observer hold after any change.
-pub still_known : (store : StoreValue) (change : Change) (o : Observer) → IsVersioned store → IsKnown store o → IsKnown (changed store change) o
-still_known store change o is known = record { key = known.key; state = known_at_still (kind_of_path o.path) store change o is known.state }
+pub still_known : (store : StoreValue) (change : Change) (o : Observer) → IsVersioned store → IsKnown store o
+    → IsKnown (changed store change) o
+still_known store change o is known =
+    record { key = known.key; state = known_at_still (kind_of_path o.path) store change o is known.state }
 
 -- ---- sending the current state
 
@@ -146,7 +164,10 @@ pub record IsWatchable (store : StoreValue) (now : ℕ) (path : Path) : Type 0 w
   pub representation : Representation
   pub there : state_of store now path ≡ Some representation
 
-told_at : (place : ResourceKind) (store : StoreValue) (now : ℕ) (token : List ℕ) (path : Path) (r : Representation) → now ≤ 18446744073709551615 → IsVersioned store → is_observable place ≡ true → state_at store now (Some path) place ≡ Some r → IsKnownAt place store (record { token = token; path = path; told = Some r })
+told_at : (place : ResourceKind) (store : StoreValue) (now : ℕ) (token : List ℕ) (path : Path) (r : Representation)
+    → now ≤ 18446744073709551615 → IsVersioned store → is_observable place ≡ true
+    → state_at store now (Some path) place ≡ Some r
+    → IsKnownAt place store (record { token = token; path = path; told = Some r })
 unfolding state_at
 told_at Time store now token path r small is e there = record { moment = now; was = sym there; small = small }
 told_at Dynamic store now token path r small is e there = record {
@@ -159,43 +180,70 @@ told_at Dynamic store now token path r small is e there = record {
 told_at other store now token path r small is e there = absurd cc
 
 -- An observer that is sent the current state has the facts.
-pub told_known : (store : StoreValue) (now : ℕ) (token : List ℕ) (path : Path) → now ≤ 18446744073709551615 → IsVersioned store → IsWatchable store now path → IsKnown store (record { token = token; path = path; told = state_of store now path })
+pub told_known : (store : StoreValue) (now : ℕ) (token : List ℕ) (path : Path) → now ≤ 18446744073709551615
+    → IsVersioned store → IsWatchable store now path
+    → IsKnown store (record { token = token; path = path; told = state_of store now path })
 told_known store now token path small is can =
-    rw can.there (record { key = can.key; state = told_at (kind_of_path path) store now token path can.representation small is can.observable (rw can.key at can.there) })
+    rw can.there (record {
+      key = can.key;
+      state =
+          told_at (kind_of_path path) store now token path can.representation small is can.observable
+          (rw can.key at can.there);
+    })
 
 -- ---- states that are sent
 
 -- A request that asks for an entry names such a path.
-pub entry_watchable : (store : StoreValue) (now : ℕ) (m : Message) → (prompt_answer store now m).watch ≡ watch.Add → IsWatchable store now (path_of m)
-entry_watchable store now m = prompt_cases store now m (λ a. a.watch ≡ watch.Add → IsWatchable store now (path_of m)) (λ e. absurd cc) (λ e. (
-    let may = promptly_watched_is_there store now m e in record { key = may.key; observable = may.observable; representation = may.representation; there = may.there }))
+pub entry_watchable : (store : StoreValue) (now : ℕ) (m : Message) → (prompt_answer store now m).watch ≡ watch.Add
+    → IsWatchable store now (path_of m)
+entry_watchable store now m =
+    prompt_cases store now m (λ a. a.watch ≡ watch.Add → IsWatchable store now (path_of m)) (λ e. absurd cc) (λ e. (
+    let may = promptly_watched_is_there store now m e in
+    record { key = may.key; observable = may.observable; representation = may.representation; there = may.there }))
 
-known_observable : (place : ResourceKind) (store : StoreValue) (o : Observer) → IsKnownAt place store o → is_observable place ≡ true
+known_observable : (place : ResourceKind) (store : StoreValue) (o : Observer) → IsKnownAt place store o
+    → is_observable place ≡ true
 known_observable Time store o known = refl
 known_observable Dynamic store o known = refl
 known_observable other store o known = absurd known
 
 -- A notification with Observe is the 2.05 of the state, in the format sent last.
-pub record TellsOn (place : ResourceKind) (state : Option Representation) (format : Option ℕ) (a : Response) : Type 0 where
+pub record TellsOn (place : ResourceKind) (state : Option Representation) (format : Option ℕ)
+    (a : Response) : Type 0 where
   pub representation : Representation
   pub there : state ≡ Some representation
   pub same : representation.format ≡ format
   pub says : a ≡ content place representation
 
-tells_on_at : (place : ResourceKind) (state : Option Representation) (format : Option ℕ) → goes_on (notification_at place state format) ≡ true → TellsOn place state format (notification_at place state format)
+tells_on_at : (place : ResourceKind) (state : Option Representation) (format : Option ℕ)
+    → goes_on (notification_at place state format) ≡ true
+    → TellsOn place state format (notification_at place state format)
 unfolding notification_at
 tells_on_at place None format e = absurd cc
 tells_on_at place (Some r) format e =
-    cond_both (option_eq nat_eq r.format format) (content place r) (only code.not_acceptable) (λ a. goes_on a ≡ true → TellsOn place (Some r) format a)
-    (λ same on. record { representation = r; there = refl; same = same_format r.format format (ap not same); says = refl }) (λ other on. absurd cc) e
+    cond_both (option_eq nat_eq r.format format) (content place r) (only code.not_acceptable)
+    (λ a. goes_on a ≡ true → TellsOn place (Some r) format a)
+    (λ same on. record {
+      representation = r;
+      there = refl;
+      same = same_format r.format format (ap not same);
+      says = refl;
+    }) (λ other on. absurd cc) e
 
-pub tells_on_to_observer : (store : StoreValue) (now : ℕ) (o : Observer) → goes_on (notification store now o) ≡ true → TellsOn (kind_of_path o.path) (state_of store now o.path) (format_of o.told) (notification store now o)
+pub tells_on_to_observer : (store : StoreValue) (now : ℕ) (o : Observer) → goes_on (notification store now o) ≡ true
+    → TellsOn (kind_of_path o.path) (state_of store now o.path) (format_of o.told) (notification store now o)
 tells_on_to_observer store now o e = tells_on_at (kind_of_path o.path) (state_of store now o.path) (format_of o.told) e
 
-pub left_watchable : (store : StoreValue) (now : ℕ) (o : Observer) → IsKnown store o → goes_on (notification store now o) ≡ true → IsWatchable store now o.path
+pub left_watchable : (store : StoreValue) (now : ℕ) (o : Observer) → IsKnown store o
+    → goes_on (notification store now o) ≡ true → IsWatchable store now o.path
 left_watchable store now o known e =
     let tells = tells_on_to_observer store now o e in
-    record { key = known.key; observable = known_observable (kind_of_path o.path) store o known.state; representation = tells.representation; there = tells.there }
+    record {
+      key = known.key;
+      observable = known_observable (kind_of_path o.path) store o known.state;
+      representation = tells.representation;
+      there = tells.there;
+    }
 
 -- ---- responses that report a state
 
@@ -204,12 +252,14 @@ abbrev pub SaysState : ResourceKind → Representation → Response → Type 0
 SaysState place r a = (a ≡ content place r) ⊎ ((a ≡ etag_of_state r) × (is_dynamic place ≡ true))
 
 -- Such a response with Observe reports the state.
-pub says_tells : (o : Observer) (state : Option Representation) (r : Representation) (a : Response) → state ≡ Some r → SaysState (kind_of_path o.path) r a → ReportsState o state (response_with_observe o.token true a)
+pub says_tells : (o : Observer) (state : Option Representation) (r : Representation) (a : Response) → state ≡ Some r
+    → SaysState (kind_of_path o.path) r a → ReportsState o state (response_with_observe o.token true a)
 says_tells o state r a there (inl e) = rw there (inl (ap (response_with_observe o.token true) e))
 says_tells o state r a there (inr e) = rw there (inr (ap (response_with_observe o.token true) e.0, e.1))
 
 -- A message that reports a state is a response with the observer's token.
-pub tells_responds : (o : Observer) (state : Option Representation) (m : Message) → ReportsState o state m → responds o.token m ≡ true
+pub tells_responds : (o : Observer) (state : Option Representation) (m : Message) → ReportsState o state m
+    → responds o.token m ≡ true
 tells_responds o None m tells = absurd tells
 tells_responds o (Some r) m (inl e) = ap (responds o.token) e ∙ bytes_itself o.token
 tells_responds o (Some r) m (inr e) = ap (responds o.token) e.0 ∙ bytes_itself o.token
@@ -221,7 +271,8 @@ abbrev TellsWell : ResourceKind → Option Representation → Answer → Type 0
 TellsWell place state a = a.watch ≡ watch.Add → (r : Representation) × (state ≡ Some r) × SaysState place r a.response
 
 -- An ETag matches only if the state is stored.
-valid_says : (place : ResourceKind) (r : Representation) (etags : List (List ℕ)) → is_among (etag_at place r) etags ≡ true → SaysState place r (valid place r)
+valid_says : (place : ResourceKind) (r : Representation) (etags : List (List ℕ))
+    → is_among (etag_at place r) etags ≡ true → SaysState place r (valid place r)
 valid_says Dynamic r etags e = inr (refl, refl)
 valid_says other r etags e = absurd cc
 
@@ -235,31 +286,44 @@ telling_at s t m =
         content = λ e. (r, is, inl refl);
       });
       deleted = λ dynamic other e. absurd cc;
-      stored = λ dynamic other. store_cases P s t m (λ c error e. absurd cc) (λ e. absurd cc) (λ can e. absurd (cc (stored_unwatched t.key t.state m)));
+      stored = λ dynamic other. store_cases P s t m (λ c error e. absurd cc) (λ e. absurd cc)
+          (λ can e. absurd (cc (stored_unwatched t.key t.state m)));
     })
 
 -- The answer that adds an observer is not delayed, and reports the state that the entry records.
-immediately_tells : (store : StoreValue) (now : ℕ) (m : Message) → (immediate_answer store now m).watch ≡ watch.Add → ReportsState (entry_for store now m) (state_of store now (path_of m)) (response_with_observe m.token true (immediate_answer store now m).response)
+immediately_tells : (store : StoreValue) (now : ℕ) (m : Message) → (immediate_answer store now m).watch ≡ watch.Add
+    → ReportsState (entry_for store now m) (state_of store now (path_of m))
+    (response_with_observe m.token true (immediate_answer store now m).response)
 unfolding answer_of immediate_answer
 immediately_tells store now m e =
     let t : RequestTarget = target_of store now (path_of m) in
     let tells : TellsWell t.place t.state (immediate_answer store now m) =
-    there_or_not (answer_of store now m).hold (λ hold. TellsWell t.place t.state (unheld_by hold (answer_of store now m)))
-    (λ none. elim (removes_watch m) as (λ b. TellsWell t.place t.state (with_observe_rule b (answer_at store t m))) [ true ↦ λ e. absurd cc | false ↦ telling_at store t m ])
+    there_or_not (answer_of store now m).hold
+    (λ hold. TellsWell t.place t.state (unheld_by hold (answer_of store now m)))
+    (λ none. elim (removes_watch m) as (λ b. TellsWell t.place t.state (with_observe_rule b (answer_at store t m))) [
+      | true ↦ λ e. absurd cc
+      | false ↦ telling_at store t m
+    ])
     (λ seconds held e. (let at_once = watched_at_once store now m e in absurd cc)) in
     let is = tells e in
-    says_tells (entry_for store now m) (state_of store now (path_of m)) is.0 (immediate_answer store now m).response is.1 is.2
+    says_tells (entry_for store now m) (state_of store now (path_of m)) is.0
+    (immediate_answer store now m).response is.1 is.2
 
 -- A request that the application answers adds none.
-pub entry_tells : (store : StoreValue) (now : ℕ) (m : Message) → (prompt_answer store now m).watch ≡ watch.Add → ReportsState (entry_for store now m) (state_of store now (path_of m)) (response_with_observe m.token true (prompt_answer store now m).response)
+pub entry_tells : (store : StoreValue) (now : ℕ) (m : Message) → (prompt_answer store now m).watch ≡ watch.Add
+    → ReportsState (entry_for store now m) (state_of store now (path_of m))
+    (response_with_observe m.token true (prompt_answer store now m).response)
 entry_tells store now m =
-    prompt_cases store now m (λ a. a.watch ≡ watch.Add → ReportsState (entry_for store now m) (state_of store now (path_of m)) (response_with_observe m.token true a.response))
+    prompt_cases store now m (λ a. a.watch ≡ watch.Add → ReportsState (entry_for store now m)
+    (state_of store now (path_of m)) (response_with_observe m.token true a.response))
     (λ e. absurd cc) (immediately_tells store now m)
 
 -- ---- notifications
 
 -- A notification with Observe reports the state that the entry records from then on.
-pub notification_tells_observer : (store : StoreValue) (now : ℕ) (o : Observer) → goes_on (notification store now o) ≡ true → ReportsState o (state_of store now o.path) (notification_message o.token (notification store now o))
+pub notification_tells_observer : (store : StoreValue) (now : ℕ) (o : Observer)
+    → goes_on (notification store now o) ≡ true
+    → ReportsState o (state_of store now o.path) (notification_message o.token (notification store now o))
 notification_tells_observer store now o on =
     let is = tells_on_to_observer store now o on in
     rw on (says_tells o (state_of store now o.path) is.representation (notification store now o) is.there (inl is.says))

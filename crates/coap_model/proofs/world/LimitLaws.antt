@@ -1,6 +1,7 @@
 -- No limit of a server is exceeded. After any events, this holds of the queued bytes, the pending entries and the
 -- observers of a connection. After accepted events, it also holds of the bytes kept of an unfinished frame.
-use Rattle.std.proofs.Common.{◌≡◌, ℕ, ◌+◌, ◌<◌, ◌≤◌, Bool, true, false, List, [], ◌∷◌, ◌++◌, length, Some, None, refl, ap, ◌∙◌, arith, sym, subst, append_assoc, inl, inr, ◌==◌}
+use Rattle.std.proofs.Common.{◌≡◌, ℕ, ◌+◌, ◌<◌, ◌≤◌, Bool, true, false, List, [], ◌∷◌, ◌++◌, length, Some, None, refl}
+use Rattle.std.proofs.Common.{ap, ◌∙◌, arith, sym, subst, append_assoc, inl, inr, ◌==◌}
 use Rattle.std.proofs.lemmas.Bool.{cond_both, leb-true, ltb-true, eqb-true}
 use Rattle.std.proofs.lemmas.List.{length-append, length-drop, append-nil}
 use Rattle.std.proofs.lemmas.List.Sums.{length-filter, count_by-le-length}
@@ -22,8 +23,12 @@ use Rattle.coap_conn.proofs.WaitingLaws.{wait, one_small, limit_within, queued_w
 use Rattle.coap_conn.proofs.SmallLemmas.{first_csm_bytes_small, release_bytes_small}
 use Rattle.coap_conn.proofs.PendingLaws.{due_nothing, due_fewer, held_few}
 use Rattle.coap_conn.proofs.HistoryLaws.{reaction_fits, sent_fits, stopped_fits, new_fits, released_fits}
-use Rattle.coap_model.proofs.world.WalkLaws.{there_or_not, there_where, settled_keeps, observers_kept, release_fits, room_in, sent, without_first, Hears, Replies, Between, once_between, after_between, faulted_between, written_between, ended_between, released_between, announced_between, responded_between}
-use Rattle.coap_model.proofs.world.AcrossLaws.{KeepsAll, keeping_composes, kept_history, HoldsOf, step_across, opened_there}
+use Rattle.coap_model.proofs.world.WalkLaws.{there_or_not, there_where, settled_keeps, observers_kept, release_fits}
+use Rattle.coap_model.proofs.world.WalkLaws.{room_in, sent, without_first, Hears, Replies, Between, once_between}
+use Rattle.coap_model.proofs.world.WalkLaws.{after_between, faulted_between, written_between, ended_between}
+use Rattle.coap_model.proofs.world.WalkLaws.{released_between, announced_between, responded_between}
+use Rattle.coap_model.proofs.world.AcrossLaws.{KeepsAll, keeping_composes, kept_history, HoldsOf, step_across}
+use Rattle.coap_model.proofs.world.AcrossLaws.{opened_there}
 use Rattle.coap_model.proofs.world.GoingOn.{GoesOn, all_go_on, call_goes_on, side_is, Keeps, kept_after}
 use Rattle.coap_conn.proofs.ReactionLaws.{abort_one, react_so}
 use Rattle.coap_model.proofs.world.ReachedLaws.{accepted_is, IsReached}
@@ -43,9 +48,12 @@ use Rattle.coap_model.specs.world.World as world
 
 token_fewer : (token : List ℕ) (os : List Observer) → length (without_token token os) ≤ length os
 unfolding without_token
-token_fewer token os = let other : Observer → Bool = λ o. not (same_bytes o.token token) in omega (arith, length-filter other os, count_by-le-length other os)
+token_fewer token os =
+    let other : Observer → Bool = λ o. not (same_bytes o.token token) in
+    omega (arith, length-filter other os, count_by-le-length other os)
 
-becomes_fewer : (due : Observer → Bool) (after : List Observer) (os : List Observer) → length after ≤ 1 → length (first_becomes due after os) ≤ length os
+becomes_fewer : (due : Observer → Bool) (after : List Observer) (os : List Observer) → length after ≤ 1
+    → length (first_becomes due after os) ≤ length os
 unfolding first_becomes
 becomes_fewer due after [] one = omega arith
 becomes_fewer due after (o ∷ os) one =
@@ -56,14 +64,16 @@ left_one : (store : StoreValue) (now : ℕ) (o : Observer) (stays : Bool) → le
 left_one store now o true = omega arith
 left_one store now o false = omega arith
 
-few_keeps : (limits : LimitValues) (a : Option ApplicationsValue) → Keeps limits a (λ s. length s.observers ≤ limits.observers)
+few_keeps : (limits : LimitValues) (a : Option ApplicationsValue)
+    → Keeps limits a (λ s. length s.observers ≤ limits.observers)
 few_keeps limits a =
     let Few : List Observer → Type 0 = λ os. length os ≤ limits.observers in
     let kept = observers_kept Few (omega arith) in
     record {
       first = omega arith;
       -- An entry is added only if there is a place for it.
-      handled = λ store now s m same is few. observers_after Few store now s m (omega arith) few (omega (arith, few, token_fewer m.token s.observers)) (λ asked place. (
+      handled = λ store now s m same is few. observers_after Few store now s m (omega arith) few
+          (omega (arith, few, token_fewer m.token s.observers)) (λ asked place. (
           let same : (after s.history (call.Handle m)).limits.observers ≡ limits.observers =
           ap (λ (l : LimitValues). l.observers) ((call_goes_on s.history (call.Handle m) tt).limits ∙ is.same_limits) in
           omega (arith, place, same, length-append (without_token m.token s.observers) (entry_for store now m ∷ []))));
@@ -74,11 +84,16 @@ few_keeps limits a =
       announced = kept.announced;
       responded = kept.responded;
       told = λ store now s few. observers_settled Few store now s (omega arith) few
-          (λ o stays due on. omega (arith, few, becomes_fewer (is_due store now) (left_of store now o stays) s.observers (left_one store now o stays)));
+          (λ o stays due on. omega (
+            arith,
+            few,
+            becomes_fewer (is_due store now) (left_of store now o stays) s.observers (left_one store now o stays),
+          ));
     }
 
 -- The observers do not exceed their limit.
-pub observers_within : (c : ConfigValues) (es : List AcceptedCall) (id : ℕ) (s : Connection) → side_of id (world_after c es).sides ≡ Some s → length s.observers ≤ c.limits.observers
+pub observers_within : (c : ConfigValues) (es : List AcceptedCall) (id : ℕ) (s : Connection)
+    → side_of id (world_after c es).sides ≡ Some s → length s.observers ≤ c.limits.observers
 observers_within c = kept_after c (λ t. length t.observers ≤ c.limits.observers) (few_keeps c.limits c.applications)
 
 -- ---- pending entries
@@ -93,29 +108,39 @@ sent_few h m less few = omega (arith, few, send_held (standing_now h) m less (fi
 -- The due entry is removed.
 taken_few : (h : History) (now : ℕ) → HoldsFew h → HoldsFew (without_first h now)
 taken_few h now few = there_or_not (first_due now h.held) (λ due. HoldsFew (without_first h now))
-    (λ none. omega (arith, few, ap (λ (es : List PendingEntryValue). length es) (due_nothing now h.held none).1)) (λ e is. omega (arith, few, due_fewer now h.held e is))
+    (λ none. omega (arith, few, ap (λ (es : List PendingEntryValue). length es) (due_nothing now h.held none).1))
+    (λ e is. omega (arith, few, due_fewer now h.held e is))
 
 -- An entry is added only if the list has room, and a stop removes all.
 all_hold_few : KeepsAll (λ h k. HoldsFew h → HoldsFew k)
 all_hold_few = record {
   composes = keeping_composes HoldsFew;
   takes_input = λ h m takes room few. held_few (standing_now h) m few;
-  replies = λ h token observe r does room. (let m = response_with_observe token observe r in sent_few h m (bare_response m));
-  holds = λ h by token moment opened may few. omega (arith, ltb-true (length h.held) h.limits.pending may, length-append h.held (Answer by token moment ∷ []));
+  replies =
+      λ h token observe r does room. (let m = response_with_observe token observe r in sent_few h m (bare_response m));
+  holds = λ h by token moment opened may few.
+      omega (arith, ltb-true (length h.held) h.limits.pending may, length-append h.held (Answer by token moment ∷ []));
   lets_go = taken_few;
-  pongs = λ h now token due room few. sent_few (without_first h now) (pong_with true token) (pong_with false token) (taken_few h now few);
+  pongs = λ h now token due room few. sent_few (without_first h now) (pong_with true token)
+      (pong_with false token) (taken_few h now few);
   rejects = λ h fault takes room few. omega arith;
   ends = λ h cut takes few. omega arith;
   releases = λ h opened none few. omega arith;
   announces = λ h size opened room fit few. few;
   responds = λ h m answering none few.
       (let s : ConnectionState = standing_without m.token (standing_now h) in
-      omega (arith, few, send_held s m (bare_response m) (fit (limit_now h) m (bare_response m)), request_fewer (link_of h) m none));
+      omega (
+        arith,
+        few,
+        send_held s m (bare_response m) (fit (limit_now h) m (bare_response m)),
+        request_fewer (link_of h) m none,
+      ));
   writes = λ h n within few. few;
 }
 
 -- The pending entries do not exceed their limit.
-pub held_within : (c : ConfigValues) (es : List AcceptedCall) (id : ℕ) (s : Connection) → side_of id (world_after c es).sides ≡ Some s → length s.history.held ≤ c.limits.pending
+pub held_within : (c : ConfigValues) (es : List AcceptedCall) (id : ℕ) (s : Connection)
+    → side_of id (world_after c es).sides ≡ Some s → length s.history.held ≤ c.limits.pending
 held_within c es id s there =
     let few : HoldsFew s.history = kept_history c HoldsFew (omega arith) all_hold_few es id s there in
     omega (arith, few, ap (λ (l : LimitValues). l.pending) (side_is c es id s there).same_limits)
@@ -142,53 +167,91 @@ record Waits (h : History) : Type 0 where
   few : wait h ≤ h.limits.queue
 
 waits_by : (h k : History) → GoesOn h k → (Waits h → wait k ≤ h.limits.queue) → Waits h → Waits k
-waits_by h k goes less w = record { is = goes.history w.is; few = omega (arith, less w, ap (λ (l : LimitValues). l.queue) goes.limits) }
+waits_by h k goes less w =
+    record { is = goes.history w.is; few = omega (arith, less w, ap (λ (l : LimitValues). l.queue) goes.limits) }
 
 -- If there is room, a message that fits is queued.
-added_waits : (h k : History) (ms : List Message) → GoesOn h k → wait k ≡ wait (record h { queued = h.queued ++ ms }) → room_in h ≡ true → length ms ≤ 1 → AllFit (limit_now h) ms → Waits h → Waits k
+added_waits : (h k : History) (ms : List Message) → GoesOn h k → wait k ≡ wait (record h { queued = h.queued ++ ms })
+    → room_in h ≡ true → length ms ≤ 1 → AllFit (limit_now h) ms → Waits h → Waits k
 added_waits h k ms goes same room one each = waits_by h k goes (λ w.
-    omega (arith, same, w.few, queued_waits h ms w.is, one_small (limit_now h) ms one each, limit_within h, leb-true h.limits.max_sent (free_in (link_of h)) room))
+    omega (
+      arith,
+      same,
+      w.few,
+      queued_waits h ms w.is,
+      one_small (limit_now h) ms one each,
+      limit_within h,
+      leb-true h.limits.max_sent (free_in (link_of h)) room,
+    ))
 
 all_wait : KeepsAll (λ h k. Waits h → Waits k)
 all_wait = record {
   composes = keeping_composes Waits;
-  takes_input = λ h m takes room. added_waits h _ _ (all_go_on.takes_input h m takes room) refl room (message_one (standing_now h) m) (reaction_fits h m);
+  takes_input = λ h m takes room. added_waits h _ _ (all_go_on.takes_input h m takes room) refl room
+      (message_one (standing_now h) m) (reaction_fits h m);
   replies = λ h token observe r does room.
       (let m = response_with_observe token observe r in
-      added_waits h _ _ (all_go_on.replies h token observe r does room) refl room (sent_one (standing_now h) m (bare_response m) _) (sent_fits h m (bare_response m)));
+      added_waits h _ _ (all_go_on.replies h token observe r does room) refl room
+      (sent_one (standing_now h) m (bare_response m) _) (sent_fits h m (bare_response m)));
   holds = λ h by token moment opened may. waits_by h _ (all_go_on.holds h by token moment opened may) (λ w. w.few);
   lets_go = λ h now. waits_by h _ (all_go_on.lets_go h now) (λ w. w.few);
   pongs = λ h now token due room.
       (let k = without_first h now in
       let m = pong_with true token in
       let less = pong_with false token in
-      added_waits h _ _ (all_go_on.pongs h now token due room) refl room (sent_one (standing_now k) m less _) (sent_fits k m less));
+      added_waits h _ _ (all_go_on.pongs h now token due room) refl room
+      (sent_one (standing_now k) m less _) (sent_fits k m less));
   rejects = λ h fault takes room.
-      added_waits h _ _ (all_go_on.rejects h fault takes room) refl room (abort_one (limit_now h) _) (stopped_fits h (reject_reason fault));
+      added_waits h _ _ (all_go_on.rejects h fault takes room) refl room (abort_one (limit_now h) _)
+      (stopped_fits h (reject_reason fault));
   ends = λ h cut takes. waits_by h _ (all_go_on.ends h cut takes) (λ w. omega (arith, w.few, queued_waits h [] w.is));
   releases = λ h opened none.
-      waits_by h _ (all_go_on.releases h opened none) (λ w. omega (arith, w.few, queued_waits h (release ∷ []) w.is, release_bytes_small, (release_fits (link_of h) none).0));
+      waits_by h _ (all_go_on.releases h opened none) (λ w. omega (
+        arith,
+        w.few,
+        queued_waits h (release ∷ []) w.is,
+        release_bytes_small,
+        (release_fits (link_of h) none).0,
+      ));
   responds = λ h m answering none. waits_by h _ (all_go_on.responds h m answering none) (λ w. (
       let s : ConnectionState = standing_without m.token (standing_now h) in
       let ms : List Message = (send s m (bare_response m)).queued in
       let small = responded_small (link_of h) m none in
-      omega (arith, w.few, queued_waits h ms w.is, small, ap (λ (ns : List Message). length (bytes_of ns)) (sent_is s m (bare_response m) (fit (limit_now h) m (bare_response m))))));
+      omega (
+        arith,
+        w.few,
+        queued_waits h ms w.is,
+        small,
+        ap (λ (ns : List Message). length (bytes_of ns))
+            (sent_is s m (bare_response m) (fit (limit_now h) m (bare_response m))),
+      )));
   announces = λ h size opened room fit.
-      added_waits h _ _ (all_go_on.announces h size opened room fit) refl room (omega arith) (leb-true (length (spelling (own_csm size))) (limit_now h) fit, tt);
+      added_waits h _ _ (all_go_on.announces h size opened room fit) refl room (omega arith)
+      (leb-true (length (spelling (own_csm size))) (limit_now h) fit, tt);
   writes = λ h n within.
-      waits_by h _ (all_go_on.writes h n within) (λ w. omega (arith, w.few, length-drop h.written (bytes_of h.queued), length-drop (h.written + n) (bytes_of h.queued)));
+      waits_by h _ (all_go_on.writes h n within) (λ w. omega (
+        arith,
+        w.few,
+        length-drop h.written (bytes_of h.queued),
+        length-drop (h.written + n) (bytes_of h.queued),
+      ));
 }
 
-pub waiting_within : (c : ConfigValues) (es : List AcceptedCall) (id : ℕ) (s : Connection) → AreInRange c.limits → side_of id (world_after c es).sides ≡ Some s → length (waiting_on s) ≤ c.limits.queue
+pub waiting_within : (c : ConfigValues) (es : List AcceptedCall) (id : ℕ) (s : Connection) → AreInRange c.limits
+    → side_of id (world_after c es).sides ≡ Some s → length (waiting_on s) ≤ c.limits.queue
 waiting_within c es id s ranges there =
-    let new : length (waiting_on (new_side c.limits)) ≤ c.limits.queue = omega (arith, first_csm_bytes_small c.limits.max_message, ranges.sent_low, ranges.queue_low) in
-    let waits : Waits s.history = kept_history c Waits (record { is = omega arith; few = new }) all_wait es id s there in
+    let new : length (waiting_on (new_side c.limits)) ≤ c.limits.queue =
+    omega (arith, first_csm_bytes_small c.limits.max_message, ranges.sent_low, ranges.queue_low) in
+    let waits : Waits s.history =
+    kept_history c Waits (record { is = omega arith; few = new }) all_wait es id s there in
     omega (arith, waits.few, ap (λ (l : LimitValues). l.queue) (side_is c es id s there).same_limits)
 
 -- ---- bytes kept of an unfinished frame
 
 -- An unfinished frame has fewer bytes than the largest message that is accepted.
-pub kept_within : (c : ConfigValues) (es : List AcceptedCall) (id : ℕ) (s : Connection) → AreInRange c.limits → AreAccepted c es → side_of id (world_after c es).sides ≡ Some s → length (kept_on s (stream_on c.limits.max_message id es).rest) < s.history.own_max
+pub kept_within : (c : ConfigValues) (es : List AcceptedCall) (id : ℕ) (s : Connection) → AreInRange c.limits
+    → AreAccepted c es → side_of id (world_after c es).sides ≡ Some s
+    → length (kept_on s (stream_on c.limits.max_message id es).rest) < s.history.own_max
 kept_within c es id s ranges accepted there =
     let M : ℕ = c.limits.max_message in
     let N : ℕ = size_on M id es in
@@ -205,14 +268,19 @@ kept_within c es id s ranges accepted there =
 announces : (m : Message) (n : ℕ) → announcement m ≡ Some n → (m.code ≡ code.csm) × (bad_csm_option m ≡ None)
 announces m n e =
     let is = there_where (m.code == code.csm) (csm_size m) n e in
-    let no_bad = there_or_not (bad_csm_option m) (λ bad. size_unless bad m ≡ Some n → bad_csm_option m ≡ None) (λ none said. none) (λ number bad said. absurd cc) in
+    let no_bad = there_or_not (bad_csm_option m) (λ bad. size_unless bad m ≡ Some n → bad_csm_option m ≡ None)
+    (λ none said. none) (λ number bad said. absurd cc) in
     (eqb-true m.code code.csm is.0, no_bad is.1)
 
-announcing_quiet : (s : ConnectionState) (m : Message) (n : ℕ) → announcement m ≡ Some n → (react s m).effect.queued ≡ []
+announcing_quiet : (s : ConnectionState) (m : Message) (n : ℕ) → announcement m ≡ Some n
+    → (react s m).effect.queued ≡ []
 unfolding react live_reaction
 announcing_quiet s m n e =
     let is = announces m n e in
-    elim (stop_of s.phase) as (λ over. (reaction_unless s m over).effect.queued ≡ []) [ None ↦ rw (is.0, is.1) refl | Some why ↦ refl ]
+    elim (stop_of s.phase) as (λ over. (reaction_unless s m over).effect.queued ≡ []) [
+      | None ↦ rw (is.0, is.1) refl
+      | Some why ↦ refl
+    ]
 
 -- ---- queued messages
 
@@ -229,7 +297,8 @@ pub record GrowsEvenly (h k : History) : Type 0 where
 
 -- Nothing was queued.
 same_evenly : (h k : History) → k.queued ≡ h.queued → limit_now k ≡ limit_now h → GrowsEvenly h k
-same_evenly h k queued limits = record { grows = record { more = []; queued = queued ∙ sym (append-nil h.queued); fit = tt }; same = limits }
+same_evenly h k queued limits =
+    record { grows = record { more = []; queued = queued ∙ sym (append-nil h.queued); fit = tt }; same = limits }
 
 evenly_self : (h : History) → GrowsEvenly h h
 evenly_self h = same_evenly h h refl refl
@@ -249,7 +318,8 @@ effect_evenly h e fit = record { grows = record { more = e.queued; queued = refl
 
 reply_evenly : Replies GrowsEvenly
 reply_evenly h token observe r does room =
-    let m : Message = response_with_observe token observe r in effect_evenly h (send (standing_now h) m (bare_response m)) (sent_fits h m (bare_response m))
+    let m : Message = response_with_observe token observe r in
+    effect_evenly h (send (standing_now h) m (bare_response m)) (sent_fits h m (bare_response m))
 
 -- A message that changes the limit queues nothing.
 message_grows : Hears GrowsFitting
@@ -257,7 +327,9 @@ message_grows h m takes room =
     let more : List Message = (react (standing_now h) m).effect.queued in record {
       more = more;
       queued = refl;
-      fit = rw (announced_more h.handled m) (there_or_not (announcement m) (λ said. AllFit (size_limit h.limits.max_sent (unwrap_or said (announced h.handled))) more)
+      fit =
+          rw (announced_more h.handled m) (there_or_not (announcement m)
+          (λ said. AllFit (size_limit h.limits.max_sent (unwrap_or said (announced h.handled))) more)
           (λ none. reaction_fits h m) (λ n is. rw (announcing_quiet (standing_now h) m n is) tt));
     }
 
@@ -266,7 +338,8 @@ message_grows h m takes room =
 once_evenly : (store : StoreValue) (now : ℕ) (s : Connection) → Between GrowsEvenly s (settled_once store now s)
 once_evenly =
     once_between GrowsEvenly GrowsEvenly evenly_self evenly_then reply_evenly (λ h now. same_evenly h _ refl refl)
-    (λ h now token due room. effect_evenly h _ (sent_fits (without_first h now) (pong_with true token) (pong_with false token)))
+    (λ h now token due room. effect_evenly h _
+    (sent_fits (without_first h now) (pong_with true token) (pong_with false token)))
 
 grows_of : (w : World) (st : Step) (id : ℕ) → HoldsOf (Between GrowsFitting) w st id
 grows_of w st id = let same : (h : History) → GrowsFitting h h = λ h. (evenly_self h).grows in record {
@@ -274,33 +347,49 @@ grows_of w st id = let same : (h : History) → GrowsFitting h h = λ h. (evenly
   handled = λ m is s.
       after_between GrowsFitting GrowsEvenly same grows_fitting_then message_grows evenly_self reply_evenly
       (λ h by token moment opened may. same_evenly h _ refl refl) w.store w.now s m;
-  faulted = λ fault is s. faulted_between GrowsFitting same (λ h r takes room. (effect_evenly h _ (stopped_fits h (reject_reason r))).grows) s fault;
+  faulted = λ fault is s. faulted_between GrowsFitting same
+      (λ h r takes room. (effect_evenly h _ (stopped_fits h (reject_reason r))).grows) s fault;
   written = written_between GrowsFitting same (λ h n within. (same_evenly h _ refl refl).grows);
-  ended = ended_between GrowsFitting same (λ h cut takes. (effect_evenly h (stop (standing_now h) (end_reason cut) []) tt).grows);
+  ended =
+      ended_between GrowsFitting same
+      (λ h cut takes. (effect_evenly h (stop (standing_now h) (end_reason cut) []) tt).grows);
   released = released_between GrowsFitting same (λ h opened none.
-      (effect_evenly h (stop (standing_now h) reason.ReleasedHere (release ∷ [])) (released_fits h (release_fits (link_of h) none).1)).grows);
-  responded = responded_between GrowsFitting same (λ h m answering none. (effect_evenly h _ (responded_fits h m)).grows);
+      (effect_evenly h (stop (standing_now h) reason.ReleasedHere (release ∷ []))
+      (released_fits h (release_fits (link_of h) none).1)).grows);
+  responded =
+      responded_between GrowsFitting same (λ h m answering none. (effect_evenly h _ (responded_fits h m)).grows);
   announced = λ size is s. announced_between GrowsFitting same
-      (λ h n opened room fit. record { more = own_csm n ∷ []; queued = refl; fit = (leb-true (length (spelling (own_csm n))) (limit_now h) fit, tt) }) s size;
+      (λ h n opened room fit. record {
+        more = own_csm n ∷ [];
+        queued = refl;
+        fit = (leb-true (length (spelling (own_csm n))) (limit_now h) fit, tt);
+      }) s size;
   told = λ store now s t is. grows_fitting_then s.history t.history _ is (once_evenly store now t);
 }
 
 -- A step only appends to the queued messages of a connection, and the appended ones fit.
-pub step_fits : (limits : LimitValues) (w : World) (st : Step) (id : ℕ) (s t : Connection) → side_of id w.sides ≡ Some s → side_of id (world.step limits w st).sides ≡ Some t
+pub step_fits : (limits : LimitValues) (w : World) (st : Step) (id : ℕ) (s t : Connection) → side_of id w.sides ≡ Some s
+    → side_of id (world.step limits w st).sides ≡ Some t
     → (more : List Message) × (t.history.queued ≡ s.history.queued ++ more) × AllFit (limit_now t.history) more
 step_fits limits w st id s t there then =
-    let grows : Between GrowsFitting s t = elim (step_across (Between GrowsFitting) limits w st id (grows_of w st id) t then) [
+    let grows : Between GrowsFitting s t =
+    elim (step_across (Between GrowsFitting) limits w st id (grows_of w st id) t then) [
       | inl old ↦ subst (λ (u : Connection). Between GrowsFitting u t) (same_there old.0 s (sym old.1 ∙ there)) old.2
       | inr new ↦ absurd (none_or_some s (sym new.0 ∙ there))
     ] in
     (grows.more, grows.queued, grows.fit)
 
 -- If the step opened the connection, all its queued messages fit.
-pub opening_fits : (limits : LimitValues) (w : World) (id : ℕ) (t : Connection) → AreInRange limits → side_of id w.sides ≡ None → side_of id (world.step limits w (world.Opened id)).sides ≡ Some t → AllFit (limit_now t.history) t.history.queued
+pub opening_fits : (limits : LimitValues) (w : World) (id : ℕ) (t : Connection) → AreInRange limits
+    → side_of id w.sides ≡ None → side_of id (world.step limits w (world.Opened id)).sides ≡ Some t
+    → AllFit (limit_now t.history) t.history.queued
 opening_fits limits w id t ranges none then =
     let new : History = (new_side limits).history in
-    let is : settled w.store w.now (new_side limits) ≡ t = same_there _ t (sym (opened_there limits w id none) ∙ then) in
+    let is : settled w.store w.now (new_side limits) ≡ t =
+    same_there _ t (sym (opened_there limits w id none) ∙ then) in
     let evenly : GrowsEvenly new t.history = subst (λ (u : Connection). GrowsEvenly new u.history) is
-    (settled_keeps (λ u. GrowsEvenly new u.history) w.store w.now (λ u grown. evenly_then new u.history _ grown (once_evenly w.store w.now u))
+    (settled_keeps (λ u. GrowsEvenly new u.history) w.store w.now
+    (λ u grown. evenly_then new u.history _ grown (once_evenly w.store w.now u))
     (new_side limits) (evenly_self new)) in
-    rw evenly.grows.queued (all_append _ new.queued evenly.grows.more (rw evenly.same (new_fits Server limits 0 ranges)) evenly.grows.fit)
+    rw evenly.grows.queued
+    (all_append _ new.queued evenly.grows.more (rw evenly.same (new_fits Server limits 0 ranges)) evenly.grows.fit)

@@ -1,5 +1,6 @@
 -- The connections of a world by id: the connection with an id after each change of the list.
-use Rattle.std.proofs.Common.{◌≡◌, ◌≢◌, ℕ, List, [], ◌∷◌, ◌++◌, map, Option, Some, None, refl, sym, ap, subst, ◌∙◌, ◌⊎◌, inl, inr, arith, not, filter, option_map, ◌==◌}
+use Rattle.std.proofs.Common.{◌≡◌, ◌≢◌, ℕ, List, [], ◌∷◌, ◌++◌, map, Option, Some, None, refl, sym, ap, subst, ◌∙◌, ◌⊎◌}
+use Rattle.std.proofs.Common.{inl, inr, arith, not, filter, option_map, ◌==◌}
 use Rattle.coap_model.specs.Prelude.{AllByRecursion, Connection, ConnectionEntry, side_of}
 use Rattle.std.proofs.lemmas.Bool.Decides.{nat_tests}
 use Rattle.std.proofs.lemmas.Bool.{eq-eqb, ne_eqb, eqb-true, eqb-false, cases_eq, cond_both}
@@ -10,22 +11,28 @@ use Rattle.coap_wire.proofs.NumberLaws.{none_or_some}
 
 -- ---- the first connection, or a later one
 
-pub first_there : (id : ℕ) (p : ConnectionEntry) (ps : List ConnectionEntry) → p.id ≡ id → side_of id (p ∷ ps) ≡ Some p.side
+pub first_there : (id : ℕ) (p : ConnectionEntry) (ps : List ConnectionEntry) → p.id ≡ id
+    → side_of id (p ∷ ps) ≡ Some p.side
 unfolding side_of
 first_there id p ps e = rw (eq-eqb p.id id e) refl
 
-pub later_there : (id : ℕ) (p : ConnectionEntry) (ps : List ConnectionEntry) → p.id ≢ id → side_of id (p ∷ ps) ≡ side_of id ps
+pub later_there : (id : ℕ) (p : ConnectionEntry) (ps : List ConnectionEntry) → p.id ≢ id
+    → side_of id (p ∷ ps) ≡ side_of id ps
 unfolding side_of
 later_there id p ps e = rw (ne_eqb p.id id e) refl
 
 -- A property of the connection with an id, if it holds in both cases: the first connection has the id, or the others
 -- are searched.
-by_first : (P : Option Connection → Type 0) (id : ℕ) (p : ConnectionEntry) (ps : List ConnectionEntry) → (p.id ≡ id → P (Some p.side)) → (p.id ≢ id → P (side_of id ps)) → P (side_of id (p ∷ ps))
+by_first : (P : Option Connection → Type 0) (id : ℕ) (p : ConnectionEntry) (ps : List ConnectionEntry)
+    → (p.id ≡ id → P (Some p.side)) → (p.id ≢ id → P (side_of id ps)) → P (side_of id (p ∷ ps))
 unfolding side_of
-by_first P id p ps here apart = cond_both (p.id == id) (Some p.side) (side_of id ps) P (λ e. here (eqb-true p.id id e)) (λ e. apart (eqb-false p.id id e))
+by_first P id p ps here apart =
+    cond_both (p.id == id) (Some p.side) (side_of id ps) P (λ e. here (eqb-true p.id id e))
+    (λ e. apart (eqb-false p.id id e))
 
 -- A connection that exists is the first or a later one.
-pub found : (id : ℕ) (s : Connection) (p : ConnectionEntry) (ps : List ConnectionEntry) → side_of id (p ∷ ps) ≡ Some s → ((p.id ≡ id) × (p.side ≡ s)) ⊎ ((p.id ≢ id) × (side_of id ps ≡ Some s))
+pub found : (id : ℕ) (s : Connection) (p : ConnectionEntry) (ps : List ConnectionEntry) → side_of id (p ∷ ps) ≡ Some s
+    → ((p.id ≡ id) × (p.side ≡ s)) ⊎ ((p.id ≢ id) × (side_of id ps ≡ Some s))
 found id s p ps is =
     by_first (λ there. there ≡ Some s → ((p.id ≡ id) × (p.side ≡ s)) ⊎ ((p.id ≢ id) × (side_of id ps ≡ Some s))) id p ps
     (λ here is. inl (here, same_there p.side s is)) (λ apart is. inr (apart, is)) is
@@ -36,9 +43,11 @@ unfolding side_of
 nobody id = refl
 
 -- If no connection has an id, the first does not have it and no other does.
-none_parts : (id : ℕ) (p : ConnectionEntry) (ps : List ConnectionEntry) → side_of id (p ∷ ps) ≡ None → (p.id ≢ id) × (side_of id ps ≡ None)
+none_parts : (id : ℕ) (p : ConnectionEntry) (ps : List ConnectionEntry) → side_of id (p ∷ ps) ≡ None
+    → (p.id ≢ id) × (side_of id ps ≡ None)
 none_parts id p ps none =
-    by_first (λ there. there ≡ None → (p.id ≢ id) × (side_of id ps ≡ None)) id p ps (λ here none. absurd cc) (λ apart none. (apart, none)) none
+    by_first (λ there. there ≡ None → (p.id ≢ id) × (side_of id ps ≡ None)) id p ps (λ here none. absurd cc)
+    (λ apart none. (apart, none)) none
 
 -- ---- a change of each connection that keeps its id
 
@@ -47,12 +56,15 @@ abbrev pub with_sides : (Connection → Connection) → ConnectionEntry → Conn
 with_sides g p = record p { side = g p.side }
 
 -- The connection with an id after f was applied to each place, if f changes this connection as g does.
-mapped_there : (id : ℕ) (f : ConnectionEntry → ConnectionEntry) (g : Connection → Connection) → ((p : ConnectionEntry) → (f p).id ≡ p.id) → ((p : ConnectionEntry) → p.id ≡ id → (f p).side ≡ g p.side) → (ps : List ConnectionEntry) → side_of id (map f ps) ≡ option_map g (side_of id ps)
+mapped_there : (id : ℕ) (f : ConnectionEntry → ConnectionEntry) (g : Connection → Connection)
+    → ((p : ConnectionEntry) → (f p).id ≡ p.id) → ((p : ConnectionEntry) → p.id ≡ id → (f p).side ≡ g p.side)
+    → (ps : List ConnectionEntry) → side_of id (map f ps) ≡ option_map g (side_of id ps)
 unfolding side_of
 mapped_there id f g ids sides [] = refl
 mapped_there id f g ids sides (p ∷ ps) = grind (arith, nat_tests, ids p, sides p, mapped_there id f g ids sides ps)
 
-pub all_there : (id : ℕ) (g : Connection → Connection) (ps : List ConnectionEntry) → side_of id (map (with_sides g) ps) ≡ option_map g (side_of id ps)
+pub all_there : (id : ℕ) (g : Connection → Connection) (ps : List ConnectionEntry)
+    → side_of id (map (with_sides g) ps) ≡ option_map g (side_of id ps)
 all_there id g ps = mapped_there id (with_sides g) g (λ p. refl) (λ p here. refl) ps
 
 -- ---- a change of one connection that keeps each id
@@ -60,17 +72,22 @@ all_there id g ps = mapped_there id (with_sides g) g (λ p. refl) (λ p here. re
 pub changed_id : (id : ℕ) (f : Connection → Connection) (p : ConnectionEntry) → (changed_at id f p).id ≡ p.id
 changed_id id f p = cond_both (p.id == id) (with_sides f p) p (λ q. q.id ≡ p.id) (λ e. refl) (λ e. refl)
 
-pub changed_here : (id : ℕ) (f : Connection → Connection) (ps : List ConnectionEntry) → side_of id (map (changed_at id f) ps) ≡ option_map f (side_of id ps)
-changed_here id f ps = mapped_there id (changed_at id f) f (changed_id id f) (λ p here. rw (eq-eqb p.id id here) refl) ps
+pub changed_here : (id : ℕ) (f : Connection → Connection) (ps : List ConnectionEntry)
+    → side_of id (map (changed_at id f) ps) ≡ option_map f (side_of id ps)
+changed_here id f ps =
+    mapped_there id (changed_at id f) f (changed_id id f) (λ p here. rw (eq-eqb p.id id here) refl) ps
 
-pub changed_elsewhere : (id other : ℕ) (f : Connection → Connection) (ps : List ConnectionEntry) → id ≢ other → side_of other (map (changed_at id f) ps) ≡ side_of other ps
+pub changed_elsewhere : (id other : ℕ) (f : Connection → Connection) (ps : List ConnectionEntry) → id ≢ other
+    → side_of other (map (changed_at id f) ps) ≡ side_of other ps
 changed_elsewhere id other f ps apart =
-    mapped_there other (changed_at id f) (λ s. s) (changed_id id f) (λ p here. rw (ne_eqb p.id id (λ (e : p.id ≡ id). apart (sym e ∙ here))) refl) ps
+    mapped_there other (changed_at id f) (λ s. s) (changed_id id f)
+    (λ p here. rw (ne_eqb p.id id (λ (e : p.id ≡ id). apart (sym e ∙ here))) refl) ps
     ∙ option_map_id (side_of other ps)
 
 -- ---- one connection more or less
 
-pub still_there : (id : ℕ) (s : Connection) (ps qs : List ConnectionEntry) → side_of id ps ≡ Some s → side_of id (ps ++ qs) ≡ Some s
+pub still_there : (id : ℕ) (s : Connection) (ps qs : List ConnectionEntry) → side_of id ps ≡ Some s
+    → side_of id (ps ++ qs) ≡ Some s
 unfolding side_of
 still_there id s [] qs e = absurd cc
 still_there id s (p ∷ ps) qs e = grind (arith, still_there id s ps qs)
@@ -80,7 +97,8 @@ unfolding side_of
 new_there id [] qs none = refl
 new_there id (p ∷ ps) qs none = grind (arith, new_there id ps qs)
 
-pub other_more : (id : ℕ) (ps : List ConnectionEntry) (p : ConnectionEntry) → p.id ≢ id → side_of id (ps ++ p ∷ []) ≡ side_of id ps
+pub other_more : (id : ℕ) (ps : List ConnectionEntry) (p : ConnectionEntry) → p.id ≢ id
+    → side_of id (ps ++ p ∷ []) ≡ side_of id ps
 unfolding side_of
 other_more id [] p apart = later_there id p [] apart
 other_more id (q ∷ ps) p apart = grind (arith, other_more id ps p apart)
@@ -90,16 +108,21 @@ abbrev pub but : ℕ → List ConnectionEntry → List ConnectionEntry
 but id ps = filter (λ p. not (p.id == id)) ps
 
 -- A property of the rest of a list, by cases: the first connection has the id, or it does not.
-by_but : (P : List ConnectionEntry → Type 0) (id : ℕ) (p : ConnectionEntry) (ps : List ConnectionEntry) → (p.id ≡ id → P (but id ps)) → (p.id ≢ id → P (p ∷ but id ps)) → P (but id (p ∷ ps))
+by_but : (P : List ConnectionEntry → Type 0) (id : ℕ) (p : ConnectionEntry) (ps : List ConnectionEntry)
+    → (p.id ≡ id → P (but id ps)) → (p.id ≢ id → P (p ∷ but id ps)) → P (but id (p ∷ ps))
 by_but P id p ps here apart =
-    elim (cases_eq p.id id) [ inl is ↦ rw (eq-eqb p.id id is) (here is) | inr away ↦ rw (ne_eqb p.id id away) (apart away) ]
+    elim (cases_eq p.id id) [
+      | inl is ↦ rw (eq-eqb p.id id is) (here is)
+      | inr away ↦ rw (ne_eqb p.id id away) (apart away)
+    ]
 
 pub dropped_here : (id : ℕ) (ps : List ConnectionEntry) → side_of id (but id ps) ≡ None
 unfolding side_of
 dropped_here id [] = refl
 dropped_here id (p ∷ ps) = grind (arith, nat_tests, dropped_here id ps)
 
-pub dropped_elsewhere : (id other : ℕ) (ps : List ConnectionEntry) → id ≢ other → side_of other (but id ps) ≡ side_of other ps
+pub dropped_elsewhere : (id other : ℕ) (ps : List ConnectionEntry) → id ≢ other
+    → side_of other (but id ps) ≡ side_of other ps
 unfolding side_of
 dropped_elsewhere id other [] apart = refl
 dropped_elsewhere id other (p ∷ ps) apart = grind (arith, nat_tests, dropped_elsewhere id other ps apart)
@@ -112,18 +135,23 @@ AreDistinct [] = Unit {0}
 AreDistinct (p ∷ ps) = (side_of p.id ps ≡ None) × AreDistinct ps
 
 -- A change of each connection that keeps its id.
-pub none_mapped : (id : ℕ) (g : ConnectionEntry → ConnectionEntry) → ((p : ConnectionEntry) → (g p).id ≡ p.id) → (ps : List ConnectionEntry) → side_of id ps ≡ None → side_of id (map g ps) ≡ None
+pub none_mapped : (id : ℕ) (g : ConnectionEntry → ConnectionEntry) → ((p : ConnectionEntry) → (g p).id ≡ p.id)
+    → (ps : List ConnectionEntry) → side_of id ps ≡ None → side_of id (map g ps) ≡ None
 unfolding side_of
 none_mapped id g same [] none = none
 none_mapped id g same (p ∷ ps) none = grind (arith, nat_tests, same p, none_mapped id g same ps)
 
-pub distinct_mapped : (g : ConnectionEntry → ConnectionEntry) → ((p : ConnectionEntry) → (g p).id ≡ p.id) → (ps : List ConnectionEntry) → AreDistinct ps → AreDistinct (map g ps)
+pub distinct_mapped : (g : ConnectionEntry → ConnectionEntry) → ((p : ConnectionEntry) → (g p).id ≡ p.id)
+    → (ps : List ConnectionEntry) → AreDistinct ps → AreDistinct (map g ps)
 distinct_mapped g same [] distinct = tt
-distinct_mapped g same (p ∷ ps) distinct =
-    (none_mapped (g p).id g same ps (ap (λ (id : ℕ). side_of id ps) (same p) ∙ distinct.0), distinct_mapped g same ps distinct.1)
+distinct_mapped g same (p ∷ ps) distinct = (
+  none_mapped (g p).id g same ps (ap (λ (id : ℕ). side_of id ps) (same p) ∙ distinct.0),
+  distinct_mapped g same ps distinct.1,
+)
 
 -- A new id.
-pub distinct_more : (ps : List ConnectionEntry) (p : ConnectionEntry) → AreDistinct ps → side_of p.id ps ≡ None → AreDistinct (ps ++ p ∷ [])
+pub distinct_more : (ps : List ConnectionEntry) (p : ConnectionEntry) → AreDistinct ps → side_of p.id ps ≡ None
+    → AreDistinct (ps ++ p ∷ [])
 distinct_more [] p distinct none = (nobody p.id, tt)
 distinct_more (q ∷ ps) p distinct none =
     let apart : p.id ≢ q.id = λ (e : p.id ≡ q.id). (none_parts p.id q ps none).0 (sym e) in
@@ -133,26 +161,34 @@ pub distinct_but : (id : ℕ) (ps : List ConnectionEntry) → AreDistinct ps →
 distinct_but id [] distinct = tt
 distinct_but id (p ∷ ps) distinct =
     by_but AreDistinct id p ps (λ here. distinct_but id ps distinct.1)
-    (λ apart. (dropped_elsewhere id p.id ps (λ (e : id ≡ p.id). apart (sym e)) ∙ distinct.0, distinct_but id ps distinct.1))
+    (λ apart. (
+      dropped_elsewhere id p.id ps (λ (e : id ≡ p.id). apart (sym e)) ∙ distinct.0,
+      distinct_but id ps distinct.1,
+    ))
 
 -- ---- properties of each connection
 
 -- A property of each connection holds of the one with an id.
-pub of_number : (P : ℕ → Connection → Type 0) (id : ℕ) (s : Connection) (ps : List ConnectionEntry) → AllByRecursion (λ p. P p.id p.side) ps → side_of id ps ≡ Some s → P id s
+pub of_number : (P : ℕ → Connection → Type 0) (id : ℕ) (s : Connection) (ps : List ConnectionEntry)
+    → AllByRecursion (λ p. P p.id p.side) ps → side_of id ps ≡ Some s → P id s
 of_number P id s [] each e = absurd (none_or_some s (sym (nobody id) ∙ e))
 of_number P id s (p ∷ ps) each e =
     by_first (λ there. there ≡ Some s → P id s) id p ps
-    (λ here is. subst (λ (n : ℕ). P n s) here (subst (P p.id) (same_there p.side s is) each.0)) (λ apart is. of_number P id s ps each.1 is) e
+    (λ here is. subst (λ (n : ℕ). P n s) here (subst (P p.id) (same_there p.side s is) each.0))
+    (λ apart is. of_number P id s ps each.1 is) e
 
 -- If ids are distinct, a property of the connection of each id holds of every connection.
-pub of_each : (P : ℕ → Connection → Type 0) (ps : List ConnectionEntry) → AreDistinct ps → ((id : ℕ) (s : Connection) → side_of id ps ≡ Some s → P id s) → AllByRecursion (λ p. P p.id p.side) ps
+pub of_each : (P : ℕ → Connection → Type 0) (ps : List ConnectionEntry) → AreDistinct ps
+    → ((id : ℕ) (s : Connection) → side_of id ps ≡ Some s → P id s) → AllByRecursion (λ p. P p.id p.side) ps
 of_each P [] distinct holds = tt
 of_each P (p ∷ ps) distinct holds = (
   holds p.id p.side (first_there p.id p ps refl),
-  of_each P ps distinct.1 (λ id s e. holds id s (later_there id p ps (λ (same : p.id ≡ id). none_or_some s (sym distinct.0 ∙ ap (λ (n : ℕ). side_of n ps) same ∙ e)) ∙ e)),
+  of_each P ps distinct.1 (λ id s e. holds id s (later_there id p ps
+      (λ (same : p.id ≡ id). none_or_some s (sym distinct.0 ∙ ap (λ (n : ℕ). side_of n ps) same ∙ e)) ∙ e)),
 )
 
 -- The identity changes no connection.
 pub places_unchanged : (id : ℕ) (ps : List ConnectionEntry) → map (changed_at id (λ s. s)) ps ≡ ps
 places_unchanged id [] = refl
-places_unchanged id (p ∷ ps) = cc (cond_both (p.id == id) p p (λ q. q ≡ p) (λ e. refl) (λ e. refl), places_unchanged id ps)
+places_unchanged id (p ∷ ps) =
+    cc (cond_both (p.id == id) p p (λ q. q ≡ p) (λ e. refl) (λ e. refl), places_unchanged id ps)

@@ -1,8 +1,11 @@
 -- A response of the application: the request that it removes, the room that it needs, and the messages that it queues.
-use Rattle.std.proofs.Common.{◌≡◌, ◌+◌, ◌≤◌, Bool, true, false, ◌&&◌, ◌==◌, List, ◌∷◌, length, Some, None, refl, sym, ap, ◌∙◌, arith, nat_lt, if◌then◌else◌}
+use Rattle.std.proofs.Common.{◌≡◌, ◌+◌, ◌≤◌, Bool, true, false, ◌&&◌, ◌==◌, List, ◌∷◌, length, Some, None, refl, sym}
+use Rattle.std.proofs.Common.{ap, ◌∙◌, arith, nat_lt, if◌then◌else◌}
 use Rattle.coap_model.specs.Prelude.{Message, Reply, Whole, Bare, Stopped, fit, fitted, bare_response}
-use Rattle.coap_model.specs.Prelude.{PendingEntryValue, Answer, Application, has_request, without_request, IsFirstRequest}
-use Rattle.coap_model.specs.Prelude.{is_plain_response, is_response, asks_custody, response_refusal, sent_length, free_in}
+use Rattle.coap_model.specs.Prelude.{PendingEntryValue, Answer, Application, has_request, without_request}
+use Rattle.coap_model.specs.Prelude.{IsFirstRequest}
+use Rattle.coap_model.specs.Prelude.{is_plain_response, is_response, asks_custody, response_refusal, sent_length}
+use Rattle.coap_model.specs.Prelude.{free_in}
 use Rattle.coap_model.specs.Prelude.{limit_in, LinkValue, bytes_of, ConnectionState, send_as}
 use Rattle.std.proofs.lemmas.Bool.{and_parts, ltb-false, eqb-true}
 use Rattle.std.proofs.lemmas.List.{length-append}
@@ -20,8 +23,10 @@ pub record IsAllowed (v : LinkValue) (m : Message) : Type 0 where
   pub plain : is_plain_response m ≡ true
   pub room : nat_lt (free_in v) (sent_length (limit_in v) m) ≡ false
 
-allowed_by : (v : LinkValue) (m : Message) (asked plain short : Bool) → has_request m.token v.held ≡ asked → is_plain_response m ≡ plain → nat_lt (free_in v) (sent_length (limit_in v) m) ≡ short
-    → (if asked then (if plain then (if short then Some fault.NoRoom else None) else Some fault.NotAResponse) else Some fault.NoSuchRequest) ≡ None → IsAllowed v m
+allowed_by : (v : LinkValue) (m : Message) (asked plain short : Bool) → has_request m.token v.held ≡ asked
+    → is_plain_response m ≡ plain → nat_lt (free_in v) (sent_length (limit_in v) m) ≡ short
+    → (if asked then (if plain then (if short then Some fault.NoRoom else None) else Some fault.NotAResponse)
+    else Some fault.NoSuchRequest) ≡ None → IsAllowed v m
 allowed_by v m true true false asked plain room none = record { asked = asked; plain = plain; room = room }
 allowed_by v m true true true asked plain room none = absurd cc
 allowed_by v m true false short asked plain room none = absurd cc
@@ -29,14 +34,18 @@ allowed_by v m false plain short asked is room none = absurd cc
 
 pub allowed : (v : LinkValue) (m : Message) → response_refusal v m ≡ None → IsAllowed v m
 unfolding response_refusal
-allowed v m = allowed_by v m (has_request m.token v.held) (is_plain_response m) (nat_lt (free_in v) (sent_length (limit_in v) m)) refl refl refl
+allowed v m =
+    allowed_by v m (has_request m.token v.held) (is_plain_response m)
+    (nat_lt (free_in v) (sent_length (limit_in v) m)) refl refl refl
 
 -- The request is the first with the token that waits for the application.
-pub answered_request : (v : LinkValue) (m : Message) → response_refusal v m ≡ None → IsFirstRequest v.held m.token (without_request m.token v.held)
+pub answered_request : (v : LinkValue) (m : Message) → response_refusal v m ≡ None
+    → IsFirstRequest v.held m.token (without_request m.token v.held)
 answered_request v m none = first_request v.held m.token (allowed v m none).asked
 
 -- One entry fewer is pending.
-pub request_fewer : (v : LinkValue) (m : Message) → response_refusal v m ≡ None → length (without_request m.token v.held) + 1 ≡ length v.held
+pub request_fewer : (v : LinkValue) (m : Message) → response_refusal v m ≡ None
+    → length (without_request m.token v.held) + 1 ≡ length v.held
 request_fewer v m none =
     let first = answered_request v m none in
     let e : PendingEntryValue = Answer Application m.token first.moment in
@@ -56,16 +65,19 @@ sent_is s m less Bare = refl
 sent_is s m less Stopped = refl
 
 -- They need no more than the free space.
-pub responded_small : (v : LinkValue) (m : Message) → response_refusal v m ≡ None → length (bytes_of (fitted m (bare_response m) (fit (limit_in v) m (bare_response m)))) ≤ free_in v
+pub responded_small : (v : LinkValue) (m : Message) → response_refusal v m ≡ None
+    → length (bytes_of (fitted m (bare_response m) (fit (limit_in v) m (bare_response m)))) ≤ free_in v
 responded_small v m none = ltb-false (free_in v) (sent_length (limit_in v) m) (allowed v m none).room
 
 -- ---- the response is one, and no Pong
 
-pub plain_codes : (m : Message) → is_plain_response m ≡ true → (is_response m ≡ true) × (is_response (bare_response m) ≡ true)
+pub plain_codes : (m : Message) → is_plain_response m ≡ true
+    → (is_response m ≡ true) × (is_response (bare_response m) ≡ true)
 plain_codes m plain = let is = (and_parts _ _ plain).0 in (is, bare_coded m.code is)
 
 -- A Pong is no response.
-no_pong_by : (m : Message) (pong : Bool) → (m.code == code.pong) ≡ pong → is_response m ≡ true → (pong && asks_custody m) ≡ false
+no_pong_by : (m : Message) (pong : Bool) → (m.code == code.pong) ≡ pong → is_response m ≡ true
+    → (pong && asks_custody m) ≡ false
 no_pong_by m false other is = refl
 no_pong_by m true same is =
     let bad : ◌≡◌ {A = Bool} false true = ap coded (sym (eqb-true m.code code.pong same)) ∙ is in absurd cc

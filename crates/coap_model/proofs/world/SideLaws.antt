@@ -1,5 +1,7 @@
 -- A connection of the world: facts on it, its observers after a message, and how it settles.
-use Rattle.std.proofs.Common.{◌≡◌, ℕ, ◌+◌, ◌<◌, ◌≤◌, Bool, true, false, cond, List, [], length, Option, Some, None, refl, sym, ap, ◌∙◌, arith, ◌&&◌, nat_lt, not, zero, suc, ◌∷◌, ◌++◌, subst, ◌⊎◌, inl, inr, find, min}
+use Rattle.std.proofs.Common.{◌≡◌, ℕ, ◌+◌, ◌<◌, ◌≤◌, Bool, true, false, cond, List, [], length, Option, Some, None}
+use Rattle.std.proofs.Common.{refl, sym, ap, ◌∙◌, arith, ◌&&◌, nat_lt, not, zero, suc, ◌∷◌, ◌++◌, subst, ◌⊎◌, inl, inr}
+use Rattle.std.proofs.Common.{find, min}
 use Rattle.coap_model.specs.Prelude.{AllByRecursion, filter_map, reduce, Message, takes_messages}
 use Rattle.coap_model.specs.Prelude.{answers, is_open, fit, bare_response, PendingEntryValue}
 use Rattle.coap_model.specs.Prelude.{first_due, without_due, due_moment, answer_index, pong_index, else_index, held_at}
@@ -8,7 +10,8 @@ use Rattle.coap_model.specs.Prelude.{after, standing_due}
 use Rattle.coap_model.specs.Prelude.{StoreValue, path_of, prompt_answer}
 use Rattle.coap_model.specs.Prelude.{Change, changed, response_with_observe}
 use Rattle.coap_model.specs.Prelude.{Connection, handles, has_room, side_with, with_history, side_answered}
-use Rattle.coap_model.specs.Prelude.{moment_after, Delay, delay_of, hold_call, held_for, side_replied, asks_answer, side_handled, side_after}
+use Rattle.coap_model.specs.Prelude.{moment_after, Delay, delay_of, hold_call, held_for, side_replied, asks_answer}
+use Rattle.coap_model.specs.Prelude.{side_handled, side_after}
 use Rattle.coap_model.specs.Prelude.{next_due}
 use Rattle.coap_model.specs.Prelude.{notified, next_held, held_message, after_sent, settled_so, settled_once}
 use Rattle.coap_model.specs.Prelude.{settled_within, settled, IsUpToDate}
@@ -19,11 +22,15 @@ use Rattle.coap_model.specs.Prelude.{same_bytes, state_of, Watch}
 use Rattle.std.proofs.lemmas.Bool.{and_parts, cond_both, ltb-true}
 use Rattle.coap_conn.proofs.PendingLaws.{due_fewer, due_nothing}
 use Rattle.coap_model.specs.Prelude.{Reply, Whole, ConnectionState, send_as, due_effect, pong_with}
-use Rattle.coap_model.proofs.world.KnownLaws.{entry_watchable, IsKnown, IsVersioned, still_known, told_known, told_now, not_due, left_watchable}
-use Rattle.coap_model.proofs.world.EntryLemmas.{asks_to_enter, all_to, all_append, all_filter, all_become, found_all, none_due, count_due, count_within, count_less}
+use Rattle.coap_model.proofs.world.KnownLaws.{entry_watchable, IsKnown, IsVersioned, still_known, told_known, told_now}
+use Rattle.coap_model.proofs.world.KnownLaws.{not_due, left_watchable}
+use Rattle.coap_model.proofs.world.EntryLemmas.{asks_to_enter, all_to, all_append, all_filter, all_become, found_all}
+use Rattle.coap_model.proofs.world.EntryLemmas.{none_due, count_due, count_within, count_less}
 use Rattle.coap_model.proofs.world.EntryLemmas.{none_found}
 use Rattle.coap_model.proofs.world.GoingOn.{as_before, further, GoesOn, all_go_on, written_goes_on}
-use Rattle.coap_model.proofs.world.WalkLaws.{there_or_not, there_where, kept_open_has, once_between, HoldsOfCalls, observers_kept, settled_keeps, written_between, ended_between, released_between, announced_between, responded_between}
+use Rattle.coap_model.proofs.world.WalkLaws.{there_or_not, there_where, kept_open_has, once_between, HoldsOfCalls}
+use Rattle.coap_model.proofs.world.WalkLaws.{observers_kept, settled_keeps, written_between, ended_between}
+use Rattle.coap_model.proofs.world.WalkLaws.{released_between, announced_between, responded_between}
 use Rattle.coap_model.proofs.world.AcrossLaws.{faulted_all, after_all}
 use Rattle.coap_conn.specs.PendingEntries as held
 use Rattle.coap_conn.specs.Calls as call
@@ -44,8 +51,10 @@ pub handles_parts : (s : Connection) → handles s ≡ true → (takes_messages 
 handles_parts s e = and_parts (takes_messages s.history.phase) (has_room s) e
 
 -- A request whose response is delayed, and one whose response is sent at once.
-pub replied_cases : (store : StoreValue) (now : ℕ) (h : History) (others : List Observer) (m : Message) (delay : Option Delay) (P : Connection → Type 0)
-    → ((d : Delay) → held_for h delay ≡ Some d → P (side_with (after h (hold_call d.by m.token (moment_after now d.seconds))) others))
+pub replied_cases : (store : StoreValue) (now : ℕ) (h : History) (others : List Observer) (m : Message)
+    (delay : Option Delay) (P : Connection → Type 0)
+    → ((d : Delay) → held_for h delay ≡ Some d
+    → P (side_with (after h (hold_call d.by m.token (moment_after now d.seconds))) others))
     → (held_for h delay ≡ None → P (side_answered store now h others m (prompt_answer store now m)))
     → P (side_replied store now h others m (held_for h delay))
 replied_cases store now h others m delay P held prompt =
@@ -59,9 +68,11 @@ pub settled_cases : (store : StoreValue) (now : ℕ) (s : Connection) (P : Conne
     → (next_held now s ≡ None → P (notified store now s (next_due store now s)))
     → P (settled_once store now s)
 unfolding settled_once
-settled_cases store now s P sends tells = there_or_not (next_held now s) (λ found. P (settled_so store now s found)) tells sends
+settled_cases store now s P sends tells =
+    there_or_not (next_held now s) (λ found. P (settled_so store now s found)) tells sends
 
-pub held_room : (now : ℕ) (s : Connection) (e : PendingEntryValue) → next_held now s ≡ Some e → (has_room s ≡ true) × (first_due now s.history.held ≡ Some e)
+pub held_room : (now : ℕ) (s : Connection) (e : PendingEntryValue) → next_held now s ≡ Some e
+    → (has_room s ≡ true) × (first_due now s.history.held ≡ Some e)
 held_room now s e is = there_where (has_room s) (first_due now s.history.held) e is
 
 -- Sending a message adds no pending entry.
@@ -73,44 +84,76 @@ send_held s m less other = omega arith
 pub due_held : (s : ConnectionState) (e : Option PendingEntryValue) → length (due_effect s e).held ≤ length s.held
 due_held s None = omega arith
 due_held s (Some (held.Answer by token moment)) = omega arith
-due_held s (Some (held.Pong token)) = send_held s (pong_with true token) (pong_with false token) (fit s.limit (pong_with true token) (pong_with false token))
+due_held s (Some (held.Pong token)) =
+    send_held s (pong_with true token) (pong_with false token)
+    (fit s.limit (pong_with true token) (pong_with false token))
 
 reply_leaves : (h : History) (m : Message) → length (after h (call.Reply m)).held ≤ length h.held
 reply_leaves h m =
     cond_both (answers h.phase) _ h (λ (k : History). length k.held ≤ length h.held)
-    (λ does. send_held (standing_now h) m (bare_response m) (fit (limit_now h) m (bare_response m))) (λ none. omega arith)
+    (λ does. send_held (standing_now h) m (bare_response m) (fit (limit_now h) m (bare_response m)))
+    (λ none. omega arith)
 
-sent_leaves : (h : History) (now : ℕ) (e : PendingEntryValue) → length (after_sent h now e).held ≤ length (without_due now h.held)
+sent_leaves : (h : History) (now : ℕ) (e : PendingEntryValue)
+    → length (after_sent h now e).held ≤ length (without_due now h.held)
 sent_leaves h now (held.Answer by token moment) =
-    omega (arith, reply_leaves (after h (call.Due now)) (held_message by token), due_held (standing_due now (standing_now h)) (first_due now h.held))
+    omega (
+      arith,
+      reply_leaves (after h (call.Due now)) (held_message by token),
+      due_held (standing_due now (standing_now h)) (first_due now h.held),
+    )
 sent_leaves h now (held.Pong token) = due_held (standing_due now (standing_now h)) (first_due now h.held)
 
 -- ---- the facts are kept
 
 -- Any change of the store keeps them.
-pub still_known_side : (store : StoreValue) (change : Change) (s : Connection) → IsVersioned store → IsKnownSide store s → IsKnownSide (changed store change) s
+pub still_known_side : (store : StoreValue) (change : Change) (s : Connection) → IsVersioned store → IsKnownSide store s
+    → IsKnownSide (changed store change) s
 still_known_side store change s is known = record {
   is_history = known.is_history;
-  told = all_to (IsKnown store) (IsKnown (changed store change)) (λ o. still_known store change o is) s.observers known.told;
+  told =
+      all_to (IsKnown store) (IsKnown (changed store change)) (λ o. still_known store change o is)
+      s.observers known.told;
 }
 
 -- All effects other than messages keep them.
 pub calls_known : (store : StoreValue) → HoldsOfCalls (λ s t. IsKnownSide store s → IsKnownSide store t)
 calls_known store = let told = observers_kept (AreKnown store) tt in record {
-  faulted = λ s fault known. record { is_history = (faulted_all GoesOn all_go_on s fault).history known.is_history; told = told.faulted s fault known.told };
-  written = λ s n known. record { is_history = (written_between GoesOn as_before written_goes_on s n).history known.is_history; told = told.written s n known.told };
-  ended = λ s cut known. record { is_history = (ended_between GoesOn as_before all_go_on.ends s cut).history known.is_history; told = told.ended s cut known.told };
-  released = λ s known. record { is_history = (released_between GoesOn as_before all_go_on.releases s).history known.is_history; told = told.released s known.told };
+  faulted = λ s fault known. record {
+    is_history = (faulted_all GoesOn all_go_on s fault).history known.is_history;
+    told = told.faulted s fault known.told;
+  };
+  written = λ s n known. record {
+    is_history = (written_between GoesOn as_before written_goes_on s n).history known.is_history;
+    told = told.written s n known.told;
+  };
+  ended = λ s cut known. record {
+    is_history = (ended_between GoesOn as_before all_go_on.ends s cut).history known.is_history;
+    told = told.ended s cut known.told;
+  };
+  released = λ s known. record {
+    is_history = (released_between GoesOn as_before all_go_on.releases s).history known.is_history;
+    told = told.released s known.told;
+  };
   announced = λ s size known.
-      record { is_history = (announced_between GoesOn as_before all_go_on.announces s size).history known.is_history; told = told.announced s size known.told };
+      record {
+        is_history = (announced_between GoesOn as_before all_go_on.announces s size).history known.is_history;
+        told = told.announced s size known.told;
+      };
   responded = λ s m known.
-      record { is_history = (responded_between GoesOn as_before all_go_on.responds s m).history known.is_history; told = told.responded s m known.told };
+      record {
+        is_history = (responded_between GoesOn as_before all_go_on.responds s m).history known.is_history;
+        told = told.responded s m known.told;
+      };
 }
 
 -- A property of the observers after a message. It must hold of no observers, and of the observers before. It must also
 -- hold of those without the message's token, and of these with its entry if there is a place for it.
-pub observers_after : (P : List Observer → Type 0) (store : StoreValue) (now : ℕ) (s : Connection) (m : Message) → P [] → P s.observers → P (without_token m.token s.observers)
-    → ((prompt_answer store now m).watch ≡ watch.Add → length (without_token m.token s.observers) < (after s.history (call.Handle m)).limits.observers → P (without_token m.token s.observers ++ entry_for store now m ∷ []))
+pub observers_after : (P : List Observer → Type 0) (store : StoreValue) (now : ℕ) (s : Connection) (m : Message) → P []
+    → P s.observers → P (without_token m.token s.observers)
+    → ((prompt_answer store now m).watch ≡ watch.Add
+    → length (without_token m.token s.observers) < (after s.history (call.Handle m)).limits.observers
+    → P (without_token m.token s.observers ++ entry_for store now m ∷ []))
     → P (side_after store now s m).observers
 unfolding side_after
 observers_after P store now s m none same others entered =
@@ -123,25 +166,30 @@ observers_after P store now s m none same others entered =
     let HasThem : Connection → Type 0 = λ t. P t.observers in
     let with_it : P (with_entry enters os (entry_for store now m)) =
     elim enters as (λ so. enters ≡ so → P (with_entry so os (entry_for store now m))) [
-      | true ↦ λ so. (let place = and_parts (asks_entry asked) (nat_lt (length os) h.limits.observers) (and_parts observes _ so).0 in
+      | true ↦ λ so. (let place =
+          and_parts (asks_entry asked) (nat_lt (length os) h.limits.observers) (and_parts observes _ so).0 in
           entered (asks_to_enter asked place.0) (ltb-true (length os) h.limits.observers place.1))
       | false ↦ λ so. others
     ] refl in
-    cond_both (handles s) (side_handled store now s m) s HasThem (λ does. cond_both (asks_answer s m) _ (with_history s h) HasThem
+    cond_both (handles s) (side_handled store now s m) s HasThem
+    (λ does. cond_both (asks_answer s m) _ (with_history s h) HasThem
     (λ asks. replied_cases store now h os m (delay_of store now m) HasThem
     (λ d held. kept_open_has P none (after h (hold_call d.by m.token (moment_after now d.seconds))) os others)
     (λ prompt. kept_open_has P none (after h (call.Reply response)) _ with_it))
     (λ other. kept_open_has P none h s.observers same)) (λ idle. same)
 
 -- A message keeps the facts, before it changes the store.
-pub after_known : (store : StoreValue) (now : ℕ) → now ≤ 18446744073709551615 → IsVersioned store → (s : Connection) (m : Message) → IsKnownSide store s → IsKnownSide store (side_after store now s m)
+pub after_known : (store : StoreValue) (now : ℕ) → now ≤ 18446744073709551615 → IsVersioned store
+    → (s : Connection) (m : Message) → IsKnownSide store s → IsKnownSide store (side_after store now s m)
 unfolding without_token
 after_known store now small is s m known =
-    let others : AreKnown store (without_token m.token s.observers) = all_filter (IsKnown store) (λ o. not (same_bytes o.token m.token)) s.observers known.told in
+    let others : AreKnown store (without_token m.token s.observers) =
+    all_filter (IsKnown store) (λ o. not (same_bytes o.token m.token)) s.observers known.told in
     record {
       is_history = (after_all GoesOn all_go_on store now s m).history known.is_history;
       told = observers_after (AreKnown store) store now s m tt known.told others
-          (λ asked place. all_append (IsKnown store) _ _ others (told_known store now m.token (path_of m) small is (entry_watchable store now m asked), tt));
+          (λ asked place. all_append (IsKnown store) _ _ others
+          (told_known store now m.token (path_of m) small is (entry_watchable store now m asked), tt));
     }
 
 -- ---- settling of a connection: the facts are kept, and no change is lost
@@ -152,37 +200,50 @@ IsAtRest store now s = (next_held now s ≡ None) × (next_due store now s ≡ N
 
 -- ---- one round
 
-pub next_due_found : (store : StoreValue) (now : ℕ) (s : Connection) (o : Observer) → next_due store now s ≡ Some o → find (is_due store now) s.observers ≡ Some o
+pub next_due_found : (store : StoreValue) (now : ℕ) (s : Connection) (o : Observer) → next_due store now s ≡ Some o
+    → find (is_due store now) s.observers ≡ Some o
 next_due_found store now s o e = (there_where (has_room s) (find (is_due store now) s.observers) o e).1
 
 -- A property of the observers after a round. It must hold of no observers, of the observers before, and of those after
 -- the first due one was notified.
-pub observers_settled : (P : List Observer → Type 0) (store : StoreValue) (now : ℕ) (s : Connection) → P [] → P s.observers
-    → ((o : Observer) (stays : Bool) → next_due store now s ≡ Some o → (stays ≡ true → goes_on (notification store now o) ≡ true) → P (first_becomes (is_due store now) (left_of store now o stays) s.observers))
+pub observers_settled : (P : List Observer → Type 0) (store : StoreValue) (now : ℕ) (s : Connection)
+    → P [] → P s.observers
+    → ((o : Observer) (stays : Bool) → next_due store now s ≡ Some o
+    → (stays ≡ true → goes_on (notification store now o) ≡ true)
+    → P (first_becomes (is_due store now) (left_of store now o stays) s.observers))
     → P (settled_once store now s).observers
 observers_settled P store now s none same told =
-    settled_cases store now s (λ t. P t.observers) (λ e is. kept_open_has P none (after_sent s.history now e) s.observers same) (λ rests.
+    settled_cases store now s (λ t. P t.observers)
+    (λ e is. kept_open_has P none (after_sent s.history now e) s.observers same) (λ rests.
     there_or_not (next_due store now s) (λ o. P (notified store now s o).observers) (λ none_due. same) (λ o is. (
     let m = notification_message o.token (notification store now o) in
     let stays = goes_on (notification store now o) && is_whole (fit (limit_now s.history) m (bare_response m)) in
-    kept_open_has P none (after s.history (call.Reply m)) _ (told o stays is (λ e. (and_parts (goes_on (notification store now o)) _ e).0)))))
+    kept_open_has P none (after s.history (call.Reply m)) _
+    (told o stays is (λ e. (and_parts (goes_on (notification store now o)) _ e).0)))))
 
 -- ---- facts
 
 module _ (store : StoreValue) (now : ℕ) (small : now ≤ 18446744073709551615) (is : IsVersioned store) where
-  left_all : (o : Observer) (stays : Bool) → IsKnown store o → (stays ≡ true → goes_on (notification store now o) ≡ true) → AreKnown store (left_of store now o stays)
-  left_all o true known on = (told_known store now o.token o.path small is (left_watchable store now o known (on refl)), tt)
+  left_all : (o : Observer) (stays : Bool) → IsKnown store o
+      → (stays ≡ true → goes_on (notification store now o) ≡ true) → AreKnown store (left_of store now o stays)
+  left_all o true known on =
+      (told_known store now o.token o.path small is (left_watchable store now o known (on refl)), tt)
   left_all o false known on = tt
 
   -- The first due observer is one of the observers.
-  pub next_known : (s : Connection) → IsKnownSide store s → (o : Observer) → next_due store now s ≡ Some o → IsKnown store o
-  next_known s known o e = found_all (IsKnown store) (is_due store now) s.observers o known.told (next_due_found store now s o e)
+  pub next_known : (s : Connection) → IsKnownSide store s → (o : Observer)
+      → next_due store now s ≡ Some o → IsKnown store o
+  next_known s known o e =
+      found_all (IsKnown store) (is_due store now) s.observers o known.told (next_due_found store now s o e)
 
   pub once_known : (s : Connection) → IsKnownSide store s → IsKnownSide store (settled_once store now s)
   once_known s known = record {
-    is_history = (once_between GoesOn GoesOn as_before further all_go_on.replies all_go_on.lets_go all_go_on.pongs store now s).history known.is_history;
+    is_history =
+        (once_between GoesOn GoesOn as_before further all_go_on.replies all_go_on.lets_go all_go_on.pongs store now
+        s).history known.is_history;
     told = observers_settled (AreKnown store) store now s tt known.told (λ o stays due on.
-        all_become (IsKnown store) (is_due store now) (left_of store now o stays) s.observers known.told (left_all o stays (next_known s known o due) on));
+        all_become (IsKnown store) (is_due store now) (left_of store now o stays) s.observers known.told
+        (left_all o stays (next_known s known o due) on));
   }
 
   pub settled_known : (s : Connection) → IsKnownSide store s → IsKnownSide store (settled store now s)
@@ -195,13 +256,15 @@ unfolding count_due
 count_if due b os = cond_both b os [] (λ ps. count_due due ps ≤ count_due due os) (λ e. omega arith) (λ e. omega arith)
 
 -- The updated entry of a notified observer is not due.
-left_quiet : (store : StoreValue) (now : ℕ) (o : Observer) (stays : Bool) → count_due (is_due store now) (left_of store now o stays) ≡ 0
+left_quiet : (store : StoreValue) (now : ℕ) (o : Observer) (stays : Bool)
+    → count_due (is_due store now) (left_of store now o stays) ≡ 0
 unfolding count_due
 left_quiet store now o true = rw (not_due store now (record o { told = state_of store now o.path }) refl) refl
 left_quiet store now o false = refl
 
 -- If nothing is left to settle, further rounds change nothing.
-pub at_rest : (turns : ℕ) (store : StoreValue) (now : ℕ) (s : Connection) → IsAtRest store now s → settled_within turns store now s ≡ s
+pub at_rest : (turns : ℕ) (store : StoreValue) (now : ℕ) (s : Connection) → IsAtRest store now s
+    → settled_within turns store now s ≡ s
 unfolding settled_within settled_once
 at_rest zero store now s rests = refl
 at_rest (suc turns) store now s rests = rw (rests.0, rests.1) (at_rest turns store now s rests)
@@ -211,24 +274,38 @@ abbrev pub left_on : StoreValue → ℕ → Connection → ℕ
 left_on store now s = length s.history.held + count_due (is_due store now) s.observers
 
 -- A round sends nothing, or the number decreases.
-pub once_less : (store : StoreValue) (now : ℕ) (s : Connection) → IsAtRest store now s ⊎ (left_on store now (settled_once store now s) + 1 ≤ left_on store now s)
+pub once_less : (store : StoreValue) (now : ℕ) (s : Connection)
+    → IsAtRest store now s ⊎ (left_on store now (settled_once store now s) + 1 ≤ left_on store now s)
 unfolding settled_once
 once_less store now s =
     let Less : Connection → Type 0 = λ t. IsAtRest store now s ⊎ (left_on store now t + 1 ≤ left_on store now s) in
     let due : Observer → Bool = is_due store now in
     there_or_not (next_held now s) (λ found. Less (settled_so store now s found))
-    (λ held. there_or_not (next_due store now s) (λ found. Less (notified store now s found)) (λ is. inl (held, is)) (λ o is. (
+    (λ held. there_or_not (next_due store now s) (λ found. Less (notified store now s found))
+    (λ is. inl (held, is)) (λ o is. (
     let m = notification_message o.token (notification store now o) in
     let stays = goes_on (notification store now o) && is_whole (fit (limit_now s.history) m (bare_response m)) in
     let left : List Observer = left_of store now o stays in
     let less = count_less due s.observers o left (left_quiet store now o stays) (next_due_found store now s o is) in
-    inr (omega (arith, reply_leaves s.history m, count_if due (is_open (after s.history (call.Reply m)).phase) (first_becomes due left s.observers), less)))))
+    inr (omega (
+      arith,
+      reply_leaves s.history m,
+      count_if due (is_open (after s.history (call.Reply m)).phase) (first_becomes due left s.observers),
+      less,
+    )))))
     (λ e is. (let fewer = due_fewer now s.history.held e (held_room now s e is).1 in
-    inr (omega (arith, count_if due (is_open (after_sent s.history now e).phase) s.observers, sent_leaves s.history now e, fewer))))
+    inr (omega (
+      arith,
+      count_if due (is_open (after_sent s.history now e).phase) s.observers,
+      sent_leaves s.history now e,
+      fewer,
+    ))))
 
-rests_by : (turns : ℕ) (store : StoreValue) (now : ℕ) (s : Connection) → left_on store now s ≤ turns → IsAtRest store now (settled_within turns store now s)
+rests_by : (turns : ℕ) (store : StoreValue) (now : ℕ) (s : Connection) → left_on store now s ≤ turns
+    → IsAtRest store now (settled_within turns store now s)
 unfolding settled_within
-rests_by zero store now s few = elim (once_less store now s) [ inl rests ↦ rests | inr less ↦ absurd (omega (arith, few, less)) ]
+rests_by zero store now s few =
+    elim (once_less store now s) [ inl rests ↦ rests | inr less ↦ absurd (omega (arith, few, less)) ]
 rests_by (suc turns) store now s few =
     elim (once_less store now s) [
       | inl rests ↦ subst (IsAtRest store now) (sym (at_rest (suc turns) store now s rests)) rests
@@ -238,35 +315,43 @@ rests_by (suc turns) store now s few =
 -- Each round leaves fewer pending entries or due observers, so in the end nothing is left to settle.
 pub settled_rests : (store : StoreValue) (now : ℕ) (s : Connection) → IsAtRest store now (settled store now s)
 unfolding settled
-settled_rests store now s = rests_by (length s.history.held + length s.observers) store now s (omega (arith, count_within (is_due store now) s.observers))
+settled_rests store now s =
+    rests_by (length s.history.held + length s.observers) store now s
+    (omega (arith, count_within (is_due store now) s.observers))
 
 -- No change is lost: if there is room, each observer was last sent the current state, and no pending entry is due.
 pub hears_at_rest : (store : StoreValue) (now : ℕ) (s : Connection) → IsAtRest store now s → IsUpToDate store now s
 hears_at_rest store now s rests = record {
-  told = λ room. all_to (λ o. is_due store now o ≡ false) (λ o. o.told ≡ state_of store now o.path) (told_now store now) s.observers
+  told = λ room. all_to (λ o. is_due store now o ≡ false) (λ o. o.told ≡ state_of store now o.path)
+      (told_now store now) s.observers
       (none_due (is_due store now) s.observers (rw room at rests.1));
   sent = λ room. (due_nothing now s.history.held (rw room at rests.0)).0;
 }
 
 -- If no entry of a list is due, the list of due times is empty.
-none_come_listed : (now : ℕ) (held : List PendingEntryValue) → AllByRecursion (λ e. due_moment now e ≡ None) held → filter_map (due_moment now) held ≡ []
+none_come_listed : (now : ℕ) (held : List PendingEntryValue) → AllByRecursion (λ e. due_moment now e ≡ None) held
+    → filter_map (due_moment now) held ≡ []
 none_come_listed now [] none = refl
 none_come_listed now (e ∷ held) none = rw none.0 (none_come_listed now held none.1)
 
 pub nothing_due_first : (now : ℕ) (held : List PendingEntryValue) → NothingIsDue now held → first_due now held ≡ None
 unfolding first_due due_index
 nothing_due_first now held none =
-    ap (λ moments. held_at held (else_index (answer_index (reduce min moments) held) (pong_index held))) (none_come_listed now held none.0) ∙ ap (held_at held) none.1
+    ap (λ moments. held_at held (else_index (answer_index (reduce min moments) held) (pong_index held)))
+    (none_come_listed now held none.0) ∙ ap (held_at held) none.1
 
 pub hears_sent : (store : StoreValue) (now : ℕ) (s : Connection) → IsUpToDate store now s → next_held now s ≡ None
 hears_sent store now s takes_input =
-    cond_both (has_room s) (first_due now s.history.held) None (λ found. found ≡ None) (λ room. nothing_due_first now s.history.held (takes_input.sent room)) (λ room. refl)
+    cond_both (has_room s) (first_due now s.history.held) None (λ found. found ≡ None)
+    (λ room. nothing_due_first now s.history.held (takes_input.sent room)) (λ room. refl)
 
 -- A connection on which no change is lost has nothing to settle.
-pub side_at_rest_stays : (store : StoreValue) (now : ℕ) (s : Connection) → IsUpToDate store now s → settled store now s ≡ s
+pub side_at_rest_stays : (store : StoreValue) (now : ℕ) (s : Connection) → IsUpToDate store now s
+    → settled store now s ≡ s
 unfolding settled
 side_at_rest_stays store now s takes_input =
-    let quiet = all_to (λ o. o.told ≡ state_of store now o.path) (λ o. is_due store now o ≡ false) (not_due store now) s.observers in
+    let quiet = all_to (λ o. o.told ≡ state_of store now o.path) (λ o. is_due store now o ≡ false)
+    (not_due store now) s.observers in
     let rests : next_due store now s ≡ None =
     cond_both (has_room s) (find (is_due store now) s.observers) None (λ due. due ≡ None)
     (λ room. none_found (is_due store now) s.observers (quiet (takes_input.told room))) (λ full. refl) in

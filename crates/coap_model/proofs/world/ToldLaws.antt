@@ -1,15 +1,18 @@
 -- After any events, the last response with an observer's token reports the state that its entry records. This holds if
 -- no request for a delayed response had that token.
-use Rattle.std.proofs.Common.{◌≡◌, ◌≢◌, ℕ, Bool, true, false, List, [], ◌∷◌, ◌++◌, length, Option, Some, None, refl, sym, ap, subst, ◌∙◌, filter, find, not, nat_lt, ◌&&◌, if◌then◌else◌, arith}
+use Rattle.std.proofs.Common.{◌≡◌, ◌≢◌, ℕ, Bool, true, false, List, [], ◌∷◌, ◌++◌, length, Option, Some, None, refl}
+use Rattle.std.proofs.Common.{sym, ap, subst, ◌∙◌, filter, find, not, nat_lt, ◌&&◌, if◌then◌else◌, arith}
 use Rattle.coap_model.specs.Prelude.{list_any, Responder, Engine, Application, asks_pending, ApplicationsValue}
-use Rattle.coap_model.specs.Prelude.{AllByRecursion, Message, LimitValues, is_open, fit, bare_response, PendingEntryValue}
+use Rattle.coap_model.specs.Prelude.{AllByRecursion, Message, LimitValues, is_open, fit, bare_response}
+use Rattle.coap_model.specs.Prelude.{PendingEntryValue}
 use Rattle.coap_model.specs.Prelude.{Answer, Pong, first_due, History, limit_now, after, same_bytes, StoreValue}
 use Rattle.coap_model.specs.Prelude.{state_of, prompt_answer, response_with_observe, ConfigValues, Observer, is_due}
 use Rattle.coap_model.specs.Prelude.{without_token, has_place, asks_entry, entry_for, is_whole, with_entry, goes_on}
 use Rattle.coap_model.specs.Prelude.{notification, notification_message, left_of, first_becomes, Connection, handles}
 use Rattle.coap_model.specs.Prelude.{side_with, with_history, side_answered, side_handled, side_after, next_due}
 use Rattle.coap_model.specs.Prelude.{notified, held_message, after_sent, side_of, AcceptedCall, world_after, responds}
-use Rattle.coap_model.specs.Prelude.{is_response, ReportsState, asked_late, IsLastNotification, TokensAreDistinct, last_response}
+use Rattle.coap_model.specs.Prelude.{is_response, ReportsState, asked_late, IsLastNotification, TokensAreDistinct}
+use Rattle.coap_model.specs.Prelude.{last_response}
 use Rattle.coap_model.specs.Prelude.{CorrespondTo}
 use Rattle.std.proofs.lemmas.Bool.{cond_both, and_parts, and_left}
 use Rattle.std.proofs.lemmas.List.Folds.{list_any-append}
@@ -19,14 +22,19 @@ use Rattle.coap_conn.proofs.PendingLaws.{due_answer}
 use Rattle.coap_store.specs.Answer as answer
 use Rattle.coap_model.proofs.world.EntryLemmas.{asks_to_enter, all_to, all_append, all_filter, all_become, found_all}
 use Rattle.coap_model.proofs.world.SideLaws.{settled_cases, held_room, next_due_found}
-use Rattle.coap_model.proofs.world.WalkLaws.{ended_between, Between, faulted_between, written_between, released_between, announced_between, holding, observers_kept}
+use Rattle.coap_model.proofs.world.WalkLaws.{ended_between, Between, faulted_between, written_between, released_between}
+use Rattle.coap_model.proofs.world.WalkLaws.{announced_between, holding, observers_kept}
 use Rattle.coap_model.proofs.world.GoingOn.{kept_after, IsSide, Keeps}
-use Rattle.coap_model.proofs.world.ToldMessages.{last_stays, queues_none, message_queues, reject_queues, end_queues, release_queues, due_queues, reply_queues, whole_last, announcing_queues, Queues, queues_these, sent_all, written_queues, last_of_longer}
+use Rattle.coap_model.proofs.world.ToldMessages.{last_stays, queues_none, message_queues, reject_queues, end_queues}
+use Rattle.coap_model.proofs.world.ToldMessages.{release_queues, due_queues, reply_queues, whole_last}
+use Rattle.coap_model.proofs.world.ToldMessages.{announcing_queues, Queues, queues_these, sent_all, written_queues}
+use Rattle.coap_model.proofs.world.ToldMessages.{last_of_longer}
 use Rattle.coap_conn.proofs.ReactionLaws.{IsNoResponse, IsPlain}
 use Rattle.coap_model.proofs.world.CustodyLaws.{Stands, stand_asked, stands_keeps, handled_cases}
 use Rattle.coap_conn.proofs.AskingLaws.{none_where}
 use Rattle.coap_model.proofs.world.RespondedLaws.{answered_request}
-use Rattle.coap_model.specs.Prelude.{side_responded, response_refusal, link_of, with_effect, send, standing_without, standing_now, answers}
+use Rattle.coap_model.specs.Prelude.{side_responded, response_refusal, link_of, with_effect, send, standing_without}
+use Rattle.coap_model.specs.Prelude.{standing_now, answers}
 use Rattle.std.specs.Prelude.{is_none}
 use Rattle.coap_model.proofs.world.KnownLaws.{tells_responds, entry_tells, notification_tells_observer}
 
@@ -45,36 +53,50 @@ abbrev AllTold : Option ApplicationsValue → Connection → Type 0
 AllTold a s = AreTold a s.history s.observers
 
 -- A message that reports the recorded state is queued.
-told_by_last : (o : Observer) (queued : List Message) (m : Message) → ReportsState o o.told m → IsLastNotification (queued ++ m ∷ []) o
-told_by_last o queued m tells = (m, grind (arith, last_of_longer o.token queued m, tells_responds o o.told m tells), tells)
+told_by_last : (o : Observer) (queued : List Message) (m : Message) → ReportsState o o.told m
+    → IsLastNotification (queued ++ m ∷ []) o
+told_by_last o queued m tells =
+    (m, grind (arith, last_of_longer o.token queued m, tells_responds o o.told m tells), tells)
 
 -- Queued messages keep this if none of them is a response with the observer's token.
-queued_told : (a : Option ApplicationsValue) (P : Message → Type 0) (h k : History) (o : Observer) → Queues P h k → (asked_late a o.token h.handled ≡ false → (m : Message) → P m → responds o.token m ≡ false) → ToldOn a h o → ToldOn a k o
+queued_told : (a : Option ApplicationsValue) (P : Message → Type 0) (h k : History) (o : Observer) → Queues P h k
+    → (asked_late a o.token h.handled ≡ false → (m : Message) → P m → responds o.token m ≡ false)
+    → ToldOn a h o → ToldOn a k o
 queued_told a P h k o queues other told none =
     let before : asked_late a o.token h.handled ≡ false = grind (arith, queues.handled, list_any-append) in
     let was : IsLastNotification h.queued o = told before in
-    let stays = last_stays o.token h.queued queues.more (all_to P (λ m. responds o.token m ≡ false) (other before) queues.more queues.such) in
+    let stays = last_stays o.token h.queued queues.more
+    (all_to P (λ m. responds o.token m ≡ false) (other before) queues.more queues.such) in
     (was.0, ap (last_response o.token) queues.same ∙ stays ∙ was.1, was.2)
 
 -- Messages that are no responses keep it.
-signalled_told : (a : Option ApplicationsValue) (P : Message → Type 0) → ((m : Message) → P m → IsNoResponse m) → (h k : History) (os : List Observer) → Queues P h k → AreTold a h os → AreTold a k os
+signalled_told : (a : Option ApplicationsValue) (P : Message → Type 0) → ((m : Message) → P m → IsNoResponse m)
+    → (h k : History) (os : List Observer) → Queues P h k → AreTold a h os → AreTold a k os
 signalled_told a P other h k os queues are = record {
   own = are.own;
-  told = all_to (ToldOn a h) (ToldOn a k) (λ o. queued_told a P h k o queues (λ none m is. and_left (is_response m) _ (other m is))) os are.told;
+  told =
+      all_to (ToldOn a h) (ToldOn a k)
+      (λ o. queued_told a P h k o queues (λ none m is. and_left (is_response m) _ (other m is))) os are.told;
 }
 
 -- Responses with another token keep it.
 abbrev HasToken : List ℕ → Message → Type 0
 HasToken token m = m.token ≡ token
 
-other_told : (a : Option ApplicationsValue) (token : List ℕ) (h k : History) (o : Observer) → Queues (HasToken token) h k → token ≢ o.token → ToldOn a h o → ToldOn a k o
-other_told a token h k o queues apart = queued_told a (HasToken token) h k o queues (λ none m e. grind (arith, (bytes_decides m.token o.token).0))
+other_told : (a : Option ApplicationsValue) (token : List ℕ) (h k : History) (o : Observer)
+    → Queues (HasToken token) h k → token ≢ o.token → ToldOn a h o → ToldOn a k o
+other_told a token h k o queues apart =
+    queued_told a (HasToken token) h k o queues (λ none m e. grind (arith, (bytes_decides m.token o.token).0))
 
 -- Responses keep it if their token is that of a request for a delayed response.
-late_told : (a : Option ApplicationsValue) (token : List ℕ) (h k : History) (os : List Observer) → Queues (HasToken token) h k → asked_late a token h.handled ≡ true → AreTold a h os → AreTold a k os
+late_told : (a : Option ApplicationsValue) (token : List ℕ) (h k : History) (os : List Observer)
+    → Queues (HasToken token) h k → asked_late a token h.handled ≡ true → AreTold a h os → AreTold a k os
 late_told a token h k os queues asked are = record {
   own = are.own;
-  told = all_to (ToldOn a h) (ToldOn a k) (λ o. queued_told a (HasToken token) h k o queues (λ none m e. grind (arith, (bytes_decides m.token o.token).0))) os are.told;
+  told =
+      all_to (ToldOn a h) (ToldOn a k)
+      (λ o. queued_told a (HasToken token) h k o queues (λ none m e. grind (arith, (bytes_decides m.token o.token).0)))
+      os are.told;
 }
 
 -- ---- lists of observers
@@ -82,44 +104,63 @@ late_told a token h k os queues asked are = record {
 abbrev pub HaveOtherTokens : List ℕ → List Observer → Type 0
 HaveOtherTokens token os = AllByRecursion (λ o. token ≢ o.token) os
 
-others_told : (a : Option ApplicationsValue) (token : List ℕ) (h k : History) (os : List Observer) → Queues (HasToken token) h k → HaveOtherTokens token os → AllByRecursion (ToldOn a h) os → AllByRecursion (ToldOn a k) os
+others_told : (a : Option ApplicationsValue) (token : List ℕ) (h k : History) (os : List Observer)
+    → Queues (HasToken token) h k → HaveOtherTokens token os → AllByRecursion (ToldOn a h) os
+    → AllByRecursion (ToldOn a k) os
 others_told a token h k [] queues others told = tt
-others_told a token h k (o ∷ os) queues others told = (other_told a token h k o queues others.0 told.0, others_told a token h k os queues others.1 told.1)
+others_told a token h k (o ∷ os) queues others told =
+    (other_told a token h k o queues others.0 told.0, others_told a token h k os queues others.1 told.1)
 
 own_filter : (test : Observer → Bool) (os : List Observer) → TokensAreDistinct os → TokensAreDistinct (filter test os)
 own_filter test [] own = tt
-own_filter test (o ∷ os) own = cond_both (test o) _ _ TokensAreDistinct (λ e. (all_filter _ test os own.0, own_filter test os own.1)) (λ e. own_filter test os own.1)
+own_filter test (o ∷ os) own =
+    cond_both (test o) _ _ TokensAreDistinct (λ e. (all_filter _ test os own.0, own_filter test os own.1))
+    (λ e. own_filter test os own.1)
 
-own_last : (os : List Observer) (e : Observer) → HaveOtherTokens e.token os → TokensAreDistinct os → TokensAreDistinct (os ++ e ∷ [])
+own_last : (os : List Observer) (e : Observer) → HaveOtherTokens e.token os → TokensAreDistinct os
+    → TokensAreDistinct (os ++ e ∷ [])
 own_last [] e others own = (tt, tt)
-own_last (o ∷ os) e others own =
-    (all_append (λ other. o.token ≢ other.token) os (e ∷ []) own.0 ((λ same. others.0 (sym same)), tt), own_last os e others.1 own.1)
+own_last (o ∷ os) e others own = (
+  all_append (λ other. o.token ≢ other.token) os (e ∷ []) own.0 ((λ same. others.0 (sym same)), tt),
+  own_last os e others.1 own.1,
+)
 
 -- The remaining observers have other tokens.
-pub filter_others : (token : List ℕ) (os : List Observer) → HaveOtherTokens token (filter (λ o. not (same_bytes o.token token)) os)
+pub filter_others : (token : List ℕ) (os : List Observer)
+    → HaveOtherTokens token (filter (λ o. not (same_bytes o.token token)) os)
 filter_others token [] = tt
 filter_others token (o ∷ os) =
     cond_both (not (same_bytes o.token token)) _ _ (HaveOtherTokens token)
-    (λ kept. ((λ same. grind (arith, (bytes_decides o.token token).1)), filter_others token os)) (λ gone. filter_others token os)
+    (λ kept. ((λ same. grind (arith, (bytes_decides o.token token).1)), filter_others token os))
+    (λ gone. filter_others token os)
 
-without_told : (a : Option ApplicationsValue) (token : List ℕ) (h : History) (os : List Observer) → AreTold a h os → AreTold a h (without_token token os)
+without_told : (a : Option ApplicationsValue) (token : List ℕ) (h : History) (os : List Observer) → AreTold a h os
+    → AreTold a h (without_token token os)
 unfolding without_token
 without_told a token h os are = record { own = own_filter _ os are.own; told = all_filter (ToldOn a h) _ os are.told }
 
 -- ---- answers
 
 -- If the connection is open, the observers stay; otherwise they are removed.
-kept_told : (a : Option ApplicationsValue) (h : History) (os : List Observer) → (is_open h.phase ≡ true → AreTold a h os) → AllTold a (side_with h os)
+kept_told : (a : Option ApplicationsValue) (h : History) (os : List Observer)
+    → (is_open h.phase ≡ true → AreTold a h os) → AllTold a (side_with h os)
 kept_told a h os go = cond_both (is_open h.phase) os [] (AreTold a h) go (λ e. record { own = tt; told = tt })
 
 -- The entry of a request is appended if the response reports its state.
-entered_told : (a : Option ApplicationsValue) (h : History) (os : List Observer) (entry : Observer) (enters : Bool) → HaveOtherTokens entry.token os → AreTold a h os → (enters ≡ true → IsLastNotification h.queued entry) → AreTold a h (with_entry enters os entry)
+entered_told : (a : Option ApplicationsValue) (h : History) (os : List Observer) (entry : Observer) (enters : Bool)
+    → HaveOtherTokens entry.token os → AreTold a h os → (enters ≡ true → IsLastNotification h.queued entry)
+    → AreTold a h (with_entry enters os entry)
 entered_told a h os entry true others are new =
-    record { own = own_last os entry others are.own; told = all_append (ToldOn a h) os (entry ∷ []) are.told ((λ none. new refl), tt) }
+    record {
+      own = own_last os entry others are.own;
+      told = all_append (ToldOn a h) os (entry ∷ []) are.told ((λ none. new refl), tt);
+    }
 entered_told a h os entry false others are new = are
 
 -- The response to the request reports it.
-told_with_answer : (a : Option ApplicationsValue) (store : StoreValue) (now : ℕ) (h : History) (os : List Observer) (m : Message) → HaveOtherTokens m.token os → AreTold a h os → AllTold a (side_answered store now h os m (prompt_answer store now m))
+told_with_answer : (a : Option ApplicationsValue) (store : StoreValue) (now : ℕ) (h : History) (os : List Observer)
+    (m : Message) → HaveOtherTokens m.token os → AreTold a h os
+    → AllTold a (side_answered store now h os m (prompt_answer store now m))
 told_with_answer a store now h os m others are =
     let r : answer.Answer = prompt_answer store now m in
     let observes : Bool = has_place h.limits.observers os r.watch in
@@ -129,25 +170,32 @@ told_with_answer a store now h os m others are =
     let k : History = after h (call.Reply response) in
     let tells : observes ≡ true → ReportsState entry entry.told response = λ has.
     subst (λ (b : Bool). ReportsState entry entry.told (response_with_observe m.token b r.response)) (sym has)
-    (entry_tells store now m (asks_to_enter r.watch (and_parts (asks_entry r.watch) (nat_lt (length os) h.limits.observers) has).0)) in
+    (entry_tells store now m
+    (asks_to_enter r.watch (and_parts (asks_entry r.watch) (nat_lt (length os) h.limits.observers) has).0)) in
     kept_told a k (with_entry (observes && whole) os entry)
-    (λ opened. entered_told a k os entry (observes && whole) others (record { own = are.own; told = others_told a m.token h k os (reply_queues h response) others are.told })
+    (λ opened. entered_told a k os entry (observes && whole) others
+    (record { own = are.own; told = others_told a m.token h k os (reply_queues h response) others are.told })
     (λ e. (let both = and_parts observes whole e in
-    subst (λ queued. IsLastNotification queued entry) (sym (whole_last h response both.1 opened)) (told_by_last entry h.queued response (tells both.0)))))
+    subst (λ queued. IsLastNotification queued entry) (sym (whole_last h response both.1 opened))
+    (told_by_last entry h.queued response (tells both.0)))))
 
 -- ---- messages
 
 -- No response is queued.
-signalled_side : (a : Option ApplicationsValue) (s : Connection) (h : History) → Queues IsNoResponse s.history h → AllTold a s → AllTold a (with_history s h)
-signalled_side a s h queues are = kept_told a h s.observers (λ opened. signalled_told a IsNoResponse (λ m is. is) s.history h s.observers queues are)
+signalled_side : (a : Option ApplicationsValue) (s : Connection) (h : History) → Queues IsNoResponse s.history h
+    → AllTold a s → AllTold a (with_history s h)
+signalled_side a s h queues are =
+    kept_told a h s.observers (λ opened. signalled_told a IsNoResponse (λ m is. is) s.history h s.observers queues are)
 
-handled_told : (a : Option ApplicationsValue) (limits : LimitValues) (store : StoreValue) (now : ℕ) (s : Connection) (m : Message) → IsSide limits s → AllTold a s → AllTold a (side_handled store now s m)
+handled_told : (a : Option ApplicationsValue) (limits : LimitValues) (store : StoreValue) (now : ℕ) (s : Connection)
+    (m : Message) → IsSide limits s → AllTold a s → AllTold a (side_handled store now s m)
 unfolding without_token
 handled_told a limits store now s m is are =
     let h : History = after s.history (call.Handle m) in
     let queues : Queues IsNoResponse s.history h = message_queues s.history m is.is_server in
     let others : List Observer = without_token m.token s.observers in
-    let still : AreTold a h others = signalled_told a IsNoResponse (λ m is. is) s.history h others queues (without_told a m.token s.history s.observers are) in
+    let still : AreTold a h others = signalled_told a IsNoResponse (λ m is. is) s.history h others queues
+    (without_told a m.token s.history s.observers are) in
     handled_cases store now s m (AllTold a) (λ other. signalled_side a s h queues are)
     (λ asks by moment asked. kept_told a (holding h _) others (λ opened. record { own = still.own; told = still.told }))
     (λ asks. told_with_answer a store now h others m (filter_others m.token s.observers) still)
@@ -155,27 +203,38 @@ handled_told a limits store now s m is are =
 -- ---- notifications
 
 -- The entry after a notification has the token of the first due observer.
-module _ (a : Option ApplicationsValue) (store : StoreValue) (now : ℕ) (h k : History) (o : Observer) (queues : Queues (HasToken o.token) h k) (stays : Bool) (new : AllByRecursion (ToldOn a k) (left_of store now o stays)) (due : Observer → Bool) where
-  own_left : (os : List Observer) → HaveOtherTokens o.token os → TokensAreDistinct os → TokensAreDistinct (left_of store now o stays ++ os)
-  own_left os others own = elim stays as (λ b. TokensAreDistinct (left_of store now o b ++ os)) [ true ↦ (others, own) | false ↦ own ]
+module _ (a : Option ApplicationsValue) (store : StoreValue) (now : ℕ) (h k : History) (o : Observer)
+    (queues : Queues (HasToken o.token) h k) (stays : Bool)
+    (new : AllByRecursion (ToldOn a k) (left_of store now o stays)) (due : Observer → Bool) where
+  own_left : (os : List Observer) → HaveOtherTokens o.token os → TokensAreDistinct os
+      → TokensAreDistinct (left_of store now o stays ++ os)
+  own_left os others own =
+      elim stays as (λ b. TokensAreDistinct (left_of store now o b ++ os)) [ true ↦ (others, own) | false ↦ own ]
 
   left_apart : (token : List ℕ) → token ≢ o.token → HaveOtherTokens token (left_of store now o stays)
-  left_apart token apart = elim stays as (λ b. HaveOtherTokens token (left_of store now o b)) [ true ↦ (apart, tt) | false ↦ tt ]
+  left_apart token apart =
+      elim stays as (λ b. HaveOtherTokens token (left_of store now o b)) [ true ↦ (apart, tt) | false ↦ tt ]
 
-  told_become : (os : List Observer) → find due os ≡ Some o → AreTold a h os → AreTold a k (first_becomes due (left_of store now o stays) os)
+  told_become : (os : List Observer) → find due os ≡ Some o → AreTold a h os
+      → AreTold a k (first_becomes due (left_of store now o stays) os)
   unfolding first_becomes
   told_become [] e are = absurd cc
   told_become (p ∷ os) e are =
       let left : List Observer = left_of store now o stays in
-      elim (due p) as (λ b. (if b then Some p else find due os) ≡ Some o → AreTold a k (if b then left ++ os else p ∷ first_becomes due left os)) [
+      elim (due p) as (λ b. (if b then Some p else find due os) ≡ Some o
+      → AreTold a k (if b then left ++ os else p ∷ first_becomes due left os)) [
         | true ↦ λ is. (
             let same : p ≡ o = cc in
             let others : HaveOtherTokens o.token os = subst (λ q. HaveOtherTokens q.token os) same are.own.0 in
-            record { own = own_left os others are.own.1; told = all_append (ToldOn a k) left os new (others_told a o.token h k os queues others are.told.1) }
+            record {
+              own = own_left os others are.own.1;
+              told = all_append (ToldOn a k) left os new (others_told a o.token h k os queues others are.told.1);
+            }
             )
         | false ↦ λ is. (
             let apart : p.token ≢ o.token = found_all (λ q. p.token ≢ q.token) due os o are.own.0 is in
-            let later : AreTold a k (first_becomes due left os) = told_become os is (record { own = are.own.1; told = are.told.1 }) in
+            let later : AreTold a k (first_becomes due left os) =
+            told_become os is (record { own = are.own.1; told = are.told.1 }) in
             record {
               own = (all_become (λ q. p.token ≢ q.token) due left os are.own.0 (left_apart p.token apart), later.own);
               told = (other_told a o.token h k p queues (λ same. apart (sym same)) are.told.0, later.told);
@@ -184,10 +243,13 @@ module _ (a : Option ApplicationsValue) (store : StoreValue) (now : ℕ) (h k : 
       ] e
 
 -- The notification reports the state that the updated entry records.
-left_told : (a : Option ApplicationsValue) (store : StoreValue) (now : ℕ) (h : History) (o : Observer) (stays : Bool) → (stays ≡ true → goes_on (notification store now o) ≡ true)
-    → (stays ≡ true → is_whole (fit (limit_now h) (notification_message o.token (notification store now o)) (bare_response (notification_message o.token (notification store now o)))) ≡ true)
+left_told : (a : Option ApplicationsValue) (store : StoreValue) (now : ℕ) (h : History) (o : Observer) (stays : Bool)
+    → (stays ≡ true → goes_on (notification store now o) ≡ true)
+    → (stays ≡ true → is_whole (fit (limit_now h) (notification_message o.token (notification store now o))
+    (bare_response (notification_message o.token (notification store now o)))) ≡ true)
     → is_open (after h (call.Reply (notification_message o.token (notification store now o)))).phase ≡ true
-    → AllByRecursion (ToldOn a (after h (call.Reply (notification_message o.token (notification store now o))))) (left_of store now o stays)
+    → AllByRecursion (ToldOn a (after h (call.Reply (notification_message o.token (notification store now o)))))
+    (left_of store now o stays)
 left_told a store now h o true on whole opened =
     let m : Message = notification_message o.token (notification store now o) in
     let left : Observer = record o { told = state_of store now o.path } in (
@@ -197,7 +259,9 @@ left_told a store now h o true on whole opened =
     )
 left_told a store now h o false on whole opened = tt
 
-notified_told : (a : Option ApplicationsValue) (store : StoreValue) (now : ℕ) (s : Connection) (found : Option Observer) → ((o : Observer) → found ≡ Some o → find (is_due store now) s.observers ≡ Some o) → AllTold a s → AllTold a (notified store now s found)
+notified_told : (a : Option ApplicationsValue) (store : StoreValue) (now : ℕ) (s : Connection) (found : Option Observer)
+    → ((o : Observer) → found ≡ Some o → find (is_due store now) s.observers ≡ Some o) → AllTold a s
+    → AllTold a (notified store now s found)
 notified_told a store now s None there are = are
 notified_told a store now s (Some o) there are =
     let m : Message = notification_message o.token (notification store now o) in
@@ -206,19 +270,23 @@ notified_told a store now s (Some o) there are =
     let h : History = after s.history (call.Reply m) in
     kept_told a h (first_becomes (is_due store now) (left_of store now o (on && whole)) s.observers)
     (λ opened. told_become a store now s.history h o (reply_queues s.history m) (on && whole)
-    (left_told a store now s.history o (on && whole) (λ e. (and_parts on whole e).0) (λ e. (and_parts on whole e).1) opened)
+    (left_told a store now s.history o (on && whole) (λ e. (and_parts on whole e).0)
+    (λ e. (and_parts on whole e).1) opened)
     (is_due store now) s.observers (there o refl) are)
 
 -- ---- pending entries
 
 -- A message that asks for a delayed response asks for one of the engine or of the application.
-late_asked : (a : Option ApplicationsValue) (by : Responder) (token : List ℕ) (moment : ℕ) (ms : List Message) → list_any (λ m. asks_pending a m (Answer by token moment)) ms ≡ true → asked_late a token ms ≡ true
+late_asked : (a : Option ApplicationsValue) (by : Responder) (token : List ℕ) (moment : ℕ) (ms : List Message)
+    → list_any (λ m. asks_pending a m (Answer by token moment)) ms ≡ true → asked_late a token ms ≡ true
 late_asked a by token moment [] e = e
 late_asked a Engine token moment (m ∷ ms) e = grind (arith, late_asked a Engine token moment ms)
 late_asked a Application token moment (m ∷ ms) e = grind (arith, late_asked a Application token moment ms)
 
 -- The token of a delayed response is that of a request for one.
-sent_told : (a : Option ApplicationsValue) (s : Connection) (now : ℕ) (e : PendingEntryValue) → first_due now s.history.held ≡ Some e → Stands a s.history → AllTold a s → AllTold a (with_history s (after_sent s.history now e))
+sent_told : (a : Option ApplicationsValue) (s : Connection) (now : ℕ) (e : PendingEntryValue)
+    → first_due now s.history.held ≡ Some e → Stands a s.history → AllTold a s
+    → AllTold a (with_history s (after_sent s.history now e))
 sent_told a s now (Answer by token moment) found stand are =
     let h : History = after s.history (call.Due now) in
     let k : History = after h (call.Reply (held_message by token)) in
@@ -226,22 +294,29 @@ sent_told a s now (Answer by token moment) found stand are =
     kept_told a k s.observers
     (λ opened. late_told a token h k s.observers (reply_queues h (held_message by token))
     (late_asked a by token moment s.history.handled
-    (stand_asked a s.history.handled first.before (Answer by token moment) first.after (subst (CorrespondTo a s.history.handled) first.there stand)))
+    (stand_asked a s.history.handled first.before (Answer by token moment) first.after
+    (subst (CorrespondTo a s.history.handled) first.there stand)))
     (signalled_told a IsNoResponse (λ m is. is) s.history h s.observers (due_queues s.history now) are))
-sent_told a s now (Pong token) found stand are = signalled_side a s (after s.history (call.Due now)) (due_queues s.history now) are
+sent_told a s now (Pong token) found stand are =
+    signalled_side a s (after s.history (call.Due now)) (due_queues s.history now) are
 
 -- A response of the application has the token of a request that it answers.
-responded_told : (a : Option ApplicationsValue) (s : Connection) (m : Message) → Stands a s.history → AllTold a s → AllTold a (side_responded s m)
+responded_told : (a : Option ApplicationsValue) (s : Connection) (m : Message) → Stands a s.history → AllTold a s
+    → AllTold a (side_responded s m)
 unfolding side_responded
 responded_told a s m stand are =
     let h : History = s.history in
     let none : Bool = is_none (response_refusal (link_of h) m) in
     let k : History = with_effect h (send (standing_without m.token (standing_now h)) m (bare_response m)) in
-    kept_told a (after h (call.Respond m)) s.observers (λ opened. cond_both (answers h.phase && none) k h (λ (g : History). AreTold a g s.observers) (λ so. (
-    let first = answered_request (link_of h) m (none_where (response_refusal (link_of h) m) (and_parts (answers h.phase) none so).1) in
-    let asked = stand_asked a h.handled first.before (Answer Application m.token first.moment) first.after (subst (CorrespondTo a h.handled) first.there stand) in
+    kept_told a (after h (call.Respond m)) s.observers
+    (λ opened. cond_both (answers h.phase && none) k h (λ (g : History). AreTold a g s.observers) (λ so. (
+    let first = answered_request (link_of h) m
+    (none_where (response_refusal (link_of h) m) (and_parts (answers h.phase) none so).1) in
+    let asked = stand_asked a h.handled first.before (Answer Application m.token first.moment) first.after
+    (subst (CorrespondTo a h.handled) first.there stand) in
     late_told a m.token h k s.observers
-    (queues_these (HasToken m.token) h k _ refl refl (sent_all (HasToken m.token) (standing_without m.token (standing_now h)) m (bare_response m) (fit (limit_now h) m (bare_response m)) refl refl))
+    (queues_these (HasToken m.token) h k _ refl refl (sent_all (HasToken m.token)
+    (standing_without m.token (standing_now h)) m (bare_response m) (fit (limit_now h) m (bare_response m)) refl refl))
     (late_asked a Application m.token first.moment h.handled asked) are)) (λ off. are))
 
 -- ---- properties of every connection
@@ -250,9 +325,13 @@ abbrev IsToldSide : Option ApplicationsValue → Connection → Type 0
 IsToldSide a s = Stands a s.history × AllTold a s
 
 -- Only plain messages are queued, and the observers stay or are removed.
-plain_told : (a : Option ApplicationsValue) (s t : Connection) → Stands a t.history → Between (Queues IsPlain) s t → ((P : List Observer → Type 0) → P [] → P s.observers → P t.observers) → IsToldSide a s → IsToldSide a t
-plain_told a s t stand queues kept of =
-    (stand, kept (AreTold a t.history) (record { own = tt; told = tt }) (signalled_told a IsPlain (λ m is. is.0) s.history t.history s.observers queues of.1))
+plain_told : (a : Option ApplicationsValue) (s t : Connection) → Stands a t.history → Between (Queues IsPlain) s t
+    → ((P : List Observer → Type 0) → P [] → P s.observers → P t.observers) → IsToldSide a s → IsToldSide a t
+plain_told a s t stand queues kept of = (
+  stand,
+  kept (AreTold a t.history) (record { own = tt; told = tt })
+      (signalled_told a IsPlain (λ m is. is.0) s.history t.history s.observers queues of.1),
+)
 
 told_side_keeps : (limits : LimitValues) (a : Option ApplicationsValue) → Keeps limits a (IsToldSide a)
 unfolding side_after
@@ -264,14 +343,20 @@ told_side_keeps limits a =
       first = (stands.first, record { own = tt; told = tt });
       handled = λ store now s m same is of. (
         stands.handled store now s m same is of.0,
-        cond_both (handles s) (side_handled store now s m) s (AllTold a) (λ does. handled_told a limits store now s m is of.1) (λ off. of.1),
+        cond_both (handles s) (side_handled store now s m) s (AllTold a)
+            (λ does. handled_told a limits store now s m is of.1) (λ off. of.1),
       );
-      faulted = λ s fault of. plain_told a s _ (stands.faulted s fault of.0) (faulted_between R same reject_queues s fault) (λ P none. (observers_kept P none).faulted s fault) of;
-      written = λ s n of. plain_told a s _ (stands.written s n of.0) (written_between R same (λ h k within. written_queues IsPlain h k) s n)
+      faulted = λ s fault of. plain_told a s _ (stands.faulted s fault of.0)
+          (faulted_between R same reject_queues s fault) (λ P none. (observers_kept P none).faulted s fault) of;
+      written = λ s n of. plain_told a s _ (stands.written s n of.0)
+          (written_between R same (λ h k within. written_queues IsPlain h k) s n)
           (λ P none. (observers_kept P none).written s n) of;
-      ended = λ s cut of. plain_told a s _ (stands.ended s cut of.0) (ended_between R same end_queues s cut) (λ P none. (observers_kept P none).ended s cut) of;
-      released = λ s of. plain_told a s _ (stands.released s of.0) (released_between R same release_queues s) (λ P none. (observers_kept P none).released s) of;
-      announced = λ s size of. plain_told a s _ (stands.announced s size of.0) (announced_between R same (λ h n opened room fit. announcing_queues h n) s size)
+      ended = λ s cut of. plain_told a s _ (stands.ended s cut of.0) (ended_between R same end_queues s cut)
+          (λ P none. (observers_kept P none).ended s cut) of;
+      released = λ s of. plain_told a s _ (stands.released s of.0) (released_between R same release_queues s)
+          (λ P none. (observers_kept P none).released s) of;
+      announced = λ s size of. plain_told a s _ (stands.announced s size of.0)
+          (announced_between R same (λ h n opened room fit. announcing_queues h n) s size)
           (λ P none. (observers_kept P none).announced s size) of;
       responded = λ s m of. (stands.responded s m of.0, responded_told a s m of.0 of.1);
       told = λ store now s of. (
@@ -281,11 +366,17 @@ told_side_keeps limits a =
       );
     }
 
-are_told : (c : ConfigValues) (es : List AcceptedCall) (id : ℕ) (s : Connection) → side_of id (world_after c es).sides ≡ Some s → AreTold c.applications s.history s.observers
-are_told c es id s there = (kept_after c (IsToldSide c.applications) (told_side_keeps c.limits c.applications) es id s there).1
+are_told : (c : ConfigValues) (es : List AcceptedCall) (id : ℕ) (s : Connection)
+    → side_of id (world_after c es).sides ≡ Some s → AreTold c.applications s.history s.observers
+are_told c es id s there =
+    (kept_after c (IsToldSide c.applications) (told_side_keeps c.limits c.applications) es id s there).1
 
-pub observers_told_last : (c : ConfigValues) (es : List AcceptedCall) (id : ℕ) (s : Connection) → side_of id (world_after c es).sides ≡ Some s → AllByRecursion (λ o. asked_late c.applications o.token s.history.handled ≡ false → IsLastNotification s.history.queued o) s.observers
+pub observers_told_last : (c : ConfigValues) (es : List AcceptedCall) (id : ℕ) (s : Connection)
+    → side_of id (world_after c es).sides ≡ Some s → AllByRecursion
+    (λ o. asked_late c.applications o.token s.history.handled ≡ false → IsLastNotification s.history.queued o)
+    s.observers
 observers_told_last c es id s there = (are_told c es id s there).told
 
-pub observers_have_own_tokens : (c : ConfigValues) (es : List AcceptedCall) (id : ℕ) (s : Connection) → side_of id (world_after c es).sides ≡ Some s → TokensAreDistinct s.observers
+pub observers_have_own_tokens : (c : ConfigValues) (es : List AcceptedCall) (id : ℕ) (s : Connection)
+    → side_of id (world_after c es).sides ≡ Some s → TokensAreDistinct s.observers
 observers_have_own_tokens c es id s there = (are_told c es id s there).own

@@ -21,12 +21,14 @@ use Rattle.coap_model.proofs.world.WalkLaws.{if_between, announcing, Rejects, En
 -- ---- the last response
 
 -- One more message is the last response if it is a response with the token.
-pub last_of_longer : (token : List ℕ) (queued : List Message) (m : Message) → last_response token (queued ++ m ∷ []) ≡ cond (responds token m) (Some m) (last_response token queued)
+pub last_of_longer : (token : List ℕ) (queued : List Message) (m : Message)
+    → last_response token (queued ++ m ∷ []) ≡ cond (responds token m) (Some m) (last_response token queued)
 unfolding last_response
 last_of_longer token queued m = ap (find (responds token)) (reverse-append queued (m ∷ []))
 
 -- Other messages do not change it.
-pub last_stays : (token : List ℕ) (queued ms : List Message) → AllByRecursion (λ m. responds token m ≡ false) ms → last_response token (queued ++ ms) ≡ last_response token queued
+pub last_stays : (token : List ℕ) (queued ms : List Message) → AllByRecursion (λ m. responds token m ≡ false) ms
+    → last_response token (queued ++ ms) ≡ last_response token queued
 last_stays token queued [] none = ap (last_response token) (append-nil queued)
 last_stays token queued (m ∷ ms) none =
     let later = last_stays token (queued ++ m ∷ []) ms none.1 in
@@ -43,21 +45,28 @@ pub record Queues (P : Message → Type 0) (h k : History) : Type 0 where
   pub handled : k.handled ≡ h.handled ++ heard
 
 -- No message is handled.
-pub queues_these : (P : Message → Type 0) (h k : History) (more : List Message) → k.queued ≡ h.queued ++ more → k.handled ≡ h.handled → AllByRecursion P more → Queues P h k
-queues_these P h k more same handled such = record { more = more; same = same; such = such; heard = []; handled = handled ∙ sym (append-nil h.handled) }
+pub queues_these : (P : Message → Type 0) (h k : History) (more : List Message) → k.queued ≡ h.queued ++ more
+    → k.handled ≡ h.handled → AllByRecursion P more → Queues P h k
+queues_these P h k more same handled such =
+    record { more = more; same = same; such = such; heard = []; handled = handled ∙ sym (append-nil h.handled) }
 
 pub queues_none : (P : Message → Type 0) (h : History) → Queues P h h
 queues_none P h = queues_these P h h [] (sym (append-nil h.queued)) refl tt
 
 -- The messages queued for a message or its reduced form.
-pub sent_all : (P : Message → Type 0) (s : ConnectionState) (m less : Message) (r : Reply) → P m → P less → AllByRecursion P (send_as s m less r).queued
+pub sent_all : (P : Message → Type 0) (s : ConnectionState) (m less : Message) (r : Reply) → P m → P less
+    → AllByRecursion P (send_as s m less r).queued
 sent_all P s m less r is bare = grind arith
 
 -- The pending entries and the phase afterwards.
-pub sent_either : (s : ConnectionState) (m less : Message) (r : Reply) (P : List PendingEntryValue → Phase → Type 0) → P s.held s.phase → P [] (phase.Stopped reason.PeerTooSmall) → P (send_as s m less r).held (send_as s m less r).phase
+pub sent_either : (s : ConnectionState) (m less : Message) (r : Reply) (P : List PendingEntryValue → Phase → Type 0)
+    → P s.held s.phase → P [] (phase.Stopped reason.PeerTooSmall)
+    → P (send_as s m less r).held (send_as s m less r).phase
 sent_either s m less r P is over = grind arith
 
-pub reply_either : (h : History) (m : Message) (P : List Message → List PendingEntryValue → Phase → Type 0) → P h.handled h.held h.phase → P h.handled [] (phase.Stopped reason.PeerTooSmall) → P (after h (call.Reply m)).handled (after h (call.Reply m)).held (after h (call.Reply m)).phase
+pub reply_either : (h : History) (m : Message) (P : List Message → List PendingEntryValue → Phase → Type 0)
+    → P h.handled h.held h.phase → P h.handled [] (phase.Stopped reason.PeerTooSmall)
+    → P (after h (call.Reply m)).handled (after h (call.Reply m)).held (after h (call.Reply m)).phase
 reply_either h m P is over = grind arith
 
 -- ---- effects on a history
@@ -94,7 +103,9 @@ written_queues P h n = queues_these P h _ [] (sym (append-nil h.queued)) refl tt
 
 -- Of the entries that are due, only a Pong is queued here.
 pub due_queues : (h : History) (now : ℕ) → Queues IsNoResponse h (after h (call.Due now))
-due_queues h now = queues_these IsNoResponse h _ (due_effect (standing_due now (standing_now h)) (first_due now h.held)).queued refl refl (grind arith)
+due_queues h now =
+    queues_these IsNoResponse h _ (due_effect (standing_due now (standing_now h)) (first_due now h.held)).queued
+    refl refl (grind arith)
 
 -- ---- responses
 
@@ -103,12 +114,14 @@ pub reply_queues : (h : History) (m : Message) → Queues (λ n. n.token ≡ m.t
 reply_queues h m =
     let P : Message → Type 0 = λ n. n.token ≡ m.token in
     if_between (Queues P) (answers h.phase) h _ (queues_none P h)
-    (λ does. queues_these P h _ _ refl refl (sent_all P (standing_now h) m (bare_response m) (fit (limit_now h) m (bare_response m)) refl refl))
+    (λ does. queues_these P h _ _ refl refl
+    (sent_all P (standing_now h) m (bare_response m) (fit (limit_now h) m (bare_response m)) refl refl))
 
 -- An open connection sends responses.
 pub open_answers : (p : Phase) → is_open p ≡ true → answers p ≡ true
 open_answers p opened = grind arith
 
 -- If a response is sent whole and the connection is open afterwards, it is the last message queued.
-pub whole_last : (h : History) (m : Message) → is_whole (fit (limit_now h) m (bare_response m)) ≡ true → is_open (after h (call.Reply m)).phase ≡ true → (after h (call.Reply m)).queued ≡ h.queued ++ m ∷ []
+pub whole_last : (h : History) (m : Message) → is_whole (fit (limit_now h) m (bare_response m)) ≡ true
+    → is_open (after h (call.Reply m)).phase ≡ true → (after h (call.Reply m)).queued ≡ h.queued ++ m ∷ []
 whole_last h m whole opened = grind (arith, open_answers h.phase)

@@ -1,11 +1,13 @@
 -- The effect of a `Took` event on the stream of its connection, and the steps that it makes.
-use Rattle.std.proofs.Common.{◌≡◌, ℕ, ◌+◌, ◌-◌, ◌≤◌, List, [], ◌∷◌, ◌++◌, length, map, take, get_or, Some, None, Ok, Err, refl, sym, ap, ◌∙◌, append_assoc, arith}
+use Rattle.std.proofs.Common.{◌≡◌, ℕ, ◌+◌, ◌-◌, ◌≤◌, List, [], ◌∷◌, ◌++◌, length, map, take, get_or, Some, None, Ok}
+use Rattle.std.proofs.Common.{Err, refl, sym, ap, ◌∙◌, append_assoc, arith}
 use Rattle.std.proofs.lemmas.Grind.{take_at_read}
 use Rattle.std.proofs.lemmas.List.{length-append, take_at}
 use Rattle.std.proofs.Math.Seq.{drop-length, drop-append_seam}
 use Rattle.coap_model.specs.Prelude.{Message, message_of, FormatFault, FrameFault, Unfinished, prefix_kind}
 use Rattle.coap_model.specs.Prelude.{fault_bytes, OfFrame, Format, Stream, split, behind, AFrame, AFault, Framing}
-use Rattle.coap_model.specs.Prelude.{framing_at, framing, without_last, AcceptedCall, Took, size_on, stream_on, new_fault}
+use Rattle.coap_model.specs.Prelude.{framing_at, framing, without_last, AcceptedCall, Took, size_on, stream_on}
+use Rattle.coap_model.specs.Prelude.{new_fault}
 use Rattle.coap_model.specs.Prelude.{beyond, steps_by}
 use Rattle.coap_wire.proofs.StreamSteps.{whole_itself, split_unfinished}
 use Rattle.coap_frame.specs.Framing.{Nothing}
@@ -19,7 +21,9 @@ use Rattle.coap_model.proofs.world.StepLaws.{stream_same, taken_here, stream_mor
 -- ---- the steps of a stream that continues
 
 -- After a stream without error.
-pub beyond_added : (id : ℕ) (before added : Stream) → before.fault ≡ None → beyond id before (behind before.messages added) ≡ map (step.Handled id) added.messages ++ new_fault id None added.fault
+pub beyond_added : (id : ℕ) (before added : Stream) → before.fault ≡ None
+    → beyond id before (behind before.messages added)
+    ≡ map (step.Handled id) added.messages ++ new_fault id None added.fault
 beyond_added id before added none = rw (none, drop-append_seam before.messages added.messages) refl
 
 -- A stream that does not change, with an error or without.
@@ -42,18 +46,26 @@ module _ (M id : ℕ) (es : List AcceptedCall) (bytes : List ℕ) (none : (strea
   adds : (added : Stream) → split N ((stream_on M id es).rest ++ bytes) ≡ added → Adds M id es bytes added
   unfolding steps_by
   adds added is =
-      let after : stream_on M id (es ++ Took id bytes ∷ []) ≡ behind (stream_on M id es).messages added = stream_more M id es bytes ∙ rw (none, is) refl in
-      record { steps = ap (beyond id (stream_on M id es)) after ∙ beyond_added id (stream_on M id es) added none; stream = after }
+      let after : stream_on M id (es ++ Took id bytes ∷ []) ≡ behind (stream_on M id es).messages added =
+      stream_more M id es bytes ∙ rw (none, is) refl in
+      record {
+        steps = ap (beyond id (stream_on M id es)) after ∙ beyond_added id (stream_on M id es) added none;
+        stream = after;
+      }
 
   -- The result of framing the bytes.
   abbrev pub framing_found : Framing
   framing_found = framing N (stream_on M id es).rest bytes
 
-  pub adds_nothing : framing_found.finding ≡ Nothing → Adds M id es bytes (record { messages = []; rest = (stream_on M id es).rest ++ bytes; fault = None })
-  adds_nothing e = adds _ (split_unfinished N ((stream_on M id es).rest ++ bytes) (nothing_finished N (stream_on M id es).rest bytes e))
+  pub adds_nothing : framing_found.finding ≡ Nothing
+      → Adds M id es bytes (record { messages = []; rest = (stream_on M id es).rest ++ bytes; fault = None })
+  adds_nothing e =
+      adds _
+      (split_unfinished N ((stream_on M id es).rest ++ bytes) (nothing_finished N (stream_on M id es).rest bytes e))
 
   -- If all bytes are accepted, they add the frame or error that was found.
-  pub adds_frame : framing_found.taken ≡ length bytes → Adds M id es bytes (added_by (stream_on M id es).rest bytes framing_found.finding)
+  pub adds_frame : framing_found.taken ≡ length bytes
+      → Adds M id es bytes (added_by (stream_on M id es).rest bytes framing_found.finding)
   adds_frame all = adds _ (added_whole N (stream_on M id es).rest bytes (rest_unfinished M id es none) all)
 
 -- ---- no bytes
@@ -64,11 +76,13 @@ no_bytes_stream M id es = stream_same M id es (Took id []) (taken_here id [])
 
 pub no_bytes_steps : (M id : ℕ) (es : List AcceptedCall) → steps_by M es (Took id []) ≡ []
 unfolding steps_by
-no_bytes_steps M id es = ap (beyond id (stream_on M id es)) (no_bytes_stream M id es) ∙ nothing_beyond id (stream_on M id es)
+no_bytes_steps M id es =
+    ap (beyond id (stream_on M id es)) (no_bytes_stream M id es) ∙ nothing_beyond id (stream_on M id es)
 
 -- ---- a frame without its last byte
 
-module _ (M : ℕ) (kept piece frame : List ℕ) (n : ℕ) (u : prefix_kind M kept ≡ Unfinished) (is : (framing M kept piece).finding ≡ AFrame frame) (all : front_of M kept piece ≡ n + 1) where
+module _ (M : ℕ) (kept piece frame : List ℕ) (n : ℕ) (u : prefix_kind M kept ≡ Unfinished)
+    (is : (framing M kept piece).finding ≡ AFrame frame) (all : front_of M kept piece ≡ n + 1) where
   pub front_within : n + 1 ≤ length piece
   front_within = rw all at (taken_within M kept piece u)
 
@@ -80,9 +94,12 @@ module _ (M : ℕ) (kept piece frame : List ℕ) (n : ℕ) (u : prefix_kind M ke
       let front : List ℕ = kept ++ take n piece in
       let last : List ℕ = get_or piece n 0 ∷ [] in
       let cut : take (n + 1) piece ≡ take n piece ++ last = (take_at_read piece n 0 (omega (arith, front_within))).1 in
-      let bytes : frame ≡ front ++ last = frame_taken M kept piece frame u is ∙ rw (all, cut) (sym (append_assoc kept (take n piece) last)) in
-      let but_last : without_last frame ≡ front = rw bytes (take_at front last (length (front ++ last) - 1) (omega (arith, length-append front last))) in
-      ap (framing_at kept (take n piece)) (ap (prefix_kind M) (sym but_last) ∙ front_unfinished M frame (whole_itself M (kept ++ piece) frame first.0 first.1))
+      let bytes : frame ≡ front ++ last =
+      frame_taken M kept piece frame u is ∙ rw (all, cut) (sym (append_assoc kept (take n piece) last)) in
+      let but_last : without_last frame ≡ front =
+      rw bytes (take_at front last (length (front ++ last) - 1) (omega (arith, length-append front last))) in
+      ap (framing_at kept (take n piece)) (ap (prefix_kind M) (sym but_last)
+      ∙ front_unfinished M frame (whole_itself M (kept ++ piece) frame first.0 first.1))
 
 -- ---- the bytes accepted of an input slice
 
@@ -99,17 +116,26 @@ module _ (M id : ℕ) (es : List AcceptedCall) (piece : List ℕ) (none : (strea
   piece_front = take (front_of size_before kept_so_far piece) piece
 
   -- They add the frame or error that is found in the slice.
-  pub piece_adds : Adds M id es piece_front (added_by kept_so_far piece_front (framing size_before kept_so_far piece).finding)
-  piece_adds = adds M id es piece_front none _ (added_front size_before kept_so_far piece (rest_unfinished M id es none))
+  pub piece_adds : Adds M id es piece_front
+      (added_by kept_so_far piece_front (framing size_before kept_so_far piece).finding)
+  piece_adds =
+      adds M id es piece_front none _ (added_front size_before kept_so_far piece (rest_unfinished M id es none))
 
-  pub piece_adds_nothing : (framing size_before kept_so_far piece).finding ≡ Nothing → Adds M id es piece_front (record { messages = []; rest = kept_so_far ++ piece_front; fault = None })
+  pub piece_adds_nothing : (framing size_before kept_so_far piece).finding ≡ Nothing
+      → Adds M id es piece_front (record { messages = []; rest = kept_so_far ++ piece_front; fault = None })
   piece_adds_nothing e = rw e at piece_adds
 
-  pub piece_adds_message : (frame : List ℕ) (m : Message) → (framing size_before kept_so_far piece).finding ≡ AFrame frame → message_of frame ≡ Ok m → Adds M id es piece_front (record { messages = m ∷ []; rest = []; fault = None })
+  pub piece_adds_message : (frame : List ℕ) (m : Message)
+      → (framing size_before kept_so_far piece).finding ≡ AFrame frame → message_of frame ≡ Ok m
+      → Adds M id es piece_front (record { messages = m ∷ []; rest = []; fault = None })
   piece_adds_message frame m e read = rw (e, read) at piece_adds
 
-  pub piece_adds_bad : (frame : List ℕ) (f : FormatFault) → (framing size_before kept_so_far piece).finding ≡ AFrame frame → message_of frame ≡ Err f → Adds M id es piece_front (record { messages = []; rest = frame; fault = Some Format })
+  pub piece_adds_bad : (frame : List ℕ) (f : FormatFault)
+      → (framing size_before kept_so_far piece).finding ≡ AFrame frame → message_of frame ≡ Err f
+      → Adds M id es piece_front (record { messages = []; rest = frame; fault = Some Format })
   piece_adds_bad frame f e read = rw (e, read) at piece_adds
 
-  pub piece_adds_fault : (fault : FrameFault) → (framing size_before kept_so_far piece).finding ≡ AFault fault → Adds M id es piece_front (record { messages = []; rest = fault_bytes (kept_so_far ++ piece_front); fault = Some (OfFrame fault) })
+  pub piece_adds_fault : (fault : FrameFault) → (framing size_before kept_so_far piece).finding ≡ AFault fault
+      → Adds M id es piece_front
+      (record { messages = []; rest = fault_bytes (kept_so_far ++ piece_front); fault = Some (OfFrame fault) })
   piece_adds_fault fault e = rw e at piece_adds

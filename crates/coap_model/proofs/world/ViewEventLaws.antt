@@ -1,10 +1,13 @@
 -- The view of accepted events is a list of accepted events. It leads to the same connection, store and time as all
 -- events.
-use Rattle.std.proofs.Common.{◌≡◌, ◌≢◌, ℕ, ◌≤◌, ◌<◌, true, false, List, [], ◌∷◌, ◌++◌, length, map, drop, Option, None, refl, sym, ap, subst, ◌∙◌, append_assoc, arith, ◌==◌, if◌then◌else◌, inl, inr}
+use Rattle.std.proofs.Common.{◌≡◌, ◌≢◌, ℕ, ◌≤◌, ◌<◌, true, false, List, [], ◌∷◌, ◌++◌, length, map, drop, Option, None}
+use Rattle.std.proofs.Common.{refl, sym, ap, subst, ◌∙◌, append_assoc, arith, ◌==◌, if◌then◌else◌, inl, inr}
 use Rattle.coap_model.specs.Prelude.{AllByRecursion, Message, StreamFault, Stream, LimitValues, link_of}
 use Rattle.coap_model.specs.Prelude.{release_refusal, Change, Nothing, Put, Delete, changed, ConfigValues, Connection}
-use Rattle.coap_model.specs.Prelude.{waiting_on, is_cut, may_raise, World, Step, side_of, after_steps, AcceptedCall, Opened}
-use Rattle.coap_model.specs.Prelude.{Took, Wrote, Ticked, Stored, Removed, Ended, Released, Announced, Responded, Dropped}
+use Rattle.coap_model.specs.Prelude.{waiting_on, is_cut, may_raise, World, Step, side_of, after_steps, AcceptedCall}
+use Rattle.coap_model.specs.Prelude.{Opened}
+use Rattle.coap_model.specs.Prelude.{Took, Wrote, Ticked, Stored, Removed, Ended, Released, Announced, Responded}
+use Rattle.coap_model.specs.Prelude.{Dropped}
 use Rattle.coap_model.specs.Prelude.{response_refusal}
 use Rattle.coap_model.specs.Prelude.{taken_in, size_by, size_on, stream_on, spelled_on, new_fault, beyond, steps_by}
 use Rattle.coap_model.specs.Prelude.{world_after, takes_of, takes, IfSide, OnSide, IsAccepted, AreAcceptedBehind}
@@ -14,16 +17,23 @@ use Rattle.std.proofs.lemmas.Bool.{eq-eqb, ne_eqb, cases_eq}
 use Rattle.std.proofs.lemmas.List.{append-nil}
 use Rattle.coap_model.specs.world.World as world
 use Rattle.coap_model.specs.world.View.{change_by}
-use Rattle.coap_model.proofs.world.StepLaws.{steps_keep, taken_here, taken_elsewhere, size_stays, announced_here, announced_elsewhere, spelled_by, spelled_then, spelled_same, first_spelled, each_beyond, world_first, world_more, world_step, accepted_more, by_events}
+use Rattle.coap_model.proofs.world.StepLaws.{steps_keep, taken_here, taken_elsewhere, size_stays, announced_here}
+use Rattle.coap_model.proofs.world.StepLaws.{announced_elsewhere, spelled_by, spelled_then, spelled_same, first_spelled}
+use Rattle.coap_model.proofs.world.StepLaws.{each_beyond, world_first, world_more, world_step, accepted_more, by_events}
 use Rattle.coap_model.proofs.world.PlaceLaws.{nobody}
-use Rattle.coap_model.proofs.world.ReachedLaws.{accepted_is, OpensNext, IsNumbered, number_given, on_one, opens, ids_grow, step_keeps}
-use Rattle.coap_model.proofs.world.ViewLaws.{IsNotRefused, by_passes, Share, share, share_of, settled_share, SettlesAlike, step_share, step_rests, other_did, renamed, own_alike, change_alike, new_rests}
+use Rattle.coap_model.proofs.world.ReachedLaws.{accepted_is, OpensNext, IsNumbered, number_given, on_one, opens}
+use Rattle.coap_model.proofs.world.ReachedLaws.{ids_grow, step_keeps}
+use Rattle.coap_model.proofs.world.ViewLaws.{IsNotRefused, by_passes, Share, share, share_of, settled_share}
+use Rattle.coap_model.proofs.world.ViewLaws.{SettlesAlike, step_share, step_rests, other_did, renamed, own_alike}
+use Rattle.coap_model.proofs.world.ViewLaws.{change_alike, new_rests}
 
 -- ---- lists
 
-view_more : (c : ConfigValues) (id : ℕ) (a es : List AcceptedCall) (e : AcceptedCall) → view_behind c id a (es ++ e ∷ []) ≡ view_behind c id a es ++ view_event c id (a ++ es) e
+view_more : (c : ConfigValues) (id : ℕ) (a es : List AcceptedCall) (e : AcceptedCall)
+    → view_behind c id a (es ++ e ∷ []) ≡ view_behind c id a es ++ view_event c id (a ++ es) e
 unfolding view_behind
-view_more c id a [] e = append-nil (view_event c id a e) ∙ ap (λ (b : List AcceptedCall). view_event c id b e) (sym (append-nil a))
+view_more c id a [] e =
+    append-nil (view_event c id a e) ∙ ap (λ (b : List AcceptedCall). view_event c id b e) (sym (append-nil a))
 view_more c id a (d ∷ es) e =
     rw (view_more c id (a ++ d ∷ []) es e, append_assoc a (d ∷ []) es)
     (sym (append_assoc (view_event c id a d) (view_behind c id (a ++ d ∷ []) es) (view_event c id (a ++ d ∷ es) e)))
@@ -33,15 +43,19 @@ view_more c id a (d ∷ es) e =
 beyond_renamed : (id n : ℕ) (before after : Stream) → beyond n before after ≡ map (renamed n) (beyond id before after)
 beyond_renamed id n before after = by (drop (length before.messages) after.messages) before.fault after.fault
   where
-    by : (ms : List Message) (f g : Option StreamFault) → map (world.Handled n) ms ++ new_fault n f g ≡ map (renamed n) (map (world.Handled id) ms ++ new_fault id f g)
+    by : (ms : List Message) (f g : Option StreamFault)
+        → map (world.Handled n) ms ++ new_fault n f g ≡ map (renamed n) (map (world.Handled id) ms ++ new_fault id f g)
     by [] f g = grind arith
     by (m ∷ ms) f g = ap (λ (ss : List Step). world.Handled n m ∷ ss) (by ms f g)
 
-own_steps : (limits : LimitValues) (id n : ℕ) (ss : List Step) (w v : World) → AllByRecursion (λ s. concerns id s ≡ true) ss → share_of id w ≡ share_of n v → share_of id (after_steps limits w ss) ≡ share_of n (after_steps limits v (map (renamed n) ss))
+own_steps : (limits : LimitValues) (id n : ℕ) (ss : List Step) (w v : World)
+    → AllByRecursion (λ s. concerns id s ≡ true) ss → share_of id w ≡ share_of n v
+    → share_of id (after_steps limits w ss) ≡ share_of n (after_steps limits v (map (renamed n) ss))
 unfolding after_steps
 own_steps limits id n [] w v each alike = alike
 own_steps limits id n (s ∷ ss) w v each alike =
-    own_steps limits id n ss (world.step limits w s) (world.step limits v (renamed n s)) each.1 (own_alike limits id n w v alike s each.0)
+    own_steps limits id n ss (world.step limits w s) (world.step limits v (renamed n s)) each.1
+    (own_alike limits id n w v alike s each.0)
 
 -- ---- a world without connections
 
@@ -82,9 +96,12 @@ module _ (c : ConfigValues) (id : ℕ) where
 
   -- One more event that makes one step.
   module _ (w : World) (spelled : Stream × ℕ) (ids : ℕ) (vs : List AcceptedCall) (is : IsView w spelled ids vs) where
-    view_stored : (w' : World) (e : AcceptedCall) (s : Step) → steps_by M vs e ≡ s ∷ [] → OpensNone s → taken_in n e ≡ [] → size_stays n e → IsAccepted c vs e → SettlesAlike id w' → share_of id w' ≡ share_of n (world.step c.limits (world_after c vs) s) → IsView w' spelled ids (vs ++ e ∷ [])
+    view_stored : (w' : World) (e : AcceptedCall) (s : Step) → steps_by M vs e ≡ s ∷ [] → OpensNone s
+        → taken_in n e ≡ [] → size_stays n e → IsAccepted c vs e → SettlesAlike id w'
+        → share_of id w' ≡ share_of n (world.step c.limits (world_after c vs) s) → IsView w' spelled ids (vs ++ e ∷ [])
     view_stored w' e s one none quiet stays ok rests same =
-        let stepped : world_after c (vs ++ e ∷ []) ≡ world.step c.limits (world_after c vs) s = world_step c vs e s one in
+        let stepped : world_after c (vs ++ e ∷ []) ≡ world.step c.limits (world_after c vs) s =
+        world_step c vs e s one in
         record {
           alike = same ∙ ap (share_of n) (sym stepped);
           spells = is.spells ∙ sym (spelled_same M n vs e quiet stays);
@@ -97,19 +114,31 @@ module _ (c : ConfigValues) (id : ℕ) where
     same_store = ap (λ (x : Share). x.store) is.alike
 
     -- A change made by another connection.
-    view_change : (w' : World) (change : Change) → IsNotRefused w.store change → SettlesAlike id w' → share_of id w' ≡ settled_share (share (changed w.store change) w.now (side_of id w.sides)) → IsView w' spelled ids (vs ++ change_events change)
+    view_change : (w' : World) (change : Change) → IsNotRefused w.store change → SettlesAlike id w'
+        → share_of id w' ≡ settled_share (share (changed w.store change) w.now (side_of id w.sides))
+        → IsView w' spelled ids (vs ++ change_events change)
     unfolding steps_by after_steps IsAccepted
     view_change w' Nothing passes rests same =
-        rw (append-nil vs) (record { alike = same ∙ is.rests ∙ is.alike; spells = is.spells; accepted = is.accepted; fresh = is.fresh; rests = rests })
+        rw (append-nil vs) (record {
+          alike = same ∙ is.rests ∙ is.alike;
+          spells = is.spells;
+          accepted = is.accepted;
+          fresh = is.fresh;
+          rests = rests;
+        })
     view_change w' (Put path format bytes) passes rests same =
-        view_stored w' (Stored path format bytes) (world.Stored path format bytes) refl (λ k opens. cc) refl (λ N. refl) (rw same_store at passes) rests
+        view_stored w' (Stored path format bytes) (world.Stored path format bytes) refl (λ k opens. cc) refl (λ N. refl)
+        (rw same_store at passes) rests
         (same ∙ change_alike c.limits id n w (world_after c vs) is.alike (Put path format bytes) is.rests passes)
     view_change w' (Delete path) passes rests same =
-        view_stored w' (Removed path) (world.Removed path) refl (λ k opens. cc) refl (λ N. refl) (rw same_store at passes) rests
+        view_stored w' (Removed path) (world.Removed path) refl (λ k opens. cc) refl (λ N. refl)
+        (rw same_store at passes) rests
         (same ∙ change_alike c.limits id n w (world_after c vs) is.alike (Delete path) is.rests passes)
 
   -- Steps of another connection.
-  view_others : (ss : List Step) (w : World) (spelled : Stream × ℕ) (ids : ℕ) (vs : List AcceptedCall) → AllByRecursion (λ s. concerns id s ≡ false) ss → IsView w spelled ids vs → IsView (after_steps c.limits w ss) spelled ids (vs ++ changes_of c.limits w ss)
+  view_others : (ss : List Step) (w : World) (spelled : Stream × ℕ) (ids : ℕ) (vs : List AcceptedCall)
+      → AllByRecursion (λ s. concerns id s ≡ false) ss → IsView w spelled ids vs
+      → IsView (after_steps c.limits w ss) spelled ids (vs ++ changes_of c.limits w ss)
   unfolding after_steps changes_of
   view_others [] w spelled ids vs each is = rw (append-nil vs) is
   view_others (s ∷ ss) w spelled ids vs each is =
@@ -143,7 +172,8 @@ module _ (c : ConfigValues) (id : ℕ) where
     steps_made = steps_by M es e
 
     -- An event of another connection.
-    unseen : AllByRecursion (λ s. concerns id s ≡ false) steps_made → w.ids ≤ (after_steps c.limits w steps_made).ids → taken_in id e ≡ [] → size_stays id e → Sees (es ++ e ∷ []) (vs ++ changes_of c.limits w steps_made)
+    unseen : AllByRecursion (λ s. concerns id s ≡ false) steps_made → w.ids ≤ (after_steps c.limits w steps_made).ids
+        → taken_in id e ≡ [] → size_stays id e → Sees (es ++ e ∷ []) (vs ++ changes_of c.limits w steps_made)
     unseen each grow quiet stays =
         let is = view_others steps_made w (spelled_on M id es) w.ids vs each sees in
         record {
@@ -164,17 +194,26 @@ module _ (c : ConfigValues) (id : ℕ) where
         ∙ rw (same.0, same.1 (size_on M n vs)) (sym (spelled_then M n vs e'))
 
     -- An event of the connection itself.
-    seen : (e' : AcceptedCall) → steps_by M vs e' ≡ map (renamed n) steps_made → AllByRecursion (λ s. concerns id s ≡ true) steps_made → SpellSame e' → IsAccepted c vs e' → ((after_steps c.limits w steps_made).ids < id → IsFresh c (world_after c (vs ++ e' ∷ []))) → Sees (es ++ e ∷ []) (vs ++ e' ∷ [])
+    seen : (e' : AcceptedCall) → steps_by M vs e' ≡ map (renamed n) steps_made
+        → AllByRecursion (λ s. concerns id s ≡ true) steps_made → SpellSame e' → IsAccepted c vs e'
+        → ((after_steps c.limits w steps_made).ids < id → IsFresh c (world_after c (vs ++ e' ∷ [])))
+        → Sees (es ++ e ∷ []) (vs ++ e' ∷ [])
     seen e' makes each bytes ok fresh = record {
-      alike = ap (share_of id) (world_more c es e) ∙ own_steps c.limits id n steps_made w (world_after c vs) each sees.alike
-          ∙ ap (λ (ss : List Step). share_of n (after_steps c.limits (world_after c vs) ss)) (sym makes) ∙ ap (share_of n) (sym (world_more c vs e'));
+      alike =
+          ap (share_of id) (world_more c es e) ∙ own_steps c.limits id n steps_made w (world_after c vs) each sees.alike
+          ∙ ap (λ (ss : List Step). share_of n (after_steps c.limits (world_after c vs) ss)) (sym makes)
+          ∙ ap (share_of n) (sym (world_more c vs e'));
       spells = spells_on e' bytes;
       accepted = accepted_more c vs e' sees.accepted ok;
       fresh = λ low. fresh (omega (arith, low, ap (λ (v : World). v.ids) (world_more c es e)));
-      rests = rw (world_more c es e) (steps_keep (SettlesAlike id) c.limits (λ u s rests. step_rests c.limits id u s) w steps_made sees.rests);
+      rests =
+          rw (world_more c es e)
+          (steps_keep (SettlesAlike id) c.limits (λ u s rests. step_rests c.limits id u s) w steps_made sees.rests);
     }
 
-    sees_own : (e' : AcceptedCall) (P : Connection → Type 0) → steps_by M vs e' ≡ map (renamed n) steps_made → AllByRecursion (λ s. concerns id s ≡ true) steps_made → AllByRecursion OpensSo steps_made → SpellSame e' → IsAccepted c vs e' → IfSide (side_of id w.sides) P → Sees (es ++ e ∷ []) (vs ++ e' ∷ [])
+    sees_own : (e' : AcceptedCall) (P : Connection → Type 0) → steps_by M vs e' ≡ map (renamed n) steps_made
+        → AllByRecursion (λ s. concerns id s ≡ true) steps_made → AllByRecursion OpensSo steps_made → SpellSame e'
+        → IsAccepted c vs e' → IfSide (side_of id w.sides) P → Sees (es ++ e ∷ []) (vs ++ e' ∷ [])
     sees_own e' P makes each opening bytes ok holds =
         let at = on_one P (side_of id w.sides) holds in
         let given = (number_given c w id at.0 (accepted_is c es all).numbered at.1).within in
@@ -194,23 +233,32 @@ module _ (c : ConfigValues) (id : ℕ) where
 
     takes_alike : (bytes : List ℕ) → takes c es id bytes ≡ takes c vs n bytes
     unfolding takes
-    takes_alike bytes = ap (λ (s : Stream × ℕ). takes_of s.1 s.0.rest bytes (side_of id (world_after c es).sides)) sees.spells ∙ rw same_side refl
+    takes_alike bytes =
+        ap (λ (s : Stream × ℕ). takes_of s.1 s.0.rest bytes (side_of id (world_after c es).sides)) sees.spells
+        ∙ rw same_side refl
 
     -- An event of one connection: its own is viewed with the other id, and that of another connection as these changes.
-    of_one : (other : ℕ) (at : ℕ → AcceptedCall) (changes : List AcceptedCall) → IsAccepted c es (at other) → (IsAccepted c es (at id) → Sees (es ++ at id ∷ []) (vs ++ at n ∷ [])) → (other ≢ id → Sees (es ++ at other ∷ []) (vs ++ changes))
+    of_one : (other : ℕ) (at : ℕ → AcceptedCall) (changes : List AcceptedCall) → IsAccepted c es (at other)
+        → (IsAccepted c es (at id) → Sees (es ++ at id ∷ []) (vs ++ at n ∷ []))
+        → (other ≢ id → Sees (es ++ at other ∷ []) (vs ++ changes))
         → Sees (es ++ at other ∷ []) (vs ++ (if other == id then at n ∷ [] else changes))
     of_one other at changes ok here away =
         elim (cases_eq other id) [
-          | inl same ↦ rw (eq-eqb other id same) (subst (λ k. IsAccepted c es (at k) → Sees (es ++ at k ∷ []) (vs ++ at n ∷ [])) (sym same) here ok)
+          | inl same ↦
+              rw (eq-eqb other id same)
+              (subst (λ k. IsAccepted c es (at k) → Sees (es ++ at k ∷ []) (vs ++ at n ∷ [])) (sym same) here ok)
           | inr apart ↦ rw (ne_eqb other id apart) (away apart)
         ]
 
     -- An event that is not viewed.
-    blind : (e : AcceptedCall) (s : Step) → steps_by M es e ≡ s ∷ [] → concerns id s ≡ false → change_by (world_after c es) s ≡ Nothing → OpensNext c (world_after c es) s → taken_in id e ≡ [] → size_stays id e → Sees (es ++ e ∷ []) (vs ++ [])
+    blind : (e : AcceptedCall) (s : Step) → steps_by M es e ≡ s ∷ [] → concerns id s ≡ false
+        → change_by (world_after c es) s ≡ Nothing → OpensNext c (world_after c es) s → taken_in id e ≡ []
+        → size_stays id e → Sees (es ++ e ∷ []) (vs ++ [])
     unfolding changes_of after_steps
     blind e s one apart still opening quiet stays =
         let none : changes_of c.limits (world_after c es) (steps_by M es e) ≡ [] = rw (one, still) refl in
-        rw none at (unseen es vs all sees e (rw one (apart, tt)) (rw one (ids_grow c (world_after c es) s opening)) quiet stays)
+        rw none
+        at (unseen es vs all sees e (rw one (apart, tt)) (rw one (ids_grow c (world_after c es) s opening)) quiet stays)
 
     -- The connection is opened.
     opening_seen : IsAccepted c es (Opened id) → Sees (es ++ Opened id ∷ []) (vs ++ Opened n ∷ [])
@@ -218,44 +266,59 @@ module _ (c : ConfigValues) (id : ℕ) where
     opening_seen ok =
         let fresh : IsFresh c v = sees.fresh (omega (arith, ok.0)) in
         let numbered : IsNumbered c (world_after c es) = (accepted_is c es all).numbered in
-        let given : (world.step c.limits (world_after c es) (world.Opened id)).ids ≡ id = ap (λ (u : World). u.ids) (opens c (world_after c es) id numbered ok.0) in
-        seen es vs all sees (Opened id) (Opened n) refl (eq-eqb id id refl, tt) (refl, λ N. refl)
-        (omega (arith, fresh.ids), omega (arith, numbered.low, ok.0, ok.1), omega (arith, ok.2, ap (λ (ps : List world.ConnectionEntry). length ps) fresh.empty))
+        let given : (world.step c.limits (world_after c es) (world.Opened id)).ids ≡ id =
+        ap (λ (u : World). u.ids) (opens c (world_after c es) id numbered ok.0) in
+        seen es vs all sees (Opened id) (Opened n) refl (eq-eqb id id refl, tt) (refl, λ N. refl) (
+          omega (arith, fresh.ids),
+          omega (arith, numbered.low, ok.0, ok.1),
+          omega (arith, ok.2, ap (λ (ps : List world.ConnectionEntry). length ps) fresh.empty),
+        )
         (λ low. absurd (omega (arith, low, given)))
 
     -- An event of its own with one step and no bytes.
-    own_seen : (e e' : AcceptedCall) (s : Step) (P : Connection → Type 0) → steps_by M es e ≡ s ∷ [] → steps_by M vs e' ≡ renamed n s ∷ [] → concerns id s ≡ true → OpensSo s → SpellSame es vs all sees e e' → (OnSide n v P → IsAccepted c vs e') → OnSide id (world_after c es) P → Sees (es ++ e ∷ []) (vs ++ e' ∷ [])
+    own_seen : (e e' : AcceptedCall) (s : Step) (P : Connection → Type 0) → steps_by M es e ≡ s ∷ []
+        → steps_by M vs e' ≡ renamed n s ∷ [] → concerns id s ≡ true → OpensSo s → SpellSame es vs all sees e e'
+        → (OnSide n v P → IsAccepted c vs e') → OnSide id (world_after c es) P → Sees (es ++ e ∷ []) (vs ++ e' ∷ [])
     own_seen e e' s P one too own opening bytes accepts here =
-        sees_own es vs all sees e e' P (rw one too) (rw one (own, tt)) (rw one (opening, tt)) bytes (accepts (rw same_side at here)) here
+        sees_own es vs all sees e e' P (rw one too) (rw one (own, tt)) (rw one (opening, tt)) bytes
+        (accepts (rw same_side at here)) here
 
     -- The connection itself accepts bytes.
-    took_here : (bytes : List ℕ) → IsAccepted c es (Took id bytes) → Sees (es ++ Took id bytes ∷ []) (vs ++ Took n bytes ∷ [])
+    took_here : (bytes : List ℕ) → IsAccepted c es (Took id bytes)
+        → Sees (es ++ Took id bytes ∷ []) (vs ++ Took n bytes ∷ [])
     unfolding IsAccepted steps_by concerns
     took_here bytes ok =
         let before : Stream = stream_on M id es in
         let after : Stream = stream_on M id (es ++ Took id bytes ∷ []) in
         let at = on_one (λ s. takes c es id bytes ≡ length bytes) (side_of id (world_after c es).sides) ok in
-        let same : SpellSame es vs all sees (Took id bytes) (Took n bytes) = (taken_here id bytes ∙ sym (taken_here n bytes), λ N. refl) in
+        let same : SpellSame es vs all sees (Took id bytes) (Took n bytes) =
+        (taken_here id bytes ∙ sym (taken_here n bytes), λ N. refl) in
         let then_same : after ≡ stream_on M n (vs ++ Took n bytes ∷ []) =
         ap (λ (s : Stream × ℕ). s.0) (spells_on es vs all sees (Took id bytes) (Took n bytes) same) in
         sees_own es vs all sees (Took id bytes) (Took n bytes) (λ s. takes c es id bytes ≡ length bytes)
         (rw (← (ap (λ (s : Stream × ℕ). s.0) sees.spells), ← then_same) (beyond_renamed id n before after))
         (each_beyond (λ s. concerns id s ≡ true) id before after (λ m. eq-eqb id id refl) (λ fault. eq-eqb id id refl))
-        (each_beyond OpensSo id before after (λ m w. tt) (λ fault w. tt)) same (rw (← same_side, at.1) (sym (takes_alike bytes) ∙ at.2)) ok
+        (each_beyond OpensSo id before after (λ m w. tt) (λ fault w. tt)) same
+        (rw (← same_side, at.1) (sym (takes_alike bytes) ∙ at.2)) ok
 
     -- Another connection accepts bytes.
-    took_away : (other : ℕ) (bytes : List ℕ) → other ≢ id → Sees (es ++ Took other bytes ∷ []) (vs ++ changes_of c.limits (world_after c es) (steps_by M es (Took other bytes)))
+    took_away : (other : ℕ) (bytes : List ℕ) → other ≢ id → Sees (es ++ Took other bytes ∷ [])
+        (vs ++ changes_of c.limits (world_after c es) (steps_by M es (Took other bytes)))
     unfolding steps_by concerns
     took_away other bytes apart =
         let before : Stream = stream_on M other es in
         let after : Stream = stream_on M other (es ++ Took other bytes ∷ []) in
         unseen es vs all sees (Took other bytes)
-        (each_beyond (λ s. concerns id s ≡ false) other before after (λ m. ne_eqb other id apart) (λ fault. ne_eqb other id apart))
-        (ids_more (beyond other before after) (world_after c es) (each_beyond OpensSo other before after (λ m w. tt) (λ fault w. tt)))
+        (each_beyond (λ s. concerns id s ≡ false) other before after (λ m. ne_eqb other id apart)
+        (λ fault. ne_eqb other id apart))
+        (ids_more (beyond other before after) (world_after c es)
+        (each_beyond OpensSo other before after (λ m w. tt) (λ fault w. tt)))
         (taken_elsewhere id other bytes apart) (λ N. refl)
 
     -- An event of no connection.
-    common : (e : AcceptedCall) (s : Step) → steps_by M es e ≡ s ∷ [] → steps_by M vs e ≡ s ∷ [] → renamed n s ≡ s → concerns id s ≡ true → OpensNone s → OpensSo s → SpellSame es vs all sees e e → IsAccepted c vs e → Sees (es ++ e ∷ []) (vs ++ e ∷ [])
+    common : (e : AcceptedCall) (s : Step) → steps_by M es e ≡ s ∷ [] → steps_by M vs e ≡ s ∷ [] → renamed n s ≡ s
+        → concerns id s ≡ true → OpensNone s → OpensSo s → SpellSame es vs all sees e e → IsAccepted c vs e
+        → Sees (es ++ e ∷ []) (vs ++ e ∷ [])
     unfolding after_steps
     common e s one too same of_all none opening bytes ok =
         let grow : (world_after c es).ids ≤ (after_steps c.limits (world_after c es) (steps_by M es e)).ids =
@@ -266,25 +329,32 @@ module _ (c : ConfigValues) (id : ℕ) where
     event_seen : (e : AcceptedCall) → IsAccepted c es e → Sees (es ++ e ∷ []) (vs ++ view_event c id es e)
     unfolding IsAccepted steps_by concerns view_event
     event_seen (Opened other) ok =
-        of_one other Opened [] ok opening_seen (λ apart. blind (Opened other) _ refl (ne_eqb other id apart) refl (ok.0, ok.2) refl (λ N. refl))
+        of_one other Opened [] ok opening_seen
+        (λ apart. blind (Opened other) _ refl (ne_eqb other id apart) refl (ok.0, ok.2) refl (λ N. refl))
     event_seen (Took other bytes) ok = of_one other (λ i. Took i bytes) _ ok (took_here bytes) (took_away other bytes)
     event_seen (Wrote other k) ok =
         of_one other (λ i. Wrote i k) [] ok
-        (own_seen (Wrote id k) (Wrote n k) _ (λ s. k ≤ length (waiting_on s)) refl refl (eq-eqb id id refl) (λ w. tt) (refl, λ N. refl) (λ here. here))
+        (own_seen (Wrote id k) (Wrote n k) _ (λ s. k ≤ length (waiting_on s)) refl refl (eq-eqb id id refl) (λ w. tt)
+        (refl, λ N. refl) (λ here. here))
         (λ apart. blind (Wrote other k) _ refl (ne_eqb other id apart) refl tt refl (λ N. refl))
     event_seen (Ticked now) ok =
-        common (Ticked now) _ refl refl refl refl (λ k opens. cc) (λ w. tt) (refl, λ N. refl) (rw (ap (λ (x : Share). x.now) sees.alike) at ok)
+        common (Ticked now) _ refl refl refl refl (λ k opens. cc) (λ w. tt) (refl, λ N. refl)
+        (rw (ap (λ (x : Share). x.now) sees.alike) at ok)
     event_seen (Stored path format bytes) ok =
-        common (Stored path format bytes) _ refl refl refl refl (λ k opens. cc) (λ w. tt) (refl, λ N. refl) (rw same_stored at ok)
-    event_seen (Removed path) ok = common (Removed path) _ refl refl refl refl (λ k opens. cc) (λ w. tt) (refl, λ N. refl) (rw same_stored at ok)
+        common (Stored path format bytes) _ refl refl refl refl (λ k opens. cc) (λ w. tt)
+        (refl, λ N. refl) (rw same_stored at ok)
+    event_seen (Removed path) ok =
+        common (Removed path) _ refl refl refl refl (λ k opens. cc) (λ w. tt) (refl, λ N. refl) (rw same_stored at ok)
     event_seen (Ended other) ok =
         let same_cut = ap (λ (s : Stream × ℕ). world.Ended n (is_cut s.0.rest) ∷ []) (sym sees.spells) in
         of_one other Ended [] ok
-        (own_seen (Ended id) (Ended n) _ (λ s. Unit {0}) refl same_cut (eq-eqb id id refl) (λ w. tt) (refl, λ N. refl) (λ here. here))
+        (own_seen (Ended id) (Ended n) _ (λ s. Unit {0}) refl same_cut (eq-eqb id id refl) (λ w. tt)
+        (refl, λ N. refl) (λ here. here))
         (λ apart. blind (Ended other) _ refl (ne_eqb other id apart) refl tt refl (λ N. refl))
     event_seen (Released other) ok =
         of_one other Released [] ok
-        (own_seen (Released id) (Released n) _ (λ s. release_refusal (link_of s.history) ≡ None) refl refl (eq-eqb id id refl)
+        (own_seen (Released id) (Released n) _ (λ s. release_refusal (link_of s.history) ≡ None)
+        refl refl (eq-eqb id id refl)
         (λ w. tt) (refl, λ N. refl) (λ here. here))
         (λ apart. blind (Released other) _ refl (ne_eqb other id apart) refl tt refl (λ N. refl))
     event_seen (Announced other size) ok =
@@ -292,15 +362,18 @@ module _ (c : ConfigValues) (id : ℕ) where
         of_one other (λ i. Announced i size) [] ok
         (own_seen (Announced id size) (Announced n size) _ (λ s. may_raise s size ≡ true) refl refl (eq-eqb id id refl)
         (λ w. tt) (refl, same_size) (λ here. here))
-        (λ apart. blind (Announced other size) _ refl (ne_eqb other id apart) refl tt refl (announced_elsewhere id other size apart))
+        (λ apart. blind (Announced other size) _ refl (ne_eqb other id apart) refl tt refl
+        (announced_elsewhere id other size apart))
     event_seen (Responded other m) ok =
         of_one other (λ i. Responded i m) [] ok
-        (own_seen (Responded id m) (Responded n m) _ (λ s. response_refusal (link_of s.history) m ≡ None) refl refl (eq-eqb id id refl)
+        (own_seen (Responded id m) (Responded n m) _ (λ s. response_refusal (link_of s.history) m ≡ None)
+        refl refl (eq-eqb id id refl)
         (λ w. tt) (refl, λ N. refl) (λ here. here))
         (λ apart. blind (Responded other m) _ refl (ne_eqb other id apart) refl tt refl (λ N. refl))
     event_seen (Dropped other) ok =
         of_one other Dropped [] ok
-        (own_seen (Dropped id) (Dropped n) _ (λ s. Unit {0}) refl refl (eq-eqb id id refl) (λ w. tt) (refl, λ N. refl) (λ here. here))
+        (own_seen (Dropped id) (Dropped n) _ (λ s. Unit {0}) refl refl (eq-eqb id id refl) (λ w. tt)
+        (refl, λ N. refl) (λ here. here))
         (λ apart. blind (Dropped other) _ refl (ne_eqb other id apart) refl tt refl (λ N. refl))
 
   -- ---- all events
@@ -322,13 +395,16 @@ module _ (c : ConfigValues) (id : ℕ) where
       (λ fs e before ok sees. rw (view_more c id [] fs e) (event_seen fs (view_events c id fs) before sees e ok)) es all
 
   -- The connection is the same after its view.
-  pub same_in_view : (es : List AcceptedCall) → AreAccepted c es → side_of id (world_after c es).sides ≡ side_of n (world_after c (view_events c id es)).sides
+  pub same_in_view : (es : List AcceptedCall) → AreAccepted c es
+      → side_of id (world_after c es).sides ≡ side_of n (world_after c (view_events c id es)).sides
   same_in_view es all = ap (λ (x : Share). x.side) (events_seen es all).alike
 
-  pub same_store_in_view : (es : List AcceptedCall) → AreAccepted c es → (world_after c es).store ≡ (world_after c (view_events c id es)).store
+  pub same_store_in_view : (es : List AcceptedCall) → AreAccepted c es
+      → (world_after c es).store ≡ (world_after c (view_events c id es)).store
   same_store_in_view es all = ap (λ (x : Share). x.store) (events_seen es all).alike
 
-  pub same_now_in_view : (es : List AcceptedCall) → AreAccepted c es → (world_after c es).now ≡ (world_after c (view_events c id es)).now
+  pub same_now_in_view : (es : List AcceptedCall) → AreAccepted c es
+      → (world_after c es).now ≡ (world_after c (view_events c id es)).now
   same_now_in_view es all = ap (λ (x : Share). x.now) (events_seen es all).alike
 
   -- The view is accepted.

@@ -1,25 +1,30 @@
 -- Other connections affect a connection through the store alone: after the steps that it views, it is the same as after
 -- all steps.
-use Rattle.std.proofs.Common.{◌≡◌, ℕ, ◌+◌, true, false, ◌&&◌, List, [], ◌∷◌, length, map, Option, Some, None, refl, sym, ap, subst, ◌∙◌, is_none, option_map, ◌==◌, inl, inr, arith}
+use Rattle.std.proofs.Common.{◌≡◌, ℕ, ◌+◌, true, false, ◌&&◌, List, [], ◌∷◌, length, map, Option, Some, None, refl, sym}
+use Rattle.std.proofs.Common.{ap, subst, ◌∙◌, is_none, option_map, ◌==◌, inl, inr, arith}
 use Rattle.std.proofs.lemmas.Bool.Decides.{nat_tests}
 use Rattle.std.proofs.lemmas.Bool.{eqb-false, cases_Bool, cond_both}
 use Rattle.coap_model.specs.Prelude.{Message, LimitValues, Path, Representation, StoreValue, put_in, removed_in}
 use Rattle.coap_model.specs.Prelude.{is_dynamic, kind_of_path, key_for, state_at, target_of, path_of, Change, Nothing}
 use Rattle.coap_model.specs.Prelude.{Put, Delete, changed, stored_under, deletion, answer_at, removes_watch}
-use Rattle.coap_model.specs.Prelude.{answer_of, immediate_answer, prompt_answer, put_refusal, remove_refusal, ConfigValues, Connection}
+use Rattle.coap_model.specs.Prelude.{answer_of, immediate_answer, prompt_answer, put_refusal, remove_refusal}
+use Rattle.coap_model.specs.Prelude.{ConfigValues, Connection}
 use Rattle.coap_model.specs.Prelude.{new_side, handles, asks_answer, side_after, change_after, side_faulted}
-use Rattle.coap_model.specs.Prelude.{side_written, side_ended, side_released, side_announced, side_responded, settled, World, Step}
+use Rattle.coap_model.specs.Prelude.{side_written, side_ended, side_released, side_announced, side_responded, settled}
+use Rattle.coap_model.specs.Prelude.{World, Step}
 use Rattle.coap_model.specs.Prelude.{new_world, side_of, stored_after, acted, after_steps, AcceptedCall, steps_of}
 use Rattle.coap_model.specs.Prelude.{world_after, change_steps, change_on, concerns, view_step, view_of, after_view}
 use Rattle.coap_model.specs.Prelude.{AreSeen}
 use Rattle.coap_store.specs.Answer.{Answer}
-use Rattle.coap_store.proofs.AnswerLaws.{answer_cases, get_cases, store_cases, CanStore, key_is, state_dynamic, change_finally, change_unheld}
+use Rattle.coap_store.proofs.AnswerLaws.{answer_cases, get_cases, store_cases, CanStore, key_is, state_dynamic}
+use Rattle.coap_store.proofs.AnswerLaws.{change_finally, change_unheld}
 use Rattle.coap_model.specs.world.World.{changed_at}
 use Rattle.coap_model.specs.world.World as world
 use Rattle.coap_model.specs.world.View.{change_by}
 use Rattle.coap_store.proofs.ApplicationLaws.{prompt_cases}
 use Rattle.coap_model.proofs.world.StepLaws.{steps_then}
-use Rattle.coap_model.proofs.world.PlaceLaws.{first_there, nobody, all_there, changed_here, changed_elsewhere, new_there, other_more, dropped_here, dropped_elsewhere}
+use Rattle.coap_model.proofs.world.PlaceLaws.{first_there, nobody, all_there, changed_here, changed_elsewhere}
+use Rattle.coap_model.proofs.world.PlaceLaws.{new_there, other_more, dropped_here, dropped_elsewhere}
 use Rattle.coap_model.proofs.world.AcrossLaws.{opened_world}
 use Rattle.coap_model.proofs.world.EntryLemmas.{all_append}
 use Rattle.coap_model.proofs.world.SideLaws.{at_rest, settled_rests}
@@ -34,30 +39,45 @@ IsNotRefused s (Put path format bytes) = put_refusal s path bytes ≡ None
 IsNotRefused s (Delete path) = remove_refusal s path ≡ None
 
 -- The checks of a put are those of the request that makes it.
-put_passes : (s : StoreValue) (now : ℕ) (path q : Path) (m : Message) → is_dynamic (kind_of_path path) ≡ true → CanStore s (target_of s now path) m → key_for path ≡ Some q → put_refusal s q m.payload ≡ None
+put_passes : (s : StoreValue) (now : ℕ) (path q : Path) (m : Message) → is_dynamic (kind_of_path path) ≡ true
+    → CanStore s (target_of s now path) m → key_for path ≡ Some q → put_refusal s q m.payload ≡ None
 unfolding put_refusal
 put_passes s now path q m dynamic can key =
-    grind (arith, nat_tests, key_is path q key, state_dynamic s now (key_for path) (kind_of_path path) dynamic, can.small, can.room, can.version_left)
+    grind (
+      arith,
+      nat_tests,
+      key_is path q key,
+      state_dynamic s now (key_for path) (kind_of_path path) dynamic,
+      can.small,
+      can.room,
+      can.version_left,
+    )
 
-stored_passes : (s : StoreValue) (key : Option Path) (state : Option Representation) (m : Message) → ((q : Path) → key ≡ Some q → put_refusal s q m.payload ≡ None) → IsNotRefused s (stored_under key state m).change
+stored_passes : (s : StoreValue) (key : Option Path) (state : Option Representation) (m : Message)
+    → ((q : Path) → key ≡ Some q → put_refusal s q m.payload ≡ None) → IsNotRefused s (stored_under key state m).change
 stored_passes s None state m passes = tt
 stored_passes s (Some path) None m passes = passes path refl
 stored_passes s (Some path) (Some r) m passes = passes path refl
 
-deletion_by : (s : StoreValue) (now : ℕ) (path : Path) (key : Option Path) (state : Option Representation) → is_dynamic (kind_of_path path) ≡ true → key_for path ≡ key → state_at s now (key_for path) (kind_of_path path) ≡ state → IsNotRefused s (deletion key state)
+deletion_by : (s : StoreValue) (now : ℕ) (path : Path) (key : Option Path) (state : Option Representation)
+    → is_dynamic (kind_of_path path) ≡ true → key_for path ≡ key
+    → state_at s now (key_for path) (kind_of_path path) ≡ state → IsNotRefused s (deletion key state)
 unfolding remove_refusal
 deletion_by s now path (Some q) (Some r) dynamic key found =
     grind (arith, key_is path q key, state_dynamic s now (key_for path) (kind_of_path path) dynamic)
 deletion_by s now path key state dynamic is found = tt
 
-answer_passes : (s : StoreValue) (now : ℕ) (path : Path) (m : Message) → IsNotRefused s (answer_at s (target_of s now path) m).change
+answer_passes : (s : StoreValue) (now : ℕ) (path : Path) (m : Message)
+    → IsNotRefused s (answer_at s (target_of s now path) m).change
 answer_passes s now path m =
     let t = target_of s now path in
     let P : Answer → Type 0 = λ a. IsNotRefused s a.change in
     answer_cases P s t m (λ c e. tt) (record {
       read = λ r is. get_cases P t.place r m (λ c e. tt) (record { valid = λ among. tt; late = tt; content = tt });
-      deleted = λ dynamic other. (deletion_by s now path (key_for path) (state_at s now (key_for path) (kind_of_path path)) dynamic refl refl);
-      stored = λ dynamic other. store_cases P s t m (λ c e. tt) tt (λ can. stored_passes s t.key t.state m (λ q key. put_passes s now path q m dynamic can key));
+      deleted = λ dynamic other.
+          (deletion_by s now path (key_for path) (state_at s now (key_for path) (kind_of_path path)) dynamic refl refl);
+      stored = λ dynamic other. store_cases P s t m (λ c e. tt) tt
+          (λ can. stored_passes s t.key t.state m (λ q key. put_passes s now path q m dynamic can key));
     })
 
 immediate_passes : (s : StoreValue) (now : ℕ) (m : Message) → IsNotRefused s (immediate_answer s now m).change
@@ -65,7 +85,8 @@ unfolding immediate_answer answer_of
 immediate_passes s now m =
     let at = answer_at s (target_of s now (path_of m)) m in
     let a = answer_of s now m in
-    subst (IsNotRefused s) (sym (change_unheld a.hold a ∙ change_finally (removes_watch m) at)) (answer_passes s now (path_of m) m)
+    subst (IsNotRefused s) (sym (change_unheld a.hold a ∙ change_finally (removes_watch m) at))
+    (answer_passes s now (path_of m) m)
 
 prompt_passes : (s : StoreValue) (now : ℕ) (m : Message) → IsNotRefused s (prompt_answer s now m).change
 prompt_passes s now m = prompt_cases s now m (λ a. IsNotRefused s a.change) tt (immediate_passes s now m)
@@ -100,10 +121,14 @@ share_of id w = share w.store w.now (side_of id w.sides)
 abbrev pub settled_share : Share → Share
 settled_share x = record x { side = option_map (settled x.store x.now) x.side }
 
-settled_again : (store : StoreValue) (now : ℕ) (there : Option Connection) → option_map (settled store now) (option_map (settled store now) there) ≡ option_map (settled store now) there
+settled_again : (store : StoreValue) (now : ℕ) (there : Option Connection)
+    → option_map (settled store now) (option_map (settled store now) there) ≡ option_map (settled store now) there
 unfolding settled
 settled_again store now None = refl
-settled_again store now (Some s) = ap (λ (t : Connection). Some t) (at_rest (length (settled store now s).history.held + length (settled store now s).observers) store now (settled store now s) (settled_rests store now s))
+settled_again store now (Some s) =
+    ap (λ (t : Connection). Some t)
+    (at_rest (length (settled store now s).history.held + length (settled store now s).observers) store now
+    (settled store now s) (settled_rests store now s))
 
 -- Settling does not change this part.
 abbrev pub SettlesAlike : ℕ → World → Type 0
@@ -111,14 +136,18 @@ SettlesAlike id w = settled_share (share_of id w) ≡ share_of id w
 
 -- ---- steps
 
-pub step_share : (limits : LimitValues) (id : ℕ) (w : World) (s : Step) → share_of id (world.step limits w s) ≡ settled_share (share_of id (acted limits w s))
+pub step_share : (limits : LimitValues) (id : ℕ) (w : World) (s : Step)
+    → share_of id (world.step limits w s) ≡ settled_share (share_of id (acted limits w s))
 unfolding world.step
-step_share limits id w s = ap (share (acted limits w s).store (acted limits w s).now) (all_there id (settled (acted limits w s).store (acted limits w s).now) (acted limits w s).sides)
+step_share limits id w s =
+    ap (share (acted limits w s).store (acted limits w s).now)
+    (all_there id (settled (acted limits w s).store (acted limits w s).now) (acted limits w s).sides)
 
 pub step_rests : (limits : LimitValues) (id : ℕ) (w : World) (s : Step) → SettlesAlike id (world.step limits w s)
 step_rests limits id w s =
     let did : Share = share_of id (acted limits w s) in
-    ap settled_share (step_share limits id w s) ∙ ap (share did.store did.now) (settled_again did.store did.now did.side) ∙ sym (step_share limits id w s)
+    ap settled_share (step_share limits id w s)
+    ∙ ap (share did.store did.now) (settled_again did.store did.now did.side) ∙ sym (step_share limits id w s)
 
 -- ---- a step that is viewed unchanged
 
@@ -143,21 +172,25 @@ own_number id s own = grind (arith, nat_tests)
 module _ (limits : LimitValues) (id n : ℕ) (w v : World) (alike : share_of id w ≡ share_of n v) where
   -- A change of the connection and of the store.
   changed_alike : (store : Share → StoreValue) (f : Share → Connection → Connection)
-      → share (store (share_of id w)) w.now (side_of id (map (changed_at id (f (share_of id w))) w.sides)) ≡ share (store (share_of n v)) v.now (side_of n (map (changed_at n (f (share_of n v))) v.sides))
+      → share (store (share_of id w)) w.now (side_of id (map (changed_at id (f (share_of id w))) w.sides))
+      ≡ share (store (share_of n v)) v.now (side_of n (map (changed_at n (f (share_of n v))) v.sides))
   changed_alike store f =
       rw (changed_here id (f (share_of id w)) w.sides, changed_here n (f (share_of n v)) v.sides)
       (ap (λ (x : Share). share (store x) x.now (option_map (f x) x.side)) alike)
 
-  opened_here : (m : ℕ) (u : World) → is_none (side_of m u.sides) ≡ true → share_of m (opened_world limits u m) ≡ record (share_of m u) { side = Some (new_side limits) }
+  opened_here : (m : ℕ) (u : World) → is_none (side_of m u.sides) ≡ true
+      → share_of m (opened_world limits u m) ≡ record (share_of m u) { side = Some (new_side limits) }
   opened_here m u free =
       let new : world.ConnectionEntry = record { id = m; side = new_side limits } in
-      ap (share u.store u.now) (new_there m u.sides (new ∷ []) (none_where (side_of m u.sides) free) ∙ first_there m new [] refl)
+      ap (share u.store u.now)
+      (new_there m u.sides (new ∷ []) (none_where (side_of m u.sides) free) ∙ first_there m new [] refl)
 
   acted_alike : (s : Step) → share_of id (acted limits w (renamed id s)) ≡ share_of n (acted limits v (renamed n s))
   unfolding acted
   acted_alike (world.Opened k) = grind (arith, alike, opened_here id w, opened_here n v)
   acted_alike (world.Handled k m) =
-      changed_alike (λ x. stored_after (record { sides = []; ids = 0; store = x.store; now = x.now }) m x.side) (λ x s. side_after x.store x.now s m)
+      changed_alike (λ x. stored_after (record { sides = []; ids = 0; store = x.store; now = x.now }) m x.side)
+      (λ x s. side_after x.store x.now s m)
   acted_alike (world.Faulted k fault) = changed_alike (λ x. x.store) (λ x s. side_faulted s fault)
   acted_alike (world.Written k bytes) = changed_alike (λ x. x.store) (λ x s. side_written s bytes)
   acted_alike (world.Ticked now) = grind (arith, alike)
@@ -167,69 +200,91 @@ module _ (limits : LimitValues) (id n : ℕ) (w v : World) (alike : share_of id 
   acted_alike (world.Released k) = changed_alike (λ x. x.store) (λ x. side_released)
   acted_alike (world.Announced k size) = changed_alike (λ x. x.store) (λ x s. side_announced s size)
   acted_alike (world.Responded k m) = changed_alike (λ x. x.store) (λ x s. side_responded s m)
-  acted_alike (world.Dropped k) = rw (dropped_here id w.sides, dropped_here n v.sides) (ap (λ (x : Share). record x { side = None }) alike)
+  acted_alike (world.Dropped k) =
+      rw (dropped_here id w.sides, dropped_here n v.sides) (ap (λ (x : Share). record x { side = None }) alike)
 
   -- A step of the connection, or of none.
-  pub own_alike : (s : Step) → concerns id s ≡ true → share_of id (world.step limits w s) ≡ share_of n (world.step limits v (renamed n s))
+  pub own_alike : (s : Step) → concerns id s ≡ true
+      → share_of id (world.step limits w s) ≡ share_of n (world.step limits v (renamed n s))
   own_alike s own =
       step_share limits id w s
       ∙ ap settled_share (ap (λ (t : Step). share_of id (acted limits w t)) (sym (own_number id s own)) ∙ acted_alike s)
       ∙ sym (step_share limits n v (renamed n s))
 
   -- A change of the store that another connection made.
-  pub change_alike : (change : Change) → SettlesAlike id w → IsNotRefused w.store change → settled_share (share (changed w.store change) w.now (side_of id w.sides)) ≡ share_of n (after_steps limits v (change_steps change))
+  pub change_alike : (change : Change) → SettlesAlike id w → IsNotRefused w.store change
+      → settled_share (share (changed w.store change) w.now (side_of id w.sides))
+      ≡ share_of n (after_steps limits v (change_steps change))
   unfolding after_steps acted concerns
   change_alike Nothing rests passes = rests ∙ alike
   change_alike (Put path format bytes) rests passes =
       let s : Step = world.Stored path format bytes in
-      let did : share (put_in w.store path format bytes) w.now (side_of id w.sides) ≡ share_of id (acted limits w s) = rw passes refl in
+      let did : share (put_in w.store path format bytes) w.now (side_of id w.sides) ≡ share_of id (acted limits w s) =
+      rw passes refl in
       ap settled_share did ∙ sym (step_share limits id w s) ∙ own_alike s refl
-  change_alike (Delete path) rests passes = sym (step_share limits id w (world.Removed path)) ∙ own_alike (world.Removed path) refl
+  change_alike (Delete path) rests passes =
+      sym (step_share limits id w (world.Removed path)) ∙ own_alike (world.Removed path) refl
 
 -- ---- a step of another connection
 
 -- The store after another connection's message is the store after the change of that message.
-stored_by_change : (w : World) (m : Message) (there : Option Connection) → stored_after w m there ≡ changed w.store (change_on w m there)
+stored_by_change : (w : World) (m : Message) (there : Option Connection)
+    → stored_after w m there ≡ changed w.store (change_on w m there)
 stored_by_change w m there = grind arith
 
-changed_apart : (id other : ℕ) (w : World) (f : Connection → Connection) → (other == id) ≡ false → share w.store w.now (side_of id (map (changed_at other f) w.sides)) ≡ share_of id w
-changed_apart id other w f apart = ap (share w.store w.now) (changed_elsewhere other id f w.sides (eqb-false other id apart))
+changed_apart : (id other : ℕ) (w : World) (f : Connection → Connection) → (other == id) ≡ false
+    → share w.store w.now (side_of id (map (changed_at other f) w.sides)) ≡ share_of id w
+changed_apart id other w f apart =
+    ap (share w.store w.now) (changed_elsewhere other id f w.sides (eqb-false other id apart))
 
 -- Only the store changes, and only by the change of the step.
-pub other_did : (limits : LimitValues) (id : ℕ) (w : World) (s : Step) → concerns id s ≡ false → share_of id (acted limits w s) ≡ share (changed w.store (change_by w s)) w.now (side_of id w.sides)
+pub other_did : (limits : LimitValues) (id : ℕ) (w : World) (s : Step) → concerns id s ≡ false
+    → share_of id (acted limits w s) ≡ share (changed w.store (change_by w s)) w.now (side_of id w.sides)
 unfolding concerns acted
 other_did limits id w (world.Opened other) apart =
     cond_both (is_none (side_of other w.sides)) (opened_world limits w other) w (λ v. share_of id v ≡ share_of id w)
-    (λ free. ap (share w.store w.now) (other_more id w.sides (record { id = other; side = new_side limits }) (eqb-false other id apart))) (λ given. refl)
+    (λ free. ap (share w.store w.now)
+    (other_more id w.sides (record { id = other; side = new_side limits }) (eqb-false other id apart))) (λ given. refl)
 other_did limits id w (world.Handled other m) apart =
-    rw (changed_elsewhere other id (λ s. side_after w.store w.now s m) w.sides (eqb-false other id apart), stored_by_change w m (side_of other w.sides)) refl
+    rw (
+      changed_elsewhere other id (λ s. side_after w.store w.now s m) w.sides (eqb-false other id apart),
+      stored_by_change w m (side_of other w.sides),
+    ) refl
 other_did limits id w (world.Faulted other fault) apart = changed_apart id other w (λ s. side_faulted s fault) apart
 other_did limits id w (world.Written other n) apart = changed_apart id other w (λ s. side_written s n) apart
 other_did limits id w (world.Ended other cut) apart = changed_apart id other w (λ s. side_ended s cut) apart
 other_did limits id w (world.Released other) apart = changed_apart id other w side_released apart
 other_did limits id w (world.Announced other size) apart = changed_apart id other w (λ s. side_announced s size) apart
 other_did limits id w (world.Responded other m) apart = changed_apart id other w (λ s. side_responded s m) apart
-other_did limits id w (world.Dropped other) apart = ap (share w.store w.now) (dropped_elsewhere other id w.sides (eqb-false other id apart))
+other_did limits id w (world.Dropped other) apart =
+    ap (share w.store w.now) (dropped_elsewhere other id w.sides (eqb-false other id apart))
 other_did limits id w s apart = absurd cc
 
 -- ---- the view of a step has the same effect
 
-view_alike : (limits : LimitValues) (id : ℕ) (w v : World) (s : Step) → SettlesAlike id w → share_of id w ≡ share_of id v → share_of id (world.step limits w s) ≡ share_of id (after_steps limits v (view_step id w s))
+view_alike : (limits : LimitValues) (id : ℕ) (w v : World) (s : Step) → SettlesAlike id w
+    → share_of id w ≡ share_of id v
+    → share_of id (world.step limits w s) ≡ share_of id (after_steps limits v (view_step id w s))
 unfolding view_step after_steps
 view_alike limits id w v s rests alike =
     elim (cases_Bool (concerns id s)) [
-      | inl own ↦ rw own (own_alike limits id id w v alike s own ∙ ap (λ (t : Step). share_of id (world.step limits v t)) (own_number id s own))
+      | inl own ↦
+          rw own (own_alike limits id id w v alike s own
+          ∙ ap (λ (t : Step). share_of id (world.step limits v t)) (own_number id s own))
       | inr apart ↦
           rw apart (step_share limits id w s ∙ ap settled_share (other_did limits id w s apart)
           ∙ change_alike limits id id w v alike (change_by w s) rests (by_passes w s))
     ]
 
 -- Each step in turn, from two worlds in which the connection has the same part.
-views_alike : (limits : LimitValues) (id : ℕ) (ss : List Step) (w v : World) → SettlesAlike id w → share_of id w ≡ share_of id v → share_of id (after_steps limits w ss) ≡ share_of id (after_steps limits v (view_of limits id w ss))
+views_alike : (limits : LimitValues) (id : ℕ) (ss : List Step) (w v : World) → SettlesAlike id w
+    → share_of id w ≡ share_of id v
+    → share_of id (after_steps limits w ss) ≡ share_of id (after_steps limits v (view_of limits id w ss))
 unfolding after_steps view_of
 views_alike limits id [] w v rests alike = alike
 views_alike limits id (s ∷ ss) w v rests alike =
-    views_alike limits id ss (world.step limits w s) _ (step_rests limits id w s) (view_alike limits id w v s rests alike)
+    views_alike limits id ss (world.step limits w s) _ (step_rests limits id w s)
+    (view_alike limits id w v s rests alike)
     ∙ ap (share_of id) (sym (steps_then limits v (view_step id w s) (view_of limits id (world.step limits w s) ss)))
 
 -- ---- each viewed step is one of the connection, or of none
@@ -242,39 +297,50 @@ changes_seen id (Delete path) = (refl, tt)
 
 step_seen : (id : ℕ) (w : World) (s : Step) → AreSeen id (view_step id w s)
 unfolding view_step
-step_seen id w s = cond_both (concerns id s) (s ∷ []) (change_steps (change_by w s)) (AreSeen id) (λ own. (own, tt)) (λ apart. changes_seen id (change_by w s))
+step_seen id w s =
+    cond_both (concerns id s) (s ∷ []) (change_steps (change_by w s)) (AreSeen id) (λ own. (own, tt))
+    (λ apart. changes_seen id (change_by w s))
 
 pub view_seen : (limits : LimitValues) (id : ℕ) (w : World) (ss : List Step) → AreSeen id (view_of limits id w ss)
 unfolding view_of
 view_seen limits id w [] = tt
-view_seen limits id w (s ∷ ss) = all_append (λ t. concerns id t ≡ true) (view_step id w s) (view_of limits id (world.step limits w s) ss) (step_seen id w s) (view_seen limits id (world.step limits w s) ss)
+view_seen limits id w (s ∷ ss) =
+    all_append (λ t. concerns id t ≡ true) (view_step id w s) (view_of limits id (world.step limits w s) ss)
+    (step_seen id w s) (view_seen limits id (world.step limits w s) ss)
 
 -- ---- from the first world on
 
 pub new_rests : (c : ConfigValues) (id : ℕ) → SettlesAlike id (new_world c)
 new_rests c id = rw (nobody id) refl
 
-view_shares : (c : ConfigValues) (id : ℕ) (ss : List Step) → share_of id (after_steps c.limits (new_world c) ss) ≡ share_of id (after_view c id ss)
+view_shares : (c : ConfigValues) (id : ℕ) (ss : List Step)
+    → share_of id (after_steps c.limits (new_world c) ss) ≡ share_of id (after_view c id ss)
 view_shares c id ss = views_alike c.limits id ss (new_world c) (new_world c) (new_rests c id) refl
 
-pub one_side_of_a_view : (c : ConfigValues) (id : ℕ) (ss : List Step) → side_of id (after_steps c.limits (new_world c) ss).sides ≡ side_of id (after_view c id ss).sides
+pub one_side_of_a_view : (c : ConfigValues) (id : ℕ) (ss : List Step)
+    → side_of id (after_steps c.limits (new_world c) ss).sides ≡ side_of id (after_view c id ss).sides
 one_side_of_a_view c id ss = ap (λ (x : Share). x.side) (view_shares c id ss)
 
-pub one_store_of_a_view : (c : ConfigValues) (id : ℕ) (ss : List Step) → (after_steps c.limits (new_world c) ss).store ≡ (after_view c id ss).store
+pub one_store_of_a_view : (c : ConfigValues) (id : ℕ) (ss : List Step)
+    → (after_steps c.limits (new_world c) ss).store ≡ (after_view c id ss).store
 one_store_of_a_view c id ss = ap (λ (x : Share). x.store) (view_shares c id ss)
 
-pub one_moment_of_a_view : (c : ConfigValues) (id : ℕ) (ss : List Step) → (after_steps c.limits (new_world c) ss).now ≡ (after_view c id ss).now
+pub one_moment_of_a_view : (c : ConfigValues) (id : ℕ) (ss : List Step)
+    → (after_steps c.limits (new_world c) ss).now ≡ (after_view c id ss).now
 one_moment_of_a_view c id ss = ap (λ (x : Share). x.now) (view_shares c id ss)
 
 -- ---- events
 
-pub one_side_of_events : (c : ConfigValues) (id : ℕ) (events : List AcceptedCall) → side_of id (world_after c events).sides ≡ side_of id (after_view c id (steps_of c.limits.max_message events)).sides
+pub one_side_of_events : (c : ConfigValues) (id : ℕ) (events : List AcceptedCall)
+    → side_of id (world_after c events).sides
+    ≡ side_of id (after_view c id (steps_of c.limits.max_message events)).sides
 unfolding world_after
 one_side_of_events c id events = one_side_of_a_view c id (steps_of c.limits.max_message events)
 
 -- Lists of events with the same view lead to the same connection.
 pub one_side_of_one_view : (c : ConfigValues) (id : ℕ) (events others : List AcceptedCall)
-    → view_of c.limits id (new_world c) (steps_of c.limits.max_message events) ≡ view_of c.limits id (new_world c) (steps_of c.limits.max_message others)
+    → view_of c.limits id (new_world c) (steps_of c.limits.max_message events)
+    ≡ view_of c.limits id (new_world c) (steps_of c.limits.max_message others)
     → side_of id (world_after c events).sides ≡ side_of id (world_after c others).sides
 one_side_of_one_view c id events others same =
     one_side_of_events c id events

@@ -1,7 +1,8 @@
 -- The effects on a connection, call by call. A relation between histories that composes holds across every effect of a
 -- server's call and across settling, if each part keeps it. If a part does not keep it, calls with this part are
 -- excluded.
-use Rattle.std.proofs.Common.{◌≡◌, ℕ, ◌≤◌, Bool, true, false, cond, List, [], ◌∷◌, ◌++◌, length, Option, Some, None, refl, sym, ap, subst, zero, suc, ◌+◌, ◌&&◌, nat_le, is_none, arith}
+use Rattle.std.proofs.Common.{◌≡◌, ℕ, ◌≤◌, Bool, true, false, cond, List, [], ◌∷◌, ◌++◌, length, Option, Some, None}
+use Rattle.std.proofs.Common.{refl, sym, ap, subst, zero, suc, ◌+◌, ◌&&◌, nat_le, is_none, arith}
 use Rattle.std.proofs.lemmas.Bool.{cond_both, and_parts, leb-true}
 use Rattle.std.proofs.lemmas.Bool.Decides.{nat_tests}
 use Rattle.std.proofs.lemmas.List.{append-nil}
@@ -55,34 +56,50 @@ abbrev pub Hears : (History → History → Type 0) → Type 0
 Hears R = (h : History) (m : Message) → takes_messages h.phase ≡ true → room_in h ≡ true → R h (heard h m)
 
 abbrev pub Replies : (History → History → Type 0) → Type 0
-Replies R = (h : History) (token : List ℕ) (observe : Bool) (r : Response) → answers h.phase ≡ true → room_in h ≡ true → R h (sent h (response_with_observe token observe r) (bare_response (response_with_observe token observe r)))
+Replies R =
+    (h : History) (token : List ℕ) (observe : Bool) (r : Response) → answers h.phase ≡ true → room_in h ≡ true
+    → R h (sent h (response_with_observe token observe r) (bare_response (response_with_observe token observe r)))
 
 abbrev pub Holds : (History → History → Type 0) → Type 0
-Holds R = (h : History) (by : Responder) (token : List ℕ) (moment : ℕ) → is_open h.phase ≡ true → may_hold h ≡ true → R h (holding h (h.held ++ Answer by token moment ∷ []))
+Holds R =
+    (h : History) (by : Responder) (token : List ℕ) (moment : ℕ) → is_open h.phase ≡ true → may_hold h ≡ true
+    → R h (holding h (h.held ++ Answer by token moment ∷ []))
 
 abbrev pub LetsGo : (History → History → Type 0) → Type 0
 LetsGo R = (h : History) (now : ℕ) → R h (without_first h now)
 
 abbrev pub Pongs : (History → History → Type 0) → Type 0
-Pongs R = (h : History) (now : ℕ) (token : List ℕ) → first_due now h.held ≡ Some (Pong token) → room_in h ≡ true → R h (sent (without_first h now) (pong_with true token) (pong_with false token))
+Pongs R =
+    (h : History) (now : ℕ) (token : List ℕ) → first_due now h.held ≡ Some (Pong token) → room_in h ≡ true
+    → R h (sent (without_first h now) (pong_with true token) (pong_with false token))
 
 abbrev pub Rejects : (History → History → Type 0) → Type 0
-Rejects R = (h : History) (fault : Reject) → takes_messages h.phase ≡ true → room_in h ≡ true → R h (with_effect h (abort (standing_now h) (reject_reason fault)))
+Rejects R =
+    (h : History) (fault : Reject) → takes_messages h.phase ≡ true → room_in h ≡ true
+    → R h (with_effect h (abort (standing_now h) (reject_reason fault)))
 
 abbrev pub Ends : (History → History → Type 0) → Type 0
-Ends R = (h : History) (cut : Bool) → takes_messages h.phase ≡ true → R h (with_effect h (stop (standing_now h) (end_reason cut) []))
+Ends R =
+    (h : History) (cut : Bool) → takes_messages h.phase ≡ true
+    → R h (with_effect h (stop (standing_now h) (end_reason cut) []))
 
 abbrev pub Releases : (History → History → Type 0) → Type 0
-Releases R = (h : History) → is_open h.phase ≡ true → is_none (release_refusal (link_of h)) ≡ true → R h (with_effect h (stop (standing_now h) ReleasedHere (release ∷ [])))
+Releases R =
+    (h : History) → is_open h.phase ≡ true → is_none (release_refusal (link_of h)) ≡ true
+    → R h (with_effect h (stop (standing_now h) ReleasedHere (release ∷ [])))
 
 abbrev pub Writes : (History → History → Type 0) → Type 0
 Writes R = (h : History) (n : ℕ) → n ≤ length (link_of h).waiting → R h (after h (call.Written n))
 
 abbrev pub Announces : (History → History → Type 0) → Type 0
-Announces R = (h : History) (size : ℕ) → is_open h.phase ≡ true → room_in h ≡ true → fits (limit_now h) (own_csm size) ≡ true → R h (announcing h size)
+Announces R =
+    (h : History) (size : ℕ) → is_open h.phase ≡ true → room_in h ≡ true → fits (limit_now h) (own_csm size) ≡ true
+    → R h (announcing h size)
 
 abbrev pub Responds : (History → History → Type 0) → Type 0
-Responds R = (h : History) (m : Message) → answers h.phase ≡ true → response_refusal (link_of h) m ≡ None → R h (with_effect h (send (standing_without m.token (standing_now h)) m (bare_response m)))
+Responds R =
+    (h : History) (m : Message) → answers h.phase ≡ true → response_refusal (link_of h) m ≡ None
+    → R h (with_effect h (send (standing_without m.token (standing_now h)) m (bare_response m)))
 
 -- A relation that composes.
 pub record Composes (R : History → History → Type 0) : Type 0 where
@@ -96,7 +113,8 @@ Between R s t = R s.history t.history
 -- ---- cases
 
 -- An optional value, with what is known in each case.
-pub there_or_not : {A : Type 0} (o : Option A) (P : Option A → Type 0) → (o ≡ None → P None) → ((x : A) → o ≡ Some x → P (Some x)) → P o
+pub there_or_not : {A : Type 0} (o : Option A) (P : Option A → Type 0) → (o ≡ None → P None)
+    → ((x : A) → o ≡ Some x → P (Some x)) → P o
 there_or_not None P none some = none refl
 there_or_not (Some x) P none some = some x refl
 
@@ -112,28 +130,35 @@ said_request verdict.Request e = refl
 said_request other e = absurd cc
 
 -- A request queues nothing, so the room is the same afterwards.
-asked_room : (h : History) (m : Message) → is_request (react (standing_now h) m).verdict ≡ true → room_in h ≡ true → room_in (after h (call.Handle m)) ≡ true
+asked_room : (h : History) (m : Message) → is_request (react (standing_now h) m).verdict ≡ true → room_in h ≡ true
+    → room_in (after h (call.Handle m)) ≡ true
 asked_room h m asks room =
     let none = (react_asks (standing_now h) m (said_request (react (standing_now h) m).verdict asks)).nothing in
-    cond_both (takes_messages h.phase) (heard h m) h (λ (k : History). room_in k ≡ true) (λ takes. rw (none, append-nil) room) (λ over. room)
+    cond_both (takes_messages h.phase) (heard h m) h (λ (k : History). room_in k ≡ true)
+    (λ takes. rw (none, append-nil) room) (λ over. room)
 
 -- The effect of the entry that was found to be due first.
-pub due_is : (h : History) (now : ℕ) (found : Option PendingEntryValue) → first_due now h.held ≡ found → after h (call.Due now) ≡ with_effect h (due_effect (standing_due now (standing_now h)) found)
-due_is h now found is = ap (λ (o : Option PendingEntryValue). with_effect h (due_effect (standing_due now (standing_now h)) o)) is
+pub due_is : (h : History) (now : ℕ) (found : Option PendingEntryValue) → first_due now h.held ≡ found
+    → after h (call.Due now) ≡ with_effect h (due_effect (standing_due now (standing_now h)) found)
+due_is h now found is =
+    ap (λ (o : Option PendingEntryValue). with_effect h (due_effect (standing_due now (standing_now h)) o)) is
 
 -- The first due entry is removed, and nothing else changes if it is no Pong.
-pub answer_goes : (h : History) (now : ℕ) (by : Responder) (token : List ℕ) (moment : ℕ) → first_due now h.held ≡ Some (Answer by token moment) → after h (call.Due now) ≡ without_first h now
+pub answer_goes : (h : History) (now : ℕ) (by : Responder) (token : List ℕ) (moment : ℕ)
+    → first_due now h.held ≡ Some (Answer by token moment) → after h (call.Due now) ≡ without_first h now
 answer_goes h now by token moment is = cc (due_is h now (Some (Answer by token moment)) is, append-nil h.queued)
 
 -- An entry is appended to the pending list, whoever responds.
-pub held_is : (h : History) (by : Responder) (token : List ℕ) (moment : ℕ) → after h (hold_call by token moment) ≡ cond (is_open h.phase && may_hold h) (holding h (h.held ++ Answer by token moment ∷ [])) h
+pub held_is : (h : History) (by : Responder) (token : List ℕ) (moment : ℕ) → after h (hold_call by token moment)
+    ≡ cond (is_open h.phase && may_hold h) (holding h (h.held ++ Answer by token moment ∷ [])) h
 held_is h Engine token moment = refl
 held_is h Application token moment = refl
 
 -- ---- settling
 
 -- A property that each round keeps is kept by settling.
-module _ (P : Connection → Type 0) (store : StoreValue) (now : ℕ) (keeps : (s : Connection) → P s → P (settled_once store now s)) where
+module _ (P : Connection → Type 0) (store : StoreValue) (now : ℕ)
+    (keeps : (s : Connection) → P s → P (settled_once store now s)) where
   within_keeps : (turns : ℕ) (s : Connection) → P s → P (settled_within turns store now s)
   unfolding settled_within
   within_keeps zero s is = is
@@ -143,66 +168,88 @@ module _ (P : Connection → Type 0) (store : StoreValue) (now : ℕ) (keeps : (
   unfolding settled
   settled_keeps s = within_keeps (length s.history.held + length s.observers) s
 
-pub if_between : (R : History → History → Type 0) (does : Bool) (h k : History) → R h h → (does ≡ true → R h k) → R h (cond does k h)
+pub if_between : (R : History → History → Type 0) (does : Bool) (h k : History) → R h h
+    → (does ≡ true → R h k) → R h (cond does k h)
 if_between R does h k same goes = cond_both does k h (R h) goes (λ none. same)
 
 -- The removal of a due entry may need a weaker relation than a reply. R holds across the removal, and E, which
 -- continues R, across the reply.
-module _ (R E : History → History → Type 0) (same : (h : History) → R h h) (then : (h k g : History) → R h k → E k g → R h g) (replies : Replies E) (lets_go : LetsGo R) (pongs : Pongs R) where
-  reply_between : (h k : History) (token : List ℕ) (observe : Bool) (r : Response) → R h k → room_in k ≡ true → R h (after k (call.Reply (response_with_observe token observe r)))
+module _ (R E : History → History → Type 0) (same : (h : History) → R h h)
+    (then : (h k g : History) → R h k → E k g → R h g) (replies : Replies E)
+    (lets_go : LetsGo R) (pongs : Pongs R) where
+  reply_between : (h k : History) (token : List ℕ) (observe : Bool) (r : Response) → R h k → room_in k ≡ true
+      → R h (after k (call.Reply (response_with_observe token observe r)))
   reply_between h k token observe r before room =
-      cond_both (answers k.phase) _ k (R h) (λ does. then h k _ before (replies k token observe r does room)) (λ none. before)
+      cond_both (answers k.phase) _ k (R h)
+      (λ does. then h k _ before (replies k token observe r does room)) (λ none. before)
 
-  sent_between : (h : History) (now : ℕ) (e : PendingEntryValue) → first_due now h.held ≡ Some e → room_in h ≡ true → R h (after_sent h now e)
+  sent_between : (h : History) (now : ℕ) (e : PendingEntryValue) → first_due now h.held ≡ Some e → room_in h ≡ true
+      → R h (after_sent h now e)
   sent_between h now (Answer by token moment) is room =
-      subst (λ (g : History). R h (after g (call.Reply (held_message by token)))) (sym (answer_goes h now by token moment is))
+      subst (λ (g : History). R h (after g (call.Reply (held_message by token))))
+      (sym (answer_goes h now by token moment is))
       (reply_between h (without_first h now) token false (late_response by) (lets_go h now) room)
   sent_between h now (Pong token) is room = rw (due_is h now (Some (Pong token)) is) (pongs h now token is room)
 
   module _ (store : StoreValue) (now : ℕ) (s : Connection) where
     notified_between : (found : Option Observer) → has_room s ≡ true → R s.history (notified store now s found).history
     notified_between None room = same s.history
-    notified_between (Some o) room = reply_between s.history s.history o.token (goes_on (notification store now o)) (notification store now o) (same s.history) room
+    notified_between (Some o) room =
+        reply_between s.history s.history o.token (goes_on (notification store now o))
+        (notification store now o) (same s.history) room
 
     told_between : R s.history (notified store now s (next_due store now s)).history
-    told_between = cond_both (has_room s) _ None (λ o. R s.history (notified store now s o).history) (notified_between _) (λ none. same s.history)
+    told_between =
+        cond_both (has_room s) _ None (λ o. R s.history (notified store now s o).history)
+        (notified_between _) (λ none. same s.history)
 
     pub once_between : R s.history (settled_once store now s).history
     unfolding settled_once
     once_between =
         let So : Option PendingEntryValue → Type 0 = λ found. R s.history (settled_so store now s found).history in
         cond_both (has_room s) (first_due now s.history.held) None So
-        (λ room. there_or_not (first_due now s.history.held) So (λ none. told_between) (λ e is. sent_between s.history now e is room)) (λ none. told_between)
+        (λ room. there_or_not (first_due now s.history.held) So (λ none. told_between)
+        (λ e is. sent_between s.history now e is room)) (λ none. told_between)
 
-pub settled_between : (R : History → History → Type 0) → Composes R → Replies R → LetsGo R → Pongs R → (store : StoreValue) (now : ℕ) (s : Connection) → R s.history (settled store now s).history
+pub settled_between : (R : History → History → Type 0) → Composes R → Replies R → LetsGo R → Pongs R
+    → (store : StoreValue) (now : ℕ) (s : Connection) → R s.history (settled store now s).history
 settled_between R composes replies lets_go pongs store now s =
     settled_keeps (Between R s) store now
-    (λ t is. composes.then s.history t.history _ is (once_between R R composes.same composes.then replies lets_go pongs store now t)) s (composes.same s.history)
+    (λ t is. composes.then s.history t.history _ is
+    (once_between R R composes.same composes.then replies lets_go pongs store now t)) s (composes.same s.history)
 
 -- ---- a message
 
 -- A message may need a weaker relation than its response: R holds across the message, and E, which continues R, across
 -- its response.
-module _ (R E : History → History → Type 0) (same : (h : History) → R h h) (then : (h k g : History) → R h k → E k g → R h g) (takes_input : Hears R) (stays : (h : History) → E h h) (replies : Replies E) (holds : Holds E) where
-  replied_between : (store : StoreValue) (now : ℕ) (h : History) (others : List Observer) (m : Message) (delay : Option Delay) → room_in h ≡ true → E h (side_replied store now h others m delay).history
+module _ (R E : History → History → Type 0) (same : (h : History) → R h h)
+    (then : (h k g : History) → R h k → E k g → R h g) (takes_input : Hears R) (stays : (h : History) → E h h)
+    (replies : Replies E) (holds : Holds E) where
+  replied_between : (store : StoreValue) (now : ℕ) (h : History) (others : List Observer) (m : Message)
+      (delay : Option Delay) → room_in h ≡ true → E h (side_replied store now h others m delay).history
   replied_between store now h others m None room =
       let a = prompt_answer store now m in
-      if_between E (answers h.phase) h _ (stays h) (λ does. replies h m.token (has_place h.limits.observers others a.watch) a.response does room)
+      if_between E (answers h.phase) h _ (stays h)
+      (λ does. replies h m.token (has_place h.limits.observers others a.watch) a.response does room)
   replied_between store now h others m (Some delay) room =
       subst (E h) (sym (held_is h delay.by m.token (moment_after now delay.seconds)))
       (if_between E (is_open h.phase && may_hold h) h _ (stays h)
-      (λ does. (let both = and_parts (is_open h.phase) (may_hold h) does in holds h delay.by m.token (moment_after now delay.seconds) both.0 both.1)))
+      (λ does. (let both = and_parts (is_open h.phase) (may_hold h) does in
+      holds h delay.by m.token (moment_after now delay.seconds) both.0 both.1)))
 
-  pub after_between : (store : StoreValue) (now : ℕ) (s : Connection) (m : Message) → R s.history (side_after store now s m).history
+  pub after_between : (store : StoreValue) (now : ℕ) (s : Connection) (m : Message)
+      → R s.history (side_after store now s m).history
   unfolding side_after
   after_between store now s m =
       let h : History = after s.history (call.Handle m) in
       cond_both (handles s) (side_handled store now s m) s (Between R s) (λ does. (
       let room = (and_parts (takes_messages s.history.phase) (has_room s) does).1 in
-      let message : R s.history h = if_between R (takes_messages s.history.phase) s.history _ (same s.history) (λ takes. takes_input s.history m takes room) in
+      let message : R s.history h = if_between R (takes_messages s.history.phase) s.history _ (same s.history)
+      (λ takes. takes_input s.history m takes room) in
       cond_both (asks_answer s m) _ (with_history s h) (Between R s)
       (λ asks. then s.history h _ message
-      (replied_between store now h (without_token m.token s.observers) m (held_for h (delay_of store now m)) (asked_room s.history m asks room)))
+      (replied_between store now h (without_token m.token s.observers) m (held_for h (delay_of store now m))
+      (asked_room s.history m asks room)))
       (λ other. message))) (λ none. same s.history)
 
 -- ---- other effects
@@ -216,23 +263,27 @@ module _ (R : History → History → Type 0) (same : (h : History) → R h h) w
   unfolding side_faulted
   faulted_between rejects s fault =
       cond_both (handles s) _ s (Between R s)
-      (λ does. if_between R (takes_messages s.history.phase) s.history _ (same s.history) (λ takes. rejects s.history (reject_of fault) takes (and_parts (takes_messages s.history.phase) (has_room s) does).1))
+      (λ does. if_between R (takes_messages s.history.phase) s.history _ (same s.history) (λ takes. rejects s.history
+      (reject_of fault) takes (and_parts (takes_messages s.history.phase) (has_room s) does).1))
       (λ none. same s.history)
 
   pub written_between : Writes R → (s : Connection) (n : ℕ) → R s.history (side_written s n).history
   unfolding side_written
   written_between writes s n =
-      cond_both (nat_le n (length (waiting_on s))) _ s (Between R s) (λ does. writes s.history n (leb-true n (length (waiting_on s)) does)) (λ none. same s.history)
+      cond_both (nat_le n (length (waiting_on s))) _ s (Between R s)
+      (λ does. writes s.history n (leb-true n (length (waiting_on s)) does)) (λ none. same s.history)
 
   pub ended_between : Ends R → (s : Connection) (cut : Bool) → R s.history (side_ended s cut).history
   unfolding side_ended
-  ended_between ends s cut = if_between R (takes_messages s.history.phase) s.history _ (same s.history) (λ takes. ends s.history cut takes)
+  ended_between ends s cut =
+      if_between R (takes_messages s.history.phase) s.history _ (same s.history) (λ takes. ends s.history cut takes)
 
   pub released_between : Releases R → (s : Connection) → R s.history (side_released s).history
   unfolding side_released
   released_between releases s =
       cond_both (is_none (release_refusal (link_of s.history))) _ s (Between R s)
-      (λ does. if_between R (is_open s.history.phase) s.history _ (same s.history) (λ opened. releases s.history opened does)) (λ none. same s.history)
+      (λ does. if_between R (is_open s.history.phase) s.history _ (same s.history)
+      (λ opened. releases s.history opened does)) (λ none. same s.history)
 
   pub responded_between : Responds R → (s : Connection) (m : Message) → R s.history (side_responded s m).history
   unfolding side_responded
@@ -240,7 +291,8 @@ module _ (R : History → History → Type 0) (same : (h : History) → R h h) w
       let h : History = s.history in
       let none : Bool = is_none (response_refusal (link_of h) m) in
       if_between R (answers h.phase && none) h _ (same h)
-      (λ so. (let both = and_parts (answers h.phase) none so in responds h m both.0 (none_where (response_refusal (link_of h) m) both.1)))
+      (λ so. (let both = and_parts (answers h.phase) none so in
+      responds h m both.0 (none_where (response_refusal (link_of h) m) both.1)))
 
   pub announced_between : Announces R → (s : Connection) (size : ℕ) → R s.history (side_announced s size).history
   unfolding side_announced
@@ -249,7 +301,8 @@ module _ (R : History → History → Type 0) (same : (h : History) → R h h) w
       let may : Bool = may_announce (link_of h) size in
       cond_both (may_raise s size) _ s (Between R s) (λ does. if_between R may h (announcing h size) (same h) (λ so. (
       let both = and_parts (is_open h.phase) (fits (limit_now h) (own_csm size)) so in
-      let room = (and_parts (has_room s) may (and_parts (nat_le h.own_max size && nat_le size LARGEST_MESSAGE) (has_room s && may) does).1).0 in
+      let room = (and_parts (has_room s) may
+      (and_parts (nat_le h.own_max size && nat_le size LARGEST_MESSAGE) (has_room s && may) does).1).0 in
       announces h size both.0 room both.1))) (λ none. same h)
 
 -- ---- observers
@@ -270,8 +323,10 @@ kept_open_has P none h os is = cond_both (is_open h.phase) os [] P (λ e. is) (�
 pub observers_kept : (P : List Observer → Type 0) → P [] → HoldsOfCalls (λ s t. P s.observers → P t.observers)
 unfolding side_faulted side_written side_ended side_released side_announced side_responded
 observers_kept P none =
-    let kept_where : (does : Bool) (s : Connection) (h : History) → P s.observers → P (cond does (with_history s h) s).observers =
-    λ does s h is. cond_both does (with_history s h) s (λ t. P t.observers) (λ e. kept_open_has P none h s.observers is) (λ e. is) in
+    let kept_where : (does : Bool) (s : Connection) (h : History) → P s.observers
+    → P (cond does (with_history s h) s).observers =
+    λ does s h is.
+    cond_both does (with_history s h) s (λ t. P t.observers) (λ e. kept_open_has P none h s.observers is) (λ e. is) in
     record {
       faulted = λ s fault. kept_where (handles s) s _;
       written = λ s n is. cond_both (nat_le n (length (waiting_on s))) _ s (λ t. P t.observers) (λ e. is) (λ e. is);

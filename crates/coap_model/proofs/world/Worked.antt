@@ -1,20 +1,31 @@
 -- Worked examples of definitions that no program computes: views, sizes of bytes, the order of
 -- pending entries, and the fates of requests for the application.
-use Rattle.std.proofs.Common.{◌≡◌, ℕ, Bool, true, false, List, [], ◌∷◌, ◌++◌, map, Some, None, refl, sym, codes, inl, inr, true≢false}
+use Rattle.std.proofs.Common.{◌≡◌, ℕ, Bool, true, false, List, [], ◌∷◌, ◌++◌, map, Some, None, refl, sym, codes, inl}
+use Rattle.std.proofs.Common.{inr, true≢false}
 use Rattle.coap_model.specs.Prelude.{digits, kind_of, is_recognised, known_behind, first_critical_behind}
-use Rattle.coap_model.specs.Prelude.{announced, due_index, first_due, without_due, react, live_reaction, is_path, found_in, put_at}
-use Rattle.coap_model.specs.Prelude.{removed_at, encoded_byte, path_bytes, entry_bytes, listing, kind_of_path, key_for, state_at}
+use Rattle.coap_model.specs.Prelude.{announced, due_index, first_due, without_due, react, live_reaction, is_path}
+use Rattle.coap_model.specs.Prelude.{found_in, put_at}
+use Rattle.coap_model.specs.Prelude.{removed_at, encoded_byte, path_bytes, entry_bytes, listing, kind_of_path, key_for}
+use Rattle.coap_model.specs.Prelude.{state_at}
 use Rattle.coap_model.specs.Prelude.{has_option, value_of, number_of, match_holds, is_seconds, get_answer, store_answer}
-use Rattle.coap_model.specs.Prelude.{method_answer, resource_answer, answer_at, answer_of, immediate_answer, prompt_answer, application_deadline}
-use Rattle.coap_model.specs.Prelude.{notification_at, put_refusal, is_due, without_token, first_becomes, side_after, change_after}
-use Rattle.coap_model.specs.Prelude.{side_faulted, side_written, side_ended, side_released, settled_once, settled_within, settled}
-use Rattle.coap_model.specs.Prelude.{side_announced, side_of, acted, step, after_steps, taken_on, size_on, sizes_on, stream_on}
+use Rattle.coap_model.specs.Prelude.{method_answer, resource_answer, answer_at, answer_of, immediate_answer}
+use Rattle.coap_model.specs.Prelude.{prompt_answer, application_deadline}
+use Rattle.coap_model.specs.Prelude.{notification_at, put_refusal, is_due, without_token, first_becomes, side_after}
+use Rattle.coap_model.specs.Prelude.{change_after}
+use Rattle.coap_model.specs.Prelude.{side_faulted, side_written, side_ended, side_released, settled_once}
+use Rattle.coap_model.specs.Prelude.{settled_within, settled}
+use Rattle.coap_model.specs.Prelude.{side_announced, side_of, acted, step, after_steps, taken_on, size_on, sizes_on}
+use Rattle.coap_model.specs.Prelude.{stream_on}
 use Rattle.coap_model.specs.Prelude.{steps_by, steps_behind, steps_of, world_after, takes, concerns, view_step, view_of}
-use Rattle.coap_model.specs.Prelude.{is_answered, response_refusal, without_request, side_responded, with_fate, requests_after}
-use Rattle.coap_model.specs.Prelude.{requests_responded, requests_once, requests_within, requests_settled, requests_acted}
+use Rattle.coap_model.specs.Prelude.{is_answered, response_refusal, without_request, side_responded, with_fate}
+use Rattle.coap_model.specs.Prelude.{requests_after}
+use Rattle.coap_model.specs.Prelude.{requests_responded, requests_once, requests_within, requests_settled}
+use Rattle.coap_model.specs.Prelude.{requests_acted}
 use Rattle.coap_model.specs.Prelude.{requests_then, requests_by, requests_on}
-use Rattle.coap_model.specs.Prelude.{ConfigValues, Message, new_world, PendingEntryValue, Answer, Pong, Engine, Application, CorrespondTo}
-use Rattle.coap_model.specs.Prelude.{AcceptedCall, Opened, Took, Wrote, Ticked, Ended, Responded, Dropped, Announced, Stored}
+use Rattle.coap_model.specs.Prelude.{ConfigValues, Message, new_world, PendingEntryValue, Answer, Pong, Engine}
+use Rattle.coap_model.specs.Prelude.{Application, CorrespondTo}
+use Rattle.coap_model.specs.Prelude.{AcceptedCall, Opened, Took, Wrote, Ticked, Ended, Responded, Dropped, Announced}
+use Rattle.coap_model.specs.Prelude.{Stored}
 use Rattle.coap_model.specs.Prelude.{Fate, Unanswered, Answered, ApplicationRequest, held_message, refusal_of}
 use Rattle.coap_store.specs.Requests.{values_of}
 use Rattle.coap_wire.specs.StreamPrefix.{prefix_kind}
@@ -32,19 +43,40 @@ use Rattle.coap_model.specs.world.World as step
 
 -- Unfolding this unfolds all definitions that the examples compute with.
 computed : Unit {0}
-unfolding split sized_split sized_frames frames_within framing prefix_kind declared_of length_at one_byte_at two_bytes_at four_bytes_at message_of head_at option_number_at option_head_at option_at body_at body_within spelling bytes_of_uint prompt_answer application_deadline immediate_answer answer_of answer_at resource_answer method_answer get_answer store_answer kind_of is_recognised known_behind first_critical_behind values_of has_option value_of number_of match_holds is_seconds is_path kind_of_path key_for state_at found_in put_at removed_at listing entry_bytes path_bytes encoded_byte digits notification_at put_refusal announced react live_reaction due_index first_due without_due is_due without_token first_becomes side_after change_after side_faulted side_written side_ended side_released side_announced settled_once settled_within settled side_of acted step after_steps taken_on size_on sizes_on steps_by steps_behind steps_of world_after takes concerns view_step view_of with_fate requests_after requests_responded requests_once requests_within requests_settled requests_acted requests_then requests_by requests_on response_refusal without_request is_answered side_responded CorrespondTo
+unfolding split sized_split sized_frames frames_within framing prefix_kind declared_of length_at one_byte_at
+    two_bytes_at four_bytes_at message_of head_at option_number_at option_head_at option_at body_at body_within spelling
+    bytes_of_uint prompt_answer application_deadline immediate_answer answer_of answer_at resource_answer method_answer
+    get_answer store_answer kind_of is_recognised known_behind first_critical_behind values_of has_option value_of
+    number_of match_holds is_seconds is_path kind_of_path key_for state_at found_in put_at removed_at listing
+    entry_bytes path_bytes encoded_byte digits notification_at put_refusal announced react live_reaction due_index
+    first_due without_due is_due without_token first_becomes side_after change_after side_faulted side_written
+    side_ended side_released side_announced settled_once settled_within settled side_of acted step after_steps taken_on
+    size_on sizes_on steps_by steps_behind steps_of world_after takes concerns view_step view_of with_fate
+    requests_after requests_responded requests_once requests_within requests_settled requests_acted requests_then
+    requests_by requests_on response_refusal without_request is_answered side_responded CorrespondTo
 computed = tt
 
--- A server with at most one dynamic resource, whose application answers POST below `/rd`. `most` limits pending entries.
+-- A server with at most one dynamic resource, whose application answers POST below `/rd`. `most` limits
+-- pending entries.
 abbrev config : (most : ℕ) → ConfigValues
 config most = record {
-  limits = record { max_message = 65536; max_sent = 65536; queue = 131072; pending = most; observers = 16; outstanding = 16 };
+  limits = record {
+    max_message = 65536;
+    max_sent = 65536;
+    queue = 131072;
+    pending = most;
+    observers = 16;
+    outstanding = 16;
+  };
   connections = 16;
   dynamic_max = 1;
   rep_max = 65000;
   turns = 1000;
   starts = record { moment = 0; versions = 0; ids = 0 };
-  applications = Some (record { deadline = 60; entries = record { prefix = codes "rd" ∷ []; methods = code.post ∷ []; attributes = [] } ∷ [] });
+  applications = Some (record {
+    deadline = 60;
+    entries = record { prefix = codes "rd" ∷ []; methods = code.post ∷ []; attributes = [] } ∷ [];
+  });
 }
 
 -- A CSM without options.
@@ -55,13 +87,17 @@ csm = 0x00 ∷ 0xe1 ∷ []
 
 -- Two connections. The second one stores x at `/a`, fails to store at `/time`, gets `/a`, deletes it, and is removed.
 both : List AcceptedCall
-both = Opened 1 ∷ Wrote 1 8 ∷ Opened 2 ∷ Wrote 2 8 ∷ Took 2 csm ∷ Took 1 csm ∷ Took 2 (0x40 ∷ 0x03 ∷ 0xb1 ∷ 0x61 ∷ 0xff ∷ 0x78 ∷ [])
-    ∷ Took 2 (0x70 ∷ 0x03 ∷ 0xb4 ∷ (codes "time" ++ 0xff ∷ 0x78 ∷ [])) ∷ Took 2 (0x20 ∷ 0x01 ∷ 0xb1 ∷ 0x61 ∷ []) ∷ Ticked 5
+both =
+    Opened 1 ∷ Wrote 1 8 ∷ Opened 2 ∷ Wrote 2 8 ∷ Took 2 csm ∷ Took 1 csm
+    ∷ Took 2 (0x40 ∷ 0x03 ∷ 0xb1 ∷ 0x61 ∷ 0xff ∷ 0x78 ∷ [])
+    ∷ Took 2 (0x70 ∷ 0x03 ∷ 0xb4 ∷ (codes "time" ++ 0xff ∷ 0x78 ∷ []))
+    ∷ Took 2 (0x20 ∷ 0x01 ∷ 0xb1 ∷ 0x61 ∷ []) ∷ Ticked 5
     ∷ Took 2 (0x20 ∷ 0x04 ∷ 0xb1 ∷ 0x61 ∷ []) ∷ Dropped 2 ∷ []
 
 -- In the view of the first one, x is stored at `/a` and removed. The view does not say who did it.
 seen_by_first : view_of (config 16).limits 1 (new_world (config 16)) (steps_of 65536 both)
-    ≡ step.Opened 1 ∷ step.Written 1 8 ∷ step.Handled 1 (record { code = code.csm; token = []; options = []; payload = [] })
+    ≡ step.Opened 1 ∷ step.Written 1 8
+    ∷ step.Handled 1 (record { code = code.csm; token = []; options = []; payload = [] })
     ∷ step.Stored (codes "a" ∷ []) None (codes "x") ∷ step.Ticked 5 ∷ step.Removed (codes "a" ∷ []) ∷ []
 unfolding computed both
 seen_by_first = refl
@@ -69,7 +105,8 @@ seen_by_first = refl
 -- ---- sizes
 
 -- The size of each byte is the one that was current when it came.
-sizes_of_bytes : map (sizes_on 1152 1 (Took 1 (0xe1 ∷ 0x03 ∷ []) ∷ Announced 1 2000 ∷ Took 1 (0x6f ∷ []) ∷ [])) (0 ∷ 1 ∷ 2 ∷ 3 ∷ []) ≡ 1152 ∷ 1152 ∷ 2000 ∷ 2000 ∷ []
+sizes_of_bytes : map (sizes_on 1152 1 (Took 1 (0xe1 ∷ 0x03 ∷ []) ∷ Announced 1 2000 ∷ Took 1 (0x6f ∷ []) ∷ []))
+    (0 ∷ 1 ∷ 2 ∷ 3 ∷ []) ≡ 1152 ∷ 1152 ∷ 2000 ∷ 2000 ∷ []
 unfolding computed
 sizes_of_bytes = refl
 
@@ -81,10 +118,20 @@ size_now = refl
 -- ---- the order of pending entries
 
 abbrev late_get : Message
-late_get = record { code = code.get; token = 5 ∷ []; options = record { number = numbers.uri_path; value = codes "async" } ∷ []; payload = [] }
+late_get = record {
+  code = code.get;
+  token = 5 ∷ [];
+  options = record { number = numbers.uri_path; value = codes "async" } ∷ [];
+  payload = [];
+}
 
 abbrev custody_ping : Message
-custody_ping = record { code = code.ping; token = 6 ∷ []; options = record { number = option.custody; value = [] } ∷ []; payload = [] }
+custody_ping = record {
+  code = code.ping;
+  token = 6 ∷ [];
+  options = record { number = option.custody; value = [] } ∷ [];
+  payload = [];
+}
 
 -- Pending entries are in the order of the messages that asked for them, and each has its own message.
 in_order : CorrespondTo None (late_get ∷ custody_ping ∷ []) (Answer Engine (5 ∷ []) 3 ∷ Pong (6 ∷ []) ∷ [])
@@ -105,7 +152,12 @@ not_twice (inr rest) = rest
 -- ---- the fates of requests for the application
 
 abbrev post : ℕ → Message
-post token = record { code = code.post; token = token ∷ []; options = record { number = numbers.uri_path; value = codes "rd" } ∷ []; payload = [] }
+post token = record {
+  code = code.post;
+  token = token ∷ [];
+  options = record { number = numbers.uri_path; value = codes "rd" } ∷ [];
+  payload = [];
+}
 
 abbrev posted : ℕ → AcceptedCall
 posted token = Took 1 (0x31 ∷ 0x02 ∷ token ∷ 0xb2 ∷ codes "rd")
@@ -120,7 +172,9 @@ expired token = held_message Application (token ∷ [])
 -- The requests of connection 1 after these calls: whether each is the only one with its token, whether the application
 -- got it, and its fate.
 abbrev fates : ℕ → List AcceptedCall → List (ℕ × Bool × Bool × Fate)
-fates most calls = map (λ r. (r.deadline, r.alone, r.handed, r.fate)) (requests_on (config most) 1 (Opened 1 ∷ Wrote 1 8 ∷ Took 1 csm ∷ calls))
+fates most calls =
+    map (λ r. (r.deadline, r.alone, r.handed, r.fate))
+    (requests_on (config most) 1 (Opened 1 ∷ Wrote 1 8 ∷ Took 1 csm ∷ calls))
 
 -- The application answers the second of two requests. The first is answered by 5.04 at its deadline.
 one_expires : fates 16 (posted 5 ∷ posted 6 ∷ Responded 1 (created 6) ∷ Ticked 60 ∷ [])
@@ -132,7 +186,8 @@ one_expires = refl
 
 -- If the list is full, a request is not handed to the application, and is answered by 5.03 at once.
 full_list : fates 1 (posted 5 ∷ posted 6 ∷ [])
-    ≡ (60, true, true, Unanswered) ∷ (60, true, false, Answered Engine (refusal_of (post 6)) (refusal_of (post 6)) 3 1) ∷ []
+    ≡ (60, true, true, Unanswered)
+    ∷ (60, true, false, Answered Engine (refusal_of (post 6)) (refusal_of (post 6)) 3 1) ∷ []
 unfolding computed
 full_list = refl
 

@@ -83,7 +83,8 @@ pub record Outcome : Type 0 where
 -- followed by a flush. A connection that does not exist has no output.
 abbrev pub outcome_on : Option Connection → Outcome
 outcome_on None = record { output = []; messages = 0; stop = None }
-outcome_on (Some s) = record { output = bytes_of s.history.queued; messages = length s.history.handled; stop = stop_of s.history.phase }
+outcome_on (Some s) =
+    record { output = bytes_of s.history.queued; messages = length s.history.handled; stop = stop_of s.history.phase }
 
 -- The outcome for these bytes.
 unfoldable pub outcome : ConfigValues → List ℕ → Outcome

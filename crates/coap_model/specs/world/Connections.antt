@@ -1,6 +1,7 @@
 -- RFC 8323 sections 3.3, 3.4, 5 and 7: one connection of a server. The file defines the effect of each step on the
 -- connection and on the store, and how the connection settles.
-use Rattle.std.specs.Prelude.{◌≡◌, ℕ, zero, suc, ◌+◌, Bool, true, ◌&&◌, List, [], length, Option, Some, None, find, min, nat_le, nat_lt, is_none, if◌then◌else◌}
+use Rattle.std.specs.Prelude.{◌≡◌, ℕ, zero, suc, ◌+◌, Bool, true, ◌&&◌, List, [], length, Option, Some, None, find, min}
+use Rattle.std.specs.Prelude.{nat_le, nat_lt, is_none, if◌then◌else◌}
 use Rattle.std.specs.List.{AllByRecursion}
 use Rattle.coap_wire.specs.Message.{Message}
 use Rattle.coap_wire.specs.Stream.{StreamFault}
@@ -22,10 +23,13 @@ use Rattle.coap_conn.specs.Calls.{may_announce}
 use Rattle.coap_conn.specs.Calls as call
 use Rattle.coap_store.specs.Store.{StoreValue}
 use Rattle.coap_store.specs.State.{state_of}
-use Rattle.coap_store.specs.Answer.{Answer, Response, Change, Nothing, delayed_response, expired_response, answer_of, changed}
+use Rattle.coap_store.specs.Answer.{Answer, Response, Change, Nothing, delayed_response, expired_response, answer_of}
+use Rattle.coap_store.specs.Answer.{changed}
 use Rattle.coap_store.specs.ApplicationRequests.{application_deadline, prompt_answer}
 use Rattle.coap_store.specs.Messages.{response_with_observe, response_message}
-use Rattle.coap_model.specs.world.Observers.{Observer, is_due, without_token, has_place, entry_for, is_whole, with_entry, goes_on, notification, notification_message, left_of, first_becomes}
+use Rattle.coap_model.specs.world.Observers.{Observer, is_due, without_token, has_place, entry_for, is_whole}
+use Rattle.coap_model.specs.world.Observers.{with_entry, goes_on, notification, notification_message, left_of}
+use Rattle.coap_model.specs.world.Observers.{first_becomes}
 use Rattle.coap_wire.specs.declared.sizes.TheConstants.{LARGEST_MESSAGE}
 
 -- A connection of the model: its history, with all messages handled and queued, and its observers.
@@ -78,7 +82,8 @@ with_history s h = side_with h s.observers
 -- the response is sent whole, the entry is appended to them.
 abbrev pub responded : History → List Observer → Observer → Bool → Message → Connection
 responded h others entry observes response =
-    side_with (after h (call.Reply response)) (with_entry (observes && is_whole (fit (limit_now h) response (bare_response response))) others entry)
+    side_with (after h (call.Reply response))
+    (with_entry (observes && is_whole (fit (limit_now h) response (bare_response response))) others entry)
 
 -- The same for the answer of the store: its response is sent with or without Observe, and the entry has the current
 -- state.
@@ -129,7 +134,8 @@ hold_call Application token moment = call.HoldRequest token moment
 -- appended that is due after this delay.
 abbrev pub side_replied : StoreValue → ℕ → History → List Observer → Message → Option Delay → Connection
 side_replied store now h others m None = side_answered store now h others m (prompt_answer store now m)
-side_replied store now h others m (Some delay) = side_with (after h (hold_call delay.by m.token (moment_after now delay.seconds))) others
+side_replied store now h others m (Some delay) =
+    side_with (after h (hold_call delay.by m.token (moment_after now delay.seconds))) others
 
 -- The message is a request that the server must answer, by the reaction of the connection.
 abbrev pub asks_answer : Connection → Message → Bool
@@ -139,7 +145,8 @@ asks_answer s m = is_request (react (standing_now s.history) m).verdict
 -- answered from the store, or pending until the application responds.
 abbrev pub side_handled : StoreValue → ℕ → Connection → Message → Connection
 side_handled store now s m =
-    if asks_answer s m then side_replied store now (after s.history (call.Handle m)) (without_token m.token s.observers) m (held_for (after s.history (call.Handle m)) (delay_of store now m))
+    if asks_answer s m then side_replied store now (after s.history (call.Handle m)) (without_token m.token s.observers)
+    m (held_for (after s.history (call.Handle m)) (delay_of store now m))
     else with_history s (after s.history (call.Handle m))
 
 -- The connection after it received a message; unchanged if it does not handle messages now.
@@ -163,7 +170,8 @@ side_faulted s fault = if handles s then with_history s (after s.history (call.R
 
 -- The connection after n of its queued bytes were written; unchanged if fewer are queued.
 unfoldable pub side_written : Connection → ℕ → Connection
-side_written s n = if nat_le n (length (waiting_on s)) then record s { history = after s.history (call.Written n) } else s
+side_written s n =
+    if nat_le n (length (waiting_on s)) then record s { history = after s.history (call.Written n) } else s
 
 -- The end of input cuts a frame: some of its bytes are left over.
 abbrev pub is_cut : List ℕ → Bool
@@ -177,7 +185,9 @@ side_ended s cut = with_history s (after s.history (call.End cut))
 -- RFC 8323 section 5.3.1: the server may announce this size. It is not below the current one and at most 1,048,576
 -- bytes. The connection is open and has room, and the CSM with the size fits the peer's limit.
 abbrev pub may_raise : Connection → ℕ → Bool
-may_raise s size = (nat_le s.history.own_max size && nat_le size LARGEST_MESSAGE) && (has_room s && may_announce (link_of s.history) size)
+may_raise s size =
+    (nat_le s.history.own_max size && nat_le size LARGEST_MESSAGE)
+    && (has_room s && may_announce (link_of s.history) size)
 
 -- The connection after the server announced a size as the largest message that it accepts from then on; unchanged if it
 -- may not.
@@ -191,7 +201,8 @@ side_responded s m = with_history s (after s.history (call.Respond m))
 
 -- The connection after the server released it; unchanged if it cannot be released.
 unfoldable pub side_released : Connection → Connection
-side_released s = if is_none (release_refusal (link_of s.history)) then with_history s (after s.history call.Release) else s
+side_released s =
+    if is_none (release_refusal (link_of s.history)) then with_history s (after s.history call.Release) else s
 
 -- ---- settling
 
@@ -203,12 +214,15 @@ next_due store now s = if has_room s then find (is_due store now) s.observers el
 -- state if `stays` holds and m was sent whole; otherwise it is removed.
 abbrev pub notified_so : StoreValue → ℕ → Connection → Observer → Message → Bool → Connection
 notified_so store now s o m stays =
-    side_with (after s.history (call.Reply m)) (first_becomes (is_due store now) (left_of store now o (stays && is_whole (fit (limit_now s.history) m (bare_response m)))) s.observers)
+    side_with (after s.history (call.Reply m)) (first_becomes (is_due store now)
+    (left_of store now o (stays && is_whole (fit (limit_now s.history) m (bare_response m)))) s.observers)
 
 -- The connection after the first observer that is due was notified; unchanged if there is none.
 abbrev pub notified : StoreValue → ℕ → Connection → Option Observer → Connection
 notified store now s None = s
-notified store now s (Some o) = notified_so store now s o (notification_message o.token (notification store now o)) (goes_on (notification store now o))
+notified store now s (Some o) =
+    notified_so store now s o (notification_message o.token (notification store now o))
+    (goes_on (notification store now o))
 
 -- The pending entry that is due first, if the connection has room.
 abbrev pub next_held : ℕ → Connection → Option PendingEntryValue

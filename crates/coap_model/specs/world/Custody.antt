@@ -20,8 +20,8 @@ use Rattle.coap_model.specs.world.Connections.{Connection}
 abbrev pub asks_pong : Message → List ℕ → Bool
 asks_pong m token = m.code == code.ping && asks_custody m && same_bytes m.token token
 
--- The message is a request whose response is delayed by this responder. The engine delays that to a GET of `/async`, and
--- the application that to each request that it answers.
+-- The message is a request whose response is delayed by this responder. The engine delays that to a GET of `/async`,
+-- and the application that to each request that it answers.
 abbrev pub asks_delayed : Option ApplicationsValue → Responder → Message → Bool
 asks_delayed a Engine m = is_delayed m
 asks_delayed a Application m = is_some (application_deadline a m)
@@ -50,7 +50,9 @@ pub record IsFirstHeld (s : Connection) (token : List ℕ) : Type 0 where
 
 -- All pending entries keep their places, perhaps with further ones after them; or the connection has stopped.
 abbrev pub KeepsPending : Connection → Connection → Type 0
-KeepsPending before after = ((more : List PendingEntryValue) × (after.history.held ≡ before.history.held ++ more)) ⊎ ((why : Reason) × (after.history.phase ≡ Stopped why))
+KeepsPending before after =
+    ((more : List PendingEntryValue) × (after.history.held ≡ before.history.held ++ more))
+    ⊎ ((why : Reason) × (after.history.phase ≡ Stopped why))
 
 -- These entries are pending, or the connection has stopped.
 abbrev pub KeepsBut : List PendingEntryValue → Connection → Type 0
@@ -64,4 +66,6 @@ pub record AddsAsked (a : Option ApplicationsValue) (m : Message) (more : List P
 -- All pending entries keep their places over this message, followed by at most one for which it asks; or the connection
 -- has stopped.
 abbrev pub KeepsPendingOver : Option ApplicationsValue → Message → Connection → Connection → Type 0
-KeepsPendingOver a m before after = ((more : List PendingEntryValue) × (after.history.held ≡ before.history.held ++ more) × AddsAsked a m more) ⊎ ((why : Reason) × (after.history.phase ≡ Stopped why))
+KeepsPendingOver a m before after =
+    ((more : List PendingEntryValue) × (after.history.held ≡ before.history.held ++ more) × AddsAsked a m more)
+    ⊎ ((why : Reason) × (after.history.phase ≡ Stopped why))

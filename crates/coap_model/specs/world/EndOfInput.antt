@@ -5,7 +5,8 @@ use Rattle.coap_conn.specs.Limits.{LimitValues}
 use Rattle.coap_conn.specs.Phases.{takes_messages}
 use Rattle.coap_model.specs.Configs.{ConfigValues}
 use Rattle.coap_model.specs.world.Connections.{Connection, kept_on}
-use Rattle.coap_model.specs.world.World.{World, Step, Opened, Handled, Faulted, Written, Ticked, Stored, Removed, Ended, Released, Announced, Responded, Dropped, new_world, side_of, step}
+use Rattle.coap_model.specs.world.World.{World, Step, Opened, Handled, Faulted, Written, Ticked, Stored, Removed, Ended}
+use Rattle.coap_model.specs.world.World.{Released, Announced, Responded, Dropped, new_world, side_of, step}
 use Rattle.coap_model.specs.world.Events.{AcceptedCall, stream_on, steps_of, world_after}
 
 -- The connection exists and accepts messages.

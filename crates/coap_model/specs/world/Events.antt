@@ -1,5 +1,6 @@
 -- Defined by this project: the events of a server, the steps that they make, and the world after them.
-use Rattle.std.specs.Prelude.{◌≡◌, ℕ, ◌+◌, ◌<◌, ◌≤◌, true, List, [], ◌∷◌, ◌++◌, length, map, drop, Option, Some, None, nat_lt, ◌==◌, ◌&&◌, if◌then◌else◌}
+use Rattle.std.specs.Prelude.{◌≡◌, ℕ, ◌+◌, ◌<◌, ◌≤◌, true, List, [], ◌∷◌, ◌++◌, length, map, drop, Option, Some, None}
+use Rattle.std.specs.Prelude.{nat_lt, ◌==◌, ◌&&◌, if◌then◌else◌}
 use Rattle.coap_wire.specs.Message.{Message}
 use Rattle.coap_wire.specs.Frames.{Sizes, constant_size, sizes_first}
 use Rattle.coap_wire.specs.Stream.{StreamFault, Stream, sized_split}
@@ -143,7 +144,8 @@ takes_of M rest piece (Some s) = if handles s then front_of M rest piece else 0
 -- exist, its queue has no room, or it no longer accepts messages.
 unfoldable pub takes : ConfigValues → List AcceptedCall → ℕ → List ℕ → ℕ
 takes c events id piece =
-    takes_of (size_on c.limits.max_message id events) (stream_on c.limits.max_message id events).rest piece (side_of id (world_after c events).sides)
+    takes_of (size_on c.limits.max_message id events) (stream_on c.limits.max_message id events).rest piece
+    (side_of id (world_after c events).sides)
 
 -- ---- accepted events
 
@@ -168,7 +170,9 @@ OnSide id w P = IfSide (side_of id w.sides) P
 -- - `Responded`: `response_refusal` gives no error. So a request with the token is pending.
 -- The connection that an event names must exist, except for `Opened`.
 unfoldable pub IsAccepted : ConfigValues → List AcceptedCall → AcceptedCall → Type 0
-IsAccepted c earlier (Opened id) = (id ≡ (world_after c earlier).ids + 1) × (id ≤ 18446744073709551615) × (length (world_after c earlier).sides < c.connections)
+IsAccepted c earlier (Opened id) =
+    (id ≡ (world_after c earlier).ids + 1) × (id ≤ 18446744073709551615)
+    × (length (world_after c earlier).sides < c.connections)
 IsAccepted c earlier (Took id bytes) = OnSide id (world_after c earlier) (λ s. takes c earlier id bytes ≡ length bytes)
 IsAccepted c earlier (Wrote id n) = OnSide id (world_after c earlier) (λ s. n ≤ length (waiting_on s))
 IsAccepted c earlier (Ticked now) = ticks (world_after c earlier).now now ≡ true
@@ -177,7 +181,8 @@ IsAccepted c earlier (Removed path) = remove_refusal (world_after c earlier).sto
 IsAccepted c earlier (Ended id) = OnSide id (world_after c earlier) (λ s. Unit {0})
 IsAccepted c earlier (Released id) = OnSide id (world_after c earlier) (λ s. release_refusal (link_of s.history) ≡ None)
 IsAccepted c earlier (Announced id size) = OnSide id (world_after c earlier) (λ s. may_raise s size ≡ true)
-IsAccepted c earlier (Responded id m) = OnSide id (world_after c earlier) (λ s. response_refusal (link_of s.history) m ≡ None)
+IsAccepted c earlier (Responded id m) =
+    OnSide id (world_after c earlier) (λ s. response_refusal (link_of s.history) m ≡ None)
 IsAccepted c earlier (Dropped id) = OnSide id (world_after c earlier) (λ s. Unit {0})
 
 -- Each of these events is accepted after the earlier events and those before it.

@@ -1,6 +1,8 @@
 -- Defined by this project: the requests of a connection that the application answers, each with its fate. Both are
 -- computed from the steps of the server.
-use Rattle.std.specs.Prelude.{◌≡◌, ◌≢◌, ◌<◌, ◌≤◌, ◌⊎◌, ℕ, zero, suc, ◌+◌, Bool, true, false, not, ◌&&◌, List, [], ◌∷◌, ◌++◌, length, map, drop, filter, take, Option, Some, None, is_none, is_some, slice_get, ◌==◌, if◌then◌else◌}
+use Rattle.std.specs.Prelude.{◌≡◌, ◌≢◌, ◌<◌, ◌≤◌, ◌⊎◌, ℕ, zero, suc, ◌+◌, Bool, true, false, not, ◌&&◌, List, [], ◌∷◌}
+use Rattle.std.specs.Prelude.{◌++◌, length, map, drop, filter, take, Option, Some, None, is_none, is_some, slice_get}
+use Rattle.std.specs.Prelude.{◌==◌, if◌then◌else◌}
 use Rattle.std.specs.List.{AllByRecursion, list_any, flat_map}
 use Rattle.std.specs.List.Sorted.{IsPermutation}
 use Rattle.coap_wire.specs.Message.{Message}
@@ -26,7 +28,8 @@ use Rattle.coap_store.specs.Answer.{only}
 use Rattle.coap_store.specs.ApplicationRequests.{application_deadline}
 use Rattle.coap_store.specs.Messages.{response_message}
 use Rattle.coap_model.specs.Configs.{ConfigValues}
-use Rattle.coap_model.specs.world.Connections.{Connection, Delay, delay_of, held_for, handles, asks_answer, held_message, moment_after, next_held, settled_once}
+use Rattle.coap_model.specs.world.Connections.{Connection, Delay, delay_of, held_for, handles, asks_answer}
+use Rattle.coap_model.specs.world.Connections.{held_message, moment_after, next_held, settled_once}
 use Rattle.coap_model.specs.world.World.{World, Step, new_world, side_of, Opened, Handled, Responded, acted, step}
 use Rattle.coap_model.specs.world.Events.{AcceptedCall, AreAccepted, steps_of, world_after}
 use Rattle.coap_model.specs.world.Events as event
@@ -106,7 +109,9 @@ fate_of by response (sent ∷ others) handled place = Answered by response sent 
 -- stops and nothing is queued.
 abbrev pub fate_by : Responder → History → Message → Fate
 fate_by by h response =
-    if answers h.phase then fate_of by response (fitted response (bare_response response) (fit (limit_now h) response (bare_response response))) (length h.handled) (length h.queued)
+    if answers h.phase then fate_of by response
+    (fitted response (bare_response response) (fit (limit_now h) response (bare_response response)))
+    (length h.handled) (length h.queued)
     else Unanswered
 
 -- The requests after the first one that passes the test got this fate.
@@ -142,7 +147,8 @@ new_request now s m (Some seconds) = record {
 } ∷ []
 
 -- The requests after a message to this connection.
-unfoldable pub requests_after : StoreValue → ℕ → Connection → Message → List ApplicationRequest → List ApplicationRequest
+unfoldable pub requests_after : StoreValue → ℕ → Connection → Message → List ApplicationRequest
+    → List ApplicationRequest
 requests_after store now s m rs =
     if handles s && is_asking m then rs ++ new_request now s m (application_deadline store.applications m) else rs
 
@@ -150,14 +156,16 @@ requests_after store now s m rs =
 -- unanswered.
 unfoldable pub requests_responded : Connection → Message → List ApplicationRequest → List ApplicationRequest
 requests_responded s m rs =
-    if is_none (response_refusal (link_of s.history) m) then with_fate (is_unanswered_with m.token) (fate_by Application s.history m) rs else rs
+    if is_none (response_refusal (link_of s.history) m)
+    then with_fate (is_unanswered_with m.token) (fate_by Application s.history m) rs else rs
 
 -- The requests after this entry was due: if it is a request, the answer is 5.04.
 abbrev pub requests_due : Connection → Option PendingEntryValue → List ApplicationRequest → List ApplicationRequest
 requests_due s None rs = rs
 requests_due s (Some (held.Answer Engine token moment)) rs = rs
 requests_due s (Some (held.Answer Application token moment)) rs =
-    with_fate (λ r. is_unanswered_with token r && r.deadline == moment) (fate_by Engine s.history (held_message Application token)) rs
+    with_fate (λ r. is_unanswered_with token r && r.deadline == moment)
+    (fate_by Engine s.history (held_message Application token)) rs
 requests_due s (Some (held.Pong token)) rs = rs
 
 -- The requests after one round of settling.
@@ -167,7 +175,8 @@ requests_once now s rs = requests_due s (next_held now s) rs
 -- The requests after this number of rounds of settling.
 unfoldable pub requests_within : ℕ → StoreValue → ℕ → Connection → List ApplicationRequest → List ApplicationRequest
 requests_within zero store now s rs = rs
-requests_within (suc turns) store now s rs = requests_within turns store now (settled_once store now s) (requests_once now s rs)
+requests_within (suc turns) store now s rs =
+    requests_within turns store now (settled_once store now s) (requests_once now s rs)
 
 -- The requests after the connection has settled.
 unfoldable pub requests_settled : StoreValue → ℕ → Connection → List ApplicationRequest → List ApplicationRequest
@@ -176,7 +185,8 @@ requests_settled store now s rs = requests_within (length s.history.held + lengt
 -- ---- the requests after a step of the server
 
 -- The requests after an effect on their connection, if it exists.
-abbrev pub if_there : Option Connection → (Connection → List ApplicationRequest → List ApplicationRequest) → List ApplicationRequest → List ApplicationRequest
+abbrev pub if_there : Option Connection → (Connection → List ApplicationRequest → List ApplicationRequest)
+    → List ApplicationRequest → List ApplicationRequest
 if_there None change rs = rs
 if_there (Some s) change rs = change s rs
 
@@ -185,7 +195,8 @@ unfoldable pub requests_acted : ℕ → World → Step → List ApplicationReque
 requests_acted id w (Opened other) rs = if other == id && is_none (side_of id w.sides) then [] else rs
 requests_acted id w (Handled other m) rs =
     if other == id then if_there (side_of id w.sides) (λ s. requests_after w.store w.now s m) rs else rs
-requests_acted id w (Responded other m) rs = if other == id then if_there (side_of id w.sides) (λ s. requests_responded s m) rs else rs
+requests_acted id w (Responded other m) rs =
+    if other == id then if_there (side_of id w.sides) (λ s. requests_responded s m) rs else rs
 requests_acted id w other rs = rs
 
 -- The requests after a step: first its own effect, then the connection settles.
@@ -195,7 +206,8 @@ requests_then id w rs = if_there (side_of id w.sides) (requests_settled w.store 
 -- The requests after a list of steps.
 unfoldable pub requests_by : LimitValues → ℕ → World → List Step → List ApplicationRequest → List ApplicationRequest
 requests_by limits id w [] rs = rs
-requests_by limits id w (s ∷ ss) rs = requests_by limits id (step limits w s) ss (requests_then id (acted limits w s) (requests_acted id w s rs))
+requests_by limits id w (s ∷ ss) rs =
+    requests_by limits id (step limits w s) ss (requests_then id (acted limits w s) (requests_acted id w s rs))
 
 -- The requests on a connection that the application answers, in order, after a list of events.
 unfoldable pub requests_on : ConfigValues → ℕ → List AcceptedCall → List ApplicationRequest
@@ -242,7 +254,8 @@ is_by_application (Some d) = is_responder d.by
 -- becomes a pending entry of the application.
 abbrev pub handed_in : StoreValue → ℕ → Connection → Message → List Message
 handed_in store now s m =
-    if asks_answer s m && is_by_application (held_for (after s.history (call.Handle m)) (delay_of store now m)) then m ∷ [] else []
+    if asks_answer s m && is_by_application (held_for (after s.history (call.Handle m)) (delay_of store now m))
+    then m ∷ [] else []
 
 -- The messages that a connection handled between two states and handed to the application. The first state is that in
 -- this world.
@@ -267,27 +280,30 @@ pub record AreAnswers (stopped : Bool) (given : List Message) (responses : List 
   pub few : length lost ≤ 1
   pub none : stopped ≡ false → lost ≡ []
 
--- The size of the largest message that a connection with these limits may send after it handled these messages. It is the
--- smaller of the local limit and the size that the peer announced last.
+-- The size of the largest message that a connection with these limits may send after it handled these messages. It is
+-- the smaller of the local limit and the size that the peer announced last.
 abbrev pub limit_after : LimitValues → List Message → ℕ
 limit_after limits handled = size_limit limits.max_sent (announced handled)
 
 -- The message `sent` is the response, reduced to this limit as `fit` says.
 abbrev pub IsReduced : ℕ → Message → Message → Type 0
-IsReduced limit response sent = fitted response (bare_response response) (fit limit response (bare_response response)) ≡ sent ∷ []
+IsReduced limit response sent =
+    fitted response (bare_response response) (fit limit response (bare_response response)) ≡ sent ∷ []
 
 -- The response may answer this request, if it is queued at this place. If the request was handed to the application,
 -- the response is one of the application, without Observe, or 5.04 of the engine. If not, it is 5.03 of the engine at
 -- once.
 abbrev pub MayAnswer : ApplicationRequest → Responder → Message → ℕ → Type 0
-MayAnswer r Application response place = (r.handed ≡ true) × (response.token ≡ r.request.token) × (is_plain_response response ≡ true)
+MayAnswer r Application response place =
+    (r.handed ≡ true) × (response.token ≡ r.request.token) × (is_plain_response response ≡ true)
 MayAnswer r Engine response place =
     (r.handed ≡ true → response ≡ held_message Application r.request.token)
     × (r.handed ≡ false → (response ≡ refusal_of r.request) × (place ≡ r.queued))
 
--- The answer to a request is queued at its place, after the request was handled. It is reduced to the limit at that time.
--- This is the limit after the first `handled` messages, of which the request is one.
-pub record IsAnswer (h : History) (r : ApplicationRequest) (by : Responder) (response sent : Message) (handled place : ℕ) : Type 0 where
+-- The answer to a request is queued at its place, after the request was handled. It is reduced to the limit at that
+-- time. This is the limit after the first `handled` messages, of which the request is one.
+pub record IsAnswer (h : History) (r : ApplicationRequest) (by : Responder) (response sent : Message)
+    (handled place : ℕ) : Type 0 where
   pub allowed : MayAnswer r by response place
   pub reduced : IsReduced (limit_after h.limits (take handled h.handled)) response sent
   pub there : slice_get h.queued place ≡ Some sent
@@ -304,7 +320,8 @@ HasFate h r (Answered by response sent handled place) = IsAnswer h r by response
 abbrev pub HaveOtherPlaces : Fate → Fate → Type 0
 HaveOtherPlaces Unanswered other = Unit {0}
 HaveOtherPlaces (Answered by response sent handled place) Unanswered = Unit {0}
-HaveOtherPlaces (Answered by response sent handled place) (Answered other_by other_response other_sent other_handled other) = place ≢ other
+HaveOtherPlaces (Answered by response sent handled place)
+    (Answered other_by other_response other_sent other_handled other) = place ≢ other
 
 -- No two requests share a response.
 abbrev pub HaveOwnAnswers : List ApplicationRequest → Type 0
@@ -314,7 +331,8 @@ HaveOwnAnswers (r ∷ rs) = AllByRecursion (λ other. HaveOtherPlaces r.fate oth
 -- If the answer to a request with this token is the error 5.04 of the engine, the deadline of the request has come.
 abbrev pub IsTimely : ℕ → List ℕ → ℕ → Fate → Type 0
 IsTimely now token deadline Unanswered = Unit {0}
-IsTimely now token deadline (Answered Engine response sent handled place) = response ≡ held_message Application token → deadline ≤ now
+IsTimely now token deadline (Answered Engine response sent handled place) =
+    response ≡ held_message Application token → deadline ≤ now
 IsTimely now token deadline (Answered Application response sent handled place) = Unit {0}
 
 -- Of the responses with the token of a request that were queued after it, its answer is the only one. There are two

@@ -14,7 +14,8 @@ use Rattle.coap_model.specs.declared.answers.Handled.TheVariants as handled
 -- otherwise `Nothing`.
 abbrev pub handled_since : Connection → Connection → Option Reason → Handled
 handled_since before after (Some why) = handled.Stopped why
-handled_since before after None = if nat_lt (length before.history.handled) (length after.history.handled) then handled.Message else handled.Nothing
+handled_since before after None =
+    if nat_lt (length before.history.handled) (length after.history.handled) then handled.Message else handled.Nothing
 
 -- The same for a connection before and after an event; `Nothing` if the connection did not exist or accepted no
 -- messages before.
@@ -22,11 +23,13 @@ abbrev pub handled_between : Option Connection → Option Connection → Handled
 handled_between None after = handled.Nothing
 handled_between (Some before) None = handled.Nothing
 handled_between (Some before) (Some after) =
-    if takes_messages before.history.phase then handled_since before after (stop_of after.history.phase) else handled.Nothing
+    if takes_messages before.history.phase then handled_since before after (stop_of after.history.phase)
+    else handled.Nothing
 
 -- The value for an event on a connection, after earlier events.
 abbrev pub handled_in : ConfigValues → List AcceptedCall → AcceptedCall → ℕ → Handled
-handled_in c earlier e id = handled_between (side_of id (world_after c earlier).sides) (side_of id (world_after c (earlier ++ e ∷ [])).sides)
+handled_in c earlier e id =
+    handled_between (side_of id (world_after c earlier).sides) (side_of id (world_after c (earlier ++ e ∷ [])).sides)
 
 -- The number of messages that were handled: 0 or 1.
 abbrev pub count_of : Handled → ℕ

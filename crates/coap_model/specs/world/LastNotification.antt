@@ -1,6 +1,7 @@
 -- RFC 7252 section 5.9.1 and RFC 7641 section 4.2: the state that an observer was sent last, by all messages ever
 -- queued on its connection.
-use Rattle.std.specs.Prelude.{◌≡◌, ◌≢◌, ◌⊎◌, ℕ, Bool, true, ◌&&◌, ◌||◌, List, [], ◌∷◌, reverse, find, Option, Some, None, is_some}
+use Rattle.std.specs.Prelude.{◌≡◌, ◌≢◌, ◌⊎◌, ℕ, Bool, true, ◌&&◌, ◌||◌, List, [], ◌∷◌, reverse, find, Option, Some}
+use Rattle.std.specs.Prelude.{None, is_some}
 use Rattle.std.specs.List.{AllByRecursion, list_any}
 use Rattle.coap_wire.specs.Message.{Message}
 use Rattle.coap_wire.specs.Codes as code
@@ -44,7 +45,8 @@ etag_message o r = response_with_observe o.token true (etag_of_state r)
 -- absent path.
 abbrev pub ReportsState : Observer → Option Representation → Message → Type 0
 ReportsState o None m = ⊥
-ReportsState o (Some r) m = (m ≡ state_message o r) ⊎ ((m ≡ etag_message o r) × (is_dynamic (kind_of_path o.path) ≡ true))
+ReportsState o (Some r) m =
+    (m ≡ state_message o r) ⊎ ((m ≡ etag_message o r) × (is_dynamic (kind_of_path o.path) ≡ true))
 
 -- The response to this request is delayed, by the engine or by the application.
 abbrev pub asks_late : Option ApplicationsValue → Message → Bool

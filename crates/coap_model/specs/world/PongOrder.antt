@@ -24,7 +24,9 @@ IfAsking false answered others = others
 unfoldable pub HaveDistinctAnswers : List Message → List Message → Type 0
 HaveDistinctAnswers [] messages = Unit {0}
 HaveDistinctAnswers (m ∷ ms) messages =
-    IfAsking (is_asking m) ((place : HasResponse m.token messages) × HaveDistinctAnswers ms (place.before ++ place.behind)) (HaveDistinctAnswers ms messages)
+    IfAsking (is_asking m)
+    ((place : HasResponse m.token messages) × HaveDistinctAnswers ms (place.before ++ place.behind))
+    (HaveDistinctAnswers ms messages)
 
 -- A Ping that was handled asked for this Pong with Custody. All requests handled before that Ping have their own
 -- responses among `queued`, the messages queued before the Pong.

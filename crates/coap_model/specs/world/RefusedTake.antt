@@ -12,7 +12,8 @@ use Rattle.coap_model.specs.declared.answers.TakeFault.TheVariants as fault
 
 -- Allocation failed for a message after `bytes` bytes of an input slice were accepted: all that `take` would accept but
 -- one. They make no step. With the next byte, the message is complete and stores a representation.
-pub record IsRefusedStored (c : ConfigValues) (events : List AcceptedCall) (id : ℕ) (piece : List ℕ) (bytes : ℕ) : Type 0 where
+pub record IsRefusedStored (c : ConfigValues) (events : List AcceptedCall) (id : ℕ) (piece : List ℕ)
+    (bytes : ℕ) : Type 0 where
   pub last : bytes + 1 ≡ takes c events id piece
   pub quiet : steps_by c.limits.max_message events (Took id (take bytes piece)) ≡ []
   pub message : Message

@@ -7,7 +7,9 @@ use Rattle.coap_conn.specs.Limits.{LimitValues}
 use Rattle.coap_store.specs.Answer.{Change, Nothing, Put, Delete}
 use Rattle.coap_model.specs.Configs.{ConfigValues}
 use Rattle.coap_model.specs.world.Connections.{Connection, change_after}
-use Rattle.coap_model.specs.world.World.{World, new_world, side_of, Step, Opened, Handled, Faulted, Written, Ticked, Stored, Removed, Ended, Released, Announced, Responded, Dropped, step, after_steps}
+use Rattle.coap_model.specs.world.World.{World, new_world, side_of, Step, Opened, Handled, Faulted, Written, Ticked}
+use Rattle.coap_model.specs.world.World.{Stored, Removed, Ended, Released, Announced, Responded, Dropped, step}
+use Rattle.coap_model.specs.world.World.{after_steps}
 
 -- ---- changes of the store
 

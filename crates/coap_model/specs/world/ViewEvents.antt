@@ -5,7 +5,8 @@ use Rattle.coap_conn.specs.Limits.{LimitValues}
 use Rattle.coap_store.specs.Answer.{Change, Nothing, Put, Delete}
 use Rattle.coap_model.specs.Configs.{ConfigValues}
 use Rattle.coap_model.specs.world.World.{World, Step, step}
-use Rattle.coap_model.specs.world.Events.{AcceptedCall, Opened, Took, Wrote, Ticked, Stored, Removed, Ended, Released, Announced, Responded, Dropped, steps_by, world_after}
+use Rattle.coap_model.specs.world.Events.{AcceptedCall, Opened, Took, Wrote, Ticked, Stored, Removed, Ended, Released}
+use Rattle.coap_model.specs.world.Events.{Announced, Responded, Dropped, steps_by, world_after}
 use Rattle.coap_model.specs.world.View.{change_by}
 
 -- The id of the connection that is opened first.

@@ -1,5 +1,6 @@
 -- Defined by this project: a server with all its connections, and its state after a list of steps.
-use Rattle.std.specs.Prelude.{ℕ, Bool, not, ◌&&◌, List, [], ◌∷◌, ◌++◌, map, filter, Option, Some, None, is_none, nat_le, ◌==◌, if◌then◌else◌}
+use Rattle.std.specs.Prelude.{ℕ, Bool, not, ◌&&◌, List, [], ◌∷◌, ◌++◌, map, filter, Option, Some, None, is_none, nat_le}
+use Rattle.std.specs.Prelude.{◌==◌, if◌then◌else◌}
 use Rattle.coap_wire.specs.Message.{Message}
 use Rattle.coap_wire.specs.Stream.{StreamFault}
 use Rattle.coap_conn.specs.Limits.{LimitValues}
@@ -7,7 +8,9 @@ use Rattle.coap_path.specs.Paths.{Path}
 use Rattle.coap_store.specs.Store.{StoreValue, put_in, removed_in}
 use Rattle.coap_store.specs.Refusals.{put_refusal}
 use Rattle.coap_model.specs.Configs.{ConfigValues}
-use Rattle.coap_model.specs.world.Connections.{Connection, new_side, side_after, store_after, side_faulted, side_written, side_ended, side_released, side_responded, side_announced, settled}
+use Rattle.coap_model.specs.world.Connections.{Connection, new_side, side_after, store_after, side_faulted}
+use Rattle.coap_model.specs.world.Connections.{side_written, side_ended, side_released, side_responded, side_announced}
+use Rattle.coap_model.specs.world.Connections.{settled}
 
 -- A connection with its id.
 pub record ConnectionEntry : Type 0 where
@@ -27,7 +30,13 @@ abbrev pub new_world : ConfigValues → World
 new_world c = record {
   sides = [];
   ids = c.starts.ids;
-  store = record { dynamic_max = c.dynamic_max; rep_max = c.rep_max; resources = []; versions = c.starts.versions; applications = c.applications };
+  store = record {
+    dynamic_max = c.dynamic_max;
+    rep_max = c.rep_max;
+    resources = [];
+    versions = c.starts.versions;
+    applications = c.applications;
+  };
   now = c.starts.moment;
 }
 
@@ -82,7 +91,8 @@ ticks now new = nat_le now new && nat_le new 18446744073709551615
 -- The world after a step's own effect, before any connection settles. A step that is not possible changes nothing.
 unfoldable pub acted : LimitValues → World → Step → World
 acted limits w (Opened id) =
-    if is_none (side_of id w.sides) then record w { sides = w.sides ++ record { id = id; side = new_side limits } ∷ []; ids = id } else w
+    if is_none (side_of id w.sides)
+    then record w { sides = w.sides ++ record { id = id; side = new_side limits } ∷ []; ids = id } else w
 acted limits w (Handled id m) =
     record (on_side id (λ s. side_after w.store w.now s m) w) { store = stored_after w m (side_of id w.sides) }
 acted limits w (Faulted id fault) = on_side id (λ s. side_faulted s fault) w

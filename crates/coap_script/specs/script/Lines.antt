@@ -13,7 +13,8 @@ open_line id = codes "open " ++ decimal id ++ codes "\n"
 -- This number of bytes was accepted on a connection. If the connection stopped, the number of the reason follows.
 abbrev pub in_line : ℕ → ℕ → Option ℕ → List ℕ
 in_line id taken None = codes "in " ++ decimal id ++ codes " " ++ decimal taken ++ codes "\n"
-in_line id taken (Some stop) = codes "in " ++ decimal id ++ codes " " ++ decimal taken ++ codes " stop " ++ decimal stop ++ codes "\n"
+in_line id taken (Some stop) =
+    codes "in " ++ decimal id ++ codes " " ++ decimal taken ++ codes " stop " ++ decimal stop ++ codes "\n"
 
 -- Bytes in lower-case hexadecimal; a hyphen for no bytes.
 abbrev pub bytes_text : List ℕ → List ℕ
@@ -55,7 +56,8 @@ phase_text (Stopped reason) = codes "stopped " ++ decimal (reason_number reason)
 -- pending entries, and the observers.
 abbrev pub status_line : ℕ → Phase → ℕ → ℕ → ℕ → ℕ → List ℕ
 status_line id phase kept waiting pending observers =
-    codes "status " ++ decimal id ++ codes " " ++ phase_text phase ++ codes " kept " ++ decimal kept ++ codes " waiting " ++ decimal waiting
+    codes "status " ++ decimal id ++ codes " " ++ phase_text phase ++ codes " kept " ++ decimal kept
+    ++ codes " waiting " ++ decimal waiting
     ++ codes " pending " ++ decimal pending ++ codes " observers " ++ decimal observers ++ codes "\n"
 
 -- An event failed, with the number of the error, and with the connection if the event names one.

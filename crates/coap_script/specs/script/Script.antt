@@ -1,6 +1,7 @@
 -- Defined by this project: the meaning of a script. It is the events of its lines in order, or the number of the first
 -- malformed line.
-use Rattle.std.specs.Prelude.{ℕ, Bool, true, ◌+◌, ◌==◌, List, [], ◌∷◌, ◌++◌, length, Option, Some, None, option_map, Result, Ok, Err, nat_lt, if◌then◌else◌}
+use Rattle.std.specs.Prelude.{ℕ, Bool, true, ◌+◌, ◌==◌, List, [], ◌∷◌, ◌++◌, length, Option, Some, None, option_map}
+use Rattle.std.specs.Prelude.{Result, Ok, Err, nat_lt, if◌then◌else◌}
 use Rattle.std.specs.List.{list_all}
 use Rattle.coap_text.specs.Words.{parts}
 use Rattle.coap_script.specs.script.Words.{newline, words_of}
@@ -29,7 +30,8 @@ said_behind lines before (Ok events) = Ok (before ++ events)
 said_behind lines before (Err line) = Err (lines + line)
 
 -- The meaning of a line and of the text after it.
-abbrev pub said_by_line : Option (List ScriptEventValue) → Result (List ScriptEventValue) ℕ → Result (List ScriptEventValue) ℕ
+abbrev pub said_by_line : Option (List ScriptEventValue) → Result (List ScriptEventValue) ℕ
+    → Result (List ScriptEventValue) ℕ
 said_by_line None behind = Err 1
 said_by_line (Some events) behind = said_behind 1 events behind
 
@@ -45,6 +47,7 @@ abbrev pub script_of : List ℕ → Result (List ScriptEventValue) ℕ
 script_of text = said_by_parts (parts newline text)
 
 -- The meaning of this number of whole lines and of the text after them.
-abbrev pub said_on : ℕ → Result (List ScriptEventValue) ℕ → Result (List ScriptEventValue) ℕ → Result (List ScriptEventValue) ℕ
+abbrev pub said_on : ℕ → Result (List ScriptEventValue) ℕ → Result (List ScriptEventValue) ℕ
+    → Result (List ScriptEventValue) ℕ
 said_on lines (Ok events) behind = said_behind lines events behind
 said_on lines (Err line) behind = Err line

@@ -1,31 +1,6 @@
 -- The entries of a map whose keys are numbers, by their indices.
-use Rattle.std.proofs.Common.{
-  ◌≢◌,
-  ℕ,
-  ◌≡◌,
-  zero,
-  suc,
-  ◌+◌,
-  ◌<◌,
-  List,
-  [],
-  ◌∷◌,
-  ◌++◌,
-  length,
-  take,
-  drop,
-  Some,
-  refl,
-  sym,
-  ap,
-  ◌∙◌,
-  inl,
-  inr,
-  arith,
-  slice_get,
-  remove,
-  add-one,
-}
+use Rattle.std.proofs.Common.{◌≢◌, ℕ, ◌≡◌, zero, suc, ◌+◌, ◌<◌, List, [], ◌∷◌, ◌++◌, length, take, drop, Some, refl}
+use Rattle.std.proofs.Common.{sym, ap, ◌∙◌, inl, inr, arith, slice_get, remove, add-one}
 use Rattle.std.proofs.lemmas.List.{append_cancel_left, length-take-le, take_at, take_more, drop_at, drop_more}
 use Rattle.std.proofs.lemmas.Option.{slice_get_cases, slice_get-map, slice_get_within, get_or_from_slice_get}
 use Rattle.coap_serve.specs.Prelude.{keys_of, set_value_at, values_of}

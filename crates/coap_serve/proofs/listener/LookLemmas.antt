@@ -1,50 +1,10 @@
 -- Looks at connections: whether something can be done on them, and how long the listener may wait.
-use Rattle.std.proofs.Common.{
-  ◌≡◌,
-  ℕ,
-  zero,
-  suc,
-  ◌+◌,
-  ◌-◌,
-  ◌<◌,
-  ◌≤◌,
-  Bool,
-  true,
-  false,
-  List,
-  ◌∷◌,
-  [],
-  drop,
-  length,
-  Option,
-  Some,
-  None,
-  refl,
-  sym,
-  ap,
-  subst,
-  ◌∙◌,
-  arith,
-  slice_get,
-  ◌||◌,
-  ◌&&◌,
-}
+use Rattle.std.proofs.Common.{◌≡◌, ℕ, zero, suc, ◌+◌, ◌-◌, ◌<◌, ◌≤◌, Bool, true, false, List, ◌∷◌, [], drop, length}
+use Rattle.std.proofs.Common.{Option, Some, None, refl, sym, ap, subst, ◌∙◌, arith, slice_get, ◌||◌, ◌&&◌}
 use Rattle.std.proofs.lemmas.Bool.{or_parts, or_left}
 use Rattle.std.proofs.lemmas.List.{drop_all}
-use Rattle.coap_serve.specs.Prelude.{
-  CanAnyGoOn,
-  CanGoOn,
-  IsAsked,
-  IsWaitAfter,
-  MaySleep,
-  PeerStatus,
-  No,
-  is_known_ready,
-  known,
-  least_with,
-  sooner,
-  wait_until,
-}
+use Rattle.coap_serve.specs.Prelude.{CanAnyGoOn, CanGoOn, IsAsked, IsWaitAfter, MaySleep, PeerStatus, No}
+use Rattle.coap_serve.specs.Prelude.{is_known_ready, known, least_with, sooner, wait_until}
 use Rattle.coap_serve.proofs.listener.EntryLemmas.{next_first, some_at_index}
 
 -- ---- one connection

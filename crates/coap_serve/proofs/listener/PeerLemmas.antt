@@ -1,10 +1,18 @@
 -- The steps of serving a connection, and a value written at an index of a map whose keys are numbers.
-use Rattle.std.proofs.Common.{ℕ, ◌≡◌, ◌≢◌, Bool, true, false, List, [], ◌∷◌, ◌++◌, length, Option, Some, None, IfSome, is_some, is_none, option_map, refl, sym, ap, ◌∙◌, ◌||◌, ◌&&◌, ◌==◌, if◌then◌else◌, nat_lt, arith}
+use Rattle.std.proofs.Common.{ℕ, ◌≡◌, ◌≢◌, Bool, true, false, List, [], ◌∷◌, ◌++◌, length, Option, Some, None, IfSome}
+use Rattle.std.proofs.Common.{is_some, is_none, option_map, refl, sym, ap, ◌∙◌, ◌||◌, ◌&&◌, ◌==◌, if◌then◌else◌, nat_lt}
+use Rattle.std.proofs.Common.{arith}
 use Rattle.std.proofs.lemmas.Bool.{and_parts}
 use Rattle.coap_server_engine.specs.Prelude.{Reason, stop_of, takes_messages, can_take_on}
 use Rattle.coap_serve.specs.declared.door.peer.PeerOutcome.TheVariants.{Open}
 use Rattle.coap_server_session.specs.values.Sessions.{session_ready}
-use Rattle.coap_serve.specs.Prelude.{ConnectionWork, IsCourseFor, IsReasonFor, SessionValue, session_of, session_outlook, waiting_at, waiting_in, AcceptedCall, ServerValue, WireTrace, Got, Bytes, End, Failed, Later, PeerOutcome, Taking, is_heard, server_heard, server_wrote, has_failed, course_of, is_over_in, outlook_of, waiting_once, IsLaidOut, IsOffered, IsServedOnceBy, Readiness, VisitState, Answering, AreCallsBetween, Continues, Following, HasAccepted, Over, calls_only, heard_events, journal, no_history, wrote_events}
+use Rattle.coap_serve.specs.Prelude.{ConnectionWork, IsCourseFor, IsReasonFor, SessionValue, session_of}
+use Rattle.coap_serve.specs.Prelude.{session_outlook, waiting_at, waiting_in, AcceptedCall, ServerValue, WireTrace, Got}
+use Rattle.coap_serve.specs.Prelude.{Bytes, End, Failed, Later, PeerOutcome, Taking, is_heard, server_heard}
+use Rattle.coap_serve.specs.Prelude.{server_wrote, has_failed, course_of, is_over_in, outlook_of, waiting_once}
+use Rattle.coap_serve.specs.Prelude.{IsLaidOut, IsOffered, IsServedOnceBy, Readiness, VisitState, Answering}
+use Rattle.coap_serve.specs.Prelude.{AreCallsBetween, Continues, Following, HasAccepted, Over, calls_only, heard_events}
+use Rattle.coap_serve.specs.Prelude.{journal, no_history, wrote_events}
 use Rattle.std.proofs.lemmas.List.{append-nil}
 use Rattle.coap_serve.proofs.listener.ServingLemmas.{accepted_then, calls_accepted, moved_then}
 use Rattle.coap_serve.specs.listener.Turns.{IsTakenInPart, activity_after, have_moved, has_written}
@@ -30,56 +38,93 @@ some_written id Failed = refl
 all_moved : (id : ℕ) (heard wrote : Got) (takes : List AcceptedCall) (n : ℕ) → have_moved takes ≡ nat_lt 0 n
     → have_moved (heard_events id heard ++ (takes ++ wrote_events id wrote)) ≡ (nat_lt 0 n || has_written wrote)
 all_moved id heard wrote takes n moved =
-    rw (moved_then (heard_events id heard) (takes ++ wrote_events id wrote), none_heard id heard, moved_then takes (wrote_events id wrote), moved, some_written id wrote) refl
+    rw (
+      moved_then (heard_events id heard) (takes ++ wrote_events id wrote),
+      none_heard id heard,
+      moved_then takes (wrote_events id wrote),
+      moved,
+      some_written id wrote,
+    ) refl
 
 -- ---- the steps of a visit
 
 -- A read that did not fail, then the processing of its bytes, then a write.
-pub steps_are_a_part : (takes : Taking) (ready : Readiness) (id : ℕ) (before after : VisitState) {heard_by taken : ServerValue} (bytes : List ℕ) (between : WireTrace) (heard wrote : Got) (outcome : PeerOutcome) {a b c d : Following} (p q : Answering) (second n : ℕ) (times : Activity) {later : Activity}
-    → heard_by ≡ server_heard before.server id heard → IsLaidOut (is_heard ready.read before.server id before.rest) before.rest before.wire heard bytes between → has_failed heard ≡ false
-    → HasAccepted (λ h. IsTakenInPart takes heard_by id bytes after.rest (record { server = taken; count = n; history = h })) (Continues (journal b p) (journal c q)) heard_by taken → IsOffered (waiting_once ready.write id taken) between wrote after.wire
+pub steps_are_a_part : (takes : Taking) (ready : Readiness) (id : ℕ) (before after : VisitState)
+    {heard_by taken : ServerValue} (bytes : List ℕ) (between : WireTrace) (heard wrote : Got) (outcome : PeerOutcome)
+    {a b c d : Following} (p q : Answering) (second n : ℕ) (times : Activity) {later : Activity}
+    → heard_by ≡ server_heard before.server id heard
+    → IsLaidOut (is_heard ready.read before.server id before.rest) before.rest before.wire heard bytes between
+    → has_failed heard ≡ false
+    → HasAccepted
+    (λ h. IsTakenInPart takes heard_by id bytes after.rest (record { server = taken; count = n; history = h }))
+    (Continues (journal b p) (journal c q)) heard_by taken
+    → IsOffered (waiting_once ready.write id taken) between wrote after.wire
     → after.server ≡ server_wrote taken id wrote → outcome ≡ course_of wrote (is_over_in (outlook_of after.server id))
-    → AreCallsBetween a b before.server heard_by (heard_events id heard) → AreCallsBetween c d taken after.server (wrote_events id wrote)
+    → AreCallsBetween a b before.server heard_by (heard_events id heard)
+    → AreCallsBetween c d taken after.server (wrote_events id wrote)
     → later ≡ activity_after second (nat_lt 0 n || has_written wrote) times
-    → HasAccepted (λ h. IsServedOnceBy takes ready id before after (record { outcome = outcome; history = h }) × (later ≡ activity_after second (have_moved h.events) times)) (Continues (journal a p) (journal d q)) before.server after.server
-steps_are_a_part takes ready id before after {taken = taken} bytes between heard wrote outcome p q second n times {later = later} heard_so laid works part offered wrote_so outcome_so heard_made wrote_made after_so = record {
-  history = record { events = heard_events id heard ++ (part.history.events ++ wrote_events id wrote); exchanges = part.history.exchanges };
-  made = (
-    record {
-      heard = heard;
-      bytes = bytes;
-      between = between;
-      laid = laid;
-      later = record { events = part.history.events ++ wrote_events id wrote; exchanges = part.history.exchanges };
-      carried = rw works (record {
-        taken = record { server = taken; count = n; history = part.history };
-        took = rw (← heard_so) part.made.took;
-        rest = part.made.rest;
-        wrote = wrote;
-        offered = offered;
-        server = wrote_so;
-        outcome = outcome_so;
-        history = refl;
-      });
-      history = refl;
-    },
-    after_so ∙ ap (λ moved. activity_after second moved times) (sym (all_moved id heard wrote part.history.events n part.made.moved)),
-  );
-  accepted = accepted_then (calls_accepted p heard_made) (rw (append-nil part.history.exchanges) at (accepted_then part.accepted (calls_accepted q wrote_made)));
-}
+    → HasAccepted (λ h. IsServedOnceBy takes ready id before after (record { outcome = outcome; history = h })
+    × (later ≡ activity_after second (have_moved h.events) times)) (Continues (journal a p) (journal d q))
+    before.server after.server
+steps_are_a_part takes ready id before after {taken = taken} bytes between heard wrote outcome p q second n times
+    {later = later} heard_so laid works part offered wrote_so outcome_so heard_made wrote_made after_so = record {
+      history = record {
+        events = heard_events id heard ++ (part.history.events ++ wrote_events id wrote);
+        exchanges = part.history.exchanges;
+      };
+      made = (
+        record {
+          heard = heard;
+          bytes = bytes;
+          between = between;
+          laid = laid;
+          later = record { events = part.history.events ++ wrote_events id wrote; exchanges = part.history.exchanges };
+          carried = rw works (record {
+            taken = record { server = taken; count = n; history = part.history };
+            took = rw (← heard_so) part.made.took;
+            rest = part.made.rest;
+            wrote = wrote;
+            offered = offered;
+            server = wrote_so;
+            outcome = outcome_so;
+            history = refl;
+          });
+          history = refl;
+        },
+        after_so ∙ ap (λ moved. activity_after second moved times)
+            (sym (all_moved id heard wrote part.history.events n part.made.moved)),
+      );
+      accepted =
+          accepted_then (calls_accepted p heard_made)
+          (rw (append-nil part.history.exchanges) at (accepted_then part.accepted (calls_accepted q wrote_made)));
+    }
 
 -- A read that failed.
-pub failed_read_is_a_part : (takes : Taking) (ready : Readiness) (id : ℕ) (before after : VisitState) (bytes : List ℕ) (heard : Got) {a b : Following} (p : Answering) (second : ℕ) {times later : Activity}
-    → after.server ≡ server_heard before.server id heard → IsLaidOut (is_heard ready.read before.server id before.rest) before.rest before.wire heard bytes after.wire → has_failed heard ≡ true → AreCallsBetween a b before.server after.server (heard_events id heard) → later ≡ times
-    → HasAccepted (λ h. IsServedOnceBy takes ready id before after (record { outcome = Over drop.Failed; history = h }) × (later ≡ activity_after second (have_moved h.events) times)) (Continues (journal a p) (journal b p)) before.server after.server
-failed_read_is_a_part takes ready id before after bytes heard p second {times = times} {later = later} heard_so laid fails made same = record {
-  history = calls_only (heard_events id heard ++ []);
-  made = (
-    record { heard = heard; bytes = bytes; between = after.wire; laid = laid; later = no_history; carried = rw fails (heard_so, refl, refl); history = refl },
-    same ∙ sym (ap (λ moved. activity_after second moved times) (all_moved id heard Later [] 0 refl)),
-  );
-  accepted = rw append-nil (calls_accepted p made);
-}
+pub failed_read_is_a_part : (takes : Taking) (ready : Readiness) (id : ℕ) (before after : VisitState) (bytes : List ℕ)
+    (heard : Got) {a b : Following} (p : Answering) (second : ℕ) {times later : Activity}
+    → after.server ≡ server_heard before.server id heard
+    → IsLaidOut (is_heard ready.read before.server id before.rest) before.rest before.wire heard bytes after.wire
+    → has_failed heard ≡ true → AreCallsBetween a b before.server after.server (heard_events id heard) → later ≡ times
+    → HasAccepted (λ h. IsServedOnceBy takes ready id before after (record { outcome = Over drop.Failed; history = h })
+    × (later ≡ activity_after second (have_moved h.events) times)) (Continues (journal a p) (journal b p))
+    before.server after.server
+failed_read_is_a_part takes ready id before after bytes heard p second
+    {times = times} {later = later} heard_so laid fails made same = record {
+      history = calls_only (heard_events id heard ++ []);
+      made = (
+        record {
+          heard = heard;
+          bytes = bytes;
+          between = after.wire;
+          laid = laid;
+          later = no_history;
+          carried = rw fails (heard_so, refl, refl);
+          history = refl;
+        },
+        same ∙ sym (ap (λ moved. activity_after second moved times) (all_moved id heard Later [] 0 refl)),
+      );
+      accepted = rw append-nil (calls_accepted p made);
+    }
 
 -- ---- the reason of a drop
 
@@ -93,33 +138,42 @@ not_over None b live = refl
 not_over (Some why) b live = absurd cc
 
 -- A connection that accepts bytes has not finished.
-takes_on : (now : ℕ) (o : Option SessionValue) → can_take_on o ≡ true → IfSome (option_map (session_outlook now) o) (IsReasonFor drop.Failed)
+takes_on : (now : ℕ) (o : Option SessionValue) → can_take_on o ≡ true
+    → IfSome (option_map (session_outlook now) o) (IsReasonFor drop.Failed)
 takes_on now None takes = absurd cc
-takes_on now (Some s) takes = not_over (stop_of s.link.phase) _ (and_parts (takes_messages s.link.phase) (session_ready s) takes).0
+takes_on now (Some s) takes =
+    not_over (stop_of s.link.phase) _ (and_parts (takes_messages s.link.phase) (session_ready s) takes).0
 
-laid_failed : (is_due : Bool) (rest bytes : List ℕ) (wire between : WireTrace) → IsLaidOut is_due rest wire Failed bytes between → is_due ≡ true
+laid_failed : (is_due : Bool) (rest bytes : List ℕ) (wire between : WireTrace)
+    → IsLaidOut is_due rest wire Failed bytes between → is_due ≡ true
 laid_failed true rest bytes wire between laid = refl
 laid_failed false rest bytes wire between laid = let never : Failed ≡ Later = laid.0 in absurd cc
 
 -- A read that failed was due.
-pub read_failed : (may_read : Bool) (v : ServerValue) {after : ServerValue} (id : ℕ) (rest bytes : List ℕ) (wire between : WireTrace) (heard : Got) → after ≡ server_heard v id heard → IsLaidOut (is_heard may_read v id rest) rest wire heard bytes between → has_failed heard ≡ true
+pub read_failed : (may_read : Bool) (v : ServerValue) {after : ServerValue} (id : ℕ) (rest bytes : List ℕ)
+    (wire between : WireTrace) (heard : Got) → after ≡ server_heard v id heard
+    → IsLaidOut (is_heard may_read v id rest) rest wire heard bytes between → has_failed heard ≡ true
     → IfSome (outlook_of after id) (IsReasonFor drop.Failed)
 read_failed may_read v id rest bytes wire between (Bytes n) is laid fails = absurd cc
 read_failed may_read v id rest bytes wire between Later is laid fails = absurd cc
 read_failed may_read v id rest bytes wire between End is laid fails = absurd cc
 read_failed may_read v id rest bytes wire between Failed is laid fails =
-    rw is (takes_on v.host.now (session_of id v.sessions) (last_true may_read (length rest == 0) (laid_failed (is_heard may_read v id rest) rest bytes wire between laid)))
+    rw is (takes_on v.host.now (session_of id v.sessions)
+    (last_true may_read (length rest == 0) (laid_failed (is_heard may_read v id rest) rest bytes wire between laid)))
 
 some_queued : (over held : Bool) (waiting : List ℕ) → waiting ≢ [] → (over && (held && (length waiting == 0))) ≡ false
 some_queued over held [] some = absurd (some refl)
 some_queued over held (b ∷ bs) some = grind arith
 
 -- A connection with queued bytes has not finished.
-queue_left : (now : ℕ) (o : Option SessionValue) → waiting_in o ≢ [] → IfSome (option_map (session_outlook now) o) (IsReasonFor drop.Failed)
+queue_left : (now : ℕ) (o : Option SessionValue) → waiting_in o ≢ []
+    → IfSome (option_map (session_outlook now) o) (IsReasonFor drop.Failed)
 queue_left now None some = tt
-queue_left now (Some s) some = some_queued (is_some (stop_of s.link.phase)) (length s.link.held == 0) s.link.waiting some
+queue_left now (Some s) some =
+    some_queued (is_some (stop_of s.link.phase)) (length s.link.held == 0) s.link.waiting some
 
-over_so : (b : Bool) (work : ConnectionWork) → work.finished ≡ b → IsCourseFor (if b then Over drop.Finished else Open) (Some work)
+over_so : (b : Bool) (work : ConnectionWork) → work.finished ≡ b
+    → IsCourseFor (if b then Over drop.Finished else Open) (Some work)
 over_so true work is = is
 over_so false work is = tt
 
@@ -132,10 +186,12 @@ none_offered true waiting none = none
 none_offered false waiting none = refl
 
 -- A write that failed leaves bytes queued. After another result, the connection may have finished.
-pub write_reason : (may_write : Bool) (taken : ServerValue) {after : ServerValue} (id : ℕ) (wrote : Got) → after ≡ server_wrote taken id wrote → (waiting_once may_write id taken ≡ [] → wrote ≡ Later)
+pub write_reason : (may_write : Bool) (taken : ServerValue) {after : ServerValue} (id : ℕ) (wrote : Got)
+    → after ≡ server_wrote taken id wrote → (waiting_once may_write id taken ≡ [] → wrote ≡ Later)
     → IsCourseFor (course_of wrote (is_over_in (outlook_of after id))) (outlook_of after id)
 write_reason may_write taken {after = after} id (Bytes n) is idle = over_reason (outlook_of after id)
 write_reason may_write taken {after = after} id Later is idle = over_reason (outlook_of after id)
 write_reason may_write taken {after = after} id End is idle = over_reason (outlook_of after id)
 write_reason may_write taken id Failed is idle =
-    rw is (queue_left taken.host.now (session_of id taken.sessions) (λ none. let never : Failed ≡ Later = idle (none_offered may_write (waiting_at id taken) none) in absurd cc))
+    rw is (queue_left taken.host.now (session_of id taken.sessions)
+    (λ none. let never : Failed ≡ Later = idle (none_offered may_write (waiting_at id taken) none) in absurd cc))

@@ -1,52 +1,15 @@
 -- The entry of a connection that was released.
-use Rattle.std.proofs.Common.{
-  ◌≡◌,
-  ℕ,
-  zero,
-  suc,
-  true,
-  false,
-  List,
-  [],
-  ◌∷◌,
-  Option,
-  Some,
-  None,
-  refl,
-  sym,
-  ap,
-  ◌∙◌,
-  arith,
-  nat_eq,
-  slice_get,
-  if◌then◌else◌,
-  length,
-  map,
-  position,
-  get_or,
-  option_map,
-  IfSome,
-  ◌<◌,
-  inl,
-  inr,
-  is_some,
-}
+use Rattle.std.proofs.Common.{◌≡◌, ℕ, zero, suc, true, false, List, [], ◌∷◌, Option, Some, None, refl, sym, ap, ◌∙◌}
+use Rattle.std.proofs.Common.{arith, nat_eq, slice_get, if◌then◌else◌, length, map, position, get_or, option_map}
+use Rattle.std.proofs.Common.{IfSome, ◌<◌, inl, inr, is_some}
 use Rattle.std.proofs.lemmas.Bool.{eq-eqb, eqb-true}
 use Rattle.std.proofs.lemmas.Cmp.{nat_eq_equiv}
 use Rattle.std.proofs.lemmas.Map.{NonePasses, lookup-none}
 use Rattle.std.proofs.lemmas.Map.Entries.{none_past_head, lookup_from_place}
 use Rattle.std.proofs.lemmas.List.Quantifiers.{position-Some}
 use Rattle.std.proofs.lemmas.Option.{slice_get-map, slice_get_cases, get_or_from_slice_get}
-use Rattle.coap_serve.specs.Prelude.{
-  ArePaired,
-  IsDistinct,
-  keys_of,
-  released_at,
-  released_on,
-  ServerValue,
-  set_value_at,
-  Peer,
-}
+use Rattle.coap_serve.specs.Prelude.{ArePaired, IsDistinct, keys_of, released_at, released_on, ServerValue}
+use Rattle.coap_serve.specs.Prelude.{set_value_at, Peer}
 
 -- The entry at the place of a number has that number.
 pub number_at : {X : Type 0} (id : ℕ) (es : List (ℕ × X)) (i k : ℕ) (x : X) → Some i ≡ position (nat_eq id) (keys_of es)
@@ -104,7 +67,9 @@ module _ {W : Type 0} (f : ℕ × Peer W → Peer W) where
       → IfSome (slice_get es i) (λ e. now ≡ set_value_at es i (f e)) → now ≡ changed_on id es
   changed_found id es {now = now} {i = i} distinct there within set = elim (slice_get_cases es i).1 as (λ _. now ≡
       changed_on id es) [
-        | inl h ↦ let e : ℕ × Peer W = h.0 in let same : e.0 ≡ id = number_at id es i e.0 e.1 there h.2 in rw h.2 at set ∙
+        | inl h ↦ let e : ℕ × Peer W = h.0 in
+            let same : e.0 ≡ id = number_at id es i e.0 e.1 there h.2 in
+            rw h.2 at set ∙
             rw (← same) (changed_there e.0 es i e.1 distinct h.2)
         | inr h ↦ absurd (omega (arith, within, h.0))
       ]

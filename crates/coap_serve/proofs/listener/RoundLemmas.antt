@@ -1,86 +1,19 @@
 -- The connections that a turn opens, serves or skips, one after another.
-use Rattle.std.proofs.Common.{
-  ℕ,
-  ◌≡◌,
-  zero,
-  suc,
-  ◌+◌,
-  ◌-◌,
-  ◌<◌,
-  ◌≤◌,
-  true,
-  false,
-  List,
-  [],
-  ◌∷◌,
-  ◌++◌,
-  length,
-  take,
-  drop,
-  Some,
-  None,
-  IfSome,
-  nat_eq,
-  refl,
-  sym,
-  ap,
-  ◌∙◌,
-  arith,
-  slice_get,
-  remove,
-  append_assoc,
-}
+use Rattle.std.proofs.Common.{ℕ, ◌≡◌, zero, suc, ◌+◌, ◌-◌, ◌<◌, ◌≤◌, true, false, List, [], ◌∷◌, ◌++◌, length, take}
+use Rattle.std.proofs.Common.{drop, Some, None, IfSome, nat_eq, refl, sym, ap, ◌∙◌, arith, slice_get, remove}
+use Rattle.std.proofs.Common.{append_assoc}
 use Rattle.std.proofs.lemmas.List.{append-nil, drop_all, take_all}
 use Rattle.std.proofs.lemmas.Option.{slice_get-map}
-use Rattle.coap_serve.specs.Prelude.{
-  AreServed,
-  CanGoOn,
-  Continues,
-  HasAccepted,
-  HasGoneOn,
-  HasOneMore,
-  History,
-  IsAccepted,
-  IsVisited,
-  Journal,
-  LoopState,
-  NoMore,
-  Over,
-  Peer,
-  PeerOutcome,
-  ServerValue,
-  Skipped,
-  Visited,
-  Way,
-  history_left,
-  history_then,
-  insert_entry,
-  keys_of,
-  loop_state,
-  no_history,
-  one_drop,
-  open_refusal,
-  server_dropped,
-  server_opened,
-  set_value_at,
-  status_of_peer,
-  visit,
-}
+use Rattle.coap_serve.specs.Prelude.{AreServed, CanGoOn, Continues, HasAccepted, HasGoneOn, HasOneMore, History}
+use Rattle.coap_serve.specs.Prelude.{IsAccepted, IsVisited, Journal, LoopState, NoMore, Over, Peer, PeerOutcome}
+use Rattle.coap_serve.specs.Prelude.{ServerValue, Skipped, Visited, Way, history_left, history_then, insert_entry}
+use Rattle.coap_serve.specs.Prelude.{keys_of, loop_state, no_history, one_drop, open_refusal, server_dropped}
+use Rattle.coap_serve.specs.Prelude.{server_opened, set_value_at, status_of_peer, visit}
 use Rattle.coap_serve.specs.listener.Turns.{new_activity}
 use Rattle.coap_server_engine.specs.declared.monitor.DropReason.{DropReason}
 use Rattle.coap_serve.specs.declared.door.peer.PeerOutcome.TheVariants.{Open}
-use Rattle.coap_serve.proofs.listener.EntryLemmas.{
-  back_removed,
-  back_written,
-  front_kept,
-  front_same,
-  front_stays,
-  front_written,
-  next_first,
-  same_length,
-  set_there,
-  some_at_index,
-}
+use Rattle.coap_serve.proofs.listener.EntryLemmas.{back_removed, back_written, front_kept, front_same, front_stays}
+use Rattle.coap_serve.proofs.listener.EntryLemmas.{front_written, next_first, same_length, set_there, some_at_index}
 use Rattle.coap_serve.proofs.listener.ServingLemmas.{accepted_then, then_none}
 
 -- Another connection was opened.

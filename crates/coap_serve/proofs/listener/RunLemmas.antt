@@ -1,5 +1,7 @@
 -- The parts of a run, one after another.
-use Rattle.std.proofs.Common.{ℕ, ◌≡◌, ◌==◌, Bool, true, false, length, is_none, List, [], ◌∷◌, Option, Some, None, Result, Ok, Err, OnOk, OnErr, refl, sym, ap, ◌∙◌, arith, inl, inr, le-leb, is_ok, if◌then◌else◌}
+use Rattle.std.proofs.Common.{ℕ, ◌≡◌, ◌==◌, Bool, true, false, length, is_none, List, [], ◌∷◌, Option, Some, None}
+use Rattle.std.proofs.Common.{Result, Ok, Err, OnOk, OnErr, refl, sym, ap, ◌∙◌, arith, inl, inr, le-leb, is_ok}
+use Rattle.std.proofs.Common.{if◌then◌else◌}
 use Rattle.std.specs.Prelude.{nat_le}
 use Rattle.std.proofs.lemmas.List.{append-nil, map-append}
 use Rattle.std.proofs.lemmas.Bool.Decides.{nat_tests}
@@ -10,19 +12,30 @@ use Rattle.coap_server_engine.specs.declared.io_fault.IoFault.TheVariants.{Read,
 use Rattle.coap_server_engine.proofs.values.ServerLemmas.{all_settled_stay}
 use Rattle.coap_server_engine.proofs.scripting.ShownLemmas.{shows_same}
 use Rattle.coap_server_engine.proofs.scripting.FollowLemmas.{followed_none, followed_then}
-use Rattle.coap_serve.specs.Prelude.{Answering, AnswersMore, AreAskedLater, AreCallsBetween, AreSteps, Continues, Following, FollowsMore, HasTurned, History, Journal, calls_only, history_then, journal, opening_then, AreSettled, DoorCall, IoFault, IsMemory, IsMemoryOrTurns, Memory, Peer, ServerValue, SessionValue, ShowsMore, TellsMore, Views, Wait, asked_by, open_refusal, server_ticked, EndsRun, Environment, HasRun, HasSwept, IsBegun, IsCutRun, IsCutTurn, IsRun, IsRunStep, IsTurnFor, KnownOfRun, KnownOfTurn, Matches, RunTrace, ServiceConfig, ServiceValue, Sweep, Times, acted, due_sweep, environment, exactly, known_of_run, moved_calls, moved_to, no_trace, plain_config, released_refusal, silence_action, some_waits, status_of, swept, swept_one, ticked_calls, trace_then, turn_trace, unswept, waited_behind}
+use Rattle.coap_serve.specs.Prelude.{Answering, AnswersMore, AreAskedLater, AreCallsBetween, AreSteps, Continues}
+use Rattle.coap_serve.specs.Prelude.{Following, FollowsMore, HasTurned, History, Journal, calls_only, history_then}
+use Rattle.coap_serve.specs.Prelude.{journal, opening_then, AreSettled, DoorCall, IoFault, IsMemory, IsMemoryOrTurns}
+use Rattle.coap_serve.specs.Prelude.{Memory, Peer, ServerValue, SessionValue, ShowsMore, TellsMore, Views, Wait}
+use Rattle.coap_serve.specs.Prelude.{asked_by, open_refusal, server_ticked, EndsRun, Environment, HasRun, HasSwept}
+use Rattle.coap_serve.specs.Prelude.{IsBegun, IsCutRun, IsCutTurn, IsRun, IsRunStep, IsTurnFor, KnownOfRun, KnownOfTurn}
+use Rattle.coap_serve.specs.Prelude.{Matches, RunTrace, ServiceConfig, ServiceValue, Sweep, Times, acted, due_sweep}
+use Rattle.coap_serve.specs.Prelude.{environment, exactly, known_of_run, moved_calls, moved_to, no_trace, plain_config}
+use Rattle.coap_serve.specs.Prelude.{released_refusal, silence_action, some_waits, status_of, swept, swept_one}
+use Rattle.coap_serve.specs.Prelude.{ticked_calls, trace_then, turn_trace, unswept, waited_behind}
 use Rattle.coap_serve.specs.listener.Histories.{NoStep}
 use Rattle.coap_serve.specs.listener.Run.{SilentReleased, SilentDropped, TimeSet, LaterGiven, TurnMade}
 use Rattle.coap_serve.specs.declared.door.silence.SilenceAction.{SilenceAction}
 use Rattle.coap_serve.specs.declared.door.silence.SilenceAction.TheVariants.{Keep, Release, Drop}
-use Rattle.coap_serve.proofs.listener.ServingLemmas.{answered_none, calls_made, continued_none, continued_then, one_step, steps_then}
+use Rattle.coap_serve.proofs.listener.ServingLemmas.{answered_none, calls_made, continued_none, continued_then}
+use Rattle.coap_serve.proofs.listener.ServingLemmas.{one_step, steps_then}
 
 -- ---- the time of the server
 
 -- The server has this time already.
 pub same_time : {v : ServerValue} {now : ℕ} → AreSettled v.host v.sessions → now ≡ v.host.now → v ≡ moved_to v now
 same_time {v = v} settled is =
-    let same : v ≡ server_ticked v v.host.now = sym (ap (λ (es : List (ℕ × SessionValue)). record v { sessions = es }) (all_settled_stay v.host v.sessions settled)) in
+    let same : v ≡ server_ticked v v.host.now = sym
+    (ap (λ (es : List (ℕ × SessionValue)). record v { sessions = es }) (all_settled_stay v.host v.sessions settled)) in
     rw (is, le-leb v.host.now v.host.now (omega arith)) same
 
 pub none_ticked : (v : ServerValue) {now : ℕ} → now ≡ v.host.now → ticked_calls v now ≡ []
@@ -31,94 +44,155 @@ none_ticked v is = grind (arith, nat_tests)
 -- ---- the history
 
 -- The call of the clock. If the time was earlier, nothing changed.
-pub time_called : {T E M : Type 0} (calls : M → Following) (m n : M) (r : Result T E) {v w : ServerValue} (moment : ℕ) → is_ok r ≡ nat_le v.host.now moment
-    → OnOk r (ShowsMore v w (ticked_calls v moment)) → OnOk r (FollowsMore (calls m) (calls n) (ticked_calls v moment)) → OnErr r ((w ≡ v) × (n ≡ m)) → AreCallsBetween (calls m) (calls n) v w (moved_calls v moment)
-time_called calls m n (Ok x) moment answer shows received err = record { shows = rw (← answer) shows; follows = rw (← answer) received }
-time_called calls m n (Err e) {v = v} {w = w} moment answer shows received err = record { shows = rw (← answer) (shows_same v w err.0); follows = rw (← answer, err.1) (followed_none (calls m)) }
+pub time_called : {T E M : Type 0} (calls : M → Following) (m n : M) (r : Result T E) {v w : ServerValue} (moment : ℕ)
+    → is_ok r ≡ nat_le v.host.now moment
+    → OnOk r (ShowsMore v w (ticked_calls v moment)) → OnOk r (FollowsMore (calls m) (calls n) (ticked_calls v moment))
+    → OnErr r ((w ≡ v) × (n ≡ m)) → AreCallsBetween (calls m) (calls n) v w (moved_calls v moment)
+time_called calls m n (Ok x) moment answer shows received err =
+    record { shows = rw (← answer) shows; follows = rw (← answer) received }
+time_called calls m n (Err e) {v = v} {w = w} moment answer shows received err = record {
+  shows = rw (← answer) (shows_same v w err.0);
+  follows = rw (← answer, err.1) (followed_none (calls m));
+}
 
-pub time_ran : {a b : Following} {p : Answering} {v w : ServerValue} (moment : ℕ) → w ≡ moved_to v moment → AreCallsBetween a b v w (moved_calls v moment) → HasRun (Continues (journal a p) (journal b p)) v w
+pub time_ran : {a b : Following} {p : Answering} {v w : ServerValue} (moment : ℕ) → w ≡ moved_to v moment
+    → AreCallsBetween a b v w (moved_calls v moment) → HasRun (Continues (journal a p) (journal b p)) v w
 time_ran moment moved made = calls_made (rw moved (one_step (TimeSet moment))) made
 
 -- Silent connections were released or dropped.
-acted_steps : {W : Type 0} (action : SilenceAction) (refusal : Option ReleaseFault) (now : ℕ) {v : ServerValue} (e : ℕ × Peer W)
+acted_steps : {W : Type 0} (action : SilenceAction) (refusal : Option ReleaseFault) (now : ℕ)
+    {v : ServerValue} (e : ℕ × Peer W)
     → AreSteps IsRunStep v (acted action refusal now v e).server (acted action refusal now v e).history
 acted_steps Keep refusal now e = NoStep
 acted_steps Release None now e = one_step (SilentReleased e.0)
 acted_steps Release (Some fault) now e = one_step (SilentDropped e.0)
 acted_steps Drop refusal now e = one_step (SilentDropped e.0)
 
-swept_steps : {W : Type 0} (idle now : ℕ) (v : ServerValue) (es : List (ℕ × Peer W)) → AreSteps IsRunStep v (swept idle now v es).server (swept idle now v es).history
+swept_steps : {W : Type 0} (idle now : ℕ) (v : ServerValue) (es : List (ℕ × Peer W))
+    → AreSteps IsRunStep v (swept idle now v es).server (swept idle now v es).history
 unfolding swept
 swept_steps idle now v [] = NoStep
 swept_steps idle now v (e ∷ es) =
-    steps_then (acted_steps (silence_action idle now (status_of v e.0) e.1.activity) (released_refusal v e.0) now e) (swept_steps idle now (swept_one idle now v e).server es)
+    steps_then (acted_steps (silence_action idle now (status_of v e.0) e.1.activity) (released_refusal v e.0) now e)
+    (swept_steps idle now (swept_one idle now v e).server es)
 
-due_steps : {W : Type 0} (idle : Option ℕ) (last second : ℕ) (v : ServerValue) (es : List (ℕ × Peer W)) → AreSteps IsRunStep v (due_sweep idle last second v es).server (due_sweep idle last second v es).history
+due_steps : {W : Type 0} (idle : Option ℕ) (last second : ℕ) (v : ServerValue) (es : List (ℕ × Peer W))
+    → AreSteps IsRunStep v (due_sweep idle last second v es).server (due_sweep idle last second v es).history
 due_steps None last second v es = NoStep
 due_steps (Some idle) last second v es =
-    elim (second == last) as (λ b. let s : Sweep _ = if b then unswept v es else swept idle second v es in AreSteps IsRunStep v s.server s.history) [
+    elim (second == last) as (λ b. let s : Sweep _ = if b then unswept v es else swept idle second v es in
+    AreSteps IsRunStep v s.server s.history) [
       | true ↦ NoStep
       | false ↦ swept_steps idle second v es
     ]
 
-pub sweep_ran : {W : Type 0} {Known : History → Type 0} (idle : Option ℕ) (last second : ℕ) {v after : ServerValue} (es : List (ℕ × Peer W)) → HasSwept Known (due_sweep idle last second v es) v after → HasRun Known v after
-sweep_ran idle last second {v = v} es swept = record { history = _; made = rw swept.server (due_steps idle last second v es); accepted = swept.accepted }
+pub sweep_ran : {W : Type 0} {Known : History → Type 0} (idle : Option ℕ) (last second : ℕ) {v after : ServerValue}
+    (es : List (ℕ × Peer W)) → HasSwept Known (due_sweep idle last second v es) v after → HasRun Known v after
+sweep_ran idle last second {v = v} es swept = record {
+  history = _;
+  made = rw swept.server (due_steps idle last second v es);
+  accepted = swept.accepted;
+}
 
 -- Later responses were given.
-pub later_ran : (a b : Following) (p q : Answering) {v w : ServerValue} {is_full : Bool} → AreAskedLater v 256 is_full w (FollowsMore a b) (AnswersMore p q) → HasRun (Continues (journal a p) (journal b q)) v w
+pub later_ran : (a b : Following) (p q : Answering) {v w : ServerValue} {is_full : Bool}
+    → AreAskedLater v 256 is_full w (FollowsMore a b) (AnswersMore p q)
+    → HasRun (Continues (journal a p) (journal b q)) v w
 later_ran a b p q {w = w} {is_full = is_full} given = record {
   history = record { events = given.events; exchanges = given.exchanges };
-  made = one_step (LaterGiven w _ is_full (record { number = given.number; events = given.events; exchanges = given.exchanges; given = given.given; within = given.within; over = given.over; shows = given.shows; tells = refl; exchanged = refl }));
+  made = one_step (LaterGiven w _ is_full (record {
+    number = given.number;
+    events = given.events;
+    exchanges = given.exchanges;
+    given = given.given;
+    within = given.within;
+    over = given.over;
+    shows = given.shows;
+    tells = refl;
+    exchanged = refl;
+  }));
   accepted = record { shows = given.shows; known = record { calls = given.tells; exchanged = given.exchanged } };
 }
 
 -- A turn was made, in full or in part.
 pub turn_ran : {Known : History → Type 0} {v w : ServerValue} → HasTurned Known v w → HasRun Known v w
-turn_ran {w = w} turned = record { history = turned.history; made = one_step (TurnMade w turned.history turned.made); accepted = turned.accepted }
+turn_ran {w = w} turned = record {
+  history = turned.history;
+  made = one_step (TurnMade w turned.history turned.made);
+  accepted = turned.accepted;
+}
 
 -- The turn ended.
-pub continued_to_end : {a b : Journal} {c : Following} {h : History} → Continues a b h → FollowsMore b.calls c [] → Continues a (journal c b.exchanges) h
-continued_to_end {a = a} {b = b} {c = c} {h = h} one ends = record { calls = rw append-nil at (followed_then a.calls b.calls c h.events [] one.calls ends); exchanged = one.exchanged }
+pub continued_to_end : {a b : Journal} {c : Following} {h : History} → Continues a b h → FollowsMore b.calls c []
+    → Continues a (journal c b.exchanges) h
+continued_to_end {a = a} {b = b} {c = c} {h = h} one ends = record {
+  calls = rw append-nil at (followed_then a.calls b.calls c h.events [] one.calls ends);
+  exchanged = one.exchanged;
+}
 
-pub ran_to_end : {a : Journal} {b c : Following} {p : Answering} {v w : ServerValue} → HasRun (Continues a (journal b p)) v w → FollowsMore b c [] → HasRun (Continues a (journal c p)) v w
-ran_to_end one ends = record { history = one.history; made = one.made; accepted = record { shows = one.accepted.shows; known = continued_to_end one.accepted.known ends } }
+pub ran_to_end : {a : Journal} {b c : Following} {p : Answering} {v w : ServerValue}
+    → HasRun (Continues a (journal b p)) v w → FollowsMore b c [] → HasRun (Continues a (journal c p)) v w
+ran_to_end one ends = record {
+  history = one.history;
+  made = one.made;
+  accepted = record { shows = one.accepted.shows; known = continued_to_end one.accepted.known ends };
+}
 
 -- ---- traces one after the other
 
-pub nothing_matches : {W : Type 0} (c u : Option (List ℕ)) (d : Option (List (DoorCall W))) (a : Journal) → Matches (known_of_run (TellsMore c c) (TellsMore u u) (TellsMore d d) (Continues a a)) no_trace
+pub nothing_matches : {W : Type 0} (c u : Option (List ℕ)) (d : Option (List (DoorCall W))) (a : Journal)
+    → Matches (known_of_run (TellsMore c c) (TellsMore u u) (TellsMore d d) (Continues a a)) no_trace
 nothing_matches c u d a = (told_none c, told_none u, told_none d, continued_none a)
 
 -- One more turn.
-module _ {C U D W : Type 0} (moments : C → Option (List ℕ)) (c0 c1 c2 : C) (seconds : U → Option (List ℕ)) (u0 u1 u2 : U) (calls : D → Option (List (DoorCall W))) (d0 d1 d2 d3 : D) where
-  pub turn_matches : {a b c : Journal} (t : RunTrace W) {turns : ℕ} (wait : Wait) (s : ServiceValue W) (times : Times) (asked : List (DoorCall W)) (h : History) {opens : Bool}
-      → Matches (known_of_run (TellsMore (moments c0) (moments c1)) (TellsMore (seconds u0) (seconds u1)) (TellsMore (calls d0) (calls d1)) (Continues a b)) t → length t.times ≡ turns → opens ≡ is_none (open_refusal s.state.server)
-      → TellsMore (moments c1) (moments c2) (times.now ∷ []) → TellsMore (seconds u1) (seconds u2) (times.second ∷ []) → TellsMore (calls d1) (calls d2) (waited_behind turns wait opens) → TellsMore (calls d2) (calls d3) asked → Continues b c h
-      → Matches (known_of_run (TellsMore (moments c0) (moments c2)) (TellsMore (seconds u0) (seconds u2)) (TellsMore (calls d0) (calls d3)) (Continues a c)) (trace_then t (turn_trace (length t.times) wait s times asked h))
+module _ {C U D W : Type 0} (moments : C → Option (List ℕ)) (c0 c1 c2 : C) (seconds : U → Option (List ℕ))
+    (u0 u1 u2 : U) (calls : D → Option (List (DoorCall W))) (d0 d1 d2 d3 : D) where
+  pub turn_matches : {a b c : Journal} (t : RunTrace W) {turns : ℕ} (wait : Wait) (s : ServiceValue W) (times : Times)
+      (asked : List (DoorCall W)) (h : History) {opens : Bool}
+      → Matches (known_of_run (TellsMore (moments c0) (moments c1)) (TellsMore (seconds u0) (seconds u1))
+      (TellsMore (calls d0) (calls d1)) (Continues a b)) t → length t.times ≡ turns
+      → opens ≡ is_none (open_refusal s.state.server)
+      → TellsMore (moments c1) (moments c2) (times.now ∷ []) → TellsMore (seconds u1) (seconds u2) (times.second ∷ [])
+      → TellsMore (calls d1) (calls d2) (waited_behind turns wait opens)
+      → TellsMore (calls d2) (calls d3) asked → Continues b c h
+      → Matches (known_of_run (TellsMore (moments c0) (moments c2)) (TellsMore (seconds u0) (seconds u2))
+      (TellsMore (calls d0) (calls d3)) (Continues a c))
+      (trace_then t (turn_trace (length t.times) wait s times asked h))
   turn_matches t wait s times asked h so_far counted is clock uptime waited door known = (
-    rw (map-append (λ (x : Times). x.now) t.times (times ∷ [])) (told_then (moments c0) (moments c1) (moments c2) _ _ so_far.0 clock),
-    rw (map-append (λ (x : Times). x.second) t.times (times ∷ [])) (told_then (seconds u0) (seconds u1) (seconds u2) _ _ so_far.1 uptime),
-    told_then (calls d0) (calls d1) (calls d3) t.calls _ so_far.2 (told_then (calls d1) (calls d2) (calls d3) _ asked (rw (← counted, is) at waited) door),
+    rw (map-append (λ (x : Times). x.now) t.times (times ∷ []))
+        (told_then (moments c0) (moments c1) (moments c2) _ _ so_far.0 clock),
+    rw (map-append (λ (x : Times). x.second) t.times (times ∷ []))
+        (told_then (seconds u0) (seconds u1) (seconds u2) _ _ so_far.1 uptime),
+    told_then (calls d0) (calls d1) (calls d3) t.calls _ so_far.2
+        (told_then (calls d1) (calls d2) (calls d3) _ asked (rw (← counted, is) at waited) door),
     continued_then t.history h so_far.3 known,
   )
 
 -- ---- the parts of a turn before its visits
 
 -- These parts, and what is known of them.
-pub record HasBegun {A W : Type 0} (follows : A → Answering) (rests : A → Type 0) (times : Times) (s : ServiceValue W) (Known : History → Type 0) (answered : ServerValue) (is_full : Bool) : Type 0 where
+pub record HasBegun {A W : Type 0} (follows : A → Answering) (rests : A → Type 0) (times : Times) (s : ServiceValue W)
+    (Known : History → Type 0) (answered : ServerValue) (is_full : Bool) : Type 0 where
   pub history : History
   pub begun : IsBegun follows rests times s (record { server = answered; is_full = is_full; history = history })
   pub known : Known history
 
-pub parts_begin : {A W : Type 0} {follows : A → Answering} {rests : A → Type 0} {times : Times} {s : ServiceValue W} (m0 m1 m2 m3 : Following) (x : Answering) (one other : A) {v1 v2 v3 : ServerValue} {is_full : Bool}
-    → HasSwept (Continues (journal m0 x) (journal m1 (follows one))) (due_sweep s.idle s.second times.second s.state.server s.state.entries) s.state.server v1
+pub parts_begin : {A W : Type 0} {follows : A → Answering} {rests : A → Type 0} {times : Times} {s : ServiceValue W}
+    (m0 m1 m2 m3 : Following) (x : Answering) (one other : A) {v1 v2 v3 : ServerValue} {is_full : Bool}
+    → HasSwept (Continues (journal m0 x) (journal m1 (follows one)))
+    (due_sweep s.idle s.second times.second s.state.server s.state.entries) s.state.server v1
     → v2 ≡ moved_to v1 times.now → FollowsMore m1 m2 (moved_calls v1 times.now)
-    → AreAskedLater v2 256 is_full v3 (FollowsMore m2 m3) (AnswersMore (follows one) (follows other)) → (is_full ≡ false → rests other)
+    → AreAskedLater v2 256 is_full v3 (FollowsMore m2 m3) (AnswersMore (follows one) (follows other))
+    → (is_full ≡ false → rests other)
     → HasBegun follows rests times s (Continues (journal m0 x) (journal m3 (follows other))) v3 is_full
 parts_begin {follows = follows} {times = times} {s = s} m0 m1 m2 m3 x one other swept moved received given idle =
     let sweep = due_sweep s.idle s.second times.second s.state.server s.state.entries in
-    let ticked : Continues (journal m1 (follows one)) (journal m2 (follows one)) (calls_only (moved_calls sweep.server times.now)) = record { calls = rw swept.server at received; exchanged = answered_none (follows one) } in
+    let ticked : Continues (journal m1 (follows one)) (journal m2 (follows one))
+    (calls_only (moved_calls sweep.server times.now)) =
+    record { calls = rw swept.server at received; exchanged = answered_none (follows one) } in
     let later : History = record { events = given.events; exchanges = given.exchanges } in
-    let answers : Continues (journal m2 (follows one)) (journal m3 (follows other)) later = record { calls = given.tells; exchanged = given.exchanged } in
+    let answers : Continues (journal m2 (follows one)) (journal m3 (follows other)) later =
+    record { calls = given.tells; exchanged = given.exchanged } in
     record {
       history = history_then sweep.history (history_then (calls_only (moved_calls sweep.server times.now)) later);
       begun = record {
@@ -144,9 +218,11 @@ parts_begin {follows = follows} {times = times} {s = s} m0 m1 m2 m3 x one other 
 -- ---- whole turns
 
 -- A turn whose calls of the listener and whose history are named.
-pub turn_named : {A W : Type 0} (follows : A → Answering) (rests : A → Type 0) (waits : A → ℕ → Wait → Type 0) (views : Views W) (one : A) {times : Times} {K : KnownOfTurn W} {s after : ServiceValue W} {wait : Wait}
+pub turn_named : {A W : Type 0} (follows : A → Answering) (rests : A → Type 0) (waits : A → ℕ → Wait → Type 0)
+    (views : Views W) (one : A) {times : Times} {K : KnownOfTurn W} {s after : ServiceValue W} {wait : Wait}
     → IsTurnFor (environment follows rests (waits one) views) times K s after wait
-    → (calls : List (DoorCall W)) × (h : History) × K.door calls × K.history h × IsTurnFor (environment follows rests (some_waits waits) views) times (exactly calls h) s after wait
+    → (calls : List (DoorCall W)) × (h : History) × K.door calls × K.history h
+    × IsTurnFor (environment follows rests (some_waits waits) views) times (exactly calls h) s after wait
 turn_named follows rests waits views one turn =
     let t = turn.turn in (
       asked_by turn.start.server t.opened.handed,
@@ -175,8 +251,10 @@ turn_named follows rests waits views one turn =
     )
 
 -- The same for a turn in which an allocation failed.
-pub cut_named : {A W : Type 0} {follows : A → Answering} {rests : A → Type 0} {times : Times} {K : KnownOfTurn W} {s : ServiceValue W} {last : ServerValue} → IsCutTurn follows rests times K s last
-    → (calls : List (DoorCall W)) × (h : History) × K.door calls × K.history h × IsCutTurn follows rests times (exactly calls h) s last
+pub cut_named : {A W : Type 0} {follows : A → Answering} {rests : A → Type 0} {times : Times} {K : KnownOfTurn W}
+    {s : ServiceValue W} {last : ServerValue} → IsCutTurn follows rests times K s last
+    → (calls : List (DoorCall W)) × (h : History) × K.door calls × K.history h
+    × IsCutTurn follows rests times (exactly calls h) s last
 cut_named turn = (
   asked_by turn.start.server turn.asked.0,
   history_then turn.start.history turn.cut.history,
@@ -186,13 +264,18 @@ cut_named turn = (
     start = turn.start;
     begun = turn.begun;
     asked = (turn.asked.0, refl);
-    cut = record { history = turn.cut.history; made = turn.cut.made; accepted = record { shows = turn.cut.accepted.shows; known = refl } };
+    cut = record {
+      history = turn.cut.history;
+      made = turn.cut.made;
+      accepted = record { shows = turn.cut.accepted.shows; known = refl };
+    };
   },
 )
 
 -- ---- the error of a run
 
-pub cut_ends : {A W : Type 0} (E : Environment A W) (c : ServiceConfig) (K : KnownOfRun W) (last : ServerValue) (fault : IoFault) → IsMemory fault → IsCutRun E c K last → EndsRun E c K last fault
+pub cut_ends : {A W : Type 0} (E : Environment A W) (c : ServiceConfig) (K : KnownOfRun W) (last : ServerValue)
+    (fault : IoFault) → IsMemory fault → IsCutRun E c K last → EndsRun E c K last fault
 cut_ends E c K last Memory is cut = inr cut
 cut_ends E c K last fault is cut = absurd is
 
@@ -204,13 +287,16 @@ memory_ends T fault is = absurd is
 -- ---- a run of which less is known
 
 -- The configuration without an application and without a limit of silence.
-pub is_plain : {c : ServiceConfig} (config : Config) → (c.config ≡ config) × (c.applications ≡ None) × (c.idle ≡ None) → c ≡ plain_config config
+pub is_plain : {c : ServiceConfig} (config : Config) → (c.config ≡ config) × (c.applications ≡ None) × (c.idle ≡ None)
+    → c ≡ plain_config config
 is_plain {c = c} config is =
-    ap (λ x. record { config = x; applications = c.applications; idle = c.idle }) is.0 ∙ ap (λ x. record { config = config; applications = x; idle = c.idle }) is.1
+    ap (λ x. record { config = x; applications = c.applications; idle = c.idle }) is.0
+    ∙ ap (λ x. record { config = config; applications = x; idle = c.idle }) is.1
     ∙ ap (λ x. record { config = config; applications = None; idle = x }) is.2
 
 module _ {A W : Type 0} (E : Environment A W) (c : ServiceConfig) (s t : KnownOfRun W)
-    (clock : (l : List ℕ) → s.clock l → t.clock l) (uptime : (l : List ℕ) → s.uptime l → t.uptime l) (door : (l : List (DoorCall W)) → s.turns.door l → t.turns.door l)
+    (clock : (l : List ℕ) → s.clock l → t.clock l) (uptime : (l : List ℕ) → s.uptime l → t.uptime l)
+    (door : (l : List (DoorCall W)) → s.turns.door l → t.turns.door l)
     (history : (h : History) → s.turns.history h → t.turns.history h)
   where
     matches_too : (x : RunTrace W) → Matches s x → Matches t x
@@ -246,6 +332,10 @@ module _ {A W : Type 0} (E : Environment A W) (c : ServiceConfig) (s t : KnownOf
     run_too (Ok x) never = never
     run_too (Err fault) run = record {
       last = run.last;
-      ran = record { history = run.ran.history; made = run.ran.made; accepted = record { shows = run.ran.accepted.shows; known = history run.ran.history run.ran.accepted.known } };
+      ran = record {
+        history = run.ran.history;
+        made = run.ran.made;
+        accepted = record { shows = run.ran.accepted.shows; known = history run.ran.history run.ran.accepted.known };
+      };
       ends = ends_too run.last fault run.ends;
     }

@@ -1,46 +1,7 @@
 -- The connections of a server and their transport sides, and those that sleep.
-use Rattle.std.proofs.Common.{
-  ◌≡◌,
-  ◌≢◌,
-  ℕ,
-  zero,
-  suc,
-  ◌+◌,
-  ◌<◌,
-  ◌≤◌,
-  Bool,
-  true,
-  false,
-  List,
-  ◌∷◌,
-  [],
-  ◌++◌,
-  length,
-  map,
-  nat_eq,
-  Option,
-  Some,
-  None,
-  IfSome,
-  OnOk,
-  OnErr,
-  Result,
-  Ok,
-  Err,
-  refl,
-  sym,
-  ap,
-  subst,
-  ◌∙◌,
-  inl,
-  inr,
-  arith,
-  remove,
-  slice_get,
-  ◌==◌,
-  ◌||◌,
-  is_some,
-}
+use Rattle.std.proofs.Common.{◌≡◌, ◌≢◌, ℕ, zero, suc, ◌+◌, ◌<◌, ◌≤◌, Bool, true, false, List, ◌∷◌, [], ◌++◌, length}
+use Rattle.std.proofs.Common.{map, nat_eq, Option, Some, None, IfSome, OnOk, OnErr, Result, Ok, Err, refl, sym, ap}
+use Rattle.std.proofs.Common.{subst, ◌∙◌, inl, inr, arith, remove, slice_get, ◌==◌, ◌||◌, is_some}
 use Rattle.std.specs.List.{position_or_len}
 use Rattle.std.specs.Set.{remove_key}
 use Rattle.std.proofs.lemmas.Bool.{cases_eq, cases_lt, or_parts}
@@ -52,36 +13,11 @@ use Rattle.indexmap.proofs.CallerLemmas.{keys-shift_remove_entry}
 use Rattle.indexmap.proofs.SetLemmas.{map-remove}
 use Rattle.coap_model.proofs.OptionLemmas.{one_made}
 use Rattle.coap_server_engine.specs.Prelude.{KeepsOthers, KeepsWork}
-use Rattle.coap_serve.specs.Prelude.{
-  AreAsleep,
-  ArePaired,
-  AreSettled,
-  CanGoOn,
-  ConnectionWork,
-  IsDistinct,
-  IsOutside,
-  KeepsBeside,
-  LiesAt,
-  MaySleep,
-  Peer,
-  PeerInterest,
-  PeerStatus,
-  ServerValue,
-  SleepOn,
-  bit_of,
-  insert_entry,
-  keys_of,
-  outlook_of,
-  peer_status,
-  server_dropped,
-  server_opened,
-  set_value_at,
-  shift_remove_entry,
-  status_with,
-  values_of,
-  wants_in,
-  wants_of,
-}
+use Rattle.coap_serve.specs.Prelude.{AreAsleep, ArePaired, AreSettled, CanGoOn, ConnectionWork, IsDistinct, IsOutside}
+use Rattle.coap_serve.specs.Prelude.{KeepsBeside, LiesAt, MaySleep, Peer, PeerInterest, PeerStatus, ServerValue}
+use Rattle.coap_serve.specs.Prelude.{SleepOn, bit_of, insert_entry, keys_of, outlook_of, peer_status, server_dropped}
+use Rattle.coap_serve.specs.Prelude.{server_opened, set_value_at, shift_remove_entry, status_with, values_of, wants_in}
+use Rattle.coap_serve.specs.Prelude.{wants_of}
 use Rattle.coap_serve.specs.declared.door.awake.Awake.{Awake}
 use Rattle.coap_server_engine.proofs.values.ServerLemmas.{lies_by_key, lies_still}
 use Rattle.coap_server_engine.proofs.values.WorkLemmas.{dropped_keys, opened_keeps, opened_keys}
@@ -286,24 +222,26 @@ module _ {W : Type 0} (readable writable : W → Option Bool) where
       → ((i : ℕ) → i ≢ at → IsOutside b.set.words i → IsOutside a.set.words i × IsOutside words i)
       → (IsOutside b.set.words at → MaySleep (peer_status readable writable after (id, p))) → AreAsleep readable
       writable a v es → AreAsleep readable writable b after now
-  asleep_beside {v = v} {after = after} {es = es} words at id was p keeps paired there is outside sleeps asleep = record {
-    each = λ i e here out.
-        elim (cases_eq i at) [
-          | inl same ↦
-              let found : Some e ≡ Some (id, p) = sym here ∙ ap (λ (xs : List (ℕ × Peer W)). slice_get xs i) is ∙
-              ap (slice_get (set_value_at es at p)) same ∙ set_there es at p id was there in
-              let entry : e ≡ (id, p) = cc in
-              rw entry (sleeps (rw same at out))
-          | inr apart ↦
-              let before : slice_get es i ≡ Some e = sym (each_written es at p i apart) ∙
-              sym (ap (λ (xs : List (ℕ × Peer W)). slice_get xs i) is) ∙ here in
-              let parts = outside i apart out in
-              let lies = lies_there paired i before in
-              let other : e.0 ≢ id = λ (same : e.0 ≡ id). apart (sym lies.index ∙ ap (λ k. position_or_len (nat_eq k)
-              (keys_of v.sessions)) same ∙ (lies_there paired at there).index) in
-              still_sleeps v after e (keeps.work i e.0 lies other parts.1) (asleep.each i e before parts.0)
-        ];
-  }
+  asleep_beside {v = v} {after = after} {es = es} words at id was p keeps paired there is outside sleeps asleep =
+      record {
+        each = λ i e here out.
+            elim (cases_eq i at) [
+              | inl same ↦
+                  let found : Some e ≡ Some (id, p) = sym here ∙ ap (λ (xs : List (ℕ × Peer W)). slice_get xs i) is ∙
+                  ap (slice_get (set_value_at es at p)) same ∙ set_there es at p id was there in
+                  let entry : e ≡ (id, p) = cc in
+                  rw entry (sleeps (rw same at out))
+              | inr apart ↦
+                  let before : slice_get es i ≡ Some e = sym (each_written es at p i apart) ∙
+                  sym (ap (λ (xs : List (ℕ × Peer W)). slice_get xs i) is) ∙ here in
+                  let parts = outside i apart out in
+                  let lies = lies_there paired i before in
+                  let other : e.0 ≢ id =
+                  λ (same : e.0 ≡ id). apart (sym lies.index ∙ ap (λ k. position_or_len (nat_eq k)
+                  (keys_of v.sessions)) same ∙ (lies_there paired at there).index) in
+                  still_sleeps v after e (keeps.work i e.0 lies other parts.1) (asleep.each i e before parts.0)
+            ];
+      }
 
   -- ---- an opened connection
 

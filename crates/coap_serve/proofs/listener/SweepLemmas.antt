@@ -1,83 +1,18 @@
 -- The effect of a sweep, connection by connection.
-use Rattle.std.proofs.Common.{
-  ℕ,
-  ◌≡◌,
-  ◌==◌,
-  true,
-  ◌+◌,
-  ◌<◌,
-  ◌≤◌,
-  List,
-  ◌++◌,
-  length,
-  take,
-  drop,
-  Option,
-  Some,
-  None,
-  refl,
-  sym,
-  ap,
-  ◌∙◌,
-  arith,
-  slice_get,
-  IfSome,
-  remove,
-  append_assoc,
-  option_map,
-  subst,
-}
+use Rattle.std.proofs.Common.{ℕ, ◌≡◌, ◌==◌, true, ◌+◌, ◌<◌, ◌≤◌, List, ◌++◌, length, take, drop, Option, Some, None}
+use Rattle.std.proofs.Common.{refl, sym, ap, ◌∙◌, arith, slice_get, IfSome, remove, append_assoc, option_map, subst}
 use Rattle.std.proofs.lemmas.List.{append-nil, drop_all, take_all}
 use Rattle.std.proofs.lemmas.Option.{same_Some, slice_get-map}
 use Rattle.std.proofs.lemmas.Bool.Decides.{nat_tests}
-use Rattle.coap_serve.specs.Prelude.{
-  IsReasonFor,
-  outlook_of,
-  keys_of,
-  set_value_at,
-  Peer,
-  SilenceAction,
-  LoopState,
-  loop_state,
-  Released,
-  ServerValue,
-  ArePaired,
-  Continues,
-  History,
-  IsAccepted,
-  Journal,
-  history_then,
-  no_history,
-  one_call,
-  one_drop,
-  server_released,
-  server_dropped,
-  released_refusal,
-  status_of,
-  released_at,
-  unswept,
-  silence_action,
-  acted,
-  drop_one,
-  due_sweep,
-  Sweep,
-  swept,
-  swept_one,
-  HasSwept,
-  HasSweptAt,
-}
+use Rattle.coap_serve.specs.Prelude.{IsReasonFor, outlook_of, keys_of, set_value_at, Peer, SilenceAction, LoopState}
+use Rattle.coap_serve.specs.Prelude.{loop_state, Released, ServerValue, ArePaired, Continues, History, IsAccepted}
+use Rattle.coap_serve.specs.Prelude.{Journal, history_then, no_history, one_call, one_drop, server_released}
+use Rattle.coap_serve.specs.Prelude.{server_dropped, released_refusal, status_of, released_at, unswept, silence_action}
+use Rattle.coap_serve.specs.Prelude.{acted, drop_one, due_sweep, Sweep, swept, swept_one, HasSwept, HasSweptAt}
 use Rattle.coap_server_engine.specs.declared.monitor.DropReason.TheVariants as drop
 use Rattle.coap_serve.specs.declared.door.silence.SilenceAction.TheVariants.{Keep, Release}
-use Rattle.coap_serve.proofs.listener.EntryLemmas.{
-  some_at_index,
-  next_first,
-  front_stays,
-  back_removed,
-  front_kept,
-  front_written,
-  back_written,
-  length_written,
-}
+use Rattle.coap_serve.proofs.listener.EntryLemmas.{some_at_index, next_first, front_stays, back_removed, front_kept}
+use Rattle.coap_serve.proofs.listener.EntryLemmas.{front_written, back_written, length_written}
 use Rattle.coap_serve.proofs.listener.SleepLemmas.{paired_written}
 use Rattle.coap_serve.proofs.listener.ServingLemmas.{accepted_none, accepted_then, then_none}
 

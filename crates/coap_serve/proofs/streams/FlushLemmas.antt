@@ -1,7 +1,11 @@
 -- A flush, one iteration after the other, as the code makes it and reports it to a monitor.
-use Rattle.std.proofs.Common.{◌≡◌, ℕ, suc, ◌≤◌, List, [], ◌∷◌, length, take, Option, Some, None, Bool, true, false, refl, sym, ap, ◌∙◌, arith, inl, inr, not}
+use Rattle.std.proofs.Common.{◌≡◌, ℕ, suc, ◌≤◌, List, [], ◌∷◌, length, take, Option, Some, None, Bool, true, false}
+use Rattle.std.proofs.Common.{refl, sym, ap, ◌∙◌, arith, inl, inr, not}
 use Rattle.std.proofs.lemmas.List.{append-nil, take_all}
-use Rattle.coap_serve.specs.Prelude.{Wrote, AddsBytes, WritesPart, FollowsMore, Following, ServerValue, waiting_at, more_at, flush_turns, flush_calls, calls_of_flush, IsFlushedOnce, IsReportedFlush, IsCutFlush, Reason, SessionValue, LiesAt, is_there, session_of, session_written, stop_on, waiting_in}
+use Rattle.coap_serve.specs.Prelude.{Wrote, AddsBytes, WritesPart, FollowsMore, Following, ServerValue, waiting_at}
+use Rattle.coap_serve.specs.Prelude.{more_at, flush_turns, flush_calls, calls_of_flush, IsFlushedOnce, IsReportedFlush}
+use Rattle.coap_serve.specs.Prelude.{IsCutFlush, Reason, SessionValue, LiesAt, is_there, session_of, session_written}
+use Rattle.coap_serve.specs.Prelude.{stop_on, waiting_in}
 use Rattle.coap_server_engine.proofs.values.ServerLemmas.{lies_where_taken}
 use Rattle.coap_io.proofs.streams.DeviceLemmas.{bytes_none, bytes_then}
 use Rattle.coap_server_engine.proofs.scripting.FollowLemmas.{followed_none, followed_then}
@@ -10,9 +14,10 @@ use Rattle.coap_server_engine.proofs.scripting.FollowLemmas.{followed_none, foll
 pub whole_part : {queued : List ℕ} (part : List ℕ) → part ≡ queued → part ≡ take (length part) queued
 whole_part {queued = queued} part is = rw is (sym (take_all (length queued) queued (omega arith)))
 
--- After these iterations the server is `now`. The outlet recorded `x` before the flush, and records `y`. `a` and `m` are
--- the records of the monitor.
-pub record ReportsFlush (id : ℕ) (v : ServerValue) (turns : ℕ) (now : ServerValue) (x y : Option (List ℕ)) (a m : Following) : Type 0 where
+-- After these iterations the server is `now`. The outlet recorded `x` before the flush, and records `y`. `a` and `m`
+-- are the records of the monitor.
+pub record ReportsFlush (id : ℕ) (v : ServerValue) (turns : ℕ) (now : ServerValue) (x y : Option (List ℕ))
+    (a m : Following) : Type 0 where
   pub server : now ≡ (flush_turns turns id v).server
   pub written : AddsBytes x y (flush_turns turns id v).text
   pub tells : FollowsMore a m (calls_of_flush turns id v)
@@ -22,17 +27,23 @@ unfolding flush_turns calls_of_flush
 report_begins id v x {a = a} = record { server = refl; written = bytes_none x; tells = followed_none a }
 
 -- The state after an iteration of the code: as above if it wrote something, otherwise the flush is complete.
-abbrev pub AfterFlush : ℕ → ServerValue → ℕ → ServerValue → (x y : Option (List ℕ)) (a m : Following) → (waited : Bool) → Type 0
+abbrev pub AfterFlush : ℕ → ServerValue → ℕ → ServerValue → (x y : Option (List ℕ)) (a m : Following)
+    → (waited : Bool) → Type 0
 AfterFlush id v turns now x y a m true = ReportsFlush id v turns now x y a m
 AfterFlush id v turns now x y a m false = IsReportedFlush id v now (AddsBytes x y) (FollowsMore a m)
 
-pub report_more : {id : ℕ} {v : ServerValue} (turns : ℕ) {now : ServerValue} (x y z : Option (List ℕ)) (a m n : Following) (next : ServerValue) (more : ℕ) (waited : Bool) → ReportsFlush id v turns now x y a m → turns ≤ suc (more_at id v) → more ≡ suc turns → IsFlushedOnce id now next (AddsBytes y z) waited
+pub report_more : {id : ℕ} {v : ServerValue} (turns : ℕ) {now : ServerValue} (x y z : Option (List ℕ))
+    (a m n : Following) (next : ServerValue) (more : ℕ) (waited : Bool) → ReportsFlush id v turns now x y a m
+    → turns ≤ suc (more_at id v) → more ≡ suc turns → IsFlushedOnce id now next (AddsBytes y z) waited
     → FollowsMore m n (flush_calls id now waited) → AfterFlush id v more next x z a n waited
 unfolding flush_turns calls_of_flush
 report_more {id = id} {v = v} turns {now = now} x y z a m n next more true so_far within one did told = rw one (record {
   server = cc (did.0, so_far.server);
-  written = rw so_far.server at (bytes_then x y z (flush_turns turns id v).text (waiting_at id now) so_far.written did.1);
-  tells = followed_then a m n (calls_of_flush turns id v) (Wrote id (length (waiting_at id (flush_turns turns id v).server)) ∷ []) so_far.tells (rw so_far.server at told);
+  written =
+      rw so_far.server at (bytes_then x y z (flush_turns turns id v).text (waiting_at id now) so_far.written did.1);
+  tells =
+      followed_then a m n (calls_of_flush turns id v)
+      (Wrote id (length (waiting_at id (flush_turns turns id v).server)) ∷ []) so_far.tells (rw so_far.server at told);
 })
 report_more {id = id} {v = v} turns x y z a m n next more false so_far within one did told = record {
   flushed = record {
@@ -45,12 +56,16 @@ report_more {id = id} {v = v} turns x y z a m n next more false so_far within on
   tells = rw append-nil at (followed_then a m n (calls_of_flush turns id v) [] so_far.tells told);
 }
 
-pub report_goes_on : {id : ℕ} {v : ServerValue} {turns : ℕ} {now : ServerValue} {x y : Option (List ℕ)} {a m : Following} (waited : Bool) → not waited ≡ false → AfterFlush id v turns now x y a m waited → ReportsFlush id v turns now x y a m
+pub report_goes_on : {id : ℕ} {v : ServerValue} {turns : ℕ} {now : ServerValue} {x y : Option (List ℕ)}
+    {a m : Following} (waited : Bool) → not waited ≡ false → AfterFlush id v turns now x y a m waited
+    → ReportsFlush id v turns now x y a m
 report_goes_on true is so_far = so_far
 report_goes_on false is so_far = absurd cc
 
 -- A write failed in one more iteration.
-pub report_cut : {id : ℕ} {v : ServerValue} {turns : ℕ} {now : ServerValue} (x y z : Option (List ℕ)) (a m : Following) → ReportsFlush id v turns now x y a m → turns ≤ more_at id v → WritesPart y z (waiting_at id now) → IsCutFlush id v (AddsBytes x z) (FollowsMore a m)
+pub report_cut : {id : ℕ} {v : ServerValue} {turns : ℕ} {now : ServerValue} (x y z : Option (List ℕ)) (a m : Following)
+    → ReportsFlush id v turns now x y a m → turns ≤ more_at id v → WritesPart y z (waiting_at id now)
+    → IsCutFlush id v (AddsBytes x z) (FollowsMore a m)
 report_cut {id = id} {v = v} {turns = turns} x y z a m so_far within wrote = record {
   turns = turns;
   within = within;
@@ -63,14 +78,24 @@ report_cut {id = id} {v = v} {turns = turns} x y z a m so_far within wrote = rec
 }
 
 -- The last iteration wrote nothing.
-pub report_stops : {id : ℕ} {v : ServerValue} (turns : ℕ) {now : ServerValue} (x y : Option (List ℕ)) (a m : Following) (waited : Bool) → not waited ≡ true → AfterFlush id v turns now x y a m waited → IsReportedFlush id v now (AddsBytes x y) (FollowsMore a m)
+pub report_stops : {id : ℕ} {v : ServerValue} (turns : ℕ) {now : ServerValue} (x y : Option (List ℕ)) (a m : Following)
+    (waited : Bool) → not waited ≡ true → AfterFlush id v turns now x y a m waited
+    → IsReportedFlush id v now (AddsBytes x y) (FollowsMore a m)
 report_stops turns x y a m true is so_far = absurd cc
 report_stops turns x y a m false is so_far = so_far
 
 -- All iterations were made.
-pub report_ends : {id : ℕ} {v : ServerValue} (turns : ℕ) {now : ServerValue} (x y : Option (List ℕ)) (a m : Following) (waited : Bool) → turns ≡ suc (more_at id v) → AfterFlush id v turns now x y a m waited → IsReportedFlush id v now (AddsBytes x y) (FollowsMore a m)
+pub report_ends : {id : ℕ} {v : ServerValue} (turns : ℕ) {now : ServerValue} (x y : Option (List ℕ)) (a m : Following)
+    (waited : Bool) → turns ≡ suc (more_at id v) → AfterFlush id v turns now x y a m waited
+    → IsReportedFlush id v now (AddsBytes x y) (FollowsMore a m)
 report_ends turns x y a m true all so_far = record {
-  flushed = record { turns = turns; within = omega (arith, all); done = inr all; server = so_far.server; written = so_far.written };
+  flushed = record {
+    turns = turns;
+    within = omega (arith, all);
+    done = inr all;
+    server = so_far.server;
+    written = so_far.written;
+  };
   tells = so_far.tells;
 }
 report_ends turns x y a m false all so_far = so_far
@@ -78,8 +103,10 @@ report_ends turns x y a m false all so_far = so_far
 -- ---- the index of the connection
 
 -- The connection keeps its index.
-pub flushed_lies : (id i : ℕ) (v after : ServerValue) (wrote : List ℕ → Type 0) (waited : Bool) → LiesAt id i v.sessions → IsFlushedOnce id v after wrote waited → LiesAt id i after.sessions
-flushed_lies id i v after wrote true lies did = rw did.0 (lies_where_taken id i (λ s. session_written s (length (waiting_at id v))) v.host v.sessions lies)
+pub flushed_lies : (id i : ℕ) (v after : ServerValue) (wrote : List ℕ → Type 0) (waited : Bool) → LiesAt id i v.sessions
+    → IsFlushedOnce id v after wrote waited → LiesAt id i after.sessions
+flushed_lies id i v after wrote true lies did =
+    rw did.0 (lies_where_taken id i (λ s. session_written s (length (waiting_at id v))) v.host v.sessions lies)
 flushed_lies id i v after wrote false lies did = rw did.1 lies
 
 none_waits : (o : Option SessionValue) → false ≡ is_there o → waiting_in o ≡ []
@@ -91,9 +118,16 @@ none_stops None none = refl
 none_stops (Some s) none = absurd cc
 
 -- There is no connection with this id.
-pub none_flushed : (id : ℕ) {v : ServerValue} (x : Option (List ℕ)) (a : Following) → false ≡ is_there (session_of id v.sessions) → IsReportedFlush id v v (AddsBytes x x) (FollowsMore a a)
+pub none_flushed : (id : ℕ) {v : ServerValue} (x : Option (List ℕ)) (a : Following)
+    → false ≡ is_there (session_of id v.sessions) → IsReportedFlush id v v (AddsBytes x x) (FollowsMore a a)
 unfolding flush_turns calls_of_flush
 none_flushed id {v = v} x a none = record {
-  flushed = record { turns = 0; within = omega arith; done = inl (none_waits (session_of id v.sessions) none); server = refl; written = bytes_none x };
+  flushed = record {
+    turns = 0;
+    within = omega arith;
+    done = inl (none_waits (session_of id v.sessions) none);
+    server = refl;
+    written = bytes_none x;
+  };
   tells = followed_none a;
 }

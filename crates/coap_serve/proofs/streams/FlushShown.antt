@@ -1,10 +1,17 @@
 -- A flush of a server that shows a world is the flush of that world, and no byte is queued after it. If it ends in the
 -- world for some bytes, the whole output for them was written.
-use Rattle.std.proofs.Common.{◌≡◌, ◌⊎◌, ℕ, zero, suc, ◌+◌, ◌≤◌, ◌==◌, List, [], ◌∷◌, ◌++◌, length, map, Option, Some, None, refl, sym, ap, subst, ◌∙◌, append_assoc, arith, inl, inr}
+use Rattle.std.proofs.Common.{◌≡◌, ◌⊎◌, ℕ, zero, suc, ◌+◌, ◌≤◌, ◌==◌, List, [], ◌∷◌, ◌++◌, length, map, Option, Some}
+use Rattle.std.proofs.Common.{None, refl, sym, ap, subst, ◌∙◌, append_assoc, arith, inl, inr}
 use Rattle.std.proofs.lemmas.Bool.{cond_both}
 use Rattle.std.proofs.lemmas.Bool.Decides.{nat_tests}
 use Rattle.std.proofs.lemmas.List.{append-nil, length-append, length-map}
-use Rattle.coap_serve.specs.Prelude.{ConfigValues, ServerValue, SessionValue, session_of, session_written, session_becomes, settled_entry, server_written, waiting_in, waiting_at, more_in, more_at, flush_turns, IsFlushed, Connection, waiting_on, side_written, settled, World, side_of, AcceptedCall, Wrote, stream_on, steps_by, world_after, spelled_on, Shows, session_shown, only_id, stream_of, more_of, written_times, flushed, world_for, Outcome, stdio_output, IsAtBytes, AreTransfers, HasReported, IsReportedFlush, FollowsMore, Following, calls_of_flush}
+use Rattle.coap_serve.specs.Prelude.{ConfigValues, ServerValue, SessionValue, session_of, session_written}
+use Rattle.coap_serve.specs.Prelude.{session_becomes, settled_entry, server_written, waiting_in, waiting_at, more_in}
+use Rattle.coap_serve.specs.Prelude.{more_at, flush_turns, IsFlushed, Connection, waiting_on, side_written, settled}
+use Rattle.coap_serve.specs.Prelude.{World, side_of, AcceptedCall, Wrote, stream_on, steps_by, world_after, spelled_on}
+use Rattle.coap_serve.specs.Prelude.{Shows, session_shown, only_id, stream_of, more_of, written_times, flushed}
+use Rattle.coap_serve.specs.Prelude.{world_for, Outcome, stdio_output, IsAtBytes, AreTransfers, HasReported}
+use Rattle.coap_serve.specs.Prelude.{IsReportedFlush, FollowsMore, Following, calls_of_flush}
 use Rattle.coap_serve.proofs.streams.CallLemmas.{transfers_written, all_transferred}
 use Rattle.coap_model.specs.world.World as world
 use Rattle.coap_model.proofs.world.StepLaws.{world_step, spelled_same}
@@ -13,14 +20,16 @@ use Rattle.coap_model.proofs.streams.FlushLaws.{flushed_so, times_further, flush
 use Rattle.coap_model.proofs.streams.OutputLaws.{world_for_written, outcome_there}
 use Rattle.coap_server_engine.proofs.world.ShowLaws.{side_there, shows_written, no_session}
 use Rattle.coap_model.proofs.world.GoingOn.{GoesOn, as_before, written_goes_on, side_is}
-use Rattle.coap_model.proofs.world.GrowLaws.{front_written, same_front, none_waits_all_written, written_all, settled_grows}
+use Rattle.coap_model.proofs.world.GrowLaws.{front_written, same_front, none_waits_all_written, written_all}
+use Rattle.coap_model.proofs.world.GrowLaws.{settled_grows}
 use Rattle.coap_model.proofs.world.WalkLaws.{written_between}
 use Rattle.coap_model.proofs.world.AcrossLaws.{written_there}
 use Rattle.coap_server_engine.proofs.scripting.FollowLemmas.{followed_then}
 
 -- The server after some iterations of a flush shows this world, and these bytes were written. `more` are the calls of
 -- these iterations.
-pub record FlushShown (c : ConfigValues) (es : List AcceptedCall) (id : ℕ) (s : Connection) (turns : ℕ) (after : ServerValue) (text : List ℕ) (more : List AcceptedCall) : Type 0 where
+pub record FlushShown (c : ConfigValues) (es : List AcceptedCall) (id : ℕ) (s : Connection) (turns : ℕ)
+    (after : ServerValue) (text : List ℕ) (more : List AcceptedCall) : Type 0 where
   pub config : after.config ≡ c
   pub events : List AcceptedCall
   pub shows : Shows after events
@@ -30,7 +39,8 @@ pub record FlushShown (c : ConfigValues) (es : List AcceptedCall) (id : ℕ) (s 
   pub there : side_of id (world_after c events).sides ≡ Some side
   pub said : front_written side ≡ front_written s ++ text
   pub made : events ≡ es ++ more
-  pub transfers : (taken : List ℕ) (written : ℕ) → AreTransfers c id taken written es → AreTransfers c id taken (written + length text) events
+  pub transfers : (taken : List ℕ) (written : ℕ) → AreTransfers c id taken written es
+      → AreTransfers c id taken (written + length text) events
 
 -- A server of this configuration shows a world in which the connection with this number is this one.
 pub record ShowsSide (c : ConfigValues) (v : ServerValue) (id : ℕ) (s : Connection) : Type 0 where
@@ -41,7 +51,8 @@ pub record ShowsSide (c : ConfigValues) (v : ServerValue) (id : ℕ) (s : Connec
 
 -- The same for the only connection. A flush leads from this world to the world for these bytes, and the connection
 -- received the stream that they encode. The monitor received the calls that led to this world.
-pub record LeadsTo (c : ConfigValues) (v : ServerValue) (s : Connection) (bytes : List ℕ) (monitor : List AcceptedCall → Type 0) : Type 0 where
+pub record LeadsTo (c : ConfigValues) (v : ServerValue) (s : Connection) (bytes : List ℕ)
+    (monitor : List AcceptedCall → Type 0) : Type 0 where
   pub config : v.config ≡ c
   pub events : List AcceptedCall
   pub shows : Shows v events
@@ -52,7 +63,8 @@ pub record LeadsTo (c : ConfigValues) (v : ServerValue) (s : Connection) (bytes 
   pub tells : monitor events
 
 -- The server has accepted these bytes. After the prefix `front` of their output, the whole rest of it was written.
-pub record StandsBehind (c : ConfigValues) (bytes front : List ℕ) (after : ServerValue) (wrote : List ℕ → Type 0) (monitor : List AcceptedCall → Type 0) : Type 0 where
+pub record StandsBehind (c : ConfigValues) (bytes front : List ℕ) (after : ServerValue) (wrote : List ℕ → Type 0)
+    (monitor : List AcceptedCall → Type 0) : Type 0 where
   pub stands : IsAtBytes c after bytes monitor
   pub text : List ℕ
   pub says : stdio_output c bytes ≡ front ++ text
@@ -63,14 +75,19 @@ module _ (c : ConfigValues) (v : ServerValue) (id : ℕ) (s : Connection) (from 
   es = from.events
 
   -- One more iteration.
-  module _ (turns : ℕ) (now : ServerValue) (text : List ℕ) (more : List AcceptedCall) (so_far : FlushShown c es id s turns now text more) where
-    session_is : session_of id now.sessions ≡ Some (session_shown (stream_on now.config.limits.max_message id so_far.events).rest so_far.side)
-    session_is = side_there now so_far.events id so_far.side so_far.shows (ap (λ (k : ConfigValues). side_of id (world_after k so_far.events).sides) so_far.config ∙ so_far.there)
+  module _ (turns : ℕ) (now : ServerValue) (text : List ℕ) (more : List AcceptedCall)
+      (so_far : FlushShown c es id s turns now text more) where
+    session_is : session_of id now.sessions
+        ≡ Some (session_shown (stream_on now.config.limits.max_message id so_far.events).rest so_far.side)
+    session_is =
+        side_there now so_far.events id so_far.side so_far.shows
+        (ap (λ (k : ConfigValues). side_of id (world_after k so_far.events).sides) so_far.config ∙ so_far.there)
 
     waits_shown : waiting_at id now ≡ waiting_on so_far.side
     waits_shown = ap waiting_in session_is
 
-    turn_shown : FlushShown c es id s (suc turns) (server_written now id (length (waiting_at id now))) (text ++ waiting_at id now) (more ++ Wrote id (length (waiting_at id now)) ∷ [])
+    turn_shown : FlushShown c es id s (suc turns) (server_written now id (length (waiting_at id now)))
+        (text ++ waiting_at id now) (more ++ Wrote id (length (waiting_at id now)) ∷ [])
     unfolding written_times steps_by
     turn_shown =
         let fs : List AcceptedCall = so_far.events in
@@ -79,26 +96,34 @@ module _ (c : ConfigValues) (v : ServerValue) (id : ℕ) (s : Connection) (from 
         let count : ℕ = length (waiting_at id now) in
         let wrote : Connection = side_written t count in
         let next : Connection = settled w.store w.now wrote in
-        let next_step : world_after c (fs ++ Wrote id count ∷ []) ≡ world.step c.limits w (world.Written id count) = world_step c fs (Wrote id count) (world.Written id count) refl in
+        let next_step : world_after c (fs ++ Wrote id count ∷ []) ≡ world.step c.limits w (world.Written id count) =
+        world_step c fs (Wrote id count) (world.Written id count) refl in
         record {
           config = so_far.config;
           events = fs ++ Wrote id count ∷ [];
-          shows = shows_written now fs id count _ so_far.shows session_is (omega (arith, ap (λ (b : List ℕ). length b) waits_shown));
+          shows =
+              shows_written now fs id count _ so_far.shows session_is
+              (omega (arith, ap (λ (b : List ℕ). length b) waits_shown));
           world = rw (← so_far.world, so_far.there, ← waits_shown) next_step;
           spelled = spelled_same c.limits.max_message id fs (Wrote id count) refl (λ N. refl) ∙ so_far.spelled;
           side = next;
           there = ap (λ (u : World). side_of id u.sides) next_step ∙ written_there c.limits w id count t so_far.there;
           said =
-              same_front wrote next ((written_between GoesOn as_before written_goes_on t count).history (side_is c fs id t so_far.there).is_history) (settled_grows w.store w.now wrote)
+              same_front wrote next ((written_between GoesOn as_before written_goes_on t count).history
+              (side_is c fs id t so_far.there).is_history) (settled_grows w.store w.now wrote)
               ∙ rw (waits_shown, written_all, so_far.said) (append_assoc (front_written s) text (waiting_on t));
-          made = ap (λ (gs : List AcceptedCall). gs ++ Wrote id count ∷ []) so_far.made ∙ append_assoc es more (Wrote id count ∷ []);
+          made =
+              ap (λ (gs : List AcceptedCall). gs ++ Wrote id count ∷ []) so_far.made
+              ∙ append_assoc es more (Wrote id count ∷ []);
           transfers = λ taken written before.
-              subst (λ (n : ℕ). AreTransfers c id taken n (fs ++ Wrote id count ∷ [])) (omega (arith, length-append text (waiting_at id now)))
+              subst (λ (n : ℕ). AreTransfers c id taken n (fs ++ Wrote id count ∷ []))
+              (omega (arith, length-append text (waiting_at id now)))
               (transfers_written c id count fs (so_far.transfers taken written before));
         }
 
   -- All iterations.
-  pub flushing : (turns : ℕ) → FlushShown c es id s turns (flush_turns turns id v).server (flush_turns turns id v).text (calls_of_flush turns id v)
+  pub flushing : (turns : ℕ) → FlushShown c es id s turns (flush_turns turns id v).server (flush_turns turns id v).text
+      (calls_of_flush turns id v)
   unfolding flush_turns written_times calls_of_flush
   flushing zero = record {
     config = from.config;
@@ -112,66 +137,90 @@ module _ (c : ConfigValues) (v : ServerValue) (id : ℕ) (s : Connection) (from 
     made = sym (append-nil es);
     transfers = λ taken written before. subst (λ (n : ℕ). AreTransfers c id taken n es) (omega arith) before;
   }
-  flushing (suc turns) = turn_shown turns (flush_turns turns id v).server (flush_turns turns id v).text (calls_of_flush turns id v) (flushing turns)
+  flushing (suc turns) =
+      turn_shown turns (flush_turns turns id v).server (flush_turns turns id v).text
+      (calls_of_flush turns id v) (flushing turns)
 
   more_there : more_at id v ≡ more_of (Some s)
   more_there =
-      ap more_in (side_there v es id s from.shows (ap (λ (k : ConfigValues). side_of id (world_after k es).sides) from.config ∙ from.there))
+      ap more_in (side_there v es id s from.shows
+      (ap (λ (k : ConfigValues). side_of id (world_after k es).sides) from.config ∙ from.there))
       ∙ ap (λ (n : ℕ). length s.history.held + n) (length-map s.observers _)
 
   -- After all iterations, or those after which no byte is queued, the world is the flushed one.
-  whole : (turns : ℕ) → turns ≤ suc (more_at id v) → (waiting_at id (flush_turns turns id v).server ≡ []) ⊎ (turns ≡ suc (more_at id v)) → written_times c.limits id turns (world_after c es) ≡ flushed c.limits id (world_after c es)
+  whole : (turns : ℕ) → turns ≤ suc (more_at id v)
+      → (waiting_at id (flush_turns turns id v).server ≡ []) ⊎ (turns ≡ suc (more_at id v))
+      → written_times c.limits id turns (world_after c es) ≡ flushed c.limits id (world_after c es)
   whole turns within done =
       let f = flushing turns in
       let w : World = world_after c es in
       elim done [
         | inl none ↦
-            times_further c.limits id turns (suc (more_of (Some s))) w f.side (world_hears c es) (rw (← f.world) f.there)
-            (sym (waits_shown turns (flush_turns turns id v).server (flush_turns turns id v).text (calls_of_flush turns id v) f) ∙ none) (omega (arith, within, more_there))
+            times_further c.limits id turns (suc (more_of (Some s))) w f.side
+            (world_hears c es) (rw (← f.world) f.there)
+            (sym (waits_shown turns (flush_turns turns id v).server (flush_turns turns id v).text
+            (calls_of_flush turns id v) f) ∙ none) (omega (arith, within, more_there))
         | inr all ↦ ap (λ (n : ℕ). written_times c.limits id n w) (all ∙ ap (λ (n : ℕ). suc n) more_there)
       ]
       ∙ sym (flushed_so c.limits id w s from.there)
 
   -- No byte is queued then.
-  none_waits : (turns : ℕ) → turns ≤ suc (more_at id v) → (waiting_at id (flush_turns turns id v).server ≡ []) ⊎ (turns ≡ suc (more_at id v)) → waiting_at id (flush_turns turns id v).server ≡ []
+  none_waits : (turns : ℕ) → turns ≤ suc (more_at id v)
+      → (waiting_at id (flush_turns turns id v).server ≡ []) ⊎ (turns ≡ suc (more_at id v))
+      → waiting_at id (flush_turns turns id v).server ≡ []
   none_waits turns within done =
       let f = flushing turns in
       let left = flush_leaves c.limits id (world_after c es) s from.there in
-      let flushed_there : side_of id (flushed c.limits id (world_after c es)).sides ≡ Some f.side = rw (← whole turns within done, ← f.world) f.there in
+      let flushed_there : side_of id (flushed c.limits id (world_after c es)).sides ≡ Some f.side =
+      rw (← whole turns within done, ← f.world) f.there in
       let none : waiting_on f.side ≡ [] = cc (flushed_there, left.0.there, left.1) in
-      waits_shown turns (flush_turns turns id v).server (flush_turns turns id v).text (calls_of_flush turns id v) f ∙ none
+      waits_shown turns (flush_turns turns id v).server (flush_turns turns id v).text (calls_of_flush turns id v) f
+      ∙ none
 
-  pub leaves_nothing : {after : ServerValue} {wrote : List ℕ → Type 0} → IsFlushed id v after wrote → waiting_at id after ≡ []
+  pub leaves_nothing : {after : ServerValue} {wrote : List ℕ → Type 0} → IsFlushed id v after wrote
+      → waiting_at id after ≡ []
   leaves_nothing did = rw did.server (none_waits did.turns did.within (rw did.server at did.done))
 
 -- ---- any connection
 
 -- If no connection has the number, none has it after iterations of a flush.
-absent_entries : (id : ℕ) (f : ℕ × SessionValue → ℕ × SessionValue) (es : List (ℕ × SessionValue)) → ((e : ℕ × SessionValue) → (f e).0 ≡ e.0) → session_of id es ≡ None → session_of id (map f es) ≡ None
+absent_entries : (id : ℕ) (f : ℕ × SessionValue → ℕ × SessionValue) (es : List (ℕ × SessionValue))
+    → ((e : ℕ × SessionValue) → (f e).0 ≡ e.0) → session_of id es ≡ None → session_of id (map f es) ≡ None
 unfolding session_of
 absent_entries id f [] keeps none = refl
 absent_entries id f (e ∷ es) keeps none = grind (arith, nat_tests, keeps e, none, absent_entries id f es keeps)
 
-absent_turns : (id : ℕ) (v : ServerValue) (turns : ℕ) → session_of id v.sessions ≡ None → session_of id (flush_turns turns id v).server.sessions ≡ None
+absent_turns : (id : ℕ) (v : ServerValue) (turns : ℕ) → session_of id v.sessions ≡ None
+    → session_of id (flush_turns turns id v).server.sessions ≡ None
 unfolding flush_turns
 absent_turns id v zero none = none
 absent_turns id v (suc turns) none =
     let u : ServerValue = (flush_turns turns id v).server in
-    let becomes : ℕ × SessionValue → ℕ × SessionValue = session_becomes id (λ s. session_written s (length (waiting_at id u))) in
+    let becomes : ℕ × SessionValue → ℕ × SessionValue =
+    session_becomes id (λ s. session_written s (length (waiting_at id u))) in
     absent_entries id (settled_entry u.host) (map becomes u.sessions) (λ e. refl)
-    (absent_entries id becomes u.sessions (λ e. cond_both (e.0 == id) _ _ (λ (x : ℕ × SessionValue). x.0 ≡ e.0) (λ is. refl) (λ apart. refl)) (absent_turns id v turns none))
+    (absent_entries id becomes u.sessions
+    (λ e. cond_both (e.0 == id) _ _ (λ (x : ℕ × SessionValue). x.0 ≡ e.0) (λ is. refl) (λ apart. refl))
+    (absent_turns id v turns none))
 
 -- A flush leaves no byte queued on the connection with this number, if there is one.
-flush_on : (v after : ServerValue) (es : List AcceptedCall) (id : ℕ) (wrote : List ℕ → Type 0) (found : Option Connection) → Shows v es → side_of id (world_after v.config es).sides ≡ found → IsFlushed id v after wrote → waiting_at id after ≡ []
-flush_on v after es id wrote (Some s) shows there did = leaves_nothing v.config v id s (record { config = refl; events = es; shows = shows; there = there }) did
-flush_on v after es id wrote None shows absent did = rw did.server (ap waiting_in (absent_turns id v did.turns (no_session v es id shows absent)))
+flush_on : (v after : ServerValue) (es : List AcceptedCall) (id : ℕ) (wrote : List ℕ → Type 0)
+    (found : Option Connection) → Shows v es → side_of id (world_after v.config es).sides ≡ found
+    → IsFlushed id v after wrote → waiting_at id after ≡ []
+flush_on v after es id wrote (Some s) shows there did =
+    leaves_nothing v.config v id s (record { config = refl; events = es; shows = shows; there = there }) did
+flush_on v after es id wrote None shows absent did =
+    rw did.server (ap waiting_in (absent_turns id v did.turns (no_session v es id shows absent)))
 
-pub flush_empties : (v after : ServerValue) (es : List AcceptedCall) (id : ℕ) (wrote : List ℕ → Type 0) → Shows v es → IsFlushed id v after wrote → waiting_at id after ≡ []
-flush_empties v after es id wrote shows did = flush_on v after es id wrote (side_of id (world_after v.config es).sides) shows refl did
+pub flush_empties : (v after : ServerValue) (es : List AcceptedCall) (id : ℕ) (wrote : List ℕ → Type 0) → Shows v es
+    → IsFlushed id v after wrote → waiting_at id after ≡ []
+flush_empties v after es id wrote shows did =
+    flush_on v after es id wrote (side_of id (world_after v.config es).sides) shows refl did
 
 -- ---- the only connection
 
-module _ (c : ConfigValues) (v : ServerValue) (s : Connection) (bytes : List ℕ) (monitor : List AcceptedCall → Type 0) (leads : LeadsTo c v s bytes monitor) where
+module _ (c : ConfigValues) (v : ServerValue) (s : Connection) (bytes : List ℕ) (monitor : List AcceptedCall → Type 0)
+    (leads : LeadsTo c v s bytes monitor) where
   abbrev id : ℕ
   id = only_id c
 
@@ -179,33 +228,45 @@ module _ (c : ConfigValues) (v : ServerValue) (s : Connection) (bytes : List ℕ
   from = record { config = leads.config; events = leads.events; shows = leads.shows; there = leads.there }
 
   -- The calls of these iterations follow those before the flush.
-  module _ (turns : ℕ) (later : List AcceptedCall → Type 0) (tells : later (leads.events ++ calls_of_flush turns id v)) where
+  module _ (turns : ℕ) (later : List AcceptedCall → Type 0)
+      (tells : later (leads.events ++ calls_of_flush turns id v)) where
     -- After all iterations, or those after which no byte is queued, the world is that for the bytes.
-    turns_stand : turns ≤ suc (more_at id v) → (waiting_at id (flush_turns turns id v).server ≡ []) ⊎ (turns ≡ suc (more_at id v))
-        → IsAtBytes c (flush_turns turns id v).server bytes later × (stdio_output c bytes ≡ front_written s ++ (flush_turns turns id v).text)
+    turns_stand : turns ≤ suc (more_at id v)
+        → (waiting_at id (flush_turns turns id v).server ≡ []) ⊎ (turns ≡ suc (more_at id v))
+        → IsAtBytes c (flush_turns turns id v).server bytes later
+        × (stdio_output c bytes ≡ front_written s ++ (flush_turns turns id v).text)
     turns_stand within done =
         let f = flushing c v id s from turns in
         let ends = f.world ∙ whole c v id s from turns within done ∙ leads.flushes in
         let all = world_for_written c bytes in
         let is_there : side_of id (world_for c bytes).sides ≡ Some f.side = rw (← ends) f.there in
         let none : waiting_on f.side ≡ [] = cc (is_there, all.there, all.waits) in
-        let said = ap (λ (o : Outcome). o.output) (outcome_there c bytes f.side is_there) ∙ sym (none_waits_all_written f.side none) ∙ f.said in
+        let said = ap (λ (o : Outcome). o.output) (outcome_there c bytes f.side is_there)
+        ∙ sym (none_waits_all_written f.side none) ∙ f.said in
         let count : length (front_written s) + length (flush_turns turns id v).text ≡ length (stdio_output c bytes) =
-        omega (arith, ap (λ (b : List ℕ). length b) said, length-append (front_written s) (flush_turns turns id v).text) in (
+        omega (
+          arith,
+          ap (λ (b : List ℕ). length b) said,
+          length-append (front_written s) (flush_turns turns id v).text,
+        ) in (
           record {
             config = f.config;
             events = f.events;
             shows = f.shows;
             world = ends;
             spelled = λ still. f.spelled ∙ leads.spelled;
-            transfers = all_transferred c bytes (subst (λ (n : ℕ). AreTransfers c id bytes n f.events) count (f.transfers bytes (length (front_written s)) leads.transfers));
+            transfers =
+                all_transferred c bytes (subst (λ (n : ℕ). AreTransfers c id bytes n f.events) count
+                (f.transfers bytes (length (front_written s)) leads.transfers));
             tells = rw f.made tells;
           },
           said,
         )
 
     -- The report of these iterations.
-    pub turns_reported : (r : HasReported c later bytes (length (front_written s) + length (flush_turns turns id v).text)) × (r.server ≡ (flush_turns turns id v).server)
+    pub turns_reported :
+        (r : HasReported c later bytes (length (front_written s) + length (flush_turns turns id v).text))
+        × (r.server ≡ (flush_turns turns id v).server)
     turns_reported =
         let f = flushing c v id s from turns in (
           record {
@@ -223,10 +284,18 @@ module _ (c : ConfigValues) (v : ServerValue) (s : Connection) (bytes : List ℕ
   pub turns_said : (stdio_output c bytes ≡ front_written s ++ (flush_turns (suc (more_at id v)) id v).text)
   turns_said = (turns_stand (suc (more_at id v)) (λ _. Unit {0}) tt (omega arith) (inr refl)).1
 
-pub flush_stands : (c : ConfigValues) (v : ServerValue) {s : Connection} (bytes : List ℕ) (a m n : Following) → LeadsTo c v s bytes (FollowsMore a m) → (after : ServerValue) (wrote : List ℕ → Type 0) → IsReportedFlush (only_id c) v after wrote (FollowsMore m n)
+pub flush_stands : (c : ConfigValues) (v : ServerValue) {s : Connection} (bytes : List ℕ) (a m n : Following)
+    → LeadsTo c v s bytes (FollowsMore a m) → (after : ServerValue) (wrote : List ℕ → Type 0)
+    → IsReportedFlush (only_id c) v after wrote (FollowsMore m n)
     → StandsBehind c bytes (front_written s) after wrote (FollowsMore a n)
 flush_stands c v {s = s} bytes a m n leads after wrote report =
     let did = report.flushed in
     let calls : List AcceptedCall = calls_of_flush did.turns (only_id c) v in
-    let both = turns_stand c v s bytes (FollowsMore a m) leads did.turns (FollowsMore a n) (followed_then a m n leads.events calls leads.tells report.tells) did.within (rw did.server at did.done) in
-    rw did.server (record { stands = both.0; text = (flush_turns did.turns (only_id c) v).text; says = both.1; written = did.written })
+    let both = turns_stand c v s bytes (FollowsMore a m) leads did.turns (FollowsMore a n)
+    (followed_then a m n leads.events calls leads.tells report.tells) did.within (rw did.server at did.done) in
+    rw did.server (record {
+      stands = both.0;
+      text = (flush_turns did.turns (only_id c) v).text;
+      says = both.1;
+      written = did.written;
+    })

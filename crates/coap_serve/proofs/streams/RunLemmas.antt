@@ -1,8 +1,17 @@
 -- A run, one turn after the other.
-use Rattle.std.proofs.Common.{◌≡◌, ◌≢◌, ℕ, ◌≤◌, List, [], ◌∷◌, ◌++◌, length, take, Ok, Err, refl, sym, ap, subst, ◌∙◌, arith, inr, ◌+◌, ◌<◌, Option, Some, None, Result, append_assoc, inl, Bool, true, false}
+use Rattle.std.proofs.Common.{◌≡◌, ◌≢◌, ℕ, ◌≤◌, List, [], ◌∷◌, ◌++◌, length, take, Ok, Err, refl, sym, ap, subst, ◌∙◌}
+use Rattle.std.proofs.Common.{arith, inr, ◌+◌, ◌<◌, Option, Some, None, Result, append_assoc, inl, Bool, true, false}
 use Rattle.std.proofs.lemmas.List.{length-take-le, append-nil, length-append}
 use Rattle.std.proofs.lemmas.List.Folds.{concat-append}
-use Rattle.coap_serve.specs.Prelude.{concat, AllByRecursion, Reason, end_reason, AreInRange, stop_of, Stream, ConfigValues, IoFault, Read, Write, Memory, Turns, Report, Turn, FollowsMore, Following, IsReportedFlush, IsCutFlush, HasReportedEnd, HasReportedCut, EndsReport, IsReportedRun, ServerValue, session_of, new_server, server_opened, is_there, stop_on, DeviceTrace, HasGiven, pieces_read, AddsBytes, only_id, outcome, stream_of, stdio_output, IsRunningAt, IsWhole, Says, HasRead, IsTurn, AreNotEmpty, GoesOn, IsStdioRun, AcceptedCall, Opened, steps_by, world_after, Ended, stream_on, Shows, is_cut, new_side, Connection, side_ended, settled, World, side_of, step, is_read_fault}
+use Rattle.coap_serve.specs.Prelude.{concat, AllByRecursion, Reason, end_reason, AreInRange, stop_of, Stream}
+use Rattle.coap_serve.specs.Prelude.{ConfigValues, IoFault, Read, Write, Memory, Turns, Report, Turn, FollowsMore}
+use Rattle.coap_serve.specs.Prelude.{Following, IsReportedFlush, IsCutFlush, HasReportedEnd, HasReportedCut, EndsReport}
+use Rattle.coap_serve.specs.Prelude.{IsReportedRun, ServerValue, session_of, new_server, server_opened, is_there}
+use Rattle.coap_serve.specs.Prelude.{stop_on, DeviceTrace, HasGiven, pieces_read, AddsBytes, only_id, outcome}
+use Rattle.coap_serve.specs.Prelude.{stream_of, stdio_output, IsRunningAt, IsWhole, Says, HasRead, IsTurn, AreNotEmpty}
+use Rattle.coap_serve.specs.Prelude.{GoesOn, IsStdioRun, AcceptedCall, Opened, steps_by, world_after, Ended, stream_on}
+use Rattle.coap_serve.specs.Prelude.{Shows, is_cut, new_side, Connection, side_ended, settled, World, side_of, step}
+use Rattle.coap_serve.specs.Prelude.{is_read_fault}
 use Rattle.coap_serve.specs.streams.StdioRun.{EndsRun}
 use Rattle.coap_serve.specs.streams.StdioProgress.{IsServed}
 use Rattle.coap_model.specs.world.World as world
@@ -12,7 +21,8 @@ use Rattle.coap_model.proofs.world.BecameLaws.{HasStopped, settled_handles_none}
 use Rattle.coap_server_engine.proofs.world.ShowLaws.{side_there}
 use Rattle.coap_model.proofs.world.StepLaws.{world_first, world_step}
 use Rattle.coap_io.proofs.streams.DeviceLemmas.{bytes_none, bytes_then, given_none, given_then}
-use Rattle.coap_model.proofs.streams.OutputLaws.{world_for_written, world_for_none, takes_unless_stopped, outcome_at_first, opened_alone, nothing_yet}
+use Rattle.coap_model.proofs.streams.OutputLaws.{world_for_written, world_for_none, takes_unless_stopped}
+use Rattle.coap_model.proofs.streams.OutputLaws.{outcome_at_first, opened_alone, nothing_yet}
 use Rattle.coap_serve.proofs.streams.FlushShown.{LeadsTo, flush_stands}
 use Rattle.coap_serve.proofs.streams.CallLemmas.{transfers_opened, whole_transfers, running_reported, stopped_reported}
 use Rattle.coap_serve.proofs.streams.TakeLemmas.{cut_flush_leads, stop_told, session_going}
@@ -20,26 +30,39 @@ use Rattle.coap_server_engine.proofs.scripting.FollowLemmas.{followed_none, foll
 
 -- ---- a turn
 
-pub has_read : (a b : DeviceTrace) (buffer : List ℕ) (n : ℕ) → length buffer ≡ 4096 → n ≤ length buffer → n ≢ 0 → HasGiven a b (pieces_read buffer n) → HasRead (HasGiven a b) (take n buffer)
+pub has_read : (a b : DeviceTrace) (buffer : List ℕ) (n : ℕ) → length buffer ≡ 4096 → n ≤ length buffer → n ≢ 0
+    → HasGiven a b (pieces_read buffer n) → HasRead (HasGiven a b) (take n buffer)
 has_read a b buffer n room within some gave = record {
   given = rw room at gave;
   some = λ none. some (sym (length-take-le n buffer within) ∙ ap (λ (bytes : List ℕ). length bytes) none);
   few = omega (arith, length-take-le n buffer within, within, room);
 }
 
-pub turn_fault : (c : ConfigValues) (bytes piece : List ℕ) (after : ServerValue) {gave : List (List ℕ) → Type 0} (wrote : List ℕ → Type 0) (monitor : List AcceptedCall → Type 0) (e : IoFault) → HasRead gave piece → IsServed c bytes piece after wrote monitor (Err e) → IsTurn c bytes after gave wrote monitor (Err e)
+pub turn_fault : (c : ConfigValues) (bytes piece : List ℕ) (after : ServerValue) {gave : List (List ℕ) → Type 0}
+    (wrote : List ℕ → Type 0) (monitor : List AcceptedCall → Type 0) (e : IoFault) → HasRead gave piece
+    → IsServed c bytes piece after wrote monitor (Err e) → IsTurn c bytes after gave wrote monitor (Err e)
 turn_fault c bytes piece after wrote monitor Read has did = absurd did
 turn_fault c bytes piece after wrote monitor Write has did = (piece, has, did)
 turn_fault c bytes piece after wrote monitor Memory has did = (piece, has, did)
 turn_fault c bytes piece after wrote monitor Turns has did = absurd did
 
-pub turn_piece : (c : ConfigValues) {id : ℕ} (bytes piece : List ℕ) (after : ServerValue) (gave : List (List ℕ) → Type 0) (wrote : List ℕ → Type 0) (monitor : List AcceptedCall → Type 0) (t : Turn) → id ≡ only_id c → HasRead gave piece → IsWhole c bytes piece after wrote monitor t.messages → t.read ≡ length piece
+pub turn_piece : (c : ConfigValues) {id : ℕ} (bytes piece : List ℕ) (after : ServerValue)
+    (gave : List (List ℕ) → Type 0) (wrote : List ℕ → Type 0) (monitor : List AcceptedCall → Type 0) (t : Turn)
+    → id ≡ only_id c → HasRead gave piece → IsWhole c bytes piece after wrote monitor t.messages → t.read ≡ length piece
     → t.stop ≡ stop_on (session_of id after.sessions) → IsTurn c bytes after gave wrote monitor (Ok t)
 turn_piece c bytes piece after gave wrote monitor t number has did read_is stop_is =
-    inr (record { piece = piece; has = has; served = did; read = read_is; reason = rw number at stop_is ∙ stop_told c after did.stands })
+    inr (record {
+      piece = piece;
+      has = has;
+      served = did;
+      read = read_is;
+      reason = rw number at stop_is ∙ stop_told c after did.stands;
+    })
 
 -- An error of a chunk is no failed read.
-pub not_unread : (c : ConfigValues) (bytes piece : List ℕ) (after : ServerValue) (wrote : List ℕ → Type 0) (monitor : List AcceptedCall → Type 0) (e : IoFault) → IsServed c bytes piece after wrote monitor (Err e) → is_read_fault {T = Turn} (Err e) ≡ false
+pub not_unread : (c : ConfigValues) (bytes piece : List ℕ) (after : ServerValue) (wrote : List ℕ → Type 0)
+    (monitor : List AcceptedCall → Type 0) (e : IoFault) → IsServed c bytes piece after wrote monitor (Err e)
+    → is_read_fault {T = Turn} (Err e) ≡ false
 not_unread c bytes piece after wrote monitor Read did = absurd did
 not_unread c bytes piece after wrote monitor other did = grind arith
 
@@ -51,7 +74,8 @@ not_empty-push (q ∷ ps) p each some = (each.0, not_empty-push ps p each.1 some
 
 -- After `turns` turns, `read` bytes were read and `messages` messages were processed. `a` and `b` are the records of
 -- the source before the run and now; `x` and `y` are those of the outlet.
-pub record RunsOn (c : ConfigValues) (id turns read messages : ℕ) (v : ServerValue) (a b : DeviceTrace) (x y : Option (List ℕ)) (monitor : List AcceptedCall → Type 0) : Type 0 where
+pub record RunsOn (c : ConfigValues) (id turns read messages : ℕ) (v : ServerValue) (a b : DeviceTrace)
+    (x y : Option (List ℕ)) (monitor : List AcceptedCall → Type 0) : Type 0 where
   pub pieces : List (List ℕ)
   pub output : List ℕ
   pub told : HasGiven a b pieces
@@ -65,10 +89,15 @@ pub record RunsOn (c : ConfigValues) (id turns read messages : ℕ) (v : ServerV
   pub text : stdio_output c [] ++ output ≡ stdio_output c (concat pieces)
 
 -- The rest of a run that ended, after the output `front` was written.
-abbrev pub Ran : ConfigValues → List ℕ → DeviceTrace → DeviceTrace → Option (List ℕ) → Option (List ℕ) → (monitor : List AcceptedCall → Type 0) → Result Report IoFault → Type 0
-Ran c front a b x y monitor result = (pieces : List (List ℕ)) × (output : List ℕ) × HasGiven a b pieces × AllByRecursion (λ p. length p ≤ 4096) pieces × AddsBytes x y output × IsStdioRun c pieces (front ++ output) result × IsReportedRun c pieces (front ++ output) monitor result
+abbrev pub Ran : ConfigValues → List ℕ → DeviceTrace → DeviceTrace → Option (List ℕ) → Option (List ℕ)
+    → (monitor : List AcceptedCall → Type 0) → Result Report IoFault → Type 0
+Ran c front a b x y monitor result =
+    (pieces : List (List ℕ)) × (output : List ℕ) × HasGiven a b pieces × AllByRecursion (λ p. length p ≤ 4096) pieces
+    × AddsBytes x y output × IsStdioRun c pieces (front ++ output) result
+    × IsReportedRun c pieces (front ++ output) monitor result
 
-pub run_begins : {c : ConfigValues} {id : ℕ} {v : ServerValue} (a : DeviceTrace) (x : Option (List ℕ)) {monitor : List AcceptedCall → Type 0} → IsRunningAt c v id [] monitor → RunsOn c id 0 0 0 v a a x x monitor
+pub run_begins : {c : ConfigValues} {id : ℕ} {v : ServerValue} (a : DeviceTrace) (x : Option (List ℕ))
+    {monitor : List AcceptedCall → Type 0} → IsRunningAt c v id [] monitor → RunsOn c id 0 0 0 v a a x x monitor
 run_begins {c = c} a x goes = record {
   pieces = [];
   output = [];
@@ -84,20 +113,27 @@ run_begins {c = c} a x goes = record {
 }
 
 -- The limit of turns was reached.
-pub out_of_turns : {c : ConfigValues} {id turns read messages : ℕ} {v : ServerValue} (a b : DeviceTrace) (x y : Option (List ℕ)) (monitor : List AcceptedCall → Type 0) → RunsOn c id turns read messages v a b x y monitor → turns ≡ c.turns → Ran c (stdio_output c []) a b x y monitor (Err Turns)
+pub out_of_turns : {c : ConfigValues} {id turns read messages : ℕ} {v : ServerValue} (a b : DeviceTrace)
+    (x y : Option (List ℕ)) (monitor : List AcceptedCall → Type 0) → RunsOn c id turns read messages v a b x y monitor
+    → turns ≡ c.turns → Ran c (stdio_output c []) a b x y monitor (Err Turns)
 out_of_turns {c = c} {v = v} a b x y monitor so_far all = (
   so_far.pieces,
   so_far.output,
   so_far.told,
   so_far.few,
   so_far.written,
-  (so_far.counted ∙ all, record { goes_on = record { given = so_far.given; no_stop = so_far.goes.going }; written = so_far.text }),
+  (
+    so_far.counted ∙ all,
+    record { goes_on = record { given = so_far.given; no_stop = so_far.goes.going }; written = so_far.text },
+  ),
   rw so_far.text (running_reported c v (concat so_far.pieces) monitor so_far.goes.stands so_far.goes.going),
 )
 
 -- One more turn. `b` and `y` are the records of the devices before it; `d` and `z` are those after it. `earlier` states
 -- the calls that the monitor received before it, and `monitor` those after it.
-module _ (c : ConfigValues) (id turns read messages : ℕ) (v after : ServerValue) (a b d : DeviceTrace) (x y z : Option (List ℕ)) (earlier monitor : List AcceptedCall → Type 0) (so_far : RunsOn c id turns read messages v a b x y earlier) where
+module _ (c : ConfigValues) (id turns read messages : ℕ) (v after : ServerValue) (a b d : DeviceTrace)
+    (x y z : Option (List ℕ)) (earlier monitor : List AcceptedCall → Type 0)
+    (so_far : RunsOn c id turns read messages v a b x y earlier) where
   abbrev bytes : List ℕ
   bytes = concat so_far.pieces
 
@@ -115,15 +151,20 @@ module _ (c : ConfigValues) (id turns read messages : ℕ) (v after : ServerValu
   pieces_go_on = record { given = so_far.given; no_stop = so_far.goes.going }
 
   -- The output so far, and more of it.
-  more_text : {text : List ℕ} (more : List ℕ) → text ≡ stdio_output c bytes ++ more → stdio_output c [] ++ (so_far.output ++ more) ≡ text
-  more_text more is = sym (append_assoc (stdio_output c []) so_far.output more) ∙ ap (λ (o : List ℕ). o ++ more) so_far.text ∙ sym is
+  more_text : {text : List ℕ} (more : List ℕ) → text ≡ stdio_output c bytes ++ more
+      → stdio_output c [] ++ (so_far.output ++ more) ≡ text
+  more_text more is =
+      sym (append_assoc (stdio_output c []) so_far.output more) ∙ ap (λ (o : List ℕ). o ++ more) so_far.text ∙ sym is
 
-  said_more : (piece more : List ℕ) → Says c bytes piece more → stdio_output c [] ++ (so_far.output ++ more) ≡ stdio_output c (concat (longer piece))
+  said_more : (piece more : List ℕ) → Says c bytes piece more
+      → stdio_output c [] ++ (so_far.output ++ more) ≡ stdio_output c (concat (longer piece))
   said_more piece more is = more_text more (ap (stdio_output c) (longer_bytes piece) ∙ is)
 
   -- The run with one more chunk, for which these bytes were written.
-  ran : (piece text : List ℕ) (result : Result Report IoFault) → HasGiven b d (piece ∷ []) → length piece ≤ 4096 → AddsBytes y z text → IsStdioRun c (longer piece) (stdio_output c [] ++ (so_far.output ++ text)) result
-      → IsReportedRun c (longer piece) (stdio_output c [] ++ (so_far.output ++ text)) monitor result → Ran c (stdio_output c []) a d x z monitor result
+  ran : (piece text : List ℕ) (result : Result Report IoFault) → HasGiven b d (piece ∷ []) → length piece ≤ 4096
+      → AddsBytes y z text → IsStdioRun c (longer piece) (stdio_output c [] ++ (so_far.output ++ text)) result
+      → IsReportedRun c (longer piece) (stdio_output c [] ++ (so_far.output ++ text)) monitor result
+      → Ran c (stdio_output c []) a d x z monitor result
   ran piece text result gave few wrote did reported = (
     longer piece,
     so_far.output ++ text,
@@ -134,7 +175,8 @@ module _ (c : ConfigValues) (id turns read messages : ℕ) (v after : ServerValu
     reported,
   )
 
-  pub next_turn : (t : Turn) → IsTurn c bytes after (HasGiven b d) (AddsBytes y z) monitor (Ok t) → t.stop ≡ None → RunsOn c id (turns + 1) (read + t.read) (messages + t.messages) after a d x z monitor
+  pub next_turn : (t : Turn) → IsTurn c bytes after (HasGiven b d) (AddsBytes y z) monitor (Ok t) → t.stop ≡ None
+      → RunsOn c id (turns + 1) (read + t.read) (messages + t.messages) after a d x z monitor
   next_turn t did none =
       elim did [
         | inl end ↦ absurd cc
@@ -149,9 +191,25 @@ module _ (c : ConfigValues) (id turns read messages : ℕ) (v after : ServerValu
               written = bytes_then x y z so_far.output whole.text so_far.written whole.written;
               counted = counted_more piece;
               given = not_empty-push so_far.pieces piece so_far.given did.has.some;
-              goes = rw (longer_bytes piece) (record { number = so_far.goes.number; ranges = so_far.goes.ranges; stands = whole.stands; going = sym did.reason ∙ none });
-              read_is = omega (arith, so_far.read_is, did.read, ap (λ (s : List ℕ). length s) (longer_bytes piece), length-append bytes piece);
-              messages_are = omega (arith, so_far.messages_are, whole.counted, ap (λ (s : List ℕ). (outcome c s).messages) (longer_bytes piece));
+              goes = rw (longer_bytes piece) (record {
+                number = so_far.goes.number;
+                ranges = so_far.goes.ranges;
+                stands = whole.stands;
+                going = sym did.reason ∙ none;
+              });
+              read_is = omega (
+                arith,
+                so_far.read_is,
+                did.read,
+                ap (λ (s : List ℕ). length s) (longer_bytes piece),
+                length-append bytes piece,
+              );
+              messages_are = omega (
+                arith,
+                so_far.messages_are,
+                whole.counted,
+                ap (λ (s : List ℕ). (outcome c s).messages) (longer_bytes piece),
+              );
               text = said_more piece whole.text whole.says;
             })
       ]
@@ -161,8 +219,12 @@ module _ (c : ConfigValues) (id turns read messages : ℕ) (v after : ServerValu
   abbrev report_of : Turn → Reason → Report
   report_of t why = record { read = read + t.read; messages = messages + t.messages; reason = why }
 
-  ran_whole : (t : Turn) (why : Reason) (piece text : List ℕ) → turns < c.turns → HasGiven b d (piece ∷ []) → length piece ≤ 4096 → AddsBytes y z text → t.read ≡ length piece → (outcome c (bytes ++ piece)).messages ≡ (outcome c bytes).messages + t.messages → Says c bytes piece text → EndsRun (stream_of c (bytes ++ piece)).rest piece why (outcome c (bytes ++ piece)).stop
-      → EndsReport c monitor (bytes ++ piece) (length (stdio_output c (bytes ++ piece))) (outcome c (bytes ++ piece)).stop → Ran c (stdio_output c []) a d x z monitor (Ok (report_of t why))
+  ran_whole : (t : Turn) (why : Reason) (piece text : List ℕ) → turns < c.turns → HasGiven b d (piece ∷ [])
+      → length piece ≤ 4096 → AddsBytes y z text → t.read ≡ length piece
+      → (outcome c (bytes ++ piece)).messages ≡ (outcome c bytes).messages + t.messages → Says c bytes piece text
+      → EndsRun (stream_of c (bytes ++ piece)).rest piece why (outcome c (bytes ++ piece)).stop
+      → EndsReport c monitor (bytes ++ piece) (length (stdio_output c (bytes ++ piece)))
+      (outcome c (bytes ++ piece)).stop → Ran c (stdio_output c []) a d x z monitor (Ok (report_of t why))
   ran_whole t why piece text lt gave few wrote read_is counted says ends reported =
       ran piece text (Ok (report_of t why)) gave few wrote (record {
         before = so_far.pieces;
@@ -171,25 +233,43 @@ module _ (c : ConfigValues) (id turns read messages : ℕ) (v after : ServerValu
         within = omega (arith, counted_more piece, lt);
         goes_on = pieces_go_on;
         ended = rw (longer_bytes piece) ends;
-        read = omega (arith, so_far.read_is, read_is, ap (λ (s : List ℕ). length s) (longer_bytes piece), length-append bytes piece);
-        messages = omega (arith, so_far.messages_are, counted, ap (λ (s : List ℕ). (outcome c s).messages) (longer_bytes piece));
+        read = omega (
+          arith,
+          so_far.read_is,
+          read_is,
+          ap (λ (s : List ℕ). length s) (longer_bytes piece),
+          length-append bytes piece,
+        );
+        messages = omega (
+          arith,
+          so_far.messages_are,
+          counted,
+          ap (λ (s : List ℕ). (outcome c s).messages) (longer_bytes piece),
+        );
         written = said_more piece text says;
       })
       (rw (said_more piece text says, longer_bytes piece) reported)
 
-  pub run_ends_at_turn : (t : Turn) (why : Reason) → turns < c.turns → IsTurn c bytes after (HasGiven b d) (AddsBytes y z) monitor (Ok t) → t.stop ≡ Some why → Ran c (stdio_output c []) a d x z monitor (Ok (report_of t why))
+  pub run_ends_at_turn : (t : Turn) (why : Reason) → turns < c.turns
+      → IsTurn c bytes after (HasGiven b d) (AddsBytes y z) monitor (Ok t) → t.stop ≡ Some why
+      → Ran c (stdio_output c []) a d x z monitor (Ok (report_of t why))
   run_ends_at_turn t why lt did stops =
       elim did [
         | inl end ↦
-            ran_whole t why [] [] lt end.given (omega arith) end.written end.read (rw append-nil (omega (arith, end.messages))) (simp append-nil) (rw (append-nil, so_far.goes.going) (refl, cc)) (rw (append-nil, so_far.goes.going) end.reported)
-        | inr did ↦ ran_whole t why did.piece did.served.text lt did.has.given did.has.few did.served.written did.read did.served.counted did.served.says (rw (sym did.reason ∙ stops) refl)
+            ran_whole t why [] [] lt end.given (omega arith) end.written end.read
+            (rw append-nil (omega (arith, end.messages))) (simp append-nil)
+            (rw (append-nil, so_far.goes.going) (refl, cc)) (rw (append-nil, so_far.goes.going) end.reported)
+        | inr did ↦
+            ran_whole t why did.piece did.served.text lt did.has.given did.has.few did.served.written did.read
+            did.served.counted did.served.says (rw (sym did.reason ∙ stops) refl)
             (rw (sym did.reason ∙ stops) (stopped_reported c after (bytes ++ did.piece) monitor did.served.stands))
       ]
 
   -- ---- an error ends the run in this turn
 
   -- The result of a run that an error of a turn ends.
-  pub faulted : (e : IoFault) → turns < c.turns → IsTurn c bytes after (HasGiven b d) (AddsBytes y z) monitor (Err e) → Ran c (stdio_output c []) a d x z monitor (Err e)
+  pub faulted : (e : IoFault) → turns < c.turns → IsTurn c bytes after (HasGiven b d) (AddsBytes y z) monitor (Err e)
+      → Ran c (stdio_output c []) a d x z monitor (Err e)
   faulted Read lt t = (
     so_far.pieces,
     so_far.output,
@@ -204,7 +284,11 @@ module _ (c : ConfigValues) (id turns read messages : ℕ) (v after : ServerValu
       ran t.0 cut.part (Err Write) t.1.given t.1.few cut.written (
         omega (arith, counted_more t.0, lt),
         inr (so_far.pieces, t.0, refl, pieces_go_on, (cut.part, more_text cut.part refl)),
-        record { missing = cut.missing; some = cut.some; written = rw (append_assoc, append_assoc) (said_more t.0 (cut.part ++ cut.missing) cut.says) },
+        record {
+          missing = cut.missing;
+          some = cut.some;
+          written = rw (append_assoc, append_assoc) (said_more t.0 (cut.part ++ cut.missing) cut.says);
+        },
       )
       (rw (more_text cut.part refl, length-append, longer_bytes t.0) cut.reported)
   faulted Memory lt t =
@@ -224,18 +308,31 @@ module _ (c : ConfigValues) (id turns read messages : ℕ) (v after : ServerValu
         taken = bytes ++ did.front;
         last = did.last;
         behind = did.behind;
-        all = longer_bytes t.0 ∙ ap (λ (b : List ℕ). bytes ++ b) did.all ∙ sym (append_assoc bytes did.front (did.last ∷ did.behind));
+        all =
+            longer_bytes t.0 ∙ ap (λ (b : List ℕ). bytes ++ b) did.all
+            ∙ sym (append_assoc bytes did.front (did.last ∷ did.behind));
         refused = did.refused;
         reported = rw (more_text did.text did.says) did.reported;
       }))
   faulted Turns lt t = absurd t
 
 -- A run after the server's CSM was written.
-pub greeted : (c : ConfigValues) (a d : DeviceTrace) (x y z : Option (List ℕ)) (monitor : List AcceptedCall → Type 0) (result : Result Report IoFault) → AddsBytes x y (stdio_output c []) → Ran c (stdio_output c []) a d y z monitor result → Ran c [] a d x z monitor result
-greeted c a d x y z monitor result wrote ran = (ran.0, stdio_output c [] ++ ran.1, ran.2, ran.3, bytes_then x y z (stdio_output c []) ran.1 wrote ran.4, ran.5, ran.6)
+pub greeted : (c : ConfigValues) (a d : DeviceTrace) (x y z : Option (List ℕ)) (monitor : List AcceptedCall → Type 0)
+    (result : Result Report IoFault) → AddsBytes x y (stdio_output c [])
+    → Ran c (stdio_output c []) a d y z monitor result → Ran c [] a d x z monitor result
+greeted c a d x y z monitor result wrote ran = (
+  ran.0,
+  stdio_output c [] ++ ran.1,
+  ran.2,
+  ran.3,
+  bytes_then x y z (stdio_output c []) ran.1 wrote ran.4,
+  ran.5,
+  ran.6,
+)
 
 -- A run that did not begin.
-pub not_begun : (c : ConfigValues) (a : DeviceTrace) (x : Option (List ℕ)) (m : Following) → Ran c [] a a x x (FollowsMore m m) (Err Memory)
+pub not_begun : (c : ConfigValues) (a : DeviceTrace) (x : Option (List ℕ)) (m : Following)
+    → Ran c [] a a x x (FollowsMore m m) (Err Memory)
 not_begun c a x m = ([], [], given_none a, tt, bytes_none x, inl (refl, refl), inl ((refl, refl), followed_none m))
 
 -- ---- the beginning of a run: a connection is opened, and the server's CSM is written
@@ -249,7 +346,8 @@ pub record Opens (c : ConfigValues) (new v : ServerValue) (id : ℕ) : Type 0 wh
   pub ranges : AreInRange new.config.limits
   pub shows : (events : List AcceptedCall) → Shows new events → Shows v (events ++ Opened id ∷ [])
 
-module _ (c : ConfigValues) (new v : ServerValue) (id : ℕ) (opens : Opens c new v id) (a m : Following) (told : FollowsMore a m (Opened id ∷ [])) where
+module _ (c : ConfigValues) (new v : ServerValue) (id : ℕ) (opens : Opens c new v id) (a m : Following)
+    (told : FollowsMore a m (Opened id ∷ [])) where
   number : id ≡ only_id c
   number = rw opens.new_is at opens.id_is
 
@@ -257,7 +355,8 @@ module _ (c : ConfigValues) (new v : ServerValue) (id : ℕ) (opens : Opens c ne
   unfolding steps_by
   opening_leads =
       let n : ℕ = only_id c in
-      let world_is = world_step c [] (Opened n) (world.Opened n) refl ∙ ap (λ (w : World). step c.limits w (world.Opened n)) (world_first c) in
+      let world_is = world_step c [] (Opened n) (world.Opened n) refl
+      ∙ ap (λ (w : World). step c.limits w (world.Opened n)) (world_first c) in
       record {
         config = rw (opens.v_is, opens.new_is) refl;
         events = Opened n ∷ [];
@@ -270,21 +369,41 @@ module _ (c : ConfigValues) (new v : ServerValue) (id : ℕ) (opens : Opens c ne
       }
 
   -- The state in which a run begins.
-  pub goes_at_first : (k : Following) {after : ServerValue} (wrote : List ℕ → Type 0) → IsReportedFlush id v after wrote (FollowsMore m k) → IsRunningAt c after id [] (FollowsMore a k) × wrote (stdio_output c [])
+  pub goes_at_first : (k : Following) {after : ServerValue} (wrote : List ℕ → Type 0)
+      → IsReportedFlush id v after wrote (FollowsMore m k)
+      → IsRunningAt c after id [] (FollowsMore a k) × wrote (stdio_output c [])
   goes_at_first k {after = after} wrote did =
-      let now = flush_stands c v [] a m k opening_leads after wrote (rw number at did) in
-      (record { number = number; ranges = rw opens.new_is at opens.ranges; stands = now.stands; going = (outcome_at_first c).1 }, rw now.says now.written)
+      let now = flush_stands c v [] a m k opening_leads after wrote (rw number at did) in (
+        record {
+          number = number;
+          ranges = rw opens.new_is at opens.ranges;
+          stands = now.stands;
+          going = (outcome_at_first c).1;
+        },
+        rw now.says now.written,
+      )
 
   -- The bytes queued on a new connection were not written in full.
-  pub cut_at_first : (k : Following) (b : DeviceTrace) (x z : Option (List ℕ)) → IsCutFlush id v (AddsBytes x z) (FollowsMore m k) → Ran c [] b b x z (FollowsMore a k) (Err Write)
+  pub cut_at_first : (k : Following) (b : DeviceTrace) (x z : Option (List ℕ))
+      → IsCutFlush id v (AddsBytes x z) (FollowsMore m k) → Ran c [] b b x z (FollowsMore a k) (Err Write)
   cut_at_first k b x z did =
-      let cut = cut_flush_leads c v [] a m k opening_leads x z (rw number at did) in
-      ([], cut.part, given_none b, tt, cut.written, (omega arith, inl refl, record { missing = cut.missing; some = cut.some; written = sym cut.says }), subst (λ (n : ℕ). HasReportedCut c (FollowsMore a k) [] n) (omega arith) cut.reported)
+      let cut = cut_flush_leads c v [] a m k opening_leads x z (rw number at did) in (
+        [],
+        cut.part,
+        given_none b,
+        tt,
+        cut.written,
+        (omega arith, inl refl, record { missing = cut.missing; some = cut.some; written = sym cut.says }),
+        subst (λ (n : ℕ). HasReportedCut c (FollowsMore a k) [] n) (omega arith) cut.reported,
+      )
 
 -- ---- the end of input
 
 -- The connection processes messages, so the end of input stops it, and pending entries are discarded.
-pub end_stops : (c : ConfigValues) {v : ServerValue} (v1 : ServerValue) {id : ℕ} (bytes : List ℕ) {monitor : List AcceptedCall → Type 0} → IsRunningAt c v id bytes monitor → v1.config ≡ v.config → ((events : List AcceptedCall) → Shows v events → Shows v1 (events ++ Ended id ∷ [])) → stop_on (session_of id v1.sessions) ≡ Some (end_reason (is_cut (stream_of c bytes).rest))
+pub end_stops : (c : ConfigValues) {v : ServerValue} (v1 : ServerValue) {id : ℕ} (bytes : List ℕ)
+    {monitor : List AcceptedCall → Type 0} → IsRunningAt c v id bytes monitor → v1.config ≡ v.config
+    → ((events : List AcceptedCall) → Shows v events → Shows v1 (events ++ Ended id ∷ []))
+    → stop_on (session_of id v1.sessions) ≡ Some (end_reason (is_cut (stream_of c bytes).rest))
 unfolding steps_by side_ended
 end_stops c v1 bytes goes config shows =
     let n : ℕ = only_id c in
@@ -294,15 +413,21 @@ end_stops c v1 bytes goes config shows =
     let cut : Bool = is_cut (stream_on c.limits.max_message n es).rest in
     let t : Connection = settled w.store w.now (side_ended all.side cut) in
     let there : side_of n w.sides ≡ Some all.side = rw goes.stands.world all.there in
-    let then : side_of n (world_after c (es ++ Ended n ∷ [])).sides ≡ Some t = rw (world_step c es (Ended n) (world.Ended n cut) refl) (ended_there c.limits w n cut all.side there) in
-    let stopped : HasStopped (side_ended all.side cut).history (end_reason cut) = rw (takes_unless_stopped c bytes, goes.going) (refl, refl) in
+    let then : side_of n (world_after c (es ++ Ended n ∷ [])).sides ≡ Some t =
+    rw (world_step c es (Ended n) (world.Ended n cut) refl) (ended_there c.limits w n cut all.side there) in
+    let stopped : HasStopped (side_ended all.side cut).history (end_reason cut) =
+    rw (takes_unless_stopped c bytes, goes.going) (refl, refl) in
     rw goes.number
-    (ap stop_on (side_there v1 (es ++ Ended n ∷ []) n t (rw goes.number at (shows es goes.stands.shows)) (rw (config, goes.stands.config) then))
+    (ap stop_on (side_there v1 (es ++ Ended n ∷ []) n t (rw goes.number at (shows es goes.stands.shows))
+    (rw (config, goes.stands.config) then))
     ∙ ap stop_of ((settled_handles_none w.store w.now (side_ended all.side cut)).stopped (end_reason cut) stopped).0
     ∙ ap (λ (s : Stream × ℕ). Some (end_reason (is_cut s.0.rest))) (goes.stands.spelled goes.going))
 
 -- The monitor received the end of input after all other calls.
-pub end_reported : (c : ConfigValues) {v : ServerValue} (v1 : ServerValue) {id : ℕ} (bytes : List ℕ) (a m k : Following) → IsRunningAt c v id bytes (FollowsMore a m) → v1.config ≡ v.config → ((events : List AcceptedCall) → Shows v events → Shows v1 (events ++ Ended id ∷ [])) → FollowsMore m k (Ended id ∷ []) → HasReportedEnd c (FollowsMore a k) bytes (length (stdio_output c bytes))
+pub end_reported : (c : ConfigValues) {v : ServerValue} (v1 : ServerValue) {id : ℕ} (bytes : List ℕ) (a m k : Following)
+    → IsRunningAt c v id bytes (FollowsMore a m) → v1.config ≡ v.config
+    → ((events : List AcceptedCall) → Shows v events → Shows v1 (events ++ Ended id ∷ []))
+    → FollowsMore m k (Ended id ∷ []) → HasReportedEnd c (FollowsMore a k) bytes (length (stdio_output c bytes))
 end_reported c v1 bytes a m k goes config shows told =
     let es : List AcceptedCall = goes.stands.events in
     record {
@@ -315,18 +440,24 @@ end_reported c v1 bytes a m k goes config shows told =
     }
 
 -- The connection exists.
-pub not_there : {c : ConfigValues} {v : ServerValue} {id : ℕ} (bytes : List ℕ) (a m : Following) → IsRunningAt c v id bytes (FollowsMore a m) → false ≡ is_there (session_of id v.sessions) → ⊥
-not_there {c = c} {v = v} {id = id} bytes a m goes none = let bad : false ≡ true = none ∙ ap is_there (session_going c v id bytes a m goes).1 in cc
+pub not_there : {c : ConfigValues} {v : ServerValue} {id : ℕ} (bytes : List ℕ) (a m : Following)
+    → IsRunningAt c v id bytes (FollowsMore a m) → false ≡ is_there (session_of id v.sessions) → ⊥
+not_there {c = c} {v = v} {id = id} bytes a m goes none =
+    let bad : false ≡ true = none ∙ ap is_there (session_going c v id bytes a m goes).1 in
+    cc
 
 -- ---- the end of a turn
 
 -- A monitor received no further call.
-followed_stays : (a b d : Following) (xs : List AcceptedCall) → FollowsMore a b xs → FollowsMore b d [] → FollowsMore a d xs
+followed_stays : (a b d : Following) (xs : List AcceptedCall) → FollowsMore a b xs
+    → FollowsMore b d [] → FollowsMore a d xs
 followed_stays a b d xs told more = rw append-nil at (followed_then a b d xs [] told more)
 
 -- A monitor received the end of a turn.
-pub turn_passed : (c : ConfigValues) (bytes : List ℕ) (after : ServerValue) (gave : List (List ℕ) → Type 0) (wrote : List ℕ → Type 0) (a b d : Following) (t : Turn)
-    → IsTurn c bytes after gave wrote (FollowsMore a b) (Ok t) → FollowsMore b d [] → IsTurn c bytes after gave wrote (FollowsMore a d) (Ok t)
+pub turn_passed : (c : ConfigValues) (bytes : List ℕ) (after : ServerValue) (gave : List (List ℕ) → Type 0)
+    (wrote : List ℕ → Type 0) (a b d : Following) (t : Turn)
+    → IsTurn c bytes after gave wrote (FollowsMore a b) (Ok t) → FollowsMore b d []
+    → IsTurn c bytes after gave wrote (FollowsMore a d) (Ok t)
 turn_passed c front after gave wrote a b d t (inl e) more = inl (record {
   given = e.given;
   written = e.written;

@@ -1,8 +1,17 @@
 -- A call of `take` in a run and the flush after it: together they write the output defined for the bytes accepted.
-use Rattle.std.proofs.Common.{◌≡◌, ◌≢◌, ◌⊎◌, ℕ, suc, ◌+◌, ◌<◌, ◌≤◌, Bool, true, cond, List, [], ◌∷◌, ◌++◌, length, take, Option, Some, None, refl, sym, ap, subst, ◌∙◌, append_assoc, arith, inl, inr}
+use Rattle.std.proofs.Common.{◌≡◌, ◌≢◌, ◌⊎◌, ℕ, suc, ◌+◌, ◌<◌, ◌≤◌, Bool, true, cond, List, [], ◌∷◌, ◌++◌, length, take}
+use Rattle.std.proofs.Common.{Option, Some, None, refl, sym, ap, subst, ◌∙◌, append_assoc, arith, inl, inr}
 use Rattle.std.proofs.lemmas.Bool.{le-leb}
 use Rattle.std.proofs.lemmas.List.{append-nil, length-append}
-use Rattle.coap_serve.specs.Prelude.{Stream, split_on, LimitValues, ConfigValues, SessionValue, ServerValue, session_of, server_taken, stop_on, RefusesPieceOn, waiting_at, more_at, flush_turns, IsReportedFlush, IsCutFlush, calls_of_flush, Taken, AddsBytes, FollowsMore, Following, HasReported, HasReportedCut, waiting_of, AreTransfers, only_id, stream_of, flushed, flushed_after, world_for, Outcome, outcome_on, outcome, stdio_output, IsLastByte, IsAtBytes, IsRunningAt, Says, IsWhole, IsCut, Connection, has_room, handles, World, Step, side_of, step, AcceptedCall, Took, stream_on, beyond, steps_by, world_after, takes, size_on, Shows, session_shown, handled_in, count_of}
+use Rattle.coap_serve.specs.Prelude.{Stream, split_on, LimitValues, ConfigValues, SessionValue, ServerValue, session_of}
+use Rattle.coap_serve.specs.Prelude.{server_taken, stop_on, RefusesPieceOn, waiting_at, more_at, flush_turns}
+use Rattle.coap_serve.specs.Prelude.{IsReportedFlush, IsCutFlush, calls_of_flush, Taken, AddsBytes, FollowsMore}
+use Rattle.coap_serve.specs.Prelude.{Following, HasReported, HasReportedCut, waiting_of, AreTransfers, only_id}
+use Rattle.coap_serve.specs.Prelude.{stream_of, flushed, flushed_after, world_for, Outcome, outcome_on, outcome}
+use Rattle.coap_serve.specs.Prelude.{stdio_output, IsLastByte, IsAtBytes, IsRunningAt, Says, IsWhole, IsCut, Connection}
+use Rattle.coap_serve.specs.Prelude.{has_room, handles, World, Step, side_of, step, AcceptedCall, Took, stream_on}
+use Rattle.coap_serve.specs.Prelude.{beyond, steps_by, world_after, takes, size_on, Shows, session_shown, handled_in}
+use Rattle.coap_serve.specs.Prelude.{count_of}
 use Rattle.coap_wire.proofs.StreamSteps.{split_goes_on}
 use Rattle.coap_frame.proofs.FrontLaws.{some_in_front}
 use Rattle.coap_model.specs.declared.answers.Handled.{Handled}
@@ -15,7 +24,8 @@ use Rattle.coap_server_engine.proofs.world.ShowLaws.{side_there}
 use Rattle.coap_server_engine.proofs.world.HandledLaws.{messages_counted, one_step_at_most}
 use Rattle.coap_model.proofs.world.GrowLaws.{SideGrows, front_written, same_front, none_waits_all_written, took_grows}
 use Rattle.coap_model.proofs.streams.FlushLaws.{from_there_on, quiet_flush, flush_leaves}
-use Rattle.coap_model.proofs.streams.OutputLaws.{world_for_written, world_goes_on, outcome_there, takes_unless_stopped, spelled_more, steps_taken}
+use Rattle.coap_model.proofs.streams.OutputLaws.{world_for_written, world_goes_on, outcome_there, takes_unless_stopped}
+use Rattle.coap_model.proofs.streams.OutputLaws.{spelled_more, steps_taken}
 use Rattle.coap_serve.proofs.streams.CallLemmas.{whole_transfers, transfers_taken}
 use Rattle.coap_serve.proofs.streams.FlushShown.{LeadsTo, turns_said, turns_reported, flush_stands}
 use Rattle.coap_server_engine.proofs.scripting.ShownLemmas.{config_stays}
@@ -23,12 +33,15 @@ use Rattle.coap_server_engine.proofs.scripting.FollowLemmas.{followed_then}
 
 -- ---- more iterations write more
 
-text_grows : (id : ℕ) (v : ServerValue) (few many : ℕ) → few ≤ many → (more : List ℕ) × ((flush_turns many id v).text ≡ (flush_turns few id v).text ++ more)
+text_grows : (id : ℕ) (v : ServerValue) (few many : ℕ) → few ≤ many
+    → (more : List ℕ) × ((flush_turns many id v).text ≡ (flush_turns few id v).text ++ more)
 unfolding flush_turns
 text_grows id v few many within =
-    from_there_on (λ n. (more : List ℕ) × ((flush_turns n id v).text ≡ (flush_turns few id v).text ++ more)) few many within ([], sym (append-nil (flush_turns few id v).text))
+    from_there_on (λ n. (more : List ℕ) × ((flush_turns n id v).text ≡ (flush_turns few id v).text ++ more)) few many
+    within ([], sym (append-nil (flush_turns few id v).text))
     (λ n before.
-    (let w : List ℕ = waiting_at id (flush_turns n id v).server in (before.0 ++ w, ap (λ (b : List ℕ). b ++ w) before.1 ∙ append_assoc (flush_turns few id v).text before.0 w)))
+    (let w : List ℕ = waiting_at id (flush_turns n id v).server in
+    (before.0 ++ w, ap (λ (b : List ℕ). b ++ w) before.1 ∙ append_assoc (flush_turns few id v).text before.0 w)))
 
 pub front_of_nothing : (xs ys : List ℕ) → xs ++ ys ≡ [] → xs ≡ []
 front_of_nothing [] ys none = refl
@@ -36,13 +49,15 @@ front_of_nothing (x ∷ xs) ys none = absurd cc
 
 -- ---- a flush that ends in the world for some bytes
 
-further_text : (id : ℕ) (v : ServerValue) (turns : ℕ) → (flush_turns (suc turns) id v).text ≡ (flush_turns turns id v).text ++ waiting_at id (flush_turns turns id v).server
+further_text : (id : ℕ) (v : ServerValue) (turns : ℕ) → (flush_turns (suc turns) id v).text
+    ≡ (flush_turns turns id v).text ++ waiting_at id (flush_turns turns id v).server
 unfolding flush_turns
 further_text id v turns = refl
 
 -- A write failed. The outlet recorded a proper prefix of the output that was still to be written for the bytes. The
 -- monitor received the calls before this write.
-pub record CutLeads (c : ConfigValues) (s : Connection) (bytes : List ℕ) (x y : Option (List ℕ)) (monitor : List AcceptedCall → Type 0) : Type 0 where
+pub record CutLeads (c : ConfigValues) (s : Connection) (bytes : List ℕ) (x y : Option (List ℕ))
+    (monitor : List AcceptedCall → Type 0) : Type 0 where
   pub part : List ℕ
   pub missing : List ℕ
   pub some : missing ≢ []
@@ -50,19 +65,29 @@ pub record CutLeads (c : ConfigValues) (s : Connection) (bytes : List ℕ) (x y 
   pub written : AddsBytes x y part
   pub reported : HasReportedCut c monitor bytes (length (front_written s) + length part)
 
-pub cut_flush_leads : (c : ConfigValues) (v : ServerValue) {s : Connection} (bytes : List ℕ) (a m n : Following) → LeadsTo c v s bytes (FollowsMore a m) → (x y : Option (List ℕ)) → IsCutFlush (only_id c) v (AddsBytes x y) (FollowsMore m n) → CutLeads c s bytes x y (FollowsMore a n)
+pub cut_flush_leads : (c : ConfigValues) (v : ServerValue) {s : Connection} (bytes : List ℕ) (a m n : Following)
+    → LeadsTo c v s bytes (FollowsMore a m) → (x y : Option (List ℕ))
+    → IsCutFlush (only_id c) v (AddsBytes x y) (FollowsMore m n) → CutLeads c s bytes x y (FollowsMore a n)
 cut_flush_leads c v {s = s} bytes a m n leads x y did =
     let id : ℕ = only_id c in
     let all : ℕ = suc (more_at id v) in
     let text : List ℕ = (flush_turns did.turns id v).text in
     let more = text_grows id v (suc did.turns) all (omega (arith, did.within)) in
     let calls : List AcceptedCall = calls_of_flush did.turns id v in
-    let reported = turns_reported c v s bytes (FollowsMore a m) leads did.turns (FollowsMore a n) (followed_then a m n leads.events calls leads.tells did.tells) in
+    let reported = turns_reported c v s bytes (FollowsMore a m) leads did.turns (FollowsMore a n)
+    (followed_then a m n leads.events calls leads.tells did.tells) in
     record {
       part = text ++ did.part;
       missing = did.missing ++ more.0;
       some = λ none. did.some (front_of_nothing did.missing more.0 none);
-      says = cc (turns_said c v s bytes (FollowsMore a m) leads, more.1, further_text id v did.turns, did.all, append_assoc text did.part did.missing, append_assoc (text ++ did.part) did.missing more.0);
+      says = cc (
+        turns_said c v s bytes (FollowsMore a m) leads,
+        more.1,
+        further_text id v did.turns,
+        did.all,
+        append_assoc text did.part did.missing,
+        append_assoc (text ++ did.part) did.missing more.0,
+      );
       written = did.written;
       reported = record {
         taken = bytes;
@@ -79,18 +104,23 @@ cut_flush_leads c v {s = s} bytes a m n leads x y did =
     }
 
 -- The messages processed before the flush.
-flush_counts : (c : ConfigValues) (v : ServerValue) (s : Connection) (bytes : List ℕ) {monitor : List AcceptedCall → Type 0} → LeadsTo c v s bytes monitor → (outcome c bytes).messages ≡ length s.history.handled
+flush_counts : (c : ConfigValues) (v : ServerValue) (s : Connection) (bytes : List ℕ)
+    {monitor : List AcceptedCall → Type 0} → LeadsTo c v s bytes monitor
+    → (outcome c bytes).messages ≡ length s.history.handled
 flush_counts c v s bytes leads =
     let left = flush_leaves c.limits (only_id c) (world_after c leads.events) s leads.there in
     let is_there = ap (λ (w : World). side_of (only_id c) w.sides) (sym leads.flushes) ∙ left.0.there in
     ap (λ (o : Outcome). o.messages) (outcome_there c bytes left.0.side is_there) ∙ ap length left.0.handled
 
 -- The server returns the reason for which the bytes stop its connection.
-pub stop_told : (c : ConfigValues) (v : ServerValue) {bytes : List ℕ} {monitor : List AcceptedCall → Type 0} → IsAtBytes c v bytes monitor → stop_on (session_of (only_id c) v.sessions) ≡ (outcome c bytes).stop
+pub stop_told : (c : ConfigValues) (v : ServerValue) {bytes : List ℕ} {monitor : List AcceptedCall → Type 0}
+    → IsAtBytes c v bytes monitor → stop_on (session_of (only_id c) v.sessions) ≡ (outcome c bytes).stop
 stop_told c v {bytes = bytes} stands =
     let all = world_for_written c bytes in
-    let is_there : side_of (only_id c) (world_after v.config stands.events).sides ≡ Some all.side = rw (stands.config, stands.world) all.there in
-    ap stop_on (side_there v stands.events (only_id c) all.side stands.shows is_there) ∙ ap (λ (o : Outcome). o.stop) (sym (outcome_there c bytes all.side all.there))
+    let is_there : side_of (only_id c) (world_after v.config stands.events).sides ≡ Some all.side =
+    rw (stands.config, stands.world) all.there in
+    ap stop_on (side_there v stands.events (only_id c) all.side stands.shows is_there)
+    ∙ ap (λ (o : Outcome). o.stop) (sym (outcome_there c bytes all.side all.there))
 
 -- ---- some bytes are accepted
 
@@ -104,7 +134,8 @@ pub record FrontRefused (c : ConfigValues) (bytes piece : List ℕ) (n : ℕ) : 
   pub says : Says c bytes (take n piece) []
 
 -- A prefix of a chunk was processed, and the server returns whether it stops the connection.
-pub record FrontServed (c : ConfigValues) (id : ℕ) (bytes front : List ℕ) (after : ServerValue) (wrote : List ℕ → Type 0) (monitor : List AcceptedCall → Type 0) (messages : ℕ) : Type 0 where
+pub record FrontServed (c : ConfigValues) (id : ℕ) (bytes front : List ℕ) (after : ServerValue)
+    (wrote : List ℕ → Type 0) (monitor : List AcceptedCall → Type 0) (messages : ℕ) : Type 0 where
   pub whole : IsWhole c bytes front after wrote monitor messages
   pub stop : stop_on (session_of id after.sessions) ≡ (outcome c (bytes ++ front)).stop
 
@@ -112,10 +143,12 @@ pub record FrontServed (c : ConfigValues) (id : ℕ) (bytes front : List ℕ) (a
 pub record WasTaken (v after : ServerValue) (id : ℕ) (piece : List ℕ) (t : Taken) : Type 0 where
   pub after_is : after ≡ server_taken v id piece
   pub takes_so : (events : List AcceptedCall) → Shows v events → t.bytes ≡ takes v.config events id piece
-  pub says : (events : List AcceptedCall) → Shows v events → t.handled ≡ handled_in v.config events (Took id (take t.bytes piece)) id
+  pub says : (events : List AcceptedCall) → Shows v events
+      → t.handled ≡ handled_in v.config events (Took id (take t.bytes piece)) id
   pub shows : (events : List AcceptedCall) → Shows v events → Shows after (events ++ Took id (take t.bytes piece) ∷ [])
 
-module _ (v : ServerValue) (bytes : List ℕ) (a m : Following) (goes : IsRunningAt v.config v (only_id v.config) bytes (FollowsMore a m)) where
+module _ (v : ServerValue) (bytes : List ℕ) (a m : Following)
+    (goes : IsRunningAt v.config v (only_id v.config) bytes (FollowsMore a m)) where
   abbrev c : ConfigValues
   c = v.config
 
@@ -143,7 +176,13 @@ module _ (v : ServerValue) (bytes : List ℕ) (a m : Following) (goes : IsRunnin
   handling : handles before ≡ true
   handling =
       let is = side_is c es id before was_there in
-      let room : has_room before ≡ true = le-leb before.history.limits.max_sent _ (omega (arith, goes.ranges.queue_low, ap (λ (l : LimitValues). l.max_sent) is.same_limits, ap (λ (l : LimitValues). l.queue) is.same_limits, ap length (world_for_written c bytes).waits)) in
+      let room : has_room before ≡ true = le-leb before.history.limits.max_sent _ (omega (
+        arith,
+        goes.ranges.queue_low,
+        ap (λ (l : LimitValues). l.max_sent) is.same_limits,
+        ap (λ (l : LimitValues). l.queue) is.same_limits,
+        ap length (world_for_written c bytes).waits,
+      )) in
       rw (takes_unless_stopped c bytes, goes.going, room) refl
 
   session_was : session_of id v.sessions ≡ Some (session_shown (stream_on M id es).rest before)
@@ -164,9 +203,12 @@ module _ (v : ServerValue) (bytes : List ℕ) (a m : Following) (goes : IsRunnin
       let spelled = goes.stands.spelled goes.going in
       let stream_is = ap (λ (s : Stream × ℕ). s.0) spelled in
       let size_is = ap (λ (s : Stream × ℕ). s.1) spelled in
-      let further : split_on M (stream_of c bytes) front ≡ stream_of c (bytes ++ front) = sym (split_goes_on M bytes front) in
-      let quiet : beyond id (stream_of c bytes) (stream_of c (bytes ++ front)) ≡ [] = rw (stream_is, size_is, further) at last.quiet in
-      let same : world_for c (bytes ++ front) ≡ world_for c bytes = world_goes_on c bytes front ∙ ap (flushed_after c.limits id (world_for c bytes)) quiet in
+      let further : split_on M (stream_of c bytes) front ≡ stream_of c (bytes ++ front) =
+      sym (split_goes_on M bytes front) in
+      let quiet : beyond id (stream_of c bytes) (stream_of c (bytes ++ front)) ≡ [] =
+      rw (stream_is, size_is, further) at last.quiet in
+      let same : world_for c (bytes ++ front) ≡ world_for c bytes =
+      world_goes_on c bytes front ∙ ap (flushed_after c.limits id (world_for c bytes)) quiet in
       record {
         last = last.last;
         behind = last.behind;
@@ -174,34 +216,44 @@ module _ (v : ServerValue) (bytes : List ℕ) (a m : Following) (goes : IsRunnin
         refused = record {
           no_stop = ap (λ (w : World). (outcome_on (side_of id w.sides)).stop) same ∙ goes.going;
           message = last.message;
-          one_more = split_goes_on M (bytes ++ front) (last.last ∷ []) ∙ rw (stream_is, size_is, further) at last.one_more;
+          one_more =
+              split_goes_on M (bytes ++ front) (last.last ∷ []) ∙ rw (stream_is, size_is, further) at last.one_more;
           stores = rw (same, ← goes.stands.world) last.stores;
         };
-        says = ap (λ (w : World). (outcome_on (side_of id w.sides)).output) same ∙ sym (append-nil (stdio_output c bytes));
+        says =
+            ap (λ (w : World). (outcome_on (side_of id w.sides)).output) same ∙ sym (append-nil (stdio_output c bytes));
       }
 
   -- The report of this call, which accepted the first `n` bytes.
-  refused_reported : (piece : List ℕ) (n : ℕ) (v1 : ServerValue) (k : Following) → FrontRefused c bytes piece n → v1 ≡ server_taken v id (take n piece) → Shows v1 (es ++ Took id (take n piece) ∷ []) → FollowsMore m k (Took id (take n piece) ∷ [])
+  refused_reported : (piece : List ℕ) (n : ℕ) (v1 : ServerValue) (k : Following) → FrontRefused c bytes piece n
+      → v1 ≡ server_taken v id (take n piece) → Shows v1 (es ++ Took id (take n piece) ∷ [])
+      → FollowsMore m k (Took id (take n piece) ∷ [])
       → HasReported c (FollowsMore a k) (bytes ++ take n piece) (length (stdio_output c (bytes ++ take n piece)))
   refused_reported piece n v1 k refused is shows told = record {
     server = v1;
     config = ap (λ (u : ServerValue). u.config) is ∙ config_stays v id (take n piece);
     events = es ++ Took id (take n piece) ∷ [];
     shows = shows;
-    transfers = rw (refused.says, append-nil (stdio_output c bytes)) (transfers_taken c id (take n piece) es waits_before transfers_before);
+    transfers = rw (
+      refused.says,
+      append-nil (stdio_output c bytes),
+    ) (transfers_taken c id (take n piece) es waits_before transfers_before);
     monitor_tells = followed_then a m k es (Took id (take n piece) ∷ []) goes.stands.tells told;
   }
 
   -- ---- the call of take
 
-  front_some_by : (piece : List ℕ) (v1 : ServerValue) (t : Taken) → WasTaken v v1 id piece t → 0 < length piece → 1 ≤ t.bytes
+  front_some_by : (piece : List ℕ) (v1 : ServerValue) (t : Taken) → WasTaken v v1 id piece t
+      → 0 < length piece → 1 ≤ t.bytes
   front_some_by piece v1 t took some =
       let unfinished = rest_unfinished M id es (handling_goes_on c es id before reached was_there handling) in
       let front = some_in_front (size_on M id es) (stream_on M id es).rest piece unfinished some in
-      let count = takes_there c es id piece before was_there ∙ ap (λ (b : Bool). cond b (front_of (size_on M id es) (stream_on M id es).rest piece) 0) handling in
+      let count = takes_there c es id piece before was_there
+      ∙ ap (λ (b : Bool). cond b (front_of (size_on M id es) (stream_on M id es).rest piece) 0) handling in
       omega (arith, front, count, took.takes_so es goes.stands.shows)
 
-  module _ (piece : List ℕ) (v1 : ServerValue) (t : Taken) (took : WasTaken v v1 id piece t) (k : Following) (told : FollowsMore m k (Took id (take t.bytes piece) ∷ [])) where
+  module _ (piece : List ℕ) (v1 : ServerValue) (t : Taken) (took : WasTaken v v1 id piece t) (k : Following)
+      (told : FollowsMore m k (Took id (take t.bytes piece) ∷ [])) where
     abbrev T : List ℕ
     T = take t.bytes piece
 
@@ -213,24 +265,32 @@ module _ (v : ServerValue) (bytes : List ℕ) (a m : Following) (goes : IsRunnin
     unfolding flushed_after steps_by
     flushed_world =
         let all = world_for_written c bytes in
-        let on = world_goes_on c bytes T ∙ ap (flushed_after c.limits id (world_for c bytes)) (sym (steps_taken c es bytes T (goes.stands.spelled goes.going))) in
-        let steps : (steps_by M es (Took id T) ≡ []) ⊎ ((st : Step) × (steps_by M es (Took id T) ≡ st ∷ [])) = rw bytes_are (one_step_at_most c es id piece before reached was_there) in
+        let on = world_goes_on c bytes T ∙ ap (flushed_after c.limits id (world_for c bytes))
+        (sym (steps_taken c es bytes T (goes.stands.spelled goes.going))) in
+        let steps : (steps_by M es (Took id T) ≡ []) ⊎ ((st : Step) × (steps_by M es (Took id T) ≡ st ∷ [])) =
+        rw bytes_are (one_step_at_most c es id piece before reached was_there) in
         elim steps [
           | inl none ↦
               ap (flushed c.limits id) (world_same c es (Took id T) none ∙ goes.stands.world)
               ∙ quiet_flush c.limits id (world_for c bytes) before all.takes_input all.there all.waits
               ∙ sym (on ∙ ap (flushed_after c.limits id (world_for c bytes)) none)
           | inr one ↦
-              ap (flushed c.limits id) (world_step c es (Took id T) one.0 one.1 ∙ ap (λ (w : World). step c.limits w one.0) goes.stands.world)
+              ap (flushed c.limits id)
+              (world_step c es (Took id T) one.0 one.1 ∙ ap (λ (w : World). step c.limits w one.0) goes.stands.world)
               ∙ sym (on ∙ ap (flushed_after c.limits id (world_for c bytes)) one.1)
         ]
 
-    abbrev grown : (s : Connection) × (side_of id (world_after c (es ++ Took id T ∷ [])).sides ≡ Some s) × SideGrows before s
+    abbrev grown : (s : Connection) × (side_of id (world_after c (es ++ Took id T ∷ [])).sides ≡ Some s)
+        × SideGrows before s
     grown = took_grows c es id T before was_there
 
     said_before : front_written grown.0 ≡ stdio_output c bytes
     said_before =
-        cc (same_front before grown.0 (side_is c es id before was_there).is_history grown.2, none_waits_all_written before (world_for_written c bytes).waits, outcome_before)
+        cc (
+          same_front before grown.0 (side_is c es id before was_there).is_history grown.2,
+          none_waits_all_written before (world_for_written c bytes).waits,
+          outcome_before,
+        )
 
     leads : LeadsTo c v1 grown.0 (bytes ++ T) (FollowsMore a k)
     leads = record {
@@ -245,77 +305,122 @@ module _ (v : ServerValue) (bytes : List ℕ) (a m : Following) (goes : IsRunnin
     }
 
     -- The call and its flush did everything that is defined for the bytes accepted.
-    front_served_by : (after : ServerValue) (wrote : List ℕ → Type 0) {messages : ℕ} (n : Following) → messages ≡ count_of t.handled → IsReportedFlush id v1 after wrote (FollowsMore k n) → FrontServed c id bytes T after wrote (FollowsMore a n) messages
+    front_served_by : (after : ServerValue) (wrote : List ℕ → Type 0) {messages : ℕ} (n : Following)
+        → messages ≡ count_of t.handled → IsReportedFlush id v1 after wrote (FollowsMore k n)
+        → FrontServed c id bytes T after wrote (FollowsMore a n) messages
     front_served_by after wrote n counted did =
         let now = flush_stands c v1 (bytes ++ T) a k n leads after wrote did in
-        let there = subst (λ (b : List ℕ). side_of id (world_after c (es ++ Took id b ∷ [])).sides ≡ Some grown.0) bytes_are grown.1 in
+        let there = subst (λ (b : List ℕ). side_of id (world_after c (es ++ Took id b ∷ [])).sides ≡ Some grown.0)
+        bytes_are grown.1 in
         let all = messages_counted c es id piece before grown.0 goes.stands.shows.accepted was_there there in
-        let told : t.handled ≡ handled_in c es (Took id (take (takes c es id piece) piece)) id = rw bytes_are at (took.says es goes.stands.shows) in
+        let told : t.handled ≡ handled_in c es (Took id (take (takes c es id piece) piece)) id =
+        rw bytes_are at (took.says es goes.stands.shows) in
         record {
           whole = record {
             stands = now.stands;
             text = now.text;
             says = rw (← said_before) now.says;
             written = now.written;
-            counted = omega (arith, flush_counts c v1 grown.0 (bytes ++ T) leads, all, ap count_of told, ap (λ (o : Outcome). o.messages) outcome_before, counted);
+            counted = omega (
+              arith,
+              flush_counts c v1 grown.0 (bytes ++ T) leads,
+              all,
+              ap count_of told,
+              ap (λ (o : Outcome). o.messages) outcome_before,
+              counted,
+            );
           };
           stop = stop_told c after now.stands;
         }
 
     -- A write failed: a part of the output defined for the bytes accepted was written.
-    front_cut_by : (x y : Option (List ℕ)) (n : Following) → IsCutFlush id v1 (AddsBytes x y) (FollowsMore k n) → IsCut c bytes T (AddsBytes x y) (FollowsMore a n)
+    front_cut_by : (x y : Option (List ℕ)) (n : Following) → IsCutFlush id v1 (AddsBytes x y) (FollowsMore k n)
+        → IsCut c bytes T (AddsBytes x y) (FollowsMore a n)
     front_cut_by x y n did =
         let cut = cut_flush_leads c v1 (bytes ++ T) a k n leads x y did in
-        record { part = cut.part; missing = cut.missing; some = cut.some; says = cc (cut.says, said_before); written = cut.written; reported = rw said_before at cut.reported }
+        record {
+          part = cut.part;
+          missing = cut.missing;
+          some = cut.some;
+          says = cc (cut.says, said_before);
+          written = cut.written;
+          reported = rw said_before at cut.reported;
+        }
 
 -- ---- any name of the configuration and of the number
 
-module _ (c : ConfigValues) (v : ServerValue) (id : ℕ) (bytes : List ℕ) (monitor : List AcceptedCall → Type 0) (goes : IsRunningAt c v id bytes monitor) where
+module _ (c : ConfigValues) (v : ServerValue) (id : ℕ) (bytes : List ℕ) (monitor : List AcceptedCall → Type 0)
+    (goes : IsRunningAt c v id bytes monitor) where
   -- A statement about the configuration and number of the server holds for any equal ones.
-  pub by_any_name : (P : ConfigValues → ℕ → Type 0) → (IsRunningAt v.config v (only_id v.config) bytes monitor → P v.config (only_id v.config)) → P c id
+  pub by_any_name : (P : ConfigValues → ℕ → Type 0)
+      → (IsRunningAt v.config v (only_id v.config) bytes monitor → P v.config (only_id v.config)) → P c id
   by_any_name P holds =
       subst (P c) (sym goes.number)
-      (subst (λ (k : ConfigValues). IsRunningAt k v (only_id k) bytes monitor → P k (only_id k)) goes.stands.config holds (subst (λ (n : ℕ). IsRunningAt c v n bytes monitor) goes.number goes))
+      (subst (λ (k : ConfigValues). IsRunningAt k v (only_id k) bytes monitor → P k (only_id k)) goes.stands.config
+      holds (subst (λ (n : ℕ). IsRunningAt c v n bytes monitor) goes.number goes))
 
-module _ (c : ConfigValues) (v : ServerValue) (id : ℕ) (bytes : List ℕ) (a m : Following) (goes : IsRunningAt c v id bytes (FollowsMore a m)) where
+module _ (c : ConfigValues) (v : ServerValue) (id : ℕ) (bytes : List ℕ) (a m : Following)
+    (goes : IsRunningAt c v id bytes (FollowsMore a m)) where
   -- The connection exists.
   pub session_going : (s : SessionValue) × (session_of id v.sessions ≡ Some s)
-  session_going = by_any_name c v id bytes (FollowsMore a m) goes (λ k n. (s : SessionValue) × (session_of n v.sessions ≡ Some s)) (λ so. (_, session_was v bytes a m so))
+  session_going =
+      by_any_name c v id bytes (FollowsMore a m) goes (λ k n. (s : SessionValue) × (session_of n v.sessions ≡ Some s))
+      (λ so. (_, session_was v bytes a m so))
 
-module _ (c : ConfigValues) (v : ServerValue) (id : ℕ) (bytes piece : List ℕ) (a m : Following) (goes : IsRunningAt c v id bytes (FollowsMore a m)) where
+module _ (c : ConfigValues) (v : ServerValue) (id : ℕ) (bytes piece : List ℕ) (a m : Following)
+    (goes : IsRunningAt c v id bytes (FollowsMore a m)) where
   pub is_not_missing : session_of id v.sessions ≡ None → ⊥
   is_not_missing none = let there = (session_going c v id bytes a m goes).1 in cc
 
   pub front_refused : (n : ℕ) → RefusesPieceOn v piece n (session_of id v.sessions) → FrontRefused c bytes piece n
   front_refused n =
-      by_any_name c v id bytes (FollowsMore a m) goes (λ k j. RefusesPieceOn v piece n (session_of j v.sessions) → FrontRefused k bytes piece n)
-      (λ so refused. (let there = session_was v bytes a m so in front_refused_by v bytes a m so piece n (refuses_last v so.stands.events _ piece n _ so.stands.shows there (rw there at refused))))
+      by_any_name c v id bytes (FollowsMore a m) goes
+      (λ k j. RefusesPieceOn v piece n (session_of j v.sessions) → FrontRefused k bytes piece n)
+      (λ so refused. (let there = session_was v bytes a m so in front_refused_by v bytes a m so piece n
+      (refuses_last v so.stands.events _ piece n _ so.stands.shows there (rw there at refused))))
 
   -- The monitor received the call for which an allocation failed.
-  pub front_reported : (n : ℕ) (v1 : ServerValue) (k : Following) → FrontRefused c bytes piece n → v1 ≡ server_taken v id (take n piece) → ((events : List AcceptedCall) → Shows v events → Shows v1 (events ++ Took id (take n piece) ∷ []))
-      → FollowsMore m k (Took id (take n piece) ∷ []) → HasReported c (FollowsMore a k) (bytes ++ take n piece) (length (stdio_output c (bytes ++ take n piece)))
+  pub front_reported : (n : ℕ) (v1 : ServerValue) (k : Following) → FrontRefused c bytes piece n
+      → v1 ≡ server_taken v id (take n piece)
+      → ((events : List AcceptedCall) → Shows v events → Shows v1 (events ++ Took id (take n piece) ∷ []))
+      → FollowsMore m k (Took id (take n piece) ∷ [])
+      → HasReported c (FollowsMore a k) (bytes ++ take n piece) (length (stdio_output c (bytes ++ take n piece)))
   front_reported n v1 k =
       by_any_name c v id bytes (FollowsMore a m) goes
-      (λ d j. FrontRefused d bytes piece n → v1 ≡ server_taken v j (take n piece) → ((events : List AcceptedCall) → Shows v events → Shows v1 (events ++ Took j (take n piece) ∷ []))
-      → FollowsMore m k (Took j (take n piece) ∷ []) → HasReported d (FollowsMore a k) (bytes ++ take n piece) (length (stdio_output d (bytes ++ take n piece))))
-      (λ so refused is shows told. refused_reported v bytes a m so piece n v1 k refused is (shows so.stands.events so.stands.shows) told)
+      (λ d j. FrontRefused d bytes piece n → v1 ≡ server_taken v j (take n piece)
+      → ((events : List AcceptedCall) → Shows v events → Shows v1 (events ++ Took j (take n piece) ∷ []))
+      → FollowsMore m k (Took j (take n piece) ∷ [])
+      → HasReported d (FollowsMore a k) (bytes ++ take n piece) (length (stdio_output d (bytes ++ take n piece))))
+      (λ so refused is shows told. refused_reported v bytes a m so piece n v1 k refused is
+      (shows so.stands.events so.stands.shows) told)
 
   module _ (v1 : ServerValue) (t : Taken) (took : WasTaken v v1 id piece t) where
-    pub front_served : (k n : Following) {after : ServerValue} (wrote : List ℕ → Type 0) {messages : ℕ} → FollowsMore m k (Took id (take t.bytes piece) ∷ []) → messages ≡ count_of t.handled → IsReportedFlush id v1 after wrote (FollowsMore k n)
+    pub front_served : (k n : Following) {after : ServerValue} (wrote : List ℕ → Type 0) {messages : ℕ}
+        → FollowsMore m k (Took id (take t.bytes piece) ∷ []) → messages ≡ count_of t.handled
+        → IsReportedFlush id v1 after wrote (FollowsMore k n)
         → FrontServed c id bytes (take t.bytes piece) after wrote (FollowsMore a n) messages
     front_served k n {after = after} wrote {messages = messages} told counted did =
         by_any_name c v id bytes (FollowsMore a m) goes
-        (λ d j. WasTaken v v1 j piece t → FollowsMore m k (Took j (take t.bytes piece) ∷ []) → IsReportedFlush j v1 after wrote (FollowsMore k n) → FrontServed d j bytes (take t.bytes piece) after wrote (FollowsMore a n) messages)
+        (λ d j. WasTaken v v1 j piece t → FollowsMore m k (Took j (take t.bytes piece) ∷ [])
+        → IsReportedFlush j v1 after wrote (FollowsMore k n)
+        → FrontServed d j bytes (take t.bytes piece) after wrote (FollowsMore a n) messages)
         (λ so taken tells. front_served_by v bytes a m so piece v1 t taken k tells after wrote n counted) took told did
 
-    pub front_cut : (k n : Following) (x y : Option (List ℕ)) → FollowsMore m k (Took id (take t.bytes piece) ∷ []) → IsCutFlush id v1 (AddsBytes x y) (FollowsMore k n) → IsCut c bytes (take t.bytes piece) (AddsBytes x y) (FollowsMore a n)
+    pub front_cut : (k n : Following) (x y : Option (List ℕ)) → FollowsMore m k (Took id (take t.bytes piece) ∷ [])
+        → IsCutFlush id v1 (AddsBytes x y) (FollowsMore k n)
+        → IsCut c bytes (take t.bytes piece) (AddsBytes x y) (FollowsMore a n)
     front_cut k n x y =
         by_any_name c v id bytes (FollowsMore a m) goes
-        (λ d j. WasTaken v v1 j piece t → FollowsMore m k (Took j (take t.bytes piece) ∷ []) → IsCutFlush j v1 (AddsBytes x y) (FollowsMore k n) → IsCut d bytes (take t.bytes piece) (AddsBytes x y) (FollowsMore a n))
+        (λ d j. WasTaken v v1 j piece t → FollowsMore m k (Took j (take t.bytes piece) ∷ [])
+        → IsCutFlush j v1 (AddsBytes x y) (FollowsMore k n)
+        → IsCut d bytes (take t.bytes piece) (AddsBytes x y) (FollowsMore a n))
         (λ so taken tells. front_cut_by v bytes a m so piece v1 t taken k tells x y n) took
 
     pub front_some : 0 < length piece → 1 ≤ t.bytes
-    front_some = by_any_name c v id bytes (FollowsMore a m) goes (λ d j. WasTaken v v1 j piece t → 0 < length piece → 1 ≤ t.bytes) (λ so taken. front_some_by v bytes a m so piece v1 t taken) took
+    front_some =
+        by_any_name c v id bytes (FollowsMore a m) goes
+        (λ d j. WasTaken v v1 j piece t → 0 < length piece → 1 ≤ t.bytes)
+        (λ so taken. front_some_by v bytes a m so piece v1 t taken) took
 
 -- A call of `take` processes at most one message.
 pub handled_few : (what : Handled) → count_of what ≤ 1

@@ -33,9 +33,11 @@ one_drop id = record { events = Dropped id ∷ []; exchanges = Gone id ∷ [] }
 
 -- Steps one after another, from the server `v` on. `Step` holds of the server before a step, the server after it, and
 -- its history.
-pub data AreSteps (Step : ServerValue → ServerValue → History → Type 0) (v : ServerValue) : ServerValue → History → Type 0 where
+pub data AreSteps (Step : ServerValue → ServerValue → History → Type 0) (v : ServerValue) : ServerValue
+    → History → Type 0 where
   NoStep : AreSteps Step v v no_history
-  OneMore : (w after : ServerValue) (h more : History) → AreSteps Step v w h → Step w after more → AreSteps Step v after (history_then h more)
+  OneMore : (w after : ServerValue) (h more : History) → AreSteps Step v w h → Step w after more
+      → AreSteps Step v after (history_then h more)
 
 -- ---- knowledge of a history
 
@@ -54,7 +56,8 @@ abbrev pub journal : (calls : Following) (exchanges : Answering) → Journal
 journal calls exchanges = record { calls = calls; exchanges = exchanges }
 
 -- The knowledge that a monitor and an application have of the history between two times.
-abbrev pub known_by : {M A : Type 0} (calls : M → Following) (exchanges : A → Answering) (m n : M) (a b : A) → History → Type 0
+abbrev pub known_by : {M A : Type 0} (calls : M → Following) (exchanges : A → Answering) (m n : M) (a b : A)
+    → History → Type 0
 known_by calls exchanges m n a b = Continues (journal (calls m) (exchanges a)) (journal (calls n) (exchanges b))
 
 -- The server accepted the calls of this history: if it showed some events before, it now shows them followed by these.
@@ -70,6 +73,7 @@ pub record HasAccepted (Made Known : History → Type 0) (v after : ServerValue)
   pub accepted : IsAccepted Known v after history
 
 -- The server accepted these calls, and the monitor received them. The application had no exchange.
-pub record AreCallsBetween (before later : Following) (v after : ServerValue) (events : List AcceptedCall) : Type 0 where
+pub record AreCallsBetween (before later : Following) (v after : ServerValue)
+    (events : List AcceptedCall) : Type 0 where
   pub shows : ShowsMore v after events
   pub follows : FollowsMore before later events

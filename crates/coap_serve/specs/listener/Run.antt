@@ -1,10 +1,13 @@
 -- Defined by this project: a run over the connections of a listener, as whole turns, and its history.
-use Rattle.std.specs.Prelude.{ℕ, ◌≡◌, ◌≤◌, ◌⊎◌, ◌+◌, ◌^◌, ◌-◌, ◌==◌, min, nat_le, nat_lt, Bool, false, List, [], ◌∷◌, ◌++◌, length, map, Option, Some, None, Result, Ok, Err, is_none, if◌then◌else◌}
+use Rattle.std.specs.Prelude.{ℕ, ◌≡◌, ◌≤◌, ◌⊎◌, ◌+◌, ◌^◌, ◌-◌, ◌==◌, min, nat_le, nat_lt, Bool, false, List, [], ◌∷◌}
+use Rattle.std.specs.Prelude.{◌++◌, length, map, Option, Some, None, Result, Ok, Err, is_none, if◌then◌else◌}
 use Rattle.coap_io.specs.declared.wire.Wait.{Wait}
 use Rattle.coap_io.specs.declared.wire.Wait.TheVariants.{No, Until, Forever}
 use Rattle.coap_io.specs.streams.DeviceTraces.{DoorCall, Waited}
 use Rattle.coap_io.specs.streams.Wires.{wait_at_most}
-use Rattle.coap_server_engine.specs.Prelude.{ConfigValues, AcceptedCall, Ticked, Stored, Removed, Released, Announced, AreAskedLater, open_refusal, ServerValue, config_with, new_server, server_dropped, server_released, server_ticked}
+use Rattle.coap_server_engine.specs.Prelude.{ConfigValues, AcceptedCall, Ticked, Stored, Removed, Released, Announced}
+use Rattle.coap_server_engine.specs.Prelude.{AreAskedLater, open_refusal, ServerValue, config_with, new_server}
+use Rattle.coap_server_engine.specs.Prelude.{server_dropped, server_released, server_ticked}
 use Rattle.coap_model.specs.declared.config.Config.{Config}
 use Rattle.coap_server_engine.specs.declared.io_fault.IoFault.{IoFault}
 use Rattle.coap_server_engine.specs.declared.io_fault.IoFault.TheVariants.{Memory, Turns}
@@ -13,8 +16,10 @@ use Rattle.coap_server_engine.specs.values.Exchanges.{Answering, AnswersMore, Ar
 use Rattle.coap_serve.specs.declared.door.peer.Peer.{Peer}
 use Rattle.coap_serve.specs.declared.door.service.ServiceConfig.{ServiceConfig}
 use Rattle.coap_serve.specs.declared.door.service.Times.{Times}
-use Rattle.coap_serve.specs.listener.Histories.{AreSteps, HasAccepted, History, calls_only, history_then, no_history, one_call, one_drop}
-use Rattle.coap_serve.specs.listener.Serving.{AreTurnSteps, HasTurned, IsAskedOnce, IsTurnBy, KnownOfTurn, LoopState, Views, loop_state, way}
+use Rattle.coap_serve.specs.listener.Histories.{AreSteps, HasAccepted, History, calls_only, history_then, no_history}
+use Rattle.coap_serve.specs.listener.Histories.{one_call, one_drop}
+use Rattle.coap_serve.specs.listener.Serving.{AreTurnSteps, HasTurned, IsAskedOnce, IsTurnBy, KnownOfTurn, LoopState}
+use Rattle.coap_serve.specs.listener.Serving.{Views, loop_state, way}
 use Rattle.coap_serve.specs.listener.Silence.{Sweep, due_sweep}
 
 -- ---- the time of the server
@@ -39,7 +44,8 @@ pub data IsRunStep (v : ServerValue) : ServerValue → History → Type 0 where
   SilentReleased : (id : ℕ) → IsRunStep v (server_released v id) (one_call (Released id))
   SilentDropped : (id : ℕ) → IsRunStep v (server_dropped v id) (one_drop id)
   TimeSet : (moment : ℕ) → IsRunStep v (moved_to v moment) (calls_only (moved_calls v moment))
-  LaterGiven : (after : ServerValue) (h : History) (is_full : Bool) → AreAskedLater v 256 is_full after (λ all. h.events ≡ all) (λ all. h.exchanges ≡ all) → IsRunStep v after h
+  LaterGiven : (after : ServerValue) (h : History) (is_full : Bool)
+      → AreAskedLater v 256 is_full after (λ all. h.events ≡ all) (λ all. h.exchanges ≡ all) → IsRunStep v after h
   TurnMade : (after : ServerValue) (h : History) → AreTurnSteps v after h → IsRunStep v after h
 
 -- A call that a run makes. It stores and removes no resource for the embedding program, and announces no message size.
@@ -81,7 +87,8 @@ pub record ServiceValue (W : Type 0) : Type 0 where
   pub second : ℕ
   pub idle : Option ℕ
 
-abbrev pub service_of : {W : Type 0} → ServerValue → List (ℕ × Peer W) → (second : ℕ) → (idle : Option ℕ) → ServiceValue W
+abbrev pub service_of : {W : Type 0} → ServerValue → List (ℕ × Peer W) → (second : ℕ)
+    → (idle : Option ℕ) → ServiceValue W
 service_of server entries second idle = record { state = loop_state server entries; second = second; idle = idle }
 
 -- The environment of a run. `follows` states the exchanges that the application may have, and `rests` when it has no
@@ -92,7 +99,8 @@ pub record Environment (A W : Type 0) : Type 1 where
   pub waits : ℕ → Wait → Type 0
   pub views : Views W
 
-abbrev pub environment : {A W : Type 0} (follows : A → Answering) (rests : A → Type 0) (waits : ℕ → Wait → Type 0) (views : Views W) → Environment A W
+abbrev pub environment : {A W : Type 0} (follows : A → Answering) (rests : A → Type 0) (waits : ℕ → Wait → Type 0)
+    (views : Views W) → Environment A W
 environment follows rests waits views = record { follows = follows; rests = rests; waits = waits; views = views }
 
 -- An application lets the listener wait this long, at this time.
@@ -108,33 +116,41 @@ pub record TurnStart : Type 0 where
 -- The parts of a turn before its visits, at these times. Silent connections are released or dropped, the time is set,
 -- and later responses are given. The application is asked for them until it has none (`rests`), or until it has given
 -- 256. The history is that of the parts, in order.
-pub record IsBegun {A W : Type 0} (follows : A → Answering) (rests : A → Type 0) (times : Times) (s : ServiceValue W) (start : TurnStart) : Type 0 where
+pub record IsBegun {A W : Type 0} (follows : A → Answering) (rests : A → Type 0) (times : Times) (s : ServiceValue W)
+    (start : TurnStart) : Type 0 where
   pub sweep : Sweep W
   pub is_swept : sweep ≡ due_sweep s.idle s.second times.second s.state.server s.state.entries
   pub later : History
-  pub given : AreAskedLater (moved_to sweep.server times.now) 256 start.is_full start.server (λ all. later.events ≡ all) (λ all. (later.exchanges ≡ all) × (one other : A) × (start.is_full ≡ false → rests other) × AnswersMore (follows one) (follows other) all)
-  pub all : start.history ≡ history_then sweep.history (history_then (calls_only (moved_calls sweep.server times.now)) later)
+  pub given : AreAskedLater (moved_to sweep.server times.now) 256 start.is_full start.server (λ all. later.events ≡ all)
+      (λ all. (later.exchanges ≡ all) × (one other : A) × (start.is_full ≡ false → rests other)
+      × AnswersMore (follows one) (follows other) all)
+  pub all : start.history
+      ≡ history_then sweep.history (history_then (calls_only (moved_calls sweep.server times.now)) later)
 
 -- The knowledge of the visits of a turn, which follow this history.
 abbrev pub known_after : {W : Type 0} → History → KnownOfTurn W → KnownOfTurn W
 known_after h K = record K { history = λ more. K.history (history_then h more) }
 
 -- One turn at these times. After the parts before its visits, a connection may be opened, and each one is served.
-pub record IsTurnFor {A W : Type 0} (E : Environment A W) (times : Times) (K : KnownOfTurn W) (s after : ServiceValue W) (wait : Wait) : Type 0 where
+pub record IsTurnFor {A W : Type 0} (E : Environment A W) (times : Times) (K : KnownOfTurn W) (s after : ServiceValue W)
+    (wait : Wait) : Type 0 where
   pub start : TurnStart
   pub begun : IsBegun E.follows E.rests times s start
   pub limit : Wait
   pub allowed : E.waits times.now limit
   pub next : Wait
-  pub turn : IsTurnBy (way E.follows times.second E.views) (known_after start.history K) (loop_state start.server begun.sweep.entries) after.state next
-  pub waits : wait ≡ short_wait s.idle after.state.server.host.now after.state.entries (wait_within (limit_for start.is_full limit) next)
+  pub turn : IsTurnBy (way E.follows times.second E.views) (known_after start.history K)
+      (loop_state start.server begun.sweep.entries) after.state next
+  pub waits : wait ≡ short_wait s.idle after.state.server.host.now after.state.entries
+      (wait_within (limit_for start.is_full limit) next)
   pub second : after.second ≡ times.second
   pub idle : after.idle ≡ s.idle
 
 -- A turn at these times in which an allocation failed. The parts before its visits were made in full, and the listener
 -- was asked if another connection might be opened. The visits were made in full or in part, and `last` is the server
 -- then.
-pub record IsCutTurn {A W : Type 0} (follows : A → Answering) (rests : A → Type 0) (times : Times) (K : KnownOfTurn W) (s : ServiceValue W) (last : ServerValue) : Type 0 where
+pub record IsCutTurn {A W : Type 0} (follows : A → Answering) (rests : A → Type 0) (times : Times) (K : KnownOfTurn W)
+    (s : ServiceValue W) (last : ServerValue) : Type 0 where
   pub start : TurnStart
   pub begun : IsBegun follows rests times s start
   pub asked : IsAskedOnce K.door start.server
@@ -173,12 +189,15 @@ abbrev pub no_trace : {W : Type 0} → RunTrace W
 no_trace = record { times = []; calls = []; history = no_history }
 
 abbrev pub trace_then : {W : Type 0} → RunTrace W → RunTrace W → RunTrace W
-trace_then t u = record { times = t.times ++ u.times; calls = t.calls ++ u.calls; history = history_then t.history u.history }
+trace_then t u =
+    record { times = t.times ++ u.times; calls = t.calls ++ u.calls; history = history_then t.history u.history }
 
 -- The trace of one turn, after this number of turns: the wait before it, the calls of the listener in it, and its
 -- history.
-abbrev pub turn_trace : {W : Type 0} (turns : ℕ) (wait : Wait) → ServiceValue W → Times → List (DoorCall W) → History → RunTrace W
-turn_trace turns wait s times calls h = record { times = times ∷ []; calls = waited_before turns wait s.state.server ++ calls; history = h }
+abbrev pub turn_trace : {W : Type 0} (turns : ℕ) (wait : Wait) → ServiceValue W → Times
+    → List (DoorCall W) → History → RunTrace W
+turn_trace turns wait s times calls h =
+    record { times = times ∷ []; calls = waited_before turns wait s.state.server ++ calls; history = h }
 
 -- The calls of the listener and the history of a turn are exactly these.
 abbrev pub exactly : {W : Type 0} → List (DoorCall W) → History → KnownOfTurn W
@@ -186,10 +205,13 @@ exactly calls h = record { door = λ all. calls ≡ all; history = λ all. h ≡
 
 -- Whole turns on a new service, one after the other. Before each turn but the first, the listener waits as long as the
 -- last turn returned.
-pub data AreTurns {A W : Type 0} (E : Environment A W) (c : ServiceConfig) : RunTrace W → ServiceValue W → Wait → Type 0 where
+pub data AreTurns {A W : Type 0} (E : Environment A W) (c : ServiceConfig) : RunTrace W
+    → ServiceValue W → Wait → Type 0 where
   NoneMade : AreTurns E c no_trace (new_service c) No
-  OneMade : (t : RunTrace W) (s : ServiceValue W) (wait : Wait) (times : Times) (calls : List (DoorCall W)) (h : History) (after : ServiceValue W) (next : Wait)
-      → AreTurns E c t s wait → IsTurnFor E times (exactly calls h) s after next → AreTurns E c (trace_then t (turn_trace (length t.times) wait s times calls h)) after next
+  OneMade : (t : RunTrace W) (s : ServiceValue W) (wait : Wait) (times : Times) (calls : List (DoorCall W))
+      (h : History) (after : ServiceValue W) (next : Wait)
+      → AreTurns E c t s wait → IsTurnFor E times (exactly calls h) s after next
+      → AreTurns E c (trace_then t (turn_trace (length t.times) wait s times calls h)) after next
 
 -- ---- a run
 
@@ -199,8 +221,10 @@ pub record KnownOfRun (W : Type 0) : Type 1 where
   pub uptime : List ℕ → Type 0
   pub turns : KnownOfTurn W
 
-abbrev pub known_of_run : {W : Type 0} → (clock uptime : List ℕ → Type 0) (door : List (DoorCall W) → Type 0) (history : History → Type 0) → KnownOfRun W
-known_of_run clock uptime door history = record { clock = clock; uptime = uptime; turns = record { door = door; history = history } }
+abbrev pub known_of_run : {W : Type 0} → (clock uptime : List ℕ → Type 0) (door : List (DoorCall W) → Type 0)
+    (history : History → Type 0) → KnownOfRun W
+known_of_run clock uptime door history =
+    record { clock = clock; uptime = uptime; turns = record { door = door; history = history } }
 
 -- Only the times of the clock and the calls of the listener are known.
 abbrev pub clock_and_door : {W : Type 0} → (clock : List ℕ → Type 0) (door : List (DoorCall W) → Type 0) → KnownOfRun W
@@ -208,10 +232,13 @@ clock_and_door clock door = known_of_run clock (λ seconds. Unit {0}) door (λ h
 
 -- The traces of a run match what is known of it.
 abbrev pub Matches : {W : Type 0} → KnownOfRun W → RunTrace W → Type 0
-Matches K t = K.clock (map (λ x. x.now) t.times) × K.uptime (map (λ x. x.second) t.times) × K.turns.door t.calls × K.turns.history t.history
+Matches K t =
+    K.clock (map (λ x. x.now) t.times) × K.uptime (map (λ x. x.second) t.times) × K.turns.door t.calls
+    × K.turns.history t.history
 
 -- A run that made every turn.
-pub record IsWholeRun {A W : Type 0} (E : Environment A W) (c : ServiceConfig) (K : KnownOfRun W) (last : ServerValue) : Type 0 where
+pub record IsWholeRun {A W : Type 0} (E : Environment A W) (c : ServiceConfig) (K : KnownOfRun W)
+    (last : ServerValue) : Type 0 where
   pub whole : RunTrace W
   pub service : ServiceValue W
   pub wait : Wait
@@ -221,7 +248,8 @@ pub record IsWholeRun {A W : Type 0} (E : Environment A W) (c : ServiceConfig) (
   pub ended : last ≡ service.state.server
 
 -- A run in which an allocation failed in a turn, after some whole turns.
-pub record IsCutRun {A W : Type 0} (E : Environment A W) (c : ServiceConfig) (K : KnownOfRun W) (last : ServerValue) : Type 0 where
+pub record IsCutRun {A W : Type 0} (E : Environment A W) (c : ServiceConfig) (K : KnownOfRun W)
+    (last : ServerValue) : Type 0 where
   pub front : RunTrace W
   pub service : ServiceValue W
   pub wait : Wait
@@ -253,7 +281,8 @@ Unlimited a now wait = wait ≡ Forever
 -- A run over the connections of a listener, which always ends with an error. Its history follows from the same steps:
 -- each request that was handed over was shown, and the responses are those of the application. It also follows from the
 -- traces of the clocks, the listener and the wires.
-pub record EndsRunWith {A W : Type 0} (E : Environment A W) (c : ServiceConfig) (K : KnownOfRun W) (fault : IoFault) : Type 0 where
+pub record EndsRunWith {A W : Type 0} (E : Environment A W) (c : ServiceConfig) (K : KnownOfRun W)
+    (fault : IoFault) : Type 0 where
   pub last : ServerValue
   pub ran : HasRun K.turns.history (new_server (config_of c)) last
   pub ends : EndsRun E c K last fault

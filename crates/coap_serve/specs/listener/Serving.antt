@@ -1,80 +1,23 @@
 -- Defined by this project: one turn of the event loop, its history, and how each connection is served in it.
-use Rattle.std.specs.Prelude.{
-  ℕ,
-  ◌≡◌,
-  ◌⊎◌,
-  ◌+◌,
-  Bool,
-  true,
-  false,
-  List,
-  [],
-  ◌∷◌,
-  ◌++◌,
-  map,
-  take,
-  drop,
-  slice_get,
-  Option,
-  Some,
-  None,
-  is_none,
-  is_some,
-  nat_eq,
-  if◌then◌else◌,
-}
-use Rattle.coap_server_engine.specs.Prelude.{
-  insert_entry,
-  AcceptedCall,
-  Opened,
-  Wrote,
-  Ended,
-  Answering,
-  Following,
-  open_refusal,
-}
+use Rattle.std.specs.Prelude.{ℕ, ◌≡◌, ◌⊎◌, ◌+◌, Bool, true, false, List, [], ◌∷◌, ◌++◌, map, take, drop, slice_get}
+use Rattle.std.specs.Prelude.{Option, Some, None, is_none, is_some, nat_eq, if◌then◌else◌}
+use Rattle.coap_server_engine.specs.Prelude.{insert_entry, AcceptedCall, Opened, Wrote, Ended, Answering, Following}
+use Rattle.coap_server_engine.specs.Prelude.{open_refusal}
 use Rattle.coap_io.specs.streams.DeviceTraces.{DoorCall, Asked}
 use Rattle.coap_io.specs.streams.Wires.{MatchesTrace, WireTrace, trace_by}
 use Rattle.coap_io.specs.declared.wire.Got.{Got}
 use Rattle.coap_io.specs.declared.wire.Wait.{Wait}
 use Rattle.coap_server_engine.specs.values.ApplicationCalls.{IsPartlyServed, IsServed as IsServedWith}
-use Rattle.coap_server_engine.specs.values.Servers.{
-  ServerValue,
-  server_opened,
-  server_dropped,
-  server_ended,
-  server_written,
-}
+use Rattle.coap_server_engine.specs.values.Servers.{ServerValue, server_opened, server_dropped, server_ended}
+use Rattle.coap_server_engine.specs.values.Servers.{server_written}
 use Rattle.coap_serve.specs.declared.door.peer.PeerOutcome.{PeerOutcome}
 use Rattle.coap_serve.specs.declared.door.peer.PeerOutcome.TheVariants.{Open, Over}
 use Rattle.coap_serve.specs.declared.door.peer.Peer.{Peer}
-use Rattle.coap_serve.specs.listener.Histories.{
-  AreCallsBetween,
-  AreSteps,
-  HasAccepted,
-  History,
-  IsAccepted,
-  history_then,
-  no_history,
-  one_call,
-  one_drop,
-}
-use Rattle.coap_serve.specs.listener.Turns.{
-  CanGoOn,
-  IsServedOnceBy,
-  IsTakenWith,
-  IsWaitAfter,
-  PeerStatus,
-  Readiness,
-  Taking,
-  VisitResult,
-  VisitState,
-  activity_after,
-  have_moved,
-  new_activity,
-  peer_status,
-  visit_state,
-}
+use Rattle.coap_serve.specs.listener.Histories.{AreCallsBetween, AreSteps, HasAccepted, History, IsAccepted}
+use Rattle.coap_serve.specs.listener.Histories.{history_then, no_history, one_call, one_drop}
+use Rattle.coap_serve.specs.listener.Turns.{CanGoOn, IsServedOnceBy, IsTakenWith, IsWaitAfter, PeerStatus, Readiness}
+use Rattle.coap_serve.specs.listener.Turns.{Taking, VisitResult, VisitState, activity_after, have_moved, new_activity}
+use Rattle.coap_serve.specs.listener.Turns.{peer_status, visit_state}
 
 -- ---- steps
 

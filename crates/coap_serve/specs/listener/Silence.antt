@@ -1,8 +1,10 @@
 -- Defined by this project: the activity of connections, which of them a sweep releases or drops, and the effect of a
 -- sweep.
-use Rattle.std.specs.Prelude.{ℕ, ◌≡◌, take, drop, ◌+◌, ◌-◌, List, [], ◌∷◌, ◌++◌, Option, Some, None, map, nat_eq, nat_lt, nat_le, ◌==◌, ◌&&◌, if◌then◌else◌}
+use Rattle.std.specs.Prelude.{ℕ, ◌≡◌, take, drop, ◌+◌, ◌-◌, List, [], ◌∷◌, ◌++◌, Option, Some, None, map, nat_eq}
+use Rattle.std.specs.Prelude.{nat_lt, nat_le, ◌==◌, ◌&&◌, if◌then◌else◌}
 use Rattle.coap_conn.specs.Phases.{is_waiting}
-use Rattle.coap_server_engine.specs.Prelude.{ReleaseFault, Released, released_refusal, status_of, ServerValue, server_released, server_dropped}
+use Rattle.coap_server_engine.specs.Prelude.{ReleaseFault, Released, released_refusal, status_of, ServerValue}
+use Rattle.coap_server_engine.specs.Prelude.{server_released, server_dropped}
 use Rattle.coap_model.specs.declared.answers.Status.{Status}
 use Rattle.coap_serve.specs.declared.door.silence.Activity.{Activity}
 use Rattle.coap_serve.specs.declared.door.silence.SilenceAction.{SilenceAction}
@@ -59,7 +61,11 @@ released_on now id es = map (λ e. if nat_eq id e.0 then (e.0, released_at now e
 
 -- A connection was released, and the time was recorded.
 abbrev pub release_one : {W : Type 0} (now : ℕ) → ServerValue → ℕ × Peer W → Sweep W
-release_one now v e = record { server = server_released v e.0; entries = (e.0, released_at now e.1) ∷ []; history = one_call (Released e.0) }
+release_one now v e = record {
+  server = server_released v e.0;
+  entries = (e.0, released_at now e.1) ∷ [];
+  history = one_call (Released e.0);
+}
 
 -- The effect of an action. If `release` is refused, the connection is dropped.
 abbrev pub acted : {W : Type 0} → SilenceAction → Option ReleaseFault → (now : ℕ) → ServerValue → ℕ × Peer W → Sweep W
@@ -74,7 +80,8 @@ swept_one idle now v e = acted (silence_action idle now (status_of v e.0) e.1.ac
 
 -- One effect after another.
 abbrev pub swept_both : {W : Type 0} → Sweep W → Sweep W → Sweep W
-swept_both s t = record { server = t.server; entries = s.entries ++ t.entries; history = history_then s.history t.history }
+swept_both s t =
+    record { server = t.server; entries = s.entries ++ t.entries; history = history_then s.history t.history }
 
 -- The effect of a sweep on these connections, in order.
 unfoldable pub swept : {W : Type 0} (idle now : ℕ) → ServerValue → List (ℕ × Peer W) → Sweep W
@@ -92,7 +99,8 @@ pub record HasSwept {W : Type 0} (Known : History → Type 0) (s : Sweep W) (v a
   pub accepted : IsAccepted Known v after s.history
 
 -- The connection at an index was swept, and the sweep continues at the index `at`. The others are unchanged.
-pub record HasSweptAt {W : Type 0} (Known : History → Type 0) (s : Sweep W) (before : LoopState W) (i : ℕ) (after : LoopState W) (at : ℕ) : Type 0 where
+pub record HasSweptAt {W : Type 0} (Known : History → Type 0) (s : Sweep W) (before : LoopState W) (i : ℕ)
+    (after : LoopState W) (at : ℕ) : Type 0 where
   pub has : HasSwept Known s before.server after.server
   pub front : take at after.entries ≡ take i before.entries ++ s.entries
   pub back : drop at after.entries ≡ drop (i + 1) before.entries

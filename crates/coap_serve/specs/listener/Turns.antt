@@ -1,6 +1,8 @@
 -- Defined by this project: how a turn of the event loop serves one connection, and the work that remains afterwards.
-use Rattle.std.specs.Prelude.{ℕ, ◌≡◌, ◌≢◌, fold, Bool, true, false, not, List, [], ◌∷◌, ◌++◌, length, drop, Option, Some, None, IfSome, nat_lt, ◌==◌, ◌&&◌, ◌||◌, if◌then◌else◌}
-use Rattle.coap_server_engine.specs.Prelude.{Reason, can_take_on, stop_on, AcceptedCall, Took, Wrote, Ended, in_result, took, IsReasonFor, waiting_at}
+use Rattle.std.specs.Prelude.{ℕ, ◌≡◌, ◌≢◌, fold, Bool, true, false, not, List, [], ◌∷◌, ◌++◌, length, drop, Option}
+use Rattle.std.specs.Prelude.{Some, None, IfSome, nat_lt, ◌==◌, ◌&&◌, ◌||◌, if◌then◌else◌}
+use Rattle.coap_server_engine.specs.Prelude.{Reason, can_take_on, stop_on, AcceptedCall, Took, Wrote, Ended, in_result}
+use Rattle.coap_server_engine.specs.Prelude.{took, IsReasonFor, waiting_at}
 use Rattle.coap_server_engine.specs.values.Servers.{ServerValue, session_of, server_ended, server_written}
 use Rattle.coap_server_session.specs.values.Deadlines.{sooner}
 use Rattle.coap_server_engine.specs.values.Exchanges.{Answering, AnswersMore}
@@ -110,12 +112,16 @@ Taking = ServerValue → ℕ → List ℕ → TakeResult → Type 0
 
 -- The connection accepts all that it accepts of the bytes, and no application responds.
 abbrev pub IsTakenAlone : Taking
-IsTakenAlone v id bytes r = (r.server ≡ (in_result v id bytes).server) × (r.count ≡ (in_result v id bytes).count) × (r.history ≡ calls_only (took v id bytes))
+IsTakenAlone v id bytes r =
+    (r.server ≡ (in_result v id bytes).server) × (r.count ≡ (in_result v id bytes).count)
+    × (r.history ≡ calls_only (took v id bytes))
 
 -- The connection accepts all that it accepts of the bytes. An application with these statements is shown the requests
 -- that it answers, and responds to some of them at once.
 abbrev pub IsTakenWith : {A : Type 0} → (follows : A → Answering) → Taking
-IsTakenWith {A} follows v id bytes r = IsServedWith v id bytes r.count r.server (λ all. r.history.events ≡ all) (λ all. (r.history.exchanges ≡ all) × (one other : A) × AnswersMore (follows one) (follows other) all)
+IsTakenWith {A} follows v id bytes r =
+    IsServedWith v id bytes r.count r.server (λ all. r.history.events ≡ all)
+    (λ all. (r.history.exchanges ≡ all) × (one other : A) × AnswersMore (follows one) (follows other) all)
 
 abbrev pub has_failed : Got → Bool
 has_failed Failed = true
@@ -137,7 +143,8 @@ IsLaidOut true rest wire heard bytes after = IsReadOnce READ_SIZE wire after hea
 IsLaidOut false rest wire heard bytes after = (heard ≡ Later) × (bytes ≡ rest) × (after ≡ wire)
 
 -- The connection did with these bytes what `Takes` states, with this result, and these bytes are kept.
-pub record IsTakenInPart (Takes : Taking) (v : ServerValue) (id : ℕ) (bytes left : List ℕ) (r : TakeResult) : Type 0 where
+pub record IsTakenInPart (Takes : Taking) (v : ServerValue) (id : ℕ) (bytes left : List ℕ)
+    (r : TakeResult) : Type 0 where
   pub took : Takes v id bytes r
   pub rest : left ≡ rest_behind r.server id r.count bytes
   pub moved : have_moved r.history.events ≡ nat_lt 0 r.count
@@ -171,7 +178,8 @@ pub record VisitResult : Type 0 where
 
 -- The connection did with its bytes what `Takes` states. Then its queued bytes were offered to one write, if the wire
 -- may be written. The event of the write follows those of the takes.
-pub record IsTakenAndWritten (Takes : Taking) (may_write : Bool) (id : ℕ) (before after : VisitState) (r : VisitResult) : Type 0 where
+pub record IsTakenAndWritten (Takes : Taking) (may_write : Bool) (id : ℕ) (before after : VisitState)
+    (r : VisitResult) : Type 0 where
   pub taken : TakeResult
   pub took : Takes before.server id before.rest taken
   pub rest : after.rest ≡ rest_behind taken.server id taken.count before.rest
@@ -182,25 +190,32 @@ pub record IsTakenAndWritten (Takes : Taking) (may_write : Bool) (id : ℕ) (bef
   pub history : r.history ≡ record (taken.history) { events = taken.history.events ++ wrote_events id wrote }
 
 -- The steps that follow a read. If the read failed, there is none, and the connection has failed.
-abbrev pub IsCarriedOn : (failed : Bool) (Steps : VisitState → VisitState → VisitResult → Type 0) → VisitState → VisitState → VisitResult → Type 0
-IsCarriedOn true Steps before after r = (after.server ≡ before.server) × (after.wire ≡ before.wire) × (r ≡ record { outcome = Over drop.Failed; history = no_history })
+abbrev pub IsCarriedOn : (failed : Bool) (Steps : VisitState → VisitState → VisitResult → Type 0) → VisitState
+    → VisitState → VisitResult → Type 0
+IsCarriedOn true Steps before after r =
+    (after.server ≡ before.server) × (after.wire ≡ before.wire)
+    × (r ≡ record { outcome = Over drop.Failed; history = no_history })
 IsCarriedOn false Steps before after r = Steps before after r
 
 -- One connection was served: a read if one is due, then processing, then a write if bytes are queued. A failed read
 -- ends this. The wire was read and written at no other time. The events are those of the read, of the takes and of the
 -- write, in this order.
-pub record IsServedOnceBy (Takes : Taking) (ready : Readiness) (id : ℕ) (before after : VisitState) (r : VisitResult) : Type 0 where
+pub record IsServedOnceBy (Takes : Taking) (ready : Readiness) (id : ℕ) (before after : VisitState)
+    (r : VisitResult) : Type 0 where
   pub heard : Got
   pub bytes : List ℕ
   pub between : WireTrace
   pub laid : IsLaidOut (is_heard ready.read before.server id before.rest) before.rest before.wire heard bytes between
   pub later : History
-  pub carried : IsCarriedOn (has_failed heard) (IsTakenAndWritten Takes ready.write id) (visit_state (server_heard before.server id heard) bytes between) after (record r { history = later })
+  pub carried : IsCarriedOn (has_failed heard) (IsTakenAndWritten Takes ready.write id)
+      (visit_state (server_heard before.server id heard) bytes between) after (record r { history = later })
   pub history : r.history ≡ record later { events = heard_events id heard ++ later.events }
 
 -- One connection was served, and no application responds.
-abbrev pub IsServedOnce : (ready : Readiness) (id : ℕ) (before after : VisitState) (outcome : PeerOutcome) (events : List AcceptedCall) → Type 0
-IsServedOnce ready id before after outcome events = IsServedOnceBy IsTakenAlone ready id before after (record { outcome = outcome; history = calls_only events })
+abbrev pub IsServedOnce : (ready : Readiness) (id : ℕ) (before after : VisitState) (outcome : PeerOutcome)
+    (events : List AcceptedCall) → Type 0
+IsServedOnce ready id before after outcome events =
+    IsServedOnceBy IsTakenAlone ready id before after (record { outcome = outcome; history = calls_only events })
 
 -- To serve the connection has no effect, whatever its wire does: the wire is neither read nor written. There is an
 -- outcome. Every outcome leaves the server, the bytes left from its reads and the trace of its wire unchanged, and the
@@ -208,8 +223,11 @@ IsServedOnce ready id before after outcome events = IsServedOnceBy IsTakenAlone 
 pub record IsNoOp (ready : Readiness) (v : ServerValue) (id : ℕ) (rest : List ℕ) : Type 0 where
   pub unread : is_heard ready.read v id rest ≡ false
   pub unwritten : waiting_once ready.write id v ≡ []
-  pub there_is_one : (wire : WireTrace) → IsServedOnce ready id (visit_state v rest wire) (visit_state v rest wire) Open (refused_events id rest)
-  pub always : (wire : WireTrace) (after : VisitState) (outcome : PeerOutcome) (events : List AcceptedCall) → IsServedOnce ready id (visit_state v rest wire) after outcome events → (after ≡ visit_state v rest wire) × (outcome ≡ Open) × (events ≡ refused_events id rest)
+  pub there_is_one : (wire : WireTrace)
+      → IsServedOnce ready id (visit_state v rest wire) (visit_state v rest wire) Open (refused_events id rest)
+  pub always : (wire : WireTrace) (after : VisitState) (outcome : PeerOutcome) (events : List AcceptedCall)
+      → IsServedOnce ready id (visit_state v rest wire) after outcome events
+      → (after ≡ visit_state v rest wire) × (outcome ≡ Open) × (events ≡ refused_events id rest)
 
 -- ---- remaining work
 
@@ -252,8 +270,8 @@ abbrev pub IsAsked : (wanted : Bool) (recorded : Option Bool) (answer : Bool) �
 IsAsked true recorded answer = MatchesTrace recorded answer
 IsAsked false recorded answer = answer ≡ false
 
--- `result` is `true` if something can be done at once. The connection must be visited, its wire must be read and may be,
--- or it must be written and may be.
+-- `result` is `true` if something can be done at once. The connection must be visited, its wire must be read and may
+-- be, or it must be written and may be.
 pub record CanGoOn (e : PeerStatus) (result : Bool) : Type 0 where
   pub reads : Bool
   pub writes : Bool
@@ -264,7 +282,8 @@ pub record CanGoOn (e : PeerStatus) (result : Bool) : Type 0 where
 -- `result` is `true` if something can be done at once on any of these connections.
 abbrev pub CanAnyGoOn : List PeerStatus → Bool → Type 0
 CanAnyGoOn [] result = result ≡ false
-CanAnyGoOn (e ∷ es) result = (first others : Bool) × CanGoOn e first × CanAnyGoOn es others × (result ≡ (first || others))
+CanAnyGoOn (e ∷ es) result =
+    (first others : Bool) × CanGoOn e first × CanAnyGoOn es others × (result ≡ (first || others))
 
 -- The earliest of this time and of all times at which time alone may queue something on one of these connections.
 abbrev pub least_with : Option ℕ → List PeerStatus → Option ℕ

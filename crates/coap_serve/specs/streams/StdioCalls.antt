@@ -1,6 +1,7 @@
 -- Defined by this project: the calls that a server accepts in a run over one input, and the report of them to a
 -- monitor.
-use Rattle.std.specs.Prelude.{◌≡◌, ◌≢◌, ◌≤◌, ◌⊎◌, ℕ, zero, suc, ◌+◌, ◌==◌, List, [], ◌∷◌, ◌++◌, length, Option, Some, None, Result, Ok, Err, Bool, true, false, if◌then◌else◌}
+use Rattle.std.specs.Prelude.{◌≡◌, ◌≢◌, ◌≤◌, ◌⊎◌, ℕ, zero, suc, ◌+◌, ◌==◌, List, [], ◌∷◌, ◌++◌, length, Option, Some}
+use Rattle.std.specs.Prelude.{None, Result, Ok, Err, Bool, true, false, if◌then◌else◌}
 use Rattle.std.specs.List.{AllByRecursion, concat}
 use Rattle.coap_server_engine.specs.Prelude.{Reason, ConfigValues, ServerValue, Shows}
 use Rattle.coap_model.specs.streams.Output.{only_id, outcome, waiting_of}
@@ -22,16 +23,19 @@ flush_calls id v false = []
 -- The calls that these iterations of a flush make: each removes the bytes that it wrote from the queue.
 unfoldable pub calls_of_flush : (turns id : ℕ) → ServerValue → List AcceptedCall
 calls_of_flush zero id v = []
-calls_of_flush (suc turns) id v = calls_of_flush turns id v ++ Wrote id (length (waiting_at id (flush_turns turns id v).server)) ∷ []
+calls_of_flush (suc turns) id v =
+    calls_of_flush turns id v ++ Wrote id (length (waiting_at id (flush_turns turns id v).server)) ∷ []
 
 -- A flush is complete, and the monitor received the calls of its iterations.
-pub record IsReportedFlush (id : ℕ) (v after : ServerValue) (wrote : List ℕ → Type 0) (monitor : List AcceptedCall → Type 0) : Type 0 where
+pub record IsReportedFlush (id : ℕ) (v after : ServerValue) (wrote : List ℕ → Type 0)
+    (monitor : List AcceptedCall → Type 0) : Type 0 where
   pub flushed : IsFlushed id v after wrote
   pub tells : monitor (calls_of_flush flushed.turns id v)
 
--- A write failed after `turns` iterations, and passed on only a part of the queued bytes. The monitor received the calls
--- of the iterations before it.
-pub record IsCutFlush (id : ℕ) (v : ServerValue) (wrote : List ℕ → Type 0) (monitor : List AcceptedCall → Type 0) : Type 0 where
+-- A write failed after `turns` iterations, and passed on only a part of the queued bytes. The monitor received the
+-- calls of the iterations before it.
+pub record IsCutFlush (id : ℕ) (v : ServerValue) (wrote : List ℕ → Type 0)
+    (monitor : List AcceptedCall → Type 0) : Type 0 where
   pub turns : ℕ
   pub within : turns ≤ more_at id v
   pub tells : monitor (calls_of_flush turns id v)
@@ -43,7 +47,8 @@ pub record IsCutFlush (id : ℕ) (v : ServerValue) (wrote : List ℕ → Type 0)
 
 -- ---- the calls of a run
 
--- The number of bytes that an event removed from the queue of a connection; 0 unless it is a `Wrote` of this connection.
+-- The number of bytes that an event removed from the queue of a connection; 0 unless it is a `Wrote` of
+-- this connection.
 abbrev pub written_in : ℕ → AcceptedCall → ℕ
 written_in id (Wrote other n) = if other == id then n else 0
 written_in id call = 0
@@ -71,7 +76,8 @@ AreAfterOutput c earlier (e ∷ es) = IsAfterOutput c earlier e × AreAfterOutpu
 
 -- A connection is opened. Then it accepts the bytes `taken`, and this number of bytes is written. Nothing else happens.
 -- Each time it accepts bytes, all output for the bytes before them was written.
-pub record AreTransfers (c : ConfigValues) (id : ℕ) (taken : List ℕ) (written : ℕ) (events : List AcceptedCall) : Type 0 where
+pub record AreTransfers (c : ConfigValues) (id : ℕ) (taken : List ℕ) (written : ℕ)
+    (events : List AcceptedCall) : Type 0 where
   pub calls : List AcceptedCall
   pub opened : events ≡ Opened id ∷ calls
   pub each : AllByRecursion (IsTransfer id) calls
@@ -83,7 +89,8 @@ pub record AreTransfers (c : ConfigValues) (id : ℕ) (taken : List ℕ) (writte
 
 -- The monitor received exactly the calls that a server of this configuration accepted: the server shows them. Its only
 -- connection accepted the bytes `taken`, and this number of bytes was written.
-pub record HasReported (c : ConfigValues) (monitor : List AcceptedCall → Type 0) (taken : List ℕ) (written : ℕ) : Type 0 where
+pub record HasReported (c : ConfigValues) (monitor : List AcceptedCall → Type 0) (taken : List ℕ)
+    (written : ℕ) : Type 0 where
   pub server : ServerValue
   pub config : server.config ≡ c
   pub events : List AcceptedCall
@@ -92,7 +99,8 @@ pub record HasReported (c : ConfigValues) (monitor : List AcceptedCall → Type 
   pub monitor_tells : monitor events
 
 -- The same for a run that the end of input ended, which is the last call.
-pub record HasReportedEnd (c : ConfigValues) (monitor : List AcceptedCall → Type 0) (taken : List ℕ) (written : ℕ) : Type 0 where
+pub record HasReportedEnd (c : ConfigValues) (monitor : List AcceptedCall → Type 0) (taken : List ℕ)
+    (written : ℕ) : Type 0 where
   pub server : ServerValue
   pub config : server.config ≡ c
   pub before : List AcceptedCall
@@ -101,7 +109,8 @@ pub record HasReportedEnd (c : ConfigValues) (monitor : List AcceptedCall → Ty
   pub monitor_tells : monitor (before ++ Ended (only_id c) ∷ [])
 
 -- The same for a run of whose bytes only the prefix `taken` was accepted. It stops the connection as all bytes do.
-pub record HasReportedStop (c : ConfigValues) (monitor : List AcceptedCall → Type 0) (bytes : List ℕ) (written : ℕ) : Type 0 where
+pub record HasReportedStop (c : ConfigValues) (monitor : List AcceptedCall → Type 0) (bytes : List ℕ)
+    (written : ℕ) : Type 0 where
   pub taken : List ℕ
   pub behind : List ℕ
   pub all : bytes ≡ taken ++ behind
@@ -110,7 +119,8 @@ pub record HasReportedStop (c : ConfigValues) (monitor : List AcceptedCall → T
 
 -- The same for a run in which a write failed. The monitor received the calls before this write. It passed on `part`, a
 -- proper prefix of the bytes that were queued then, and `written` bytes were written in all.
-pub record HasReportedCut (c : ConfigValues) (monitor : List AcceptedCall → Type 0) (bytes : List ℕ) (written : ℕ) : Type 0 where
+pub record HasReportedCut (c : ConfigValues) (monitor : List AcceptedCall → Type 0) (bytes : List ℕ)
+    (written : ℕ) : Type 0 where
   pub taken : List ℕ
   pub behind : List ℕ
   pub all : bytes ≡ taken ++ behind
@@ -124,7 +134,8 @@ pub record HasReportedCut (c : ConfigValues) (monitor : List AcceptedCall → Ty
 
 -- The same for a run in which an allocation failed for a representation. The bytes before the last one of its request
 -- were accepted.
-pub record HasReportedRefusal (c : ConfigValues) (monitor : List AcceptedCall → Type 0) (bytes : List ℕ) (written : ℕ) : Type 0 where
+pub record HasReportedRefusal (c : ConfigValues) (monitor : List AcceptedCall → Type 0) (bytes : List ℕ)
+    (written : ℕ) : Type 0 where
   pub taken : List ℕ
   pub last : ℕ
   pub behind : List ℕ
@@ -133,14 +144,17 @@ pub record HasReportedRefusal (c : ConfigValues) (monitor : List AcceptedCall �
   pub reported : HasReported c monitor taken written
 
 -- The report of a run that returned a report, with this stop. Without a stop, the end of input ended the run.
-abbrev pub EndsReport : ConfigValues → (monitor : List AcceptedCall → Type 0) → (bytes : List ℕ) (written : ℕ) → Option Reason → Type 0
+abbrev pub EndsReport : ConfigValues → (monitor : List AcceptedCall → Type 0) → (bytes : List ℕ) (written : ℕ)
+    → Option Reason → Type 0
 EndsReport c monitor bytes written None = HasReportedEnd c monitor bytes written
 EndsReport c monitor bytes written (Some stop) = HasReportedStop c monitor bytes written
 
 -- The report of a run that read these chunks, wrote this output and returned this value. The monitor received exactly
 -- the calls that the server of the run shows. If the run did not begin, it received none.
-abbrev pub IsReportedRun : ConfigValues → List (List ℕ) → List ℕ → (monitor : List AcceptedCall → Type 0) → Result Report IoFault → Type 0
-IsReportedRun c pieces output monitor (Ok report) = EndsReport c monitor (concat pieces) (length output) (outcome c (concat pieces)).stop
+abbrev pub IsReportedRun : ConfigValues → List (List ℕ) → List ℕ → (monitor : List AcceptedCall → Type 0)
+    → Result Report IoFault → Type 0
+IsReportedRun c pieces output monitor (Ok report) =
+    EndsReport c monitor (concat pieces) (length output) (outcome c (concat pieces)).stop
 IsReportedRun c pieces output monitor (Err Read) = HasReported c monitor (concat pieces) (length output)
 IsReportedRun c pieces output monitor (Err Turns) = HasReported c monitor (concat pieces) (length output)
 IsReportedRun c pieces output monitor (Err Write) = HasReportedCut c monitor (concat pieces) (length output)

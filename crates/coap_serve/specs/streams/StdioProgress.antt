@@ -24,17 +24,20 @@ pub record AreTransfersOf (c : ConfigValues) (bytes : List ℕ) (events : List A
 -- A server of this configuration has accepted these bytes. It shows events that lead to the world for these bytes, and
 -- the monitor received these events. If nothing stops the connection, then in these events it received the stream that
 -- the bytes encode, and it announced no other size.
-pub record IsAtBytes (c : ConfigValues) (v : ServerValue) (bytes : List ℕ) (monitor : List AcceptedCall → Type 0) : Type 0 where
+pub record IsAtBytes (c : ConfigValues) (v : ServerValue) (bytes : List ℕ)
+    (monitor : List AcceptedCall → Type 0) : Type 0 where
   pub config : v.config ≡ c
   pub events : List AcceptedCall
   pub shows : Shows v events
   pub world : world_after c events ≡ world_for c bytes
-  pub spelled : (outcome c bytes).stop ≡ None → spelled_on c.limits.max_message (only_id c) events ≡ (stream_of c bytes, c.limits.max_message)
+  pub spelled : (outcome c bytes).stop ≡ None
+      → spelled_on c.limits.max_message (only_id c) events ≡ (stream_of c bytes, c.limits.max_message)
   pub transfers : AreTransfersOf c bytes events
   pub tells : monitor events
 
 -- The server has accepted these bytes, and its only connection processes further messages.
-pub record IsRunningAt (c : ConfigValues) (v : ServerValue) (id : ℕ) (bytes : List ℕ) (monitor : List AcceptedCall → Type 0) : Type 0 where
+pub record IsRunningAt (c : ConfigValues) (v : ServerValue) (id : ℕ) (bytes : List ℕ)
+    (monitor : List AcceptedCall → Type 0) : Type 0 where
   pub number : id ≡ only_id c
   pub ranges : AreInRange c.limits
   pub stands : IsAtBytes c v bytes monitor
@@ -47,7 +50,8 @@ abbrev pub Says : ConfigValues → List ℕ → List ℕ → List ℕ → Type 0
 Says c bytes more text = stdio_output c (bytes ++ more) ≡ stdio_output c bytes ++ text
 
 -- A chunk was processed, its output was written, and the number of its messages is `messages`.
-pub record IsWhole (c : ConfigValues) (bytes piece : List ℕ) (after : ServerValue) (wrote : List ℕ → Type 0) (monitor : List AcceptedCall → Type 0) (messages : ℕ) : Type 0 where
+pub record IsWhole (c : ConfigValues) (bytes piece : List ℕ) (after : ServerValue) (wrote : List ℕ → Type 0)
+    (monitor : List AcceptedCall → Type 0) (messages : ℕ) : Type 0 where
   pub stands : IsAtBytes c after (bytes ++ piece) monitor
   pub text : List ℕ
   pub says : Says c bytes piece text
@@ -55,7 +59,8 @@ pub record IsWhole (c : ConfigValues) (bytes piece : List ℕ) (after : ServerVa
   pub counted : (outcome c (bytes ++ piece)).messages ≡ (outcome c bytes).messages + messages
 
 -- A write failed: a proper prefix of the output for the chunk was written.
-pub record IsCut (c : ConfigValues) (bytes piece : List ℕ) (wrote : List ℕ → Type 0) (monitor : List AcceptedCall → Type 0) : Type 0 where
+pub record IsCut (c : ConfigValues) (bytes piece : List ℕ) (wrote : List ℕ → Type 0)
+    (monitor : List AcceptedCall → Type 0) : Type 0 where
   pub part : List ℕ
   pub missing : List ℕ
   pub some : missing ≢ []
@@ -65,7 +70,8 @@ pub record IsCut (c : ConfigValues) (bytes piece : List ℕ) (wrote : List ℕ �
 
 -- An allocation failed for a message of the chunk. The output for the bytes before the last byte of that message was
 -- written.
-pub record IsRefused (c : ConfigValues) (bytes piece : List ℕ) (wrote : List ℕ → Type 0) (monitor : List AcceptedCall → Type 0) : Type 0 where
+pub record IsRefused (c : ConfigValues) (bytes piece : List ℕ) (wrote : List ℕ → Type 0)
+    (monitor : List AcceptedCall → Type 0) : Type 0 where
   pub front : List ℕ
   pub last : ℕ
   pub behind : List ℕ
@@ -78,7 +84,8 @@ pub record IsRefused (c : ConfigValues) (bytes piece : List ℕ) (wrote : List �
 
 -- The result of a server for a chunk that follows these bytes. `wrote` states which bytes were written, and `monitor`
 -- which calls the monitor received since the run began.
-abbrev pub IsServed : ConfigValues → List ℕ → List ℕ → ServerValue → (wrote : List ℕ → Type 0) (monitor : List AcceptedCall → Type 0) → Result ℕ IoFault → Type 0
+abbrev pub IsServed : ConfigValues → List ℕ → List ℕ → ServerValue
+    → (wrote : List ℕ → Type 0) (monitor : List AcceptedCall → Type 0) → Result ℕ IoFault → Type 0
 IsServed c bytes piece after wrote monitor (Ok messages) = IsWhole c bytes piece after wrote monitor messages
 IsServed c bytes piece after wrote monitor (Err Write) = IsCut c bytes piece wrote monitor
 IsServed c bytes piece after wrote monitor (Err Memory) = IsRefused c bytes piece wrote monitor
@@ -94,7 +101,8 @@ pub record HasRead (gave : List (List ℕ) → Type 0) (piece : List ℕ) : Type
   pub few : length piece ≤ 4096
 
 -- The read found the end of input: nothing was processed or written, and the turn ends the run.
-pub record IsEnd (c : ConfigValues) (bytes : List ℕ) (gave : List (List ℕ) → Type 0) (wrote : List ℕ → Type 0) (monitor : List AcceptedCall → Type 0) (t : Turn) : Type 0 where
+pub record IsEnd (c : ConfigValues) (bytes : List ℕ) (gave : List (List ℕ) → Type 0) (wrote : List ℕ → Type 0)
+    (monitor : List AcceptedCall → Type 0) (t : Turn) : Type 0 where
   pub given : gave ([] ∷ [])
   pub written : wrote []
   pub read : t.read ≡ 0
@@ -103,18 +111,24 @@ pub record IsEnd (c : ConfigValues) (bytes : List ℕ) (gave : List (List ℕ) �
   pub reported : HasReportedEnd c monitor bytes (length (stdio_output c bytes))
 
 -- The read returned a chunk, which was processed.
-pub record IsPiece (c : ConfigValues) (bytes : List ℕ) (after : ServerValue) (gave : List (List ℕ) → Type 0) (wrote : List ℕ → Type 0) (monitor : List AcceptedCall → Type 0) (t : Turn) : Type 0 where
+pub record IsPiece (c : ConfigValues) (bytes : List ℕ) (after : ServerValue) (gave : List (List ℕ) → Type 0)
+    (wrote : List ℕ → Type 0) (monitor : List AcceptedCall → Type 0) (t : Turn) : Type 0 where
   pub piece : List ℕ
   pub has : HasRead gave piece
   pub served : IsWhole c bytes piece after wrote monitor t.messages
   pub read : t.read ≡ length piece
   pub reason : t.stop ≡ (outcome c (bytes ++ piece)).stop
 
--- The result of a turn. `gave` states which chunks were read in it, and `wrote` which bytes were written. `monitor` states
--- which calls the monitor received since the run began.
-abbrev pub IsTurn : ConfigValues → List ℕ → ServerValue → (gave : List (List ℕ) → Type 0) (wrote : List ℕ → Type 0) (monitor : List AcceptedCall → Type 0) → Result Turn IoFault → Type 0
-IsTurn c bytes after gave wrote monitor (Ok t) = IsEnd c bytes gave wrote monitor t ⊎ IsPiece c bytes after gave wrote monitor t
-IsTurn c bytes after gave wrote monitor (Err Read) = gave [] × wrote [] × HasReported c monitor bytes (length (stdio_output c bytes))
-IsTurn c bytes after gave wrote monitor (Err Write) = (piece : List ℕ) × HasRead gave piece × IsCut c bytes piece wrote monitor
-IsTurn c bytes after gave wrote monitor (Err Memory) = (piece : List ℕ) × HasRead gave piece × IsRefused c bytes piece wrote monitor
+-- The result of a turn. `gave` states which chunks were read in it, and `wrote` which bytes were written. `monitor`
+-- states which calls the monitor received since the run began.
+abbrev pub IsTurn : ConfigValues → List ℕ → ServerValue → (gave : List (List ℕ) → Type 0) (wrote : List ℕ → Type 0)
+    (monitor : List AcceptedCall → Type 0) → Result Turn IoFault → Type 0
+IsTurn c bytes after gave wrote monitor (Ok t) =
+    IsEnd c bytes gave wrote monitor t ⊎ IsPiece c bytes after gave wrote monitor t
+IsTurn c bytes after gave wrote monitor (Err Read) =
+    gave [] × wrote [] × HasReported c monitor bytes (length (stdio_output c bytes))
+IsTurn c bytes after gave wrote monitor (Err Write) =
+    (piece : List ℕ) × HasRead gave piece × IsCut c bytes piece wrote monitor
+IsTurn c bytes after gave wrote monitor (Err Memory) =
+    (piece : List ℕ) × HasRead gave piece × IsRefused c bytes piece wrote monitor
 IsTurn c bytes after gave wrote monitor (Err Turns) = ⊥

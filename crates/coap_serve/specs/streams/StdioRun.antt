@@ -1,5 +1,6 @@
 -- Defined by this project: the result of a run over one input and one output, however the input is split into reads.
-use Rattle.std.specs.Prelude.{◌≡◌, ◌≢◌, ℕ, ◌<◌, ◌≤◌, List, [], ◌∷◌, ◌++◌, length, Option, Some, None, Result, Ok, Err, ◌⊎◌}
+use Rattle.std.specs.Prelude.{◌≡◌, ◌≢◌, ℕ, ◌<◌, ◌≤◌, List, [], ◌∷◌, ◌++◌, length, Option, Some, None, Result, Ok, Err}
+use Rattle.std.specs.Prelude.{◌⊎◌}
 use Rattle.std.specs.List.{concat}
 use Rattle.coap_server_engine.specs.Prelude.{Reason, Message, IsPut, ConfigValues, change_made}
 use Rattle.coap_conn.specs.Calls.{end_reason}
@@ -56,14 +57,16 @@ IsWrittenBefore c before output = (front : List ℕ) × (output ≡ stdio_output
 -- The reads before a failed write. There is none, or the connection processes further messages after all but the last.
 abbrev pub LedToWrite : ConfigValues → List (List ℕ) → List ℕ → Type 0
 LedToWrite c pieces output =
-    (pieces ≡ []) ⊎ ((before : List (List ℕ)) × (last : List ℕ) × (pieces ≡ before ++ last ∷ []) × GoesOn c before × IsWrittenBefore c before output)
+    (pieces ≡ []) ⊎ ((before : List (List ℕ)) × (last : List ℕ) × (pieces ≡ before ++ last ∷ []) × GoesOn c before
+    × IsWrittenBefore c before output)
 
 -- The byte `last` completes a request that stores a representation. The connection processes further messages after the
 -- bytes `taken` before it.
 pub record IsLastByte (c : ConfigValues) (taken : List ℕ) (last : ℕ) : Type 0 where
   pub no_stop : (outcome c taken).stop ≡ None
   pub message : Message
-  pub one_more : stream_of c (taken ++ last ∷ []) ≡ record { messages = (stream_of c taken).messages ++ message ∷ []; rest = []; fault = None }
+  pub one_more : stream_of c (taken ++ last ∷ [])
+      ≡ record { messages = (stream_of c taken).messages ++ message ∷ []; rest = []; fault = None }
   pub stores : IsPut (change_made (world_for c taken) (only_id c) message)
 
 -- A run in which an allocation failed for a representation. It ended with the chunk that has the last byte of its
@@ -88,7 +91,8 @@ abbrev pub IsStdioRun : ConfigValues → List (List ℕ) → List ℕ → Result
 IsStdioRun c pieces output (Ok report) = IsWholeRun c pieces output report
 IsStdioRun c pieces output (Err Read) = (length pieces < c.turns) × IsShortRun c pieces output
 IsStdioRun c pieces output (Err Turns) = (length pieces ≡ c.turns) × IsShortRun c pieces output
-IsStdioRun c pieces output (Err Write) = (length pieces ≤ c.turns) × LedToWrite c pieces output × IsCutOutput c pieces output
+IsStdioRun c pieces output (Err Write) =
+    (length pieces ≤ c.turns) × LedToWrite c pieces output × IsCutOutput c pieces output
 IsStdioRun c pieces output (Err Memory) = IsNoRun pieces output ⊎ IsRefusedRun c pieces output
 
 -- ---- no byte is left

@@ -153,8 +153,8 @@ impl<W: Wire + Ready + Drop> Service<W> {
         Ok(wait)
     }
 
-    /// Returns a wait that lasts at most until the next second of the server's time, if there are a limit of silence and a
-    /// connection.
+    /// Returns a wait that lasts at most until the next second of the server's time, if there are a limit of silence
+    /// and a connection.
     pub(super) fn at_most_a_second(&self, wait: Wait) -> Wait
         ensures { result ≡ short_wait self.now.idle self.now.server.host.now self.now.peers.entries wait }
     {

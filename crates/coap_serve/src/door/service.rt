@@ -129,8 +129,8 @@ impl<W: Wire + Ready + Drop> Service<W> {
         self.server.can_open()
     }
 
-    /// Stores a representation as `Server::put` does, and returns its version. Observers of the path are notified. If it
-    /// succeeds, the monitor receives the call.
+    /// Stores a representation as `Server::put` does, and returns its version. Observers of the path are notified. If
+    /// it succeeds, the monitor receives the call.
     ///
     /// # Errors
     ///
@@ -195,8 +195,9 @@ impl<W: Wire + Ready + Drop> Service<W> {
         self.server.status(id)
     }
 
-    /// Queues a Release on a connection and stops it, as `Server::release` does (RFC 8323 section 5.5). If it succeeds, the
-    /// monitor receives the call. Later turns write its queue. The turn that writes the last byte drops the connection.
+    /// Queues a Release on a connection and stops it, as `Server::release` does (RFC 8323 section 5.5). If it
+    /// succeeds, the monitor receives the call. Later turns write its queue. The turn that writes the last byte drops
+    /// the connection.
     ///
     /// # Errors
     ///
@@ -226,8 +227,8 @@ impl<W: Wire + Ready + Drop> Service<W> {
         Ok(())
     }
 
-    /// Removes a connection, with its queued bytes, and closes its transport connection. If it succeeds, the monitor receives
-    /// the call, and the application the end of the connection.
+    /// Removes a connection, with its queued bytes, and closes its transport connection. If it succeeds, the monitor
+    /// receives the call, and the application the end of the connection.
     ///
     /// # Errors
     ///
@@ -243,7 +244,8 @@ impl<W: Wire + Ready + Drop> Service<W> {
         ensures shows { OnOk result ((events : List AcceptedCall) → Shows self.old.server events →
             Shows self.new.server (events ++ Dropped id ∷ [])) }
         ensures told { OnOk result (FollowsMore (M.follows monitor.old) (M.follows monitor.new) (Dropped id ∷ [])) }
-        ensures gone { OnOk result (AnswersMore (A.follows application.old) (A.follows application.new) (Gone id ∷ [])) }
+        ensures gone { OnOk result
+            (AnswersMore (A.follows application.old) (A.follows application.new) (Gone id ∷ [])) }
         ensures peers { OnOk result (self.new.peers.entries
             ≡ shift_remove_entry (nat_eq id) self.old.peers.entries) }
         ensures err { OnErr result ((self.new.server ≡ self.old.server) × (self.new.peers ≡ self.old.peers)
@@ -268,16 +270,16 @@ impl<W: Wire + Ready + Drop> Service<W> {
     ///
     /// A turn has these parts, in order:
     ///
-    /// - If there is a limit of silence, and `second` differs from that of the last turn, silent connections are released or
-    ///   dropped (`silence_action`). The application receives the end of each one that is dropped.
+    /// - If there is a limit of silence, and `second` differs from that of the last turn, silent connections are
+    ///   released or dropped (`silence_action`). The application receives the end of each one that is dropped.
     /// - The time of the server becomes `now`. An earlier time changes nothing.
     /// - The application gives later responses, at most 256.
     /// - If another connection may be opened, the listener is asked for one. Then each connection is served, or skipped
     ///   if nothing can be done on it. The application is shown each request that it answers directly after the call of
     ///   `take` that accepted it, and may respond at once.
     ///
-    /// The wait is that of `serve_door`, at most as long as the application allows, and zero after 256 later responses. With a
-    /// limit of silence and a connection, it lasts at most until the next second.
+    /// The wait is that of `serve_door`, at most as long as the application allows, and zero after 256 later responses.
+    /// With a limit of silence and a connection, it lasts at most until the next second.
     ///
     /// # Errors
     ///
@@ -292,8 +294,8 @@ impl<W: Wire + Ready + Drop> Service<W> {
         // The events of a turn, made in full or in part, and its exchanges with the application.
         ensures ran { HasRun (known_by M.follows A.follows monitor.old monitor.new application.old application.new)
             self.old.server self.new.server }
-        // The clause determines how each connection was served, and the result. The wire of a dropped connection is gone, so
-        // only the existence of a fitting one is stated.
+        // The clause determines how each connection was served, and the result. The wire of a dropped connection is
+        // gone, so only the existence of a fitting one is stated.
         ensures turn { IfOk result (λ wait. IsTurnFor (environment A.follows A.idle (A.waits application.new)
             (views_of W.readable W.writable W.given W.written W.answers W.rooms)) times (known_of_turn
             (TellsMore (D.calls door.old) (D.calls door.new)) (known_by M.follows A.follows monitor.old monitor.new

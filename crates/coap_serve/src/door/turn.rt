@@ -43,8 +43,8 @@ pub(super) fn take_turn<D: Door, A: Application, M: Monitor<D::Wire>>(
         server.old server.new }
     // The listener is asked once if another connection may be opened, and not otherwise.
     ensures asks { IsAskedOnce (TellsMore (D.calls door.old) (D.calls door.new)) server.old }
-    // Each connection is served, and the result is the time that the listener may wait. The monitor receives the calls of
-    // this turn, and no others.
+    // Each connection is served, and the result is the time that the listener may wait. The monitor receives the calls
+    // of this turn, and no others.
     ensures turn { IfOk result (λ wait. IsTurnBy (way A.follows second (views_of D.Wire.readable D.Wire.writable
         D.Wire.given D.Wire.written D.Wire.answers D.Wire.rooms)) (known_of_turn (TellsMore (D.calls door.old)
         (D.calls door.new)) (known_by M.follows A.follows monitor.old monitor.new application.old application.new))

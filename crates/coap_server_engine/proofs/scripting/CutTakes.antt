@@ -1,13 +1,20 @@
 -- The division of a connection's bytes into `in`s does not matter: takes without a write between them lead to the same
 -- server.
-use Rattle.std.proofs.Common.{◌≡◌, ◌⊎◌, ℕ, zero, suc, ◌+◌, ◌-◌, ◌<◌, ◌≤◌, Bool, true, false, cond, List, [], ◌∷◌, ◌++◌, length, take, drop, map, Option, Some, None, refl, sym, ap, ◌∙◌, append_assoc, arith, inl, inr, lt-ltb, add_assoc, add-zero, zero-add, ◌≢◌}
+use Rattle.std.proofs.Common.{◌≡◌, ◌⊎◌, ℕ, zero, suc, ◌+◌, ◌-◌, ◌<◌, ◌≤◌, Bool, true, false, cond, List, [], ◌∷◌, ◌++◌}
+use Rattle.std.proofs.Common.{length, take, drop, map, Option, Some, None, refl, sym, ap, ◌∙◌, append_assoc, arith, inl}
+use Rattle.std.proofs.Common.{inr, lt-ltb, add_assoc, add-zero, zero-add, ◌≢◌}
 use Rattle.std.proofs.lemmas.Bool.{ne_eqb}
-use Rattle.std.proofs.lemmas.List.{append-nil, length-append, length-drop, drop-append-le, drop-drop, take-append-le, length-take}
+use Rattle.std.proofs.lemmas.List.{append-nil, length-append, length-drop, drop-append-le, drop-drop, take-append-le}
+use Rattle.std.proofs.lemmas.List.{length-take}
 use Rattle.std.proofs.Math.Seq.{drop-length, drop-append-add, take-append-add, take-length}
-use Rattle.coap_server_engine.specs.Prelude.{Stream, StreamPrefix, Unfinished, Faulty, prefix_kind, fault_bytes, framing_at}
-use Rattle.coap_server_engine.specs.Prelude.{framing, ConfigValues, InResult, unfed, fed_once, fed_turns, in_result, SessionValue}
-use Rattle.coap_server_engine.specs.Prelude.{ServerValue, session_of, server_taken, count_taken, Connection, handles, World}
-use Rattle.coap_server_engine.specs.Prelude.{side_of, AcceptedCall, Took, stream_on, world_after, size_on, session_shown}
+use Rattle.coap_server_engine.specs.Prelude.{Stream, StreamPrefix, Unfinished, Faulty, prefix_kind, fault_bytes}
+use Rattle.coap_server_engine.specs.Prelude.{framing_at}
+use Rattle.coap_server_engine.specs.Prelude.{framing, ConfigValues, InResult, unfed, fed_once, fed_turns, in_result}
+use Rattle.coap_server_engine.specs.Prelude.{SessionValue}
+use Rattle.coap_server_engine.specs.Prelude.{ServerValue, session_of, server_taken, count_taken, Connection, handles}
+use Rattle.coap_server_engine.specs.Prelude.{World}
+use Rattle.coap_server_engine.specs.Prelude.{side_of, AcceptedCall, Took, stream_on, world_after, size_on}
+use Rattle.coap_server_engine.specs.Prelude.{session_shown}
 use Rattle.coap_server_engine.specs.Prelude.{server_shown, server_of, Shows}
 use Rattle.coap_wire.specs.StreamPrefix.{Whole}
 use Rattle.coap_wire.proofs.StreamSteps.{whole_more, faulty_more, fault_bytes_more}
@@ -28,14 +35,18 @@ use Rattle.coap_server_engine.proofs.scripting.ShownLemmas.{IsStuck, absent_stuc
 -- ---- servers that show equal histories
 
 -- A server is determined by the events that it shows.
-same_where_alike : (u v : ServerValue) (es fs : List AcceptedCall) → u.config ≡ v.config → Shows u es → Shows v fs → SpellAlike v.config.limits.max_message es fs → world_after v.config es ≡ world_after v.config fs → u ≡ v
+same_where_alike : (u v : ServerValue) (es fs : List AcceptedCall) → u.config ≡ v.config → Shows u es → Shows v fs
+    → SpellAlike v.config.limits.max_message es fs → world_after v.config es ≡ world_after v.config fs → u ≡ v
 unfolding server_of
 same_where_alike u v es fs config first second alike same =
     let M : ℕ = v.config.limits.max_message in
     let w : World = world_after v.config fs in
-    let streams : ◌≡◌ {A = ℕ → Stream} (λ id. stream_on M id es) (λ id. stream_on M id fs) = λ i id. stream_alike M id es fs alike i in
+    let streams : ◌≡◌ {A = ℕ → Stream} (λ id. stream_on M id es) (λ id. stream_on M id fs) =
+    λ i id. stream_alike M id es fs alike i in
     first.same ∙ ap (λ (c : ConfigValues). server_of c es) config ∙ ap (server_shown v.config es) same
-    ∙ ap (λ (s : ℕ → Stream). record (server_shown v.config es w) { sessions = map (λ p. (p.id, session_shown (s p.id).rest p.side)) w.sides }) streams
+    ∙ ap (λ (s : ℕ → Stream). record (server_shown v.config es w) {
+      sessions = map (λ p. (p.id, session_shown (s p.id).rest p.side)) w.sides;
+    }) streams
     ∙ sym second.same
 
 -- ---- a take that accepts no byte, or some bytes
@@ -58,8 +69,10 @@ record Goes (v : ServerValue) (es : List AcceptedCall) (id : ℕ) : Type 0 where
   pub unfinished : prefix_kind (size_here v es id) (rest_here v es id) ≡ Unfinished
   pub counts : (bytes : List ℕ) → count_taken v id bytes ≡ front_of (size_here v es id) (rest_here v es id) bytes
 
-module _ (v : ServerValue) (es : List AcceptedCall) (id : ℕ) (shows : Shows v es) (t : Connection) (there : side_of id (world_after v.config es).sides ≡ Some t) where
-  counts : (does : Bool) → handles t ≡ does → (bytes : List ℕ) → count_taken v id bytes ≡ cond does (front_of (size_here v es id) (rest_here v es id) bytes) 0
+module _ (v : ServerValue) (es : List AcceptedCall) (id : ℕ) (shows : Shows v es) (t : Connection)
+    (there : side_of id (world_after v.config es).sides ≡ Some t) where
+  counts : (does : Bool) → handles t ≡ does → (bytes : List ℕ)
+      → count_taken v id bytes ≡ cond does (front_of (size_here v es id) (rest_here v es id) bytes) 0
   counts does is bytes = rw (takes_shown v es id bytes shows, takes_there v.config es id bytes t there, is)
 
   stuck_or_handles : (does : Bool) → handles t ≡ does → IsStuck v id ⊎ Goes v es id
@@ -78,10 +91,12 @@ module _ (v : ServerValue) (es : List AcceptedCall) (id : ℕ) (shows : Shows v 
     stays = λ bytes.
         same_where_alike (server_taken v id bytes) v (es ++ Took id [] ∷ []) es (config_stays v id bytes)
         (rw (counts false stops bytes) at (shows_taken v es id bytes _ shows (side_there v es id t shows there)))
-        shows (no_bytes_alike v.config.limits.max_message es id) (world_same v.config es (Took id []) (no_bytes_steps v.config.limits.max_message id es));
+        shows (no_bytes_alike v.config.limits.max_message es id)
+        (world_same v.config es (Took id []) (no_bytes_steps v.config.limits.max_message id es));
   })
 
-stuck_or_there : (v : ServerValue) (es : List AcceptedCall) (id : ℕ) → Shows v es → (found : Option SessionValue) → session_of id v.sessions ≡ found → IsStuck v id ⊎ Goes v es id
+stuck_or_there : (v : ServerValue) (es : List AcceptedCall) (id : ℕ) → Shows v es → (found : Option SessionValue)
+    → session_of id v.sessions ≡ found → IsStuck v id ⊎ Goes v es id
 stuck_or_there v es id shows None at = inl (absent_stuck v id at)
 stuck_or_there v es id shows (Some s) at =
     let found = session_there v es id s shows at in
@@ -90,7 +105,8 @@ stuck_or_there v es id shows (Some s) at =
 -- ---- the number of accepted bytes of a longer slice
 
 -- Prefixes of two slices have corresponding lengths if they are the same bytes after the kept ones.
-same_lengths : (kept before xs ys : List ℕ) (n k : ℕ) → n ≤ length xs → k ≤ length ys → kept ++ take n xs ≡ before ++ take k ys → length kept + n ≡ length before + k
+same_lengths : (kept before xs ys : List ℕ) (n k : ℕ) → n ≤ length xs → k ≤ length ys
+    → kept ++ take n xs ≡ before ++ take k ys → length kept + n ≡ length before + k
 same_lengths kept before xs ys n k few less same = grind (arith, length-append {A = ℕ}, length-take {A = ℕ})
 
 -- The bytes of the first frame or error, or all bytes if there is neither.
@@ -100,45 +116,58 @@ bytes_in_front bytes (Whole frame left) = frame
 bytes_in_front bytes (Faulty fault) = fault_bytes bytes
 
 module _ (M : ℕ) (kept piece : List ℕ) where
-  finding_at : (b : StreamPrefix) → prefix_kind M (kept ++ piece) ≡ b → (framing M kept piece).finding ≡ (framing_at kept piece b).finding
+  finding_at : (b : StreamPrefix) → prefix_kind M (kept ++ piece) ≡ b
+      → (framing M kept piece).finding ≡ (framing_at kept piece b).finding
   unfolding framing
   finding_at b is = ap (λ (b : StreamPrefix). (framing_at kept piece b).finding) is
 
-  all_at : prefix_kind M kept ≡ Unfinished → prefix_kind M (kept ++ piece) ≡ Unfinished → front_of M kept piece ≡ length piece
+  all_at : prefix_kind M kept ≡ Unfinished → prefix_kind M (kept ++ piece) ≡ Unfinished
+      → front_of M kept piece ≡ length piece
   all_at unfinished is = nothing_taken M kept piece unfinished (finding_at Unfinished is)
 
   -- These bytes are the accepted ones.
   bytes_taken_are : prefix_kind M kept ≡ Unfinished → (b : StreamPrefix) → prefix_kind M (kept ++ piece) ≡ b
       → kept ++ take (front_of M kept piece) piece ≡ bytes_in_front (kept ++ piece) b
   bytes_taken_are unfinished Unfinished is = rw (all_at unfinished is, take-length)
-  bytes_taken_are unfinished (Whole frame left) is = sym (frame_taken M kept piece frame unfinished (finding_at (Whole frame left) is))
-  bytes_taken_are unfinished (Faulty fault) is = (fault_taken M kept piece fault unfinished (finding_at (Faulty fault) is)).1
+  bytes_taken_are unfinished (Whole frame left) is =
+      sym (frame_taken M kept piece frame unfinished (finding_at (Whole frame left) is))
+  bytes_taken_are unfinished (Faulty fault) is =
+      (fault_taken M kept piece fault unfinished (finding_at (Faulty fault) is)).1
 
 module _ (M : ℕ) (kept xs zs : List ℕ) (unfinished : prefix_kind M kept ≡ Unfinished) where
   -- If a frame or an error is found, later bytes make no difference.
-  same_front_taken : (b : StreamPrefix) → b ≢ Unfinished → prefix_kind M (kept ++ xs) ≡ b → front_of M kept (xs ++ zs) ≡ front_of M kept xs
+  same_front_taken : (b : StreamPrefix) → b ≢ Unfinished → prefix_kind M (kept ++ xs) ≡ b
+      → front_of M kept (xs ++ zs) ≡ front_of M kept xs
   same_front_taken b found is =
       let within = taken_within M kept (xs ++ zs) unfinished in
-      omega (arith, same_lengths kept kept (xs ++ zs) xs _ _ within (taken_within M kept xs unfinished) (bytes_alike b found is))
+      omega (
+        arith,
+        same_lengths kept kept (xs ++ zs) xs _ _ within (taken_within M kept xs unfinished) (bytes_alike b found is),
+      )
     where
       bytes_alike : (b : StreamPrefix) → b ≢ Unfinished → prefix_kind M (kept ++ xs) ≡ b
           → kept ++ take (front_of M kept (xs ++ zs)) (xs ++ zs) ≡ kept ++ take (front_of M kept xs) xs
       bytes_alike Unfinished found is = absurd (found refl)
       bytes_alike (Whole frame left) found is =
-          bytes_taken_are M kept (xs ++ zs) unfinished (Whole frame (left ++ zs)) (rw append_assoc at (whole_more M (kept ++ xs) zs frame left is))
+          bytes_taken_are M kept (xs ++ zs) unfinished (Whole frame (left ++ zs))
+          (rw append_assoc at (whole_more M (kept ++ xs) zs frame left is))
           ∙ sym (bytes_taken_are M kept xs unfinished (Whole frame left) is)
       bytes_alike (Faulty fault) found is =
-          bytes_taken_are M kept (xs ++ zs) unfinished (Faulty fault) (rw append_assoc at (faulty_more M (kept ++ xs) zs fault is))
-          ∙ rw append_assoc at (fault_bytes_more M (kept ++ xs) zs fault is) ∙ sym (bytes_taken_are M kept xs unfinished (Faulty fault) is)
+          bytes_taken_are M kept (xs ++ zs) unfinished (Faulty fault)
+          (rw append_assoc at (faulty_more M (kept ++ xs) zs fault is))
+          ∙ rw append_assoc at (fault_bytes_more M (kept ++ xs) zs fault is)
+          ∙ sym (bytes_taken_are M kept xs unfinished (Faulty fault) is)
 
   -- If neither is found, later bytes are read as if the earlier ones were kept.
-  later_front : prefix_kind M (kept ++ xs) ≡ Unfinished → front_of M kept (xs ++ zs) ≡ length xs + front_of M (kept ++ xs) zs
+  later_front : prefix_kind M (kept ++ xs) ≡ Unfinished
+      → front_of M kept (xs ++ zs) ≡ length xs + front_of M (kept ++ xs) zs
   later_front still =
       let b = prefix_kind M (kept ++ (xs ++ zs)) in
       let whole = bytes_taken_are M kept (xs ++ zs) unfinished b refl in
       let part = bytes_taken_are M (kept ++ xs) zs still b (rw append_assoc refl) in
       let within = taken_within M kept (xs ++ zs) unfinished in
-      let same = same_lengths kept (kept ++ xs) (xs ++ zs) zs _ _ within (taken_within M (kept ++ xs) zs still) (cc (whole, part, append_assoc kept xs zs)) in
+      let same = same_lengths kept (kept ++ xs) (xs ++ zs) zs _ _ within (taken_within M (kept ++ xs) zs still)
+      (cc (whole, part, append_assoc kept xs zs)) in
       omega (arith, same, length-append kept xs)
 
 -- ---- consecutive takes
@@ -147,10 +176,12 @@ module _ (M : ℕ) (kept xs zs : List ℕ) (unfinished : prefix_kind M kept ≡ 
 abbrev shifted : ℕ → InResult → InResult
 shifted n f = record f { count = n + f.count }
 
-once_shifted : (id : ℕ) (bytes : List ℕ) (n : ℕ) (f : InResult) → n ≤ length bytes → fed_once id bytes (shifted n f) ≡ shifted n (fed_once id (drop n bytes) f)
+once_shifted : (id : ℕ) (bytes : List ℕ) (n : ℕ) (f : InResult) → n ≤ length bytes
+    → fed_once id bytes (shifted n f) ≡ shifted n (fed_once id (drop n bytes) f)
 once_shifted id bytes n f within = grind (arith, nat_tests, length-drop n bytes, drop-drop f.count n bytes)
 
-turns_shifted : (v : ServerValue) (id : ℕ) (bytes : List ℕ) (n turns : ℕ) → count_taken v id bytes ≡ n → 1 ≤ n → n ≤ length bytes
+turns_shifted : (v : ServerValue) (id : ℕ) (bytes : List ℕ) (n turns : ℕ) → count_taken v id bytes ≡ n
+    → 1 ≤ n → n ≤ length bytes
     → fed_turns (suc turns) v id bytes ≡ shifted n (fed_turns turns (server_taken v id bytes) id (drop n bytes))
 unfolding fed_turns
 turns_shifted v id bytes n zero counted some within =
@@ -158,35 +189,41 @@ turns_shifted v id bytes n zero counted some within =
     let goes = ne_eqb n 0 (λ none. omega (arith, none, some)) in
     rw (less, counted, zero-add n, add-zero n, goes)
 turns_shifted v id bytes n (suc turns) counted some within =
-    rw (turns_shifted v id bytes n turns counted some within) (once_shifted id bytes n (fed_turns turns (server_taken v id bytes) id (drop n bytes)) within)
+    rw (turns_shifted v id bytes n turns counted some within)
+    (once_shifted id bytes n (fed_turns turns (server_taken v id bytes) id (drop n bytes)) within)
 
 -- Each iteration that continues has accepted a byte.
 turn_takes : (id : ℕ) (bytes : List ℕ) (turns : ℕ) (f : InResult) → (goes_on bytes f ≡ true → turns ≤ f.count)
     → goes_on bytes (fed_once id bytes f) ≡ true → suc turns ≤ (fed_once id bytes f).count
 turn_takes id bytes turns f few goes = grind (arith, nat_tests)
 
-turns_take : (v : ServerValue) (id : ℕ) (bytes : List ℕ) (turns : ℕ) → goes_on bytes (fed_turns turns v id bytes) ≡ true → turns ≤ (fed_turns turns v id bytes).count
+turns_take : (v : ServerValue) (id : ℕ) (bytes : List ℕ) (turns : ℕ) → goes_on bytes (fed_turns turns v id bytes) ≡ true
+    → turns ≤ (fed_turns turns v id bytes).count
 unfolding fed_turns
 turns_take v id bytes zero goes = omega arith
-turns_take v id bytes (suc turns) goes = turn_takes id bytes turns (fed_turns turns v id bytes) (turns_take v id bytes turns) goes
+turns_take v id bytes (suc turns) goes =
+    turn_takes id bytes turns (fed_turns turns v id bytes) (turns_take v id bytes turns) goes
 
 is_over : (v : ServerValue) (id : ℕ) (bytes : List ℕ) → goes_on bytes (in_result v id bytes) ≡ false
 is_over v id bytes = grind (arith, nat_tests, turns_take v id bytes (length bytes))
 
 -- The first take, followed by those of the remaining bytes.
-fed_by : (v : ServerValue) (id : ℕ) (bytes : List ℕ) (n : ℕ) → count_taken v id bytes ≡ n → 1 ≤ n → n ≤ length bytes → in_result v id bytes ≡ shifted n (in_result (server_taken v id bytes) id (drop n bytes))
+fed_by : (v : ServerValue) (id : ℕ) (bytes : List ℕ) (n : ℕ) → count_taken v id bytes ≡ n → 1 ≤ n → n ≤ length bytes
+    → in_result v id bytes ≡ shifted n (in_result (server_taken v id bytes) id (drop n bytes))
 fed_by v id bytes n counted some within =
     let all : length bytes ≡ suc (length bytes - 1) = omega (arith, some, within) in
     let left : length (drop n bytes) ≤ length bytes - 1 = omega (arith, length-drop n bytes, some, within) in
     let over = is_over (server_taken v id bytes) id (drop n bytes) in
-    let enough = all_turns_made (server_taken v id bytes) id (drop n bytes) (length (drop n bytes)) over (length bytes - 1) left in
+    let enough =
+    all_turns_made (server_taken v id bytes) id (drop n bytes) (length (drop n bytes)) over (length bytes - 1) left in
     cc (all, turns_shifted v id bytes n (length bytes - 1) counted some within, enough.0)
 
 -- ---- a divided `in`
 
 pub record IsFedInParts (v : ServerValue) (id : ℕ) (xs ys : List ℕ) : Type 0 where
   pub server : (in_result v id (xs ++ ys)).server ≡ (in_result (in_result v id xs).server id ys).server
-  pub count : (in_result v id (xs ++ ys)).count ≡ (in_result v id xs).count + (in_result (in_result v id xs).server id ys).count
+  pub count : (in_result v id (xs ++ ys)).count
+      ≡ (in_result v id xs).count + (in_result (in_result v id xs).server id ys).count
 
 -- If the connection accepts no byte, it accepts none of the whole and none of the parts.
 stuck_parts : (v : ServerValue) (id : ℕ) (xs ys : List ℕ) → IsStuck v id → IsFedInParts v id xs ys
@@ -194,7 +231,10 @@ stuck_parts v id xs ys stuck =
     let whole = stuck_turns v id stuck (xs ++ ys) (length (xs ++ ys)) in
     let first = stuck_turns v id stuck xs (length xs) in
     let second = stuck_turns v id stuck ys (length ys) in
-    record { server = cc (whole.server, first.server, second.server); count = cc (whole.count, first.count, first.server, second.count) }
+    record {
+      server = cc (whole.server, first.server, second.server);
+      count = cc (whole.count, first.count, first.server, second.count);
+    }
 
 -- One of the parts is empty.
 no_first_part : (v : ServerValue) (id : ℕ) (ys : List ℕ) → IsFedInParts v id [] ys
@@ -205,19 +245,24 @@ no_second_part : (v : ServerValue) (id : ℕ) (xs : List ℕ) → IsFedInParts v
 unfolding fed_turns
 no_second_part v id xs = record { server = rw append-nil; count = rw append-nil (omega arith) }
 
-module _ (v : ServerValue) (es : List AcceptedCall) (id : ℕ) (xs ys : List ℕ) (shows : Shows v es) (goes : Goes v es id) where
+module _ (v : ServerValue) (es : List AcceptedCall) (id : ℕ) (xs ys : List ℕ) (shows : Shows v es)
+    (goes : Goes v es id) where
   abbrev whole_taken : ServerValue
   whole_taken = server_taken v id (xs ++ ys)
 
   abbrev part_taken : ServerValue
   part_taken = server_taken v id xs
 
-  took_shows : (bytes : List ℕ) (n : ℕ) → count_taken v id bytes ≡ n → Shows (server_taken v id bytes) (es ++ Took id (take n bytes) ∷ [])
-  took_shows bytes n counted = rw counted at (shows_taken v es id bytes _ shows (side_there v es id goes.side shows goes.there))
+  took_shows : (bytes : List ℕ) (n : ℕ) → count_taken v id bytes ≡ n
+      → Shows (server_taken v id bytes) (es ++ Took id (take n bytes) ∷ [])
+  took_shows bytes n counted =
+      rw counted at (shows_taken v es id bytes _ shows (side_there v es id goes.side shows goes.there))
 
   -- A frame or an error is found in the first part: the first take is the same.
-  found_parts : 0 < length xs → front_of (size_here v es id) (rest_here v es id) (xs ++ ys) ≡ front_of (size_here v es id) (rest_here v es id) xs
-      → ((w : ServerValue) (fs : List AcceptedCall) (zs : List ℕ) → Shows w fs → length zs < length xs → IsFedInParts w id zs ys)
+  found_parts : 0 < length xs → front_of (size_here v es id) (rest_here v es id) (xs ++ ys)
+      ≡ front_of (size_here v es id) (rest_here v es id) xs
+      → ((w : ServerValue) (fs : List AcceptedCall) (zs : List ℕ) → Shows w fs → length zs < length xs
+      → IsFedInParts w id zs ys)
       → IsFedInParts v id xs ys
   found_parts some same again =
       let n : ℕ = front_of (size_here v es id) (rest_here v es id) xs in
@@ -230,56 +275,85 @@ module _ (v : ServerValue) (es : List AcceptedCall) (id : ℕ) (xs ys : List ℕ
       (rw (take-append-le n xs ys within) at (took_shows (xs ++ ys) n whole_count)) part_shows (λ id. refl) refl in
       let parts = again part_taken _ (drop n xs) part_shows (omega (arith, length-drop n xs, takes_some, some)) in
       let whole : in_result v id (xs ++ ys) ≡ shifted n (in_result part_taken id (drop n xs ++ ys)) =
-      cc (fed_by v id (xs ++ ys) n whole_count takes_some (omega (arith, within, length-append xs ys)), server_same, drop-append-le n xs ys within) in
+      cc (
+        fed_by v id (xs ++ ys) n whole_count takes_some (omega (arith, within, length-append xs ys)),
+        server_same,
+        drop-append-le n xs ys within,
+      ) in
       let first = fed_by v id xs n (goes.counts xs) takes_some within in
       record { server = rw (whole, parts.server, first); count = rw (whole, parts.count, first, add_assoc n) }
 
   -- Neither is found in the first part: all of it is accepted, and the next take continues after it.
-  later_parts : prefix_kind (size_here v es id) (rest_here v es id ++ xs) ≡ Unfinished → 0 < length xs → 0 < length ys → IsFedInParts v id xs ys
+  later_parts : prefix_kind (size_here v es id) (rest_here v es id ++ xs) ≡ Unfinished → 0 < length xs
+      → 0 < length ys → IsFedInParts v id xs ys
   later_parts still some more =
       let M : ℕ = v.config.limits.max_message in
       let now : List AcceptedCall = es ++ Took id xs ∷ [] in
       let n : ℕ = front_of (size_here v es id) (rest_here v es id ++ xs) ys in
       let takes_some : 1 ≤ n = some_in_front (size_here v es id) (rest_here v es id ++ xs) ys still more in
       let within : n ≤ length ys = taken_within (size_here v es id) (rest_here v es id ++ xs) ys still in
-      let part_count : count_taken v id xs ≡ length xs = goes.counts xs ∙ all_at (size_here v es id) (rest_here v es id) xs goes.unfinished still in
+      let part_count : count_taken v id xs ≡ length xs =
+      goes.counts xs ∙ all_at (size_here v es id) (rest_here v es id) xs goes.unfinished still in
       let part_shows : Shows part_taken now = rw take-length at (took_shows xs (length xs) part_count) in
       let added : Adds M id es xs (record { messages = []; rest = rest_here v es id ++ xs; fault = None }) =
       adds_nothing M id es xs goes.no_fault (finding_at (size_here v es id) (rest_here v es id) xs Unfinished still) in
-      let there : side_of id (world_after v.config now).sides ≡ Some goes.side = rw (world_same v.config es (Took id xs) added.steps) goes.there in
+      let there : side_of id (world_after v.config now).sides ≡ Some goes.side =
+      rw (world_same v.config es (Took id xs) added.steps) goes.there in
       let takes_next = takes_there v.config now id ys goes.side there in
       let next_count : count_taken part_taken id ys ≡ n =
-      rw (takes_shown part_taken now id ys part_shows, config_stays v id xs, takes_next, goes.handling, size_then M id es (Took id xs), added.stream) in
-      let whole_count = goes.counts (xs ++ ys) ∙ later_front (size_here v es id) (rest_here v es id) xs ys goes.unfinished still in
+      rw (
+        takes_shown part_taken now id ys part_shows,
+        config_stays v id xs,
+        takes_next,
+        goes.handling,
+        size_then M id es (Took id xs),
+        added.stream,
+      ) in
+      let whole_count =
+      goes.counts (xs ++ ys) ∙ later_front (size_here v es id) (rest_here v es id) xs ys goes.unfinished still in
       let next_taken : ServerValue = server_taken part_taken id ys in
-      let next_there : side_of id (world_after part_taken.config now).sides ≡ Some goes.side = rw (config_stays v id xs) there in
+      let next_there : side_of id (world_after part_taken.config now).sides ≡ Some goes.side =
+      rw (config_stays v id xs) there in
       let next_session = side_there part_taken now id goes.side part_shows next_there in
       let next_shows = rw next_count at (shows_taken part_taken now id ys _ part_shows next_session) in
       let next_config : next_taken.config ≡ v.config = config_stays part_taken id ys ∙ config_stays v id xs in
       let server_same : whole_taken ≡ next_taken =
       same_where_alike whole_taken next_taken _ _ (config_stays v id (xs ++ ys) ∙ sym next_config)
       (rw (take-append-add xs ys n) at (took_shows (xs ++ ys) (length xs + n) whole_count)) next_shows
-      (spelled_twice next_taken.config.limits.max_message es id xs (take n ys)) (rw append_assoc (cut_worlds next_taken.config es [] id xs (take n ys))) in
+      (spelled_twice next_taken.config.limits.max_message es id xs (take n ys))
+      (rw append_assoc (cut_worlds next_taken.config es [] id xs (take n ys))) in
       let whole : in_result v id (xs ++ ys) ≡ shifted (length xs + n) (in_result next_taken id (drop n ys)) =
       let longer : length xs + n ≤ length (xs ++ ys) = omega (arith, within, length-append xs ys) in
-      cc (fed_by v id (xs ++ ys) (length xs + n) whole_count (omega (arith, some)) longer, server_same, drop-append-add xs ys n) in
+      cc (
+        fed_by v id (xs ++ ys) (length xs + n) whole_count (omega (arith, some)) longer,
+        server_same,
+        drop-append-add xs ys n,
+      ) in
       let nothing : in_result part_taken id [] ≡ unfed part_taken = unfold fed_turns in refl in
       let first : in_result v id xs ≡ shifted (length xs) (unfed part_taken) =
       cc (fed_by v id xs (length xs) part_count (omega (arith, some)) (omega arith), drop-length xs, nothing) in
       let second : in_result (in_result v id xs).server id ys ≡ shifted n (in_result next_taken id (drop n ys)) =
       rw first (fed_by part_taken id ys n next_count takes_some within) in
-      record { server = rw (whole, second); count = rw (whole, second, first, add-zero (length xs), add_assoc (length xs) n) }
+      record {
+        server = rw (whole, second);
+        count = rw (whole, second, first, add-zero (length xs), add_assoc (length xs) n);
+      }
 
-going_parts : (v : ServerValue) (es : List AcceptedCall) (id : ℕ) (xs ys : List ℕ) → Shows v es → (goes : Goes v es id) → 0 < length xs
-    → ((w : ServerValue) (fs : List AcceptedCall) (zs : List ℕ) → Shows w fs → length zs < length xs → IsFedInParts w id zs ys)
+going_parts : (v : ServerValue) (es : List AcceptedCall) (id : ℕ) (xs ys : List ℕ) → Shows v es
+    → (goes : Goes v es id) → 0 < length xs
+    → ((w : ServerValue) (fs : List AcceptedCall) (zs : List ℕ) → Shows w fs → length zs < length xs
+    → IsFedInParts w id zs ys)
     → (b : StreamPrefix) → prefix_kind (size_here v es id) (rest_here v es id ++ xs) ≡ b → IsFedInParts v id xs ys
 going_parts v es id xs [] shows goes some again b is = no_second_part v id xs
-going_parts v es id xs (y ∷ ys) shows goes some again Unfinished is = later_parts v es id xs (y ∷ ys) shows goes is some (omega arith)
+going_parts v es id xs (y ∷ ys) shows goes some again Unfinished is =
+    later_parts v es id xs (y ∷ ys) shows goes is some (omega arith)
 going_parts v es id xs (y ∷ ys) shows goes some again b is =
-    let same = same_front_taken (size_here v es id) (rest_here v es id) xs (y ∷ ys) goes.unfinished b (λ unfinished. cc) is in
+    let same =
+    same_front_taken (size_here v es id) (rest_here v es id) xs (y ∷ ys) goes.unfinished b (λ unfinished. cc) is in
     found_parts v es id xs (y ∷ ys) shows goes some same again
 
-parts_within : (few : ℕ) (v : ServerValue) (es : List AcceptedCall) (id : ℕ) (xs ys : List ℕ) → Shows v es → length xs ≤ few → IsFedInParts v id xs ys
+parts_within : (few : ℕ) (v : ServerValue) (es : List AcceptedCall) (id : ℕ) (xs ys : List ℕ) → Shows v es
+    → length xs ≤ few → IsFedInParts v id xs ys
 parts_within few v es id [] ys shows within = no_first_part v id ys
 parts_within zero v es id (x ∷ xs) ys shows within = absurd (omega (arith, within))
 parts_within (suc few) v es id (x ∷ xs) ys shows within =
@@ -292,5 +366,6 @@ parts_within (suc few) v es id (x ∷ xs) ys shows within =
     ]
 
 -- Bytes in two consecutive parts have the same effect as in one, and the same number of them is accepted.
-pub fed_in_parts : (v : ServerValue) (es : List AcceptedCall) (id : ℕ) (xs ys : List ℕ) → Shows v es → IsFedInParts v id xs ys
+pub fed_in_parts : (v : ServerValue) (es : List AcceptedCall) (id : ℕ) (xs ys : List ℕ)
+    → Shows v es → IsFedInParts v id xs ys
 fed_in_parts v es id xs ys shows = parts_within (length xs) v es id xs ys shows (omega arith)

@@ -7,6 +7,8 @@ pub followed_none : (a : Following) → FollowsMore a a []
 unfolding FollowsMore
 followed_none a start calls so_far = rw append-nil so_far
 
-pub followed_then : (a b c : Following) (xs ys : List AcceptedCall) → FollowsMore a b xs → FollowsMore b c ys → FollowsMore a c (xs ++ ys)
+pub followed_then : (a b c : Following) (xs ys : List AcceptedCall) → FollowsMore a b xs → FollowsMore b c ys
+    → FollowsMore a c (xs ++ ys)
 unfolding FollowsMore
-followed_then a b c xs ys p q start calls so_far = rw (← append_assoc calls xs ys) (q start (calls ++ xs) (p start calls so_far))
+followed_then a b c xs ys p q start calls so_far =
+    rw (← append_assoc calls xs ys) (q start (calls ++ xs) (p start calls so_far))

@@ -1,15 +1,22 @@
 -- The results of events, of each one and of several in order.
-use Rattle.std.proofs.Common.{[], ◌≡◌, ◌≢◌, ℕ, zero, suc, ◌+◌, ◌-◌, ◌<◌, ◌≤◌, true, false, ◌==◌, List, ◌∷◌, ◌++◌, length, get_or, take, drop, map, Option, Some, None, Result, Ok, Err, is_none, refl, sym, ap, ◌∙◌, append_assoc, arith, lt-ltb, add-suc, add-zero, add-one}
+use Rattle.std.proofs.Common.{[], ◌≡◌, ◌≢◌, ℕ, zero, suc, ◌+◌, ◌-◌, ◌<◌, ◌≤◌, true, false, ◌==◌, List, ◌∷◌, ◌++◌}
+use Rattle.std.proofs.Common.{length, get_or, take, drop, map, Option, Some, None, Result, Ok, Err, is_none, refl, sym}
+use Rattle.std.proofs.Common.{ap, ◌∙◌, append_assoc, arith, lt-ltb, add-suc, add-zero, add-one}
 use Rattle.std.proofs.lemmas.Bool.{le-ltb, ne_eqb}
 use Rattle.std.proofs.lemmas.List.{append-nil, take-append-drop, length-drop, length-take-le, length-map}
 use Rattle.std.proofs.Math.Seq.{take-suc, drop-cons}
 use Rattle.std.proofs.Math.ListN.{get_or-map}
 use Rattle.std.proofs.Math.Bool.{and-false}
-use Rattle.coap_server_engine.specs.Prelude.{IsErr, AllocError, Path, StoreValue, remove_refusal, NoSuch, ScriptEventValue}
-use Rattle.coap_server_engine.specs.Prelude.{event_value, EventResult, fed_turns, in_result, event_ran, replayed, IsPartialIn, IsUnrun}
-use Rattle.coap_server_engine.specs.Prelude.{IsRefusedAt, IsCutAt, where_there, took_turns, took, events_ran, ShowsMore, ShowsPartlyFed}
-use Rattle.coap_server_engine.specs.Prelude.{ShowsPart, events_made, ShowsRefusedAt, AddsBytes, WritesPart, SessionValue}
-use Rattle.coap_server_engine.specs.Prelude.{InResult, ServerValue, server_taken, count_taken, is_there, session_of, IsNotTaken, IsRun}
+use Rattle.coap_server_engine.specs.Prelude.{IsErr, AllocError, Path, StoreValue, remove_refusal, NoSuch}
+use Rattle.coap_server_engine.specs.Prelude.{ScriptEventValue}
+use Rattle.coap_server_engine.specs.Prelude.{event_value, EventResult, fed_turns, in_result, event_ran, replayed}
+use Rattle.coap_server_engine.specs.Prelude.{IsPartialIn, IsUnrun}
+use Rattle.coap_server_engine.specs.Prelude.{IsRefusedAt, IsCutAt, where_there, took_turns, took, events_ran, ShowsMore}
+use Rattle.coap_server_engine.specs.Prelude.{ShowsPartlyFed}
+use Rattle.coap_server_engine.specs.Prelude.{ShowsPart, events_made, ShowsRefusedAt, AddsBytes, WritesPart}
+use Rattle.coap_server_engine.specs.Prelude.{SessionValue}
+use Rattle.coap_server_engine.specs.Prelude.{InResult, ServerValue, server_taken, count_taken, is_there, session_of}
+use Rattle.coap_server_engine.specs.Prelude.{IsNotTaken, IsRun}
 use Rattle.coap_server_engine.specs.Prelude.{IsDrainable, Took, Drained, OutputLine, Shows, AcceptedCall}
 use Rattle.coap_script.specs.declared.event.Event.{Event}
 use Rattle.coap_server_engine.specs.script.Replay.{behind}
@@ -28,32 +35,37 @@ abbrev pub IsWhat : EventResult → ServerValue → List ℕ → Type 0
 IsWhat r after line = (after ≡ r.server) × (line ≡ r.text)
 
 -- Allocation failed for an event.
-pub unrun : (v : ServerValue) (e : ScriptEventValue) (after : ServerValue) (r : Result OutputLine AllocError) → IsErr r → IsUnrun v e after → IsRun v e after r
+pub unrun : (v : ServerValue) (e : ScriptEventValue) (after : ServerValue) (r : Result OutputLine AllocError) → IsErr r
+    → IsUnrun v e after → IsRun v e after r
 unrun v e after (Ok line) is so = absurd cc
 unrun v e after (Err fault) is so = so
 
 -- ---- `remove`
 
 -- `NoSuch` is the only error.
-pub no_such_path : (s : StoreValue) (path : Path) → is_none (remove_refusal s path) ≡ false → remove_refusal s path ≡ Some NoSuch
+pub no_such_path : (s : StoreValue) (path : Path) → is_none (remove_refusal s path) ≡ false
+    → remove_refusal s path ≡ Some NoSuch
 unfolding remove_refusal
 no_such_path s path refused = grind arith
 
 -- ---- `drain`
 
 -- The queue has at least as many bytes as are drained.
-pub enough : (id : ℕ) (most : Option ℕ) (d : Drained) (o : Option SessionValue) → IsDrainable id most (Some d) o → (s : SessionValue) × (o ≡ Some s) × IsDrainable id most (Some d) (Some s)
+pub enough : (id : ℕ) (most : Option ℕ) (d : Drained) (o : Option SessionValue) → IsDrainable id most (Some d) o
+    → (s : SessionValue) × (o ≡ Some s) × IsDrainable id most (Some d) (Some s)
 enough id most d None is = absurd is
 enough id most d (Some s) is = (s, refl, is)
 
-pub none_drainable : (id : ℕ) (most : Option ℕ) (o : Option SessionValue) → IsDrainable id most None o → is_there o ≡ false
+pub none_drainable : (id : ℕ) (most : Option ℕ) (o : Option SessionValue)
+    → IsDrainable id most None o → is_there o ≡ false
 none_drainable id most None is = refl
 none_drainable id most (Some s) is = absurd is
 
 -- ---- takes
 
 -- A take for which allocation failed accepted a prefix of the slice.
-pub not_taken_within : (v : ServerValue) (id : ℕ) (piece : List ℕ) (count : ℕ) (after : ServerValue) → IsNotTaken v id piece (taking.Memory count) after → (count ≤ length piece) × (length (take count piece) ≡ count)
+pub not_taken_within : (v : ServerValue) (id : ℕ) (piece : List ℕ) (count : ℕ) (after : ServerValue)
+    → IsNotTaken v id piece (taking.Memory count) after → (count ≤ length piece) × (length (take count piece) ≡ count)
 not_taken_within v id piece count after refused =
     let found = refused_on v piece count (session_of id v.sessions) refused.0 in
     let within : count + 1 ≤ length piece = refused_within v.host found.0 piece count found.2 in
@@ -70,7 +82,8 @@ pub record Feeds (v : ServerValue) (id : ℕ) (bytes : List ℕ) (now : ServerVa
 
 -- Two numbers of iterations lead to the same value and make the same takes.
 abbrev pub AreTurnsOf : ServerValue → ℕ → List ℕ → ℕ → ℕ → Type 0
-AreTurnsOf v id bytes m n = (fed_turns m v id bytes ≡ fed_turns n v id bytes) × (took_turns m v id bytes ≡ took_turns n v id bytes)
+AreTurnsOf v id bytes m n =
+    (fed_turns m v id bytes ≡ fed_turns n v id bytes) × (took_turns m v id bytes ≡ took_turns n v id bytes)
 
 -- After the last take, further iterations do nothing.
 turns_stay : (v : ServerValue) (id : ℕ) (bytes : List ℕ) (n : ℕ) → goes_on bytes (fed_turns n v id bytes) ≡ false
@@ -81,27 +94,38 @@ turns_stay v id bytes n is (suc k) =
     let before = turns_stay v id bytes n is k in
     rw add-suc (rw (before.0, is) refl, rw (before.1, before.0, is) (append-nil (took_turns n v id bytes)))
 
-pub all_turns_made : (v : ServerValue) (id : ℕ) (bytes : List ℕ) (n : ℕ) → goes_on bytes (fed_turns n v id bytes) ≡ false → (m : ℕ) → n ≤ m → AreTurnsOf v id bytes m n
+pub all_turns_made : (v : ServerValue) (id : ℕ) (bytes : List ℕ) (n : ℕ)
+    → goes_on bytes (fed_turns n v id bytes) ≡ false → (m : ℕ) → n ≤ m → AreTurnsOf v id bytes m n
 all_turns_made v id bytes n is m few =
     let same : n + (m - n) ≡ m = omega arith in
     rw same at (turns_stay v id bytes n is (m - n))
 
 -- The server after one more take shows it.
 abbrev pub ShowsTake : ServerValue → ℕ → List ℕ → ServerValue → Type 0
-ShowsTake now id left after = ShowsMore now after (where_there (session_of id now.sessions) (λ s. Took id (take (count_taken now id left) left)))
+ShowsTake now id left after =
+    ShowsMore now after (where_there (session_of id now.sessions) (λ s. Took id (take (count_taken now id left) left)))
 
-module _ (v : ServerValue) (id : ℕ) (bytes : List ℕ) (now : ServerValue) (taken : ℕ) (feeds : Feeds v id bytes now taken) (left : taken < length bytes) where
-  pub turn_more_feeds : fed_turns (feeds.turns + 1) v id bytes ≡ record { server = server_taken now id (drop taken bytes); count = taken + count_taken now id (drop taken bytes); done = count_taken now id (drop taken bytes) == 0 }
+module _ (v : ServerValue) (id : ℕ) (bytes : List ℕ) (now : ServerValue) (taken : ℕ)
+    (feeds : Feeds v id bytes now taken) (left : taken < length bytes) where
+  pub turn_more_feeds : fed_turns (feeds.turns + 1) v id bytes ≡ record {
+    server = server_taken now id (drop taken bytes);
+    count = taken + count_taken now id (drop taken bytes);
+    done = count_taken now id (drop taken bytes) == 0;
+  }
   unfolding fed_turns
   turn_more_feeds = rw (add-one, feeds.so_far, lt-ltb taken (length bytes) left)
 
-  pub shows_more : (after : ServerValue) → ShowsTake now id (drop taken bytes) after → ShowsMore v after (took_turns (feeds.turns + 1) v id bytes)
+  pub shows_more : (after : ServerValue) → ShowsTake now id (drop taken bytes) after
+      → ShowsMore v after (took_turns (feeds.turns + 1) v id bytes)
   unfolding took_turns
   shows_more after more =
-      rw (add-one, feeds.so_far, lt-ltb taken (length bytes) left) (shows_then v now after (took_turns feeds.turns v id bytes) _ feeds.shows more)
+      rw (add-one, feeds.so_far, lt-ltb taken (length bytes) left)
+      (shows_then v now after (took_turns feeds.turns v id bytes) _ feeds.shows more)
 
   -- A take accepted some bytes.
-  pub feeds_more : (k : ℕ) (after : ServerValue) → k ≤ length (drop taken bytes) → k ≡ count_taken now id (drop taken bytes) → k ≢ 0 → after ≡ server_taken now id (drop taken bytes) → ShowsTake now id (drop taken bytes) after → Feeds v id bytes after (taken + k)
+  pub feeds_more : (k : ℕ) (after : ServerValue) → k ≤ length (drop taken bytes)
+      → k ≡ count_taken now id (drop taken bytes) → k ≢ 0 → after ≡ server_taken now id (drop taken bytes)
+      → ShowsTake now id (drop taken bytes) after → Feeds v id bytes after (taken + k)
   feeds_more k after within counted some is more = record {
     turns = feeds.turns + 1;
     few = omega (arith, feeds.few, some);
@@ -110,27 +134,38 @@ module _ (v : ServerValue) (id : ℕ) (bytes : List ℕ) (now : ServerValue) (ta
     shows = shows_more after more;
   }
 
-  pub turns_of_more : (k : ℕ) (after : ServerValue) (within : k ≤ length (drop taken bytes)) (counted : k ≡ count_taken now id (drop taken bytes)) (some : k ≢ 0) (is : after ≡ server_taken now id (drop taken bytes)) (more : ShowsTake now id (drop taken bytes) after)
+  pub turns_of_more : (k : ℕ) (after : ServerValue) (within : k ≤ length (drop taken bytes))
+      (counted : k ≡ count_taken now id (drop taken bytes)) (some : k ≢ 0)
+      (is : after ≡ server_taken now id (drop taken bytes)) (more : ShowsTake now id (drop taken bytes) after)
       → (feeds_more k after within counted some is more).turns ≡ feeds.turns + 1
   unfolding feeds_more
   turns_of_more k after within counted some is more = refl
 
   -- A take accepted none.
-  stops_there : (after : ServerValue) → count_taken now id (drop taken bytes) ≡ 0 → after ≡ server_taken now id (drop taken bytes)
-      → (in_result v id bytes ≡ record { server = after; count = taken; done = true }) × (took v id bytes ≡ took_turns (feeds.turns + 1) v id bytes)
+  stops_there : (after : ServerValue) → count_taken now id (drop taken bytes) ≡ 0
+      → after ≡ server_taken now id (drop taken bytes)
+      → (in_result v id bytes ≡ record { server = after; count = taken; done = true })
+      × (took v id bytes ≡ took_turns (feeds.turns + 1) v id bytes)
   stops_there after none is =
-      let turn : fed_turns (feeds.turns + 1) v id bytes ≡ record { server = after; count = taken; done = true } = cc (turn_more_feeds, add-zero taken) in
-      let all = all_turns_made v id bytes (feeds.turns + 1) (rw (turn, and-false)) (length bytes) (omega (arith, feeds.few, left)) in
+      let turn : fed_turns (feeds.turns + 1) v id bytes ≡ record { server = after; count = taken; done = true } =
+      cc (turn_more_feeds, add-zero taken) in
+      let all = all_turns_made v id bytes (feeds.turns + 1) (rw (turn, and-false)) (length bytes)
+      (omega (arith, feeds.few, left)) in
       (all.0 ∙ turn, all.1)
 
-  pub fed_and_stopped : (after : ServerValue) → count_taken now id (drop taken bytes) ≡ 0 → after ≡ server_taken now id (drop taken bytes) → in_result v id bytes ≡ record { server = after; count = taken; done = true }
+  pub fed_and_stopped : (after : ServerValue) → count_taken now id (drop taken bytes) ≡ 0
+      → after ≡ server_taken now id (drop taken bytes)
+      → in_result v id bytes ≡ record { server = after; count = taken; done = true }
   fed_and_stopped after none is = (stops_there after none is).0
 
-  pub stopped_shows : (after : ServerValue) → count_taken now id (drop taken bytes) ≡ 0 → after ≡ server_taken now id (drop taken bytes) → ShowsTake now id (drop taken bytes) after → ShowsMore v after (took v id bytes)
+  pub stopped_shows : (after : ServerValue) → count_taken now id (drop taken bytes) ≡ 0
+      → after ≡ server_taken now id (drop taken bytes) → ShowsTake now id (drop taken bytes) after
+      → ShowsMore v after (took v id bytes)
   stopped_shows after none is more = shows_as v after _ _ (sym (stops_there after none is).1) (shows_more after more)
 
   -- Allocation failed.
-  pub short : (count : ℕ) (after : ServerValue) → IsNotTaken now id (drop taken bytes) (taking.Memory count) after → IsPartialIn v id bytes after
+  pub short : (count : ℕ) (after : ServerValue) → IsNotTaken now id (drop taken bytes) (taking.Memory count) after
+      → IsPartialIn v id bytes after
   short count after refused = record {
     turns = feeds.turns;
     count = count;
@@ -138,7 +173,8 @@ module _ (v : ServerValue) (id : ℕ) (bytes : List ℕ) (now : ServerValue) (ta
     refused = rw feeds.so_far refused;
   }
 
-  pub short_shown : (count : ℕ) (after : ServerValue) → IsNotTaken now id (drop taken bytes) (taking.Memory count) after → ShowsMore now after (Took id (take count (drop taken bytes)) ∷ []) → ShowsPartlyFed v id bytes after
+  pub short_shown : (count : ℕ) (after : ServerValue) → IsNotTaken now id (drop taken bytes) (taking.Memory count) after
+      → ShowsMore now after (Took id (take count (drop taken bytes)) ∷ []) → ShowsPartlyFed v id bytes after
   unfolding short
   short_shown count after refused more = record {
     more = _;
@@ -147,9 +183,12 @@ module _ (v : ServerValue) (id : ℕ) (bytes : List ℕ) (now : ServerValue) (ta
   }
 
 -- No byte is left.
-module _ (v : ServerValue) (id : ℕ) (bytes : List ℕ) (now : ServerValue) (taken : ℕ) (feeds : Feeds v id bytes now taken) (none : length bytes ≤ taken) where
+module _ (v : ServerValue) (id : ℕ) (bytes : List ℕ) (now : ServerValue) (taken : ℕ)
+    (feeds : Feeds v id bytes now taken) (none : length bytes ≤ taken) where
   all_used : AreTurnsOf v id bytes (length bytes) feeds.turns
-  all_used = all_turns_made v id bytes feeds.turns (rw (feeds.so_far, le-ltb taken (length bytes) none)) (length bytes) (omega (arith, feeds.few, feeds.within))
+  all_used =
+      all_turns_made v id bytes feeds.turns (rw (feeds.so_far, le-ltb taken (length bytes) none)) (length bytes)
+      (omega (arith, feeds.few, feeds.within))
 
   pub used_up : in_result v id bytes ≡ record { server = now; count = taken; done = false }
   used_up = all_used.0 ∙ feeds.so_far
@@ -161,7 +200,8 @@ module _ (v : ServerValue) (id : ℕ) (bytes : List ℕ) (now : ServerValue) (ta
 module _ (v : ServerValue) (id : ℕ) (none : session_of id v.sessions ≡ None) where
   feeds_nothing : (bytes : List ℕ) → Feeds v id bytes v 0
   unfolding fed_turns took_turns
-  feeds_nothing bytes = record { turns = 0; few = omega arith; within = omega arith; so_far = refl; shows = shows_same v v refl }
+  feeds_nothing bytes =
+      record { turns = 0; few = omega arith; within = omega arith; so_far = refl; shows = shows_same v v refl }
 
   takes_nothing : (bytes : List ℕ) → count_taken v id bytes ≡ 0
   unfolding count_taken
@@ -171,33 +211,42 @@ module _ (v : ServerValue) (id : ℕ) (none : session_of id v.sessions ≡ None)
   unfolding server_taken
   stays_as_it_is bytes = rw none refl
 
-  pub fed_nothing : (bytes : List ℕ) → ((in_result v id bytes).count ≡ 0) × ((in_result v id bytes).server ≡ v) × ShowsMore v v (took v id bytes)
+  pub fed_nothing : (bytes : List ℕ)
+      → ((in_result v id bytes).count ≡ 0) × ((in_result v id bytes).server ≡ v) × ShowsMore v v (took v id bytes)
   fed_nothing bytes = fed_cases (length bytes) refl
     where
-      fed_cases : (n : ℕ) → length bytes ≡ n → ((in_result v id bytes).count ≡ 0) × ((in_result v id bytes).server ≡ v) × ShowsMore v v (took v id bytes)
+      fed_cases : (n : ℕ) → length bytes ≡ n
+          → ((in_result v id bytes).count ≡ 0) × ((in_result v id bytes).server ≡ v) × ShowsMore v v (took v id bytes)
       fed_cases zero is =
           let none_left : length bytes ≤ 0 = omega (arith, is) in
-          let all = used_up v id bytes v 0 (feeds_nothing bytes) none_left in
-          (ap (λ (f : InResult). f.count) all, ap (λ (f : InResult). f.server) all, used_up_shows v id bytes v 0 (feeds_nothing bytes) none_left)
+          let all = used_up v id bytes v 0 (feeds_nothing bytes) none_left in (
+            ap (λ (f : InResult). f.count) all,
+            ap (λ (f : InResult). f.server) all,
+            used_up_shows v id bytes v 0 (feeds_nothing bytes) none_left,
+          )
       fed_cases (suc n) is =
           let left : 0 < length bytes = omega (arith, is) in
           let rest = drop 0 bytes in
-          let all = fed_and_stopped v id bytes v 0 (feeds_nothing bytes) left v (takes_nothing rest) (stays_as_it_is rest) in (
+          let all =
+          fed_and_stopped v id bytes v 0 (feeds_nothing bytes) left v (takes_nothing rest) (stays_as_it_is rest) in (
             ap (λ (f : InResult). f.count) all,
             ap (λ (f : InResult). f.server) all,
-            stopped_shows v id bytes v 0 (feeds_nothing bytes) left v (takes_nothing rest) (stays_as_it_is rest) (rw none (shows_same v v refl)),
+            stopped_shows v id bytes v 0 (feeds_nothing bytes) left v (takes_nothing rest) (stays_as_it_is rest)
+                (rw none (shows_same v v refl)),
           )
 
 -- ---- several events
 
 -- Events after others are replayed on the server after these.
-pub replayed_on : (v : ServerValue) (es fs : List ScriptEventValue) → replayed v (es ++ fs) ≡ behind (replayed v es).text (replayed (replayed v es).server fs)
+pub replayed_on : (v : ServerValue) (es fs : List ScriptEventValue)
+    → replayed v (es ++ fs) ≡ behind (replayed v es).text (replayed (replayed v es).server fs)
 unfolding replayed
 replayed_on v [] fs = refl
 replayed_on v (e ∷ es) fs = rw (replayed_on (event_ran v e).server es fs, append_assoc)
 
 -- The first events ran, and their lines were written.
-pub record Replays (v : ServerValue) (all : List ScriptEventValue) (index : ℕ) (now : ServerValue) (x y : Option (List ℕ)) : Type 0 where
+pub record Replays (v : ServerValue) (all : List ScriptEventValue) (index : ℕ) (now : ServerValue)
+    (x y : Option (List ℕ)) : Type 0 where
   pub server_is : now ≡ (replayed v (take index all)).server
   pub written : AddsBytes x y (replayed v (take index all)).text
 
@@ -208,11 +257,13 @@ pub record StandsAt (all : List ScriptEventValue) (index : ℕ) (e : ScriptEvent
   pub more : take (index + 1) all ≡ take index all ++ e ∷ []
   pub counted : length (take index all) ≡ index
 
-pub stands : (events : List Event) (index : ℕ) (x : Event) → index < length events → x ≡ get_or events index x → StandsAt (map event_value events) index (event_value x)
+pub stands : (events : List Event) (index : ℕ) (x : Event) → index < length events → x ≡ get_or events index x
+    → StandsAt (map event_value events) index (event_value x)
 stands events index x lt is =
     let all : List ScriptEventValue = map event_value events in
     let within : index < length all = omega (arith, lt, length-map events event_value) in
-    let found : get_or all index (event_value x) ≡ event_value x = get_or-map event_value events index x ∙ ap event_value (sym is) in
+    let found : get_or all index (event_value x) ≡ event_value x =
+    get_or-map event_value events index x ∙ ap event_value (sym is) in
     let next = add-one index in
     record {
       within = within;
@@ -221,9 +272,11 @@ stands events index x lt is =
       counted = length-take-le index all (omega (arith, within));
     }
 
-module _ (v : ServerValue) (all : List ScriptEventValue) (index : ℕ) (now : ServerValue) (x y : Option (List ℕ)) (so_far : Replays v all index now x y) (e : ScriptEventValue) (stands : StandsAt all index e) where
+module _ (v : ServerValue) (all : List ScriptEventValue) (index : ℕ) (now : ServerValue) (x y : Option (List ℕ))
+    (so_far : Replays v all index now x y) (e : ScriptEventValue) (stands : StandsAt all index e) where
   -- Allocation failed for the event.
-  pub refused_at : (number : ℕ) (after : ServerValue) → number ≡ index + 1 → IsUnrun now e after → IsRefusedAt v all number after (AddsBytes x y)
+  pub refused_at : (number : ℕ) (after : ServerValue) → number ≡ index + 1 → IsUnrun now e after
+      → IsRefusedAt v all number after (AddsBytes x y)
   refused_at number after counted unrun = record {
     before = take index all;
     event = e;
@@ -235,7 +288,9 @@ module _ (v : ServerValue) (all : List ScriptEventValue) (index : ℕ) (now : Se
   }
 
   -- The event ran, and its line is incomplete.
-  pub cut_at : (after : ServerValue) (line : List ℕ) (z : Option (List ℕ)) → IsWhat (event_ran now e) after line → WritesPart y z line → ShowsMore v after (events_ran v (take index all ++ e ∷ [])) → IsCutAt v all after (AddsBytes x z)
+  pub cut_at : (after : ServerValue) (line : List ℕ) (z : Option (List ℕ)) → IsWhat (event_ran now e) after line
+      → WritesPart y z line → ShowsMore v after (events_ran v (take index all ++ e ∷ []))
+      → IsCutAt v all after (AddsBytes x z)
   cut_at after line z ran wrote shows = record {
     before = take index all;
     event = e;
@@ -251,7 +306,8 @@ module _ (v : ServerValue) (all : List ScriptEventValue) (index : ℕ) (now : Se
   }
 
   -- The event ran, and its line was written.
-  pub one_replayed : (after : ServerValue) (line : List ℕ) (z : Option (List ℕ)) → IsWhat (event_ran now e) after line → AddsBytes y z line → Replays v all (index + 1) after x z
+  pub one_replayed : (after : ServerValue) (line : List ℕ) (z : Option (List ℕ)) → IsWhat (event_ran now e) after line
+      → AddsBytes y z line → Replays v all (index + 1) after x z
   unfolding replayed
   one_replayed after line z ran wrote =
       let next : replayed v (take (index + 1) all) ≡ behind (replayed v (take index all)).text (event_ran now e) =
@@ -267,21 +323,27 @@ module _ (v : ServerValue) (all : List ScriptEventValue) (index : ℕ) (now : Se
 abbrev pub ShowsFirst : ServerValue → List ScriptEventValue → ℕ → ServerValue → Type 0
 ShowsFirst v all index now = ShowsMore v now (events_ran v (take index all))
 
-module _ (v : ServerValue) (all : List ScriptEventValue) (index : ℕ) (now : ServerValue) (x y : Option (List ℕ)) (so_far : Replays v all index now x y) (shown : ShowsFirst v all index now) (e : ScriptEventValue) (stands : StandsAt all index e) where
+module _ (v : ServerValue) (all : List ScriptEventValue) (index : ℕ) (now : ServerValue) (x y : Option (List ℕ))
+    (so_far : Replays v all index now x y) (shown : ShowsFirst v all index now) (e : ScriptEventValue)
+    (stands : StandsAt all index e) where
   next_ran : events_ran v (take index all) ++ events_made now e ≡ events_ran v (take (index + 1) all)
   unfolding events_ran
   next_ran = rw (stands.more, events_ran_on v (take index all) (e ∷ []), append-nil, so_far.server_is)
 
   -- The event ran.
   pub one_shown : (after : ServerValue) → ShowsMore now after (events_made now e) → ShowsFirst v all (index + 1) after
-  one_shown after more = shows_as v after _ _ next_ran (shows_then v now after (events_ran v (take index all)) (events_made now e) shown more)
+  one_shown after more =
+      shows_as v after _ _ next_ran
+      (shows_then v now after (events_ran v (take index all)) (events_made now e) shown more)
 
   -- The event ran, and its line is incomplete.
-  pub cut_shown : (after : ServerValue) → ShowsMore now after (events_made now e) → ShowsMore v after (events_ran v (take index all ++ e ∷ []))
+  pub cut_shown : (after : ServerValue) → ShowsMore now after (events_made now e)
+      → ShowsMore v after (events_ran v (take index all ++ e ∷ []))
   cut_shown after more = shows_as v after _ _ (ap (events_ran v) stands.more) (one_shown after more)
 
   -- Allocation failed for the event.
-  pub refused_shown : (before : List world.AcceptedCall) → Shows v before → (number : ℕ) (after : ServerValue) → number ≡ index + 1 → ShowsPart now e after → ShowsRefusedAt before v all number after
+  pub refused_shown : (before : List world.AcceptedCall) → Shows v before → (number : ℕ) (after : ServerValue)
+      → number ≡ index + 1 → ShowsPart now e after → ShowsRefusedAt before v all number after
   refused_shown before shows number after counted refused = record {
     ran = take index all;
     event = e;

@@ -1,22 +1,30 @@
--- The frame that a take completes, as it is lent: the request for the application, and the request that changes the store.
--- The stores before and after differ at the path of the latter.
-use Rattle.std.proofs.Common.{◌≡◌, ℕ, ◌+◌, Bool, true, false, ◌&&◌, List, [], ◌∷◌, ◌++◌, take, Option, Some, None, Result, Ok, Err, refl, sym, ap, subst, ◌∙◌, arith, inl, inr, ◌⊎◌, is_none, is_some, IfSome, if◌then◌else◌}
+-- The frame that a take completes, as it is lent: the request for the application, and the request that changes the
+-- store. The stores before and after differ at the path of the latter.
+use Rattle.std.proofs.Common.{◌≡◌, ℕ, ◌+◌, Bool, true, false, ◌&&◌, List, [], ◌∷◌, ◌++◌, take, Option, Some, None}
+use Rattle.std.proofs.Common.{Result, Ok, Err, refl, sym, ap, subst, ◌∙◌, arith, inl, inr, ◌⊎◌, is_none, is_some}
+use Rattle.std.proofs.Common.{IfSome, if◌then◌else◌}
 use Rattle.std.specs.Prelude.{option_and_then}
 use Rattle.std.proofs.lemmas.Bool.{cases_Bool}
-use Rattle.coap_server_engine.specs.Prelude.{Message, message_of, FormatFault, Path, StoreValue, Change, changes, changed, Reason}
-use Rattle.coap_server_engine.specs.Prelude.{ServerState, SessionValue, session_takes, taking, taking_found, taking_read, FrameEventValue, AFrame, AFault, Framing, framing}
-use Rattle.coap_server_engine.specs.Prelude.{handed, handed_found, handed_read, is_handed_over, completed, found_frame, handed_on}
-use Rattle.coap_server_engine.specs.Prelude.{ServerValue, session_of, server_taken, server_taken_on, changing_on, changing_frame, frame_key, DifferBy, ChangesBy}
+use Rattle.coap_server_engine.specs.Prelude.{Message, message_of, FormatFault, Path, StoreValue, Change, changes}
+use Rattle.coap_server_engine.specs.Prelude.{changed, Reason}
+use Rattle.coap_server_engine.specs.Prelude.{ServerState, SessionValue, session_takes, taking, taking_found}
+use Rattle.coap_server_engine.specs.Prelude.{taking_read, FrameEventValue, AFrame, AFault, Framing, framing}
+use Rattle.coap_server_engine.specs.Prelude.{handed, handed_found, handed_read, is_handed_over, completed, found_frame}
+use Rattle.coap_server_engine.specs.Prelude.{handed_on}
+use Rattle.coap_server_engine.specs.Prelude.{ServerValue, session_of, server_taken, server_taken_on, changing_on}
+use Rattle.coap_server_engine.specs.Prelude.{changing_frame, frame_key, DifferBy, ChangesBy}
 use Rattle.coap_server_engine.specs.Prelude.{AcceptedCall, Took, world_after, Shows}
 use Rattle.coap_server_session.specs.Prelude.{session_max, asks_this, answer_on}
 use Rattle.coap_frame.specs.Framing.{Nothing}
 use Rattle.coap_store.specs.Answer as store_change
 use Rattle.coap_store.specs.Answer.{Answer}
-use Rattle.coap_store.specs.Prelude.{Representation, found_in, key_for, stored_at, target_of, path_of, stored_under, deletion, answer_at, removes_watch, answer_of, prompt_answer}
+use Rattle.coap_store.specs.Prelude.{Representation, found_in, key_for, stored_at, target_of, path_of, stored_under}
+use Rattle.coap_store.specs.Prelude.{deletion, answer_at, removes_watch, answer_of, prompt_answer}
 use Rattle.coap_store.proofs.AnswerLaws.{answer_cases, get_cases, store_cases, state_dynamic, change_finally}
 use Rattle.coap_store.proofs.ApplicationLaws.{prompt_cases}
 use Rattle.coap_store.proofs.HoldLaws.{same_change}
-use Rattle.coap_store.proofs.ChangeLaws.{put_is_stored, other_is_kept_on_put, other_is_kept_on_delete, deleted_is_gone, unchanged}
+use Rattle.coap_store.proofs.ChangeLaws.{put_is_stored, other_is_kept_on_put, other_is_kept_on_delete, deleted_is_gone}
+use Rattle.coap_store.proofs.ChangeLaws.{unchanged}
 use Rattle.coap_model.proofs.world.KnownLaws.{IsVersioned}
 use Rattle.coap_model.proofs.world.HearingLaws.{world_known}
 use Rattle.coap_server_engine.proofs.world.ShowLaws.{host_shown}
@@ -29,17 +37,20 @@ IsOwn s path store_change.Nothing = Unit {0}
 IsOwn s path (store_change.Put q format bytes) = key_for path ≡ Some q
 IsOwn s path (store_change.Delete q) = (key_for path ≡ Some q) × (is_some (found_in s.resources q) ≡ true)
 
-stored_own : (s : StoreValue) (path : Path) (key : Option Path) (state : Option Representation) (m : Message) → key_for path ≡ key → IsOwn s path (stored_under key state m).change
+stored_own : (s : StoreValue) (path : Path) (key : Option Path) (state : Option Representation) (m : Message)
+    → key_for path ≡ key → IsOwn s path (stored_under key state m).change
 stored_own s path None state m is = tt
 stored_own s path (Some q) None m is = is
 stored_own s path (Some q) (Some r) m is = is
 
-deletion_own : (s : StoreValue) (path : Path) (key : Option Path) (state : Option Representation) → key_for path ≡ key → state ≡ stored_at s key → IsOwn s path (deletion key state)
+deletion_own : (s : StoreValue) (path : Path) (key : Option Path) (state : Option Representation) → key_for path ≡ key
+    → state ≡ stored_at s key → IsOwn s path (deletion key state)
 deletion_own s path None state is there = tt
 deletion_own s path (Some q) None is there = tt
 deletion_own s path (Some q) (Some r) is there = (is, ap (λ (o : Option Representation). is_some o) (sym there))
 
-own_at : (s : StoreValue) (now : ℕ) (path : Path) (m : Message) → IsOwn s path (answer_at s (target_of s now path) m).change
+own_at : (s : StoreValue) (now : ℕ) (path : Path) (m : Message)
+    → IsOwn s path (answer_at s (target_of s now path) m).change
 own_at s now path m =
     let t = target_of s now path in
     let P : Answer → Type 0 = λ a. IsOwn s path a.change in
@@ -52,17 +63,25 @@ own_at s now path m =
 own_answer : (s : StoreValue) (now : ℕ) (m : Message) → IsOwn s (path_of m) (answer_of s now m).change
 unfolding answer_of
 own_answer s now m =
-    subst (IsOwn s (path_of m)) (sym (change_finally (removes_watch m) (answer_at s (target_of s now (path_of m)) m))) (own_at s now (path_of m) m)
+    subst (IsOwn s (path_of m)) (sym (change_finally (removes_watch m) (answer_at s (target_of s now (path_of m)) m)))
+    (own_at s now (path_of m) m)
 
 own : (s : StoreValue) (now : ℕ) (m : Message) → IsOwn s (path_of m) (prompt_answer s now m).change
-own s now m = prompt_cases s now m (λ a. IsOwn s (path_of m) a.change) tt (subst (IsOwn s (path_of m)) (sym (same_change s now m)) (own_answer s now m))
+own s now m =
+    prompt_cases s now m (λ a. IsOwn s (path_of m) a.change) tt
+    (subst (IsOwn s (path_of m)) (sym (same_change s now m)) (own_answer s now m))
 
 -- The stores before and after such a change differ at this path.
-own_differs : (s : StoreValue) (path : Path) (c : Change) → IsVersioned s → IsOwn s path c → changes c ≡ true → DifferBy s (changed s c) (key_for path)
+own_differs : (s : StoreValue) (path : Path) (c : Change) → IsVersioned s → IsOwn s path c → changes c ≡ true
+    → DifferBy s (changed s c) (key_for path)
 own_differs s path store_change.Nothing is mine does = absurd cc
 own_differs s path (store_change.Put q format bytes) is mine does =
     rw mine (record {
-      here = λ same. omega (arith, is.given q (record { version = s.versions + 1; format = format; bytes = bytes }) (sym same ∙ put_is_stored s q format bytes));
+      here = λ same. omega (
+        arith,
+        is.given q (record { version = s.versions + 1; format = format; bytes = bytes })
+            (sym same ∙ put_is_stored s q format bytes),
+      );
       elsewhere = λ other apart. other_is_kept_on_put s q other format bytes apart;
     })
 own_differs s path (store_change.Delete q) is mine does =
@@ -88,24 +107,30 @@ record ComesFrom (host : ServerState) (frame : Option (List ℕ)) (c : Change) :
 abbrev MayCome : ServerState → Option (List ℕ) → Change → Type 0
 MayCome host frame c = (changes c ≡ false) ⊎ ComesFrom host frame c
 
-read_change : (host : ServerState) (v : SessionValue) (n : ℕ) (frame : List ℕ) (read : Result Message FormatFault) → message_of frame ≡ read → MayCome host (Some frame) (taking_read host v n read).change
+read_change : (host : ServerState) (v : SessionValue) (n : ℕ) (frame : List ℕ) (read : Result Message FormatFault)
+    → message_of frame ≡ read → MayCome host (Some frame) (taking_read host v n read).change
 read_change host v n frame (Ok m) reads =
-    elim (asks_this v.link m) as (λ b. MayCome host (Some frame) (if b then (answer_on host m).change else store_change.Nothing)) [
+    elim (asks_this v.link m)
+    as (λ b. MayCome host (Some frame) (if b then (answer_on host m).change else store_change.Nothing)) [
       | true ↦ inr (record { bytes = frame; completes = refl; message = m; reads = reads; change = refl })
       | false ↦ inl refl
     ]
 read_change host v n frame (Err e) reads = inl refl
 
-found_change : (host : ServerState) (v : SessionValue) (f : Framing) (found : FrameEventValue) → MayCome host (found_frame found) (taking_found host v f found).change
+found_change : (host : ServerState) (v : SessionValue) (f : Framing) (found : FrameEventValue)
+    → MayCome host (found_frame found) (taking_found host v f found).change
 found_change host v f Nothing = inl refl
 found_change host v f (AFault fault) = inl refl
 found_change host v f (AFrame frame) = read_change host v f.taken frame (message_of frame) refl
 
-take_change : (host : ServerState) (v : SessionValue) (piece : List ℕ) → MayCome host (completed v piece) (taking host v piece).change
+take_change : (host : ServerState) (v : SessionValue) (piece : List ℕ)
+    → MayCome host (completed v piece) (taking host v piece).change
 unfolding taking completed
 take_change host v piece =
     let f : Framing = framing (session_max v) v.frame piece in
-    elim (session_takes v) as (λ b. MayCome host (if b then found_frame f.finding else None) (if b then taking_found host v f f.finding else record { count = 0; handled = false; session = v; change = store_change.Nothing }).change) [
+    elim (session_takes v)
+    as (λ b. MayCome host (if b then found_frame f.finding else None) (if b then taking_found host v f f.finding
+    else record { count = 0; handled = false; session = v; change = store_change.Nothing }).change) [
       | true ↦ found_change host v f f.finding
       | false ↦ inl refl
     ]
@@ -123,63 +148,85 @@ module _ (host : ServerState) (s : SessionValue) (piece : List ℕ) where
     | inr from ↦ from
   ]
 
-  stores_differ : IsVersioned host.store → DifferBy host.store (changed host.store change_here) (option_and_then frame_key (if changes change_here then completed s piece else None))
+  stores_differ : IsVersioned host.store → DifferBy host.store (changed host.store change_here)
+      (option_and_then frame_key (if changes change_here then completed s piece else None))
   stores_differ is = elim (cases_Bool (changes change_here)) [
     | inl does ↦
         let from = change_completes does in
-        let own_here : IsOwn host.store (path_of from.message) change_here = subst (IsOwn host.store (path_of from.message)) (sym from.change) (own host.store host.now from.message) in
-        rw (does, from.completes, from.reads) (own_differs host.store (path_of from.message) change_here is own_here does)
+        let own_here : IsOwn host.store (path_of from.message) change_here =
+        subst (IsOwn host.store (path_of from.message)) (sym from.change) (own host.store host.now from.message) in
+        rw (does, from.completes, from.reads)
+        (own_differs host.store (path_of from.message) change_here is own_here does)
     | inr quiet ↦ rw quiet (unchanged host.store change_here quiet)
   ]
 
-taken_differs : (v : ServerValue) (id : ℕ) (piece : List ℕ) → IsVersioned v.host.store → DifferBy v.host.store (server_taken v id piece).host.store (option_and_then frame_key (changing_frame v id piece))
+taken_differs : (v : ServerValue) (id : ℕ) (piece : List ℕ) → IsVersioned v.host.store
+    → DifferBy v.host.store (server_taken v id piece).host.store (option_and_then frame_key (changing_frame v id piece))
 unfolding server_taken changing_frame
 taken_differs v id piece is =
-    elim (session_of id v.sessions) as (λ o. DifferBy v.host.store (server_taken_on v id piece o).host.store (option_and_then frame_key (changing_on v piece o))) [
+    elim (session_of id v.sessions) as (λ o. DifferBy v.host.store (server_taken_on v id piece o).host.store
+    (option_and_then frame_key (changing_on v piece o))) [
       | None ↦ refl
       | Some s ↦ stores_differ v.host s piece is
     ]
 
 taken_config : (v : ServerValue) (id : ℕ) (piece : List ℕ) → (server_taken v id piece).config ≡ v.config
 unfolding server_taken
-taken_config v id piece = elim (session_of id v.sessions) as (λ o. (server_taken_on v id piece o).config ≡ v.config) [ None ↦ refl | Some s ↦ refl ]
+taken_config v id piece = elim (session_of id v.sessions) as (λ o. (server_taken_on v id piece o).config ≡ v.config) [
+  | None ↦ refl
+  | Some s ↦ refl
+]
 
 -- The worlds before and after the event of a take have stores that differ at the path of the request that is lent.
-pub take_alters : (v new : ServerValue) (id : ℕ) (piece : List ℕ) (n : ℕ) (frame : Option (List ℕ)) → frame ≡ changing_frame v id piece → new ≡ server_taken v id piece
+pub take_alters : (v new : ServerValue) (id : ℕ) (piece : List ℕ) (n : ℕ) (frame : Option (List ℕ))
+    → frame ≡ changing_frame v id piece → new ≡ server_taken v id piece
     → ((es : List AcceptedCall) → Shows v es → Shows new (es ++ Took id (take n piece) ∷ []))
-    → (es : List AcceptedCall) → Shows v es → ChangesBy v.config es (Took id (take n piece)) (option_and_then frame_key frame)
+    → (es : List AcceptedCall) → Shows v es
+    → ChangesBy v.config es (Took id (take n piece)) (option_and_then frame_key frame)
 take_alters v new id piece n frame is new_is becomes es shows =
     let after : List AcceptedCall = es ++ Took id (take n piece) ∷ [] in
-    let before : (world_after v.config es).store ≡ v.host.store = sym (ap (λ (h : ServerState). h.store) (host_shown v es shows)) in
+    let before : (world_after v.config es).store ≡ v.host.store =
+    sym (ap (λ (h : ServerState). h.store) (host_shown v es shows)) in
     let config : new.config ≡ v.config = ap (λ (u : ServerValue). u.config) new_is ∙ taken_config v id piece in
     let later : (world_after v.config after).store ≡ (server_taken v id piece).host.store =
-    ap (λ c. (world_after c after).store) (sym config) ∙ sym (ap (λ (h : ServerState). h.store) (host_shown new after (becomes es shows))) ∙ ap (λ (u : ServerValue). u.host.store) new_is in
-    let versioned : IsVersioned v.host.store = subst IsVersioned before (world_known v.config es shows.moment).versioned in
+    ap (λ c. (world_after c after).store) (sym config)
+    ∙ sym (ap (λ (h : ServerState). h.store) (host_shown new after (becomes es shows)))
+    ∙ ap (λ (u : ServerValue). u.host.store) new_is in
+    let versioned : IsVersioned v.host.store =
+    subst IsVersioned before (world_known v.config es shows.moment).versioned in
     rw (before, later, is) (taken_differs v id piece versioned)
 
 -- ---- the frame that is lent
 
-handed_in_read : (host : ServerState) (v : SessionValue) (frame g : List ℕ) (read : Result Message FormatFault) → handed_read host v g read ≡ Some frame → Some g ≡ Some frame
+handed_in_read : (host : ServerState) (v : SessionValue) (frame g : List ℕ) (read : Result Message FormatFault)
+    → handed_read host v g read ≡ Some frame → Some g ≡ Some frame
 handed_in_read host v frame g (Ok m) e =
-    elim (is_handed_over host v.link m) as (λ b. (if b then Some g else None) ≡ Some frame → Some g ≡ Some frame) [ true ↦ λ is. is | false ↦ λ is. absurd cc ] e
+    elim (is_handed_over host v.link m) as (λ b. (if b then Some g else None) ≡ Some frame → Some g ≡ Some frame) [
+      | true ↦ λ is. is
+      | false ↦ λ is. absurd cc
+    ] e
 handed_in_read host v frame g (Err f) e = absurd cc
 
-handed_in_found : (host : ServerState) (v : SessionValue) (frame : List ℕ) (found : FrameEventValue) → handed_found host v found ≡ Some frame → found_frame found ≡ Some frame
+handed_in_found : (host : ServerState) (v : SessionValue) (frame : List ℕ) (found : FrameEventValue)
+    → handed_found host v found ≡ Some frame → found_frame found ≡ Some frame
 handed_in_found host v frame Nothing e = absurd cc
 handed_in_found host v frame (AFault fault) e = absurd cc
 handed_in_found host v frame (AFrame g) e = handed_in_read host v frame g (message_of g) e
 
 -- The frame of a request for the application is the one that the slice completes.
-handed_completes : (host : ServerState) (v : SessionValue) (piece frame : List ℕ) → handed host v piece ≡ Some frame → completed v piece ≡ Some frame
+handed_completes : (host : ServerState) (v : SessionValue) (piece frame : List ℕ) → handed host v piece ≡ Some frame
+    → completed v piece ≡ Some frame
 unfolding handed completed
 handed_completes host v piece frame =
     let found : FrameEventValue = (framing (session_max v) v.frame piece).finding in
-    elim (session_takes v) as (λ b. (if b then handed_found host v found else None) ≡ Some frame → (if b then found_frame found else None) ≡ Some frame) [
+    elim (session_takes v) as (λ b. (if b then handed_found host v found else None) ≡ Some frame
+    → (if b then found_frame found else None) ≡ Some frame) [
       | true ↦ handed_in_found host v frame found
       | false ↦ λ e. absurd cc
     ]
 
-module _ (v : ServerValue) (piece : List ℕ) (s : SessionValue) (given : List ℕ) (shown : IfSome (completed s piece) (λ frame. given ≡ frame)) where
+module _ (v : ServerValue) (piece : List ℕ) (s : SessionValue) (given : List ℕ)
+    (shown : IfSome (completed s piece) (λ frame. given ≡ frame)) where
   given_is : (frame : List ℕ) → completed s piece ≡ Some frame → given ≡ frame
   given_is frame is = rw is at shown
 
@@ -188,12 +235,16 @@ module _ (v : ServerValue) (piece : List ℕ) (s : SessionValue) (given : List �
   given_so (Some frame) e = ap (λ (b : List ℕ). Some b) (given_is frame (handed_completes v.host s piece frame e))
 
   -- It is lent if the request is handed over, and the connection has not stopped.
-  pub handed_given : (flag : Bool) (stop : Option Reason) → flag ≡ is_some (handed v.host s piece) → (if flag && is_none stop then Some given else None) ≡ handed_on v piece (Some s) stop
-  handed_given flag None counted = ap (λ b. if b && true then Some given else None) counted ∙ given_so (handed v.host s piece) refl
-  handed_given flag (Some why) counted = elim flag as (λ b. (if b && false then Some given else None) ≡ None) [ true ↦ refl | false ↦ refl ]
+  pub handed_given : (flag : Bool) (stop : Option Reason) → flag ≡ is_some (handed v.host s piece)
+      → (if flag && is_none stop then Some given else None) ≡ handed_on v piece (Some s) stop
+  handed_given flag None counted =
+      ap (λ b. if b && true then Some given else None) counted ∙ given_so (handed v.host s piece) refl
+  handed_given flag (Some why) counted =
+      elim flag as (λ b. (if b && false then Some given else None) ≡ None) [ true ↦ refl | false ↦ refl ]
 
   -- It is lent if its message changes the store.
-  pub changing_given : (flag : Bool) → flag ≡ changes (taking v.host s piece).change → (if flag then Some given else None) ≡ changing_on v piece (Some s)
+  pub changing_given : (flag : Bool) → flag ≡ changes (taking v.host s piece).change
+      → (if flag then Some given else None) ≡ changing_on v piece (Some s)
   changing_given flag counted =
       ap (λ b. if b then Some given else None) counted
       ∙ elim (cases_Bool (changes (taking v.host s piece).change)) [

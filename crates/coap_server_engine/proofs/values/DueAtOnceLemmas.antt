@@ -1,12 +1,15 @@
 -- A request whose deadline has come when it is handed over: the connection answers it by 5.04 when it settles.
-use Rattle.std.proofs.Common.{◌≡◌, ◌⊎◌, ℕ, zero, suc, ◌+◌, ◌≤◌, Bool, true, false, List, [], ◌∷◌, ◌++◌, length, Option, Some, None, Result, Ok, Err, refl, sym, ap, subst, ◌∙◌, inl, inr, arith, nat_le, if◌then◌else◌}
+use Rattle.std.proofs.Common.{◌≡◌, ◌⊎◌, ℕ, zero, suc, ◌+◌, ◌≤◌, Bool, true, false, List, [], ◌∷◌, ◌++◌, length, Option}
+use Rattle.std.proofs.Common.{Some, None, Result, Ok, Err, refl, sym, ap, subst, ◌∙◌, inl, inr, arith, nat_le}
+use Rattle.std.proofs.Common.{if◌then◌else◌}
 use Rattle.std.proofs.lemmas.Bool.{cond_both, le-leb}
 use Rattle.std.proofs.lemmas.List.{length-append}
 use Rattle.coap_conn.specs.Fit.{fit, bare_response}
 use Rattle.coap_conn.specs.Phases.{answers}
 use Rattle.coap_conn.specs.Reaction.{ConnectionState, send, send_as, due_effect, pong_with}
 use Rattle.coap_conn.specs.LinkValue.{limit_in, standing_in, link_with}
-use Rattle.coap_conn.specs.PendingEntries.{PendingEntryValue, Answer, Pong, due_moment, due_index, first_due, without_at, without_due, has_request}
+use Rattle.coap_conn.specs.PendingEntries.{PendingEntryValue, Answer, Pong, due_moment, due_index, first_due}
+use Rattle.coap_conn.specs.PendingEntries.{without_at, without_due, has_request}
 use Rattle.coap_conn.specs.Calls.{link_after, standing_due}
 use Rattle.coap_conn.specs.Calls as call
 use Rattle.coap_conn.specs.declared.pending.Responder.{Responder}
@@ -18,10 +21,14 @@ use Rattle.coap_conn.proofs.PendingLaws.{due_answer, due_alone, due_nothing}
 use Rattle.coap_model.specs.world.Connections.{held_message}
 use Rattle.coap_model.specs.world.Fates.{is_of_application}
 use Rattle.coap_model.proofs.world.EntryLemmas.{all_to}
-use Rattle.coap_server_session.specs.values.Sessions.{ObserverValue, session_ready, session_settled_so, session_settled_once, session_settled_within, session_notified, next_held_in, next_stale, link_sent, notification_on}
+use Rattle.coap_server_session.specs.values.Sessions.{ObserverValue, session_ready, session_settled_so}
+use Rattle.coap_server_session.specs.values.Sessions.{session_settled_once, session_settled_within, session_notified}
+use Rattle.coap_server_session.specs.values.Sessions.{next_held_in, next_stale, link_sent, notification_on}
 use Rattle.coap_server_session.proofs.values.SettleLemmas.{found_ready}
 use Rattle.coap_server_session.proofs.values.TagLemmas.{all_remove}
-use Rattle.coap_server_engine.specs.Prelude.{AllByRecursion, Message, FormatFault, LinkValue, RespondFault, frame_refusal, response_refusal, ServerState, SessionValue, session_settled}
+use Rattle.coap_server_engine.specs.Prelude.{AllByRecursion, Message, FormatFault, LinkValue, RespondFault}
+use Rattle.coap_server_engine.specs.Prelude.{frame_refusal, response_refusal, ServerState, SessionValue}
+use Rattle.coap_server_engine.specs.Prelude.{session_settled}
 
 -- No entry is a request of the application.
 abbrev pub NoneAsked : List PendingEntryValue → Type 0
@@ -37,7 +44,8 @@ none_asked_left now held none = by (due_index now held)
     by None = none
     by (Some i) = all_remove (λ e. is_of_application e ≡ false) held i none
 
-send_asks_none : (s : ConnectionState) (m less : Message) (r : Reply) → NoneAsked s.held → NoneAsked (send_as s m less r).held
+send_asks_none : (s : ConnectionState) (m less : Message) (r : Reply) → NoneAsked s.held
+    → NoneAsked (send_as s m less r).held
 send_asks_none s m less Whole none = none
 send_asks_none s m less Bare none = none
 send_asks_none s m less Stopped none = tt
@@ -47,19 +55,25 @@ reply_asks_none l m none =
     cond_both (answers l.phase) (link_with l (send (standing_in l) m (bare_response m))) l (λ k. NoneAsked k.held)
     (λ _. send_asks_none (standing_in l) m (bare_response m) (fit (limit_in l) m (bare_response m)) none) (λ _. none)
 
-due_asks_none : (l : LinkValue) (now : ℕ) → NoneAsked (without_due now l.held) → NoneAsked (link_after l (call.Due now)).held
+due_asks_none : (l : LinkValue) (now : ℕ) → NoneAsked (without_due now l.held)
+    → NoneAsked (link_after l (call.Due now)).held
 due_asks_none l now left = by (first_due now l.held)
   where
     by : (found : Option PendingEntryValue) → NoneAsked (due_effect (standing_due now (standing_in l)) found).held
     by None = left
     by (Some (Answer who token moment)) = left
-    by (Some (Pong token)) = send_asks_none (standing_due now (standing_in l)) (pong_with true token) (pong_with false token) (fit (limit_in l) (pong_with true token) (pong_with false token)) left
+    by (Some (Pong token)) =
+        send_asks_none (standing_due now (standing_in l)) (pong_with true token) (pong_with false token)
+        (fit (limit_in l) (pong_with true token) (pong_with false token)) left
 
-sent_asks_none : (l : LinkValue) (now : ℕ) (e : PendingEntryValue) → NoneAsked (without_due now l.held) → NoneAsked (link_sent l now e).held
-sent_asks_none l now (Answer who token moment) left = reply_asks_none (link_after l (call.Due now)) (held_message who token) (due_asks_none l now left)
+sent_asks_none : (l : LinkValue) (now : ℕ) (e : PendingEntryValue) → NoneAsked (without_due now l.held)
+    → NoneAsked (link_sent l now e).held
+sent_asks_none l now (Answer who token moment) left =
+    reply_asks_none (link_after l (call.Due now)) (held_message who token) (due_asks_none l now left)
 sent_asks_none l now (Pong token) left = due_asks_none l now left
 
-once_asks_none : (host : ServerState) (v : SessionValue) → NoneAsked v.link.held → NoneAsked (session_settled_once host v).link.held
+once_asks_none : (host : ServerState) (v : SessionValue) → NoneAsked v.link.held
+    → NoneAsked (session_settled_once host v).link.held
 unfolding session_settled_once
 once_asks_none host v none = by (next_held_in host.now v)
   where
@@ -71,19 +85,24 @@ once_asks_none host v none = by (next_held_in host.now v)
     by None = told (next_stale host v)
     by (Some e) = sent_asks_none v.link host.now e (none_asked_left host.now v.link.held none)
 
-within_asks_none : (turns : ℕ) (host : ServerState) (v : SessionValue) → NoneAsked v.link.held → NoneAsked (session_settled_within turns host v).link.held
+within_asks_none : (turns : ℕ) (host : ServerState) (v : SessionValue) → NoneAsked v.link.held
+    → NoneAsked (session_settled_within turns host v).link.held
 unfolding session_settled_within
 within_asks_none zero host v none = none
-within_asks_none (suc turns) host v none = within_asks_none turns host (session_settled_once host v) (once_asks_none host v none)
+within_asks_none (suc turns) host v none =
+    within_asks_none turns host (session_settled_once host v) (once_asks_none host v none)
 
 -- ---- the entry of the request is due first
 
 -- Of a list in which only the last element passes, the others are left without one that passes.
-without_last : {A : Type 0} (P : A → Type 0) (xs : List A) (x : A) (before : List A) (y : A) (later : List A) → xs ++ x ∷ [] ≡ before ++ y ∷ later → AllByRecursion (λ z. P z → ⊥) xs → P y → before ++ later ≡ xs
+without_last : {A : Type 0} (P : A → Type 0) (xs : List A) (x : A) (before : List A) (y : A) (later : List A)
+    → xs ++ x ∷ [] ≡ before ++ y ∷ later → AllByRecursion (λ z. P z → ⊥) xs → P y → before ++ later ≡ xs
 without_last P [] x [] y later same none passes = cc
 without_last P [] x (b ∷ before) y later same none passes =
     let rest : [] ≡ before ++ y ∷ later = cc in absurd (omega (arith, ap length rest, length-append before (y ∷ later)))
-without_last P (z ∷ xs) x [] y later same none passes = let one : z ≡ y = cc in absurd (none.0 (subst P (sym one) passes))
+without_last P (z ∷ xs) x [] y later same none passes =
+    let one : z ≡ y = cc in
+    absurd (none.0 (subst P (sym one) passes))
 without_last P (z ∷ xs) x (b ∷ before) y later same none passes =
     let rest : xs ++ x ∷ [] ≡ before ++ y ∷ later = cc in
     let left = without_last P xs x before y later rest none.1 passes in
@@ -96,39 +115,53 @@ all_last P (y ∷ xs) x all = all_last P xs x all.1
 has_come : (now moment : ℕ) → moment ≤ now → (if nat_le moment now then Some moment else None) ≡ Some moment
 has_come now moment come = ap (λ (b : Bool). if b then Some moment else None) (le-leb moment now come)
 
-module _ (now : ℕ) (held : List PendingEntryValue) (token : List ℕ) (moment : ℕ) (none : first_due now held ≡ None) (come : moment ≤ now) where
+module _ (now : ℕ) (held : List PendingEntryValue) (token : List ℕ) (moment : ℕ) (none : first_due now held ≡ None)
+    (come : moment ≤ now) where
   abbrev all : List PendingEntryValue
   all = held ++ Answer Application token moment ∷ []
 
   never : AllByRecursion (λ e. due_moment now e ≡ None) all → ⊥
-  never silent = let bad : None ≡ Some moment = sym (all_last (λ e. due_moment now e ≡ None) held (Answer Application token moment) silent) ∙ has_come now moment come in cc
+  never silent =
+      let bad : None ≡ Some moment =
+      sym (all_last (λ e. due_moment now e ≡ None) held (Answer Application token moment) silent)
+      ∙ has_come now moment come in
+      cc
 
   -- The other entries are left.
-  others_left : (who : Responder) (other : List ℕ) (due : ℕ) → first_due now all ≡ Some (Answer who other due) → without_due now all ≡ held
+  others_left : (who : Responder) (other : List ℕ) (due : ℕ) → first_due now all ≡ Some (Answer who other due)
+      → without_due now all ≡ held
   others_left who other due found =
       let first = due_answer now all who other due found in
       first.without
-      ∙ without_last (λ e. (m : ℕ) × (due_moment now e ≡ Some m)) held (Answer Application token moment) first.before (Answer who other due) first.after first.there
-      (all_to (λ e. due_moment now e ≡ None) (λ e. ((m : ℕ) × (due_moment now e ≡ Some m)) → ⊥) (λ e is is_due. (let bad : None ≡ Some is_due.0 = sym is ∙ is_due.1 in cc)) held (due_nothing now held none).0.0)
+      ∙ without_last (λ e. (m : ℕ) × (due_moment now e ≡ Some m)) held (Answer Application token moment) first.before
+      (Answer who other due) first.after first.there
+      (all_to (λ e. due_moment now e ≡ None) (λ e. ((m : ℕ) × (due_moment now e ≡ Some m)) → ⊥)
+      (λ e is is_due. (let bad : None ≡ Some is_due.0 = sym is ∙ is_due.1 in cc)) held (due_nothing now held none).0.0)
       (due, has_come now due first.has_come)
 
-module _ (host : ServerState) (v : SessionValue) (held : List PendingEntryValue) (token : List ℕ) (moment : ℕ) (is : v.link.held ≡ held ++ Answer Application token moment ∷ []) (ready : session_ready v ≡ true) (none : first_due host.now held ≡ None) (come : moment ≤ host.now) (asked : NoneAsked held) where
+module _ (host : ServerState) (v : SessionValue) (held : List PendingEntryValue) (token : List ℕ) (moment : ℕ)
+    (is : v.link.held ≡ held ++ Answer Application token moment ∷ []) (ready : session_ready v ≡ true)
+    (none : first_due host.now held ≡ None) (come : moment ≤ host.now) (asked : NoneAsked held) where
   first_settles : NoneAsked (session_settled_once host v).link.held
   unfolding session_settled_once
   first_settles = by (next_held_in host.now v) (sym (ap (first_due host.now) is) ∙ sym (found_ready host v ready).0)
     where
-      by : (due : Option PendingEntryValue) → first_due host.now (held ++ Answer Application token moment ∷ []) ≡ due → NoneAsked (session_settled_so host v due).link.held
+      by : (due : Option PendingEntryValue) → first_due host.now (held ++ Answer Application token moment ∷ []) ≡ due
+          → NoneAsked (session_settled_so host v due).link.held
       by None found = absurd (never host.now held token moment none come (due_nothing host.now _ found).0.0)
-      by (Some (Pong other)) found = absurd (never host.now held token moment none come (due_alone host.now _ other found))
+      by (Some (Pong other)) found =
+          absurd (never host.now held token moment none come (due_alone host.now _ other found))
       by (Some (Answer who other due)) found =
-          let left : without_due host.now v.link.held ≡ held = ap (without_due host.now) is ∙ others_left host.now held token moment none come who other due found in
+          let left : without_due host.now v.link.held ≡ held =
+          ap (without_due host.now) is ∙ others_left host.now held token moment none come who other due found in
           sent_asks_none v.link host.now (Answer who other due) (subst NoneAsked (sym left) asked)
 
   -- No request of the application is pending after the connection settled.
   pub settles_request : NoneAsked (session_settled host v).link.held
   unfolding session_settled session_settled_within
   settles_request =
-      let count : length v.link.held + length v.observers ≡ suc (length held + length v.observers) = omega (arith, ap length is, length-append held (Answer Application token moment ∷ [])) in
+      let count : length v.link.held + length v.observers ≡ suc (length held + length v.observers) =
+      omega (arith, ap length is, length-append held (Answer Application token moment ∷ [])) in
       subst (λ (n : ℕ). NoneAsked (session_settled_within n host v).link.held) (sym count)
       (within_asks_none (length held + length v.observers) host (session_settled_once host v) first_settles)
 
@@ -140,7 +173,10 @@ no_request token (Answer Engine other moment ∷ held) none = no_request token h
 no_request token (Answer Application other moment ∷ held) none = absurd (let bad : true ≡ false = none.0 in cc)
 no_request token (Pong other ∷ held) none = no_request token held none.1
 
-pub no_request_fault : (l : LinkValue) (read : Result Message FormatFault) (why : RespondFault) → NoneAsked l.held → frame_refusal l read ≡ Some why → (why ≡ fault.NotAResponse) ⊎ (why ≡ fault.NoSuchRequest)
+pub no_request_fault : (l : LinkValue) (read : Result Message FormatFault) (why : RespondFault) → NoneAsked l.held
+    → frame_refusal l read ≡ Some why → (why ≡ fault.NotAResponse) ⊎ (why ≡ fault.NoSuchRequest)
 unfolding response_refusal
 no_request_fault l (Err e) why none is = inl (cc)
-no_request_fault l (Ok m) why none is = let same : Some fault.NoSuchRequest ≡ Some why = rw (no_request m.token l.held none) at is in inr (cc)
+no_request_fault l (Ok m) why none is =
+    let same : Some fault.NoSuchRequest ≡ Some why = rw (no_request m.token l.held none) at is in
+    inr (cc)

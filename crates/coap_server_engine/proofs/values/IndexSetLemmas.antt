@@ -1,52 +1,12 @@
 -- Bits of a set of indices.
-use Rattle.std.proofs.Common.{
-  ◌≡◌,
-  ◌≢◌,
-  ℕ,
-  zero,
-  suc,
-  ◌+◌,
-  ◌-◌,
-  ◌*◌,
-  ◌/◌,
-  ◌%◌,
-  ◌^◌,
-  ◌<◌,
-  ◌≤◌,
-  max,
-  List,
-  [],
-  ◌∷◌,
-  length,
-  get_or,
-  set,
-  bit_and,
-  bit_or,
-  w64,
-  sym,
-  ap,
-  ◌∙◌,
-  refl,
-  inl,
-  inr,
-  arith,
-  get_or-set_same,
-  get_or-set_other,
-}
+use Rattle.std.proofs.Common.{◌≡◌, ◌≢◌, ℕ, zero, suc, ◌+◌, ◌-◌, ◌*◌, ◌/◌, ◌%◌, ◌^◌, ◌<◌, ◌≤◌, max, List, [], ◌∷◌}
+use Rattle.std.proofs.Common.{length, get_or, set, bit_and, bit_or, w64, sym, ap, ◌∙◌, refl, inl, inr, arith}
+use Rattle.std.proofs.Common.{get_or-set_same, get_or-set_other}
 use Rattle.std.specs.Int.{bit_at, bit_not, trailing_zeros}
 use Rattle.std.proofs.lemmas.Bool.{cases_eq, cases_lt}
 use Rattle.std.proofs.lemmas.Nat.{shr-shr}
-use Rattle.std.proofs.lemmas.Nat.Bits.{
-  bit_at-zero,
-  bit_at_or,
-  bit_at-trailing_zeros,
-  bit_at_set_same,
-  bit_at_set_other,
-  bit_at_clear_same,
-  bit_at_clear_other,
-  bit_at_ones,
-  bit_at_above,
-}
+use Rattle.std.proofs.lemmas.Nat.Bits.{bit_at-zero, bit_at_or, bit_at-trailing_zeros, bit_at_set_same, bit_at_set_other}
+use Rattle.std.proofs.lemmas.Nat.Bits.{bit_at_clear_same, bit_at_clear_other, bit_at_ones, bit_at_above}
 use Rattle.coap_server_engine.specs.Prelude.{bit_of, IsOutside}
 
 module _ (words : List ℕ) (at word : ℕ) (within : at / 64 < length words) where

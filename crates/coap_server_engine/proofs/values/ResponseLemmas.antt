@@ -1,13 +1,17 @@
 -- A response of the application: the server after it, its event, and the exchanges.
-use Rattle.std.proofs.Common.{◌≡◌, ◌≤◌, ◌-◌, ℕ, Bool, true, false, arith, lt-ltb, nat_lt, length, is_ok, List, [], ◌∷◌, ◌++◌, Option, Some, None, Result, Ok, Err, refl, sym, ap, ◌∙◌, append_assoc, is_none, ◌==◌, option_map, OnErr, if◌then◌else◌}
+use Rattle.std.proofs.Common.{◌≡◌, ◌≤◌, ◌-◌, ℕ, Bool, true, false, arith, lt-ltb, nat_lt, length, is_ok, List, [], ◌∷◌}
+use Rattle.std.proofs.Common.{◌++◌, Option, Some, None, Result, Ok, Err, refl, sym, ap, ◌∙◌, append_assoc, is_none}
+use Rattle.std.proofs.Common.{◌==◌, option_map, OnErr, if◌then◌else◌}
 use Rattle.std.proofs.lemmas.List.{append-nil, length-append}
 use Rattle.coap_wire.specs.Forms.{token_form}
 use Rattle.coap_wire.specs.Reading as reading
 use Rattle.std.proofs.lemmas.Bool.{eqb-true}
 use Rattle.coap_server_engine.specs.Prelude.{Message, message_of, RefusedBy, ResponseFault}
-use Rattle.coap_server_engine.specs.Prelude.{ServerValue, LiesAt, session_of, server_given, session_given_by, responded_refusal, responded_refusal_on, response_event}
+use Rattle.coap_server_engine.specs.Prelude.{ServerValue, LiesAt, session_of, server_given, session_given_by}
+use Rattle.coap_server_engine.specs.Prelude.{responded_refusal, responded_refusal_on, response_event}
 use Rattle.coap_server_engine.specs.Prelude.{spelling}
-use Rattle.coap_server_engine.specs.Prelude.{server_offered, offered_events, response_for, failure_with, Exchange, Answering, AnswersMore, AreUnanswered}
+use Rattle.coap_server_engine.specs.Prelude.{server_offered, offered_events, response_for, failure_with, Exchange}
+use Rattle.coap_server_engine.specs.Prelude.{Answering, AnswersMore, AreUnanswered}
 use Rattle.coap_server_engine.proofs.values.ServerLemmas.{lies_where_taken}
 
 -- ---- exchanges
@@ -16,12 +20,14 @@ pub answers_none : (a : Answering) → AnswersMore a a []
 unfolding AnswersMore
 answers_none a earlier so_far = rw append-nil so_far
 
-pub answers_then : (a b c : Answering) (xs ys : List Exchange) → AnswersMore a b xs → AnswersMore b c ys → AnswersMore a c (xs ++ ys)
+pub answers_then : (a b c : Answering) (xs ys : List Exchange) → AnswersMore a b xs → AnswersMore b c ys
+    → AnswersMore a c (xs ++ ys)
 unfolding AnswersMore
 answers_then a b c xs ys p q earlier so_far = rw (← append_assoc earlier xs ys) (q (earlier ++ xs) (p earlier so_far))
 
 -- An application that has written no byte still has not.
-pub unanswered_then : (more : List Exchange) → AreUnanswered more → AnswersMore (λ exchanges. AreUnanswered exchanges) (λ exchanges. AreUnanswered exchanges) more
+pub unanswered_then : (more : List Exchange) → AreUnanswered more
+    → AnswersMore (λ exchanges. AreUnanswered exchanges) (λ exchanges. AreUnanswered exchanges) more
 unfolding AnswersMore
 unanswered_then more none earlier so_far = by earlier so_far
   where
@@ -31,11 +37,13 @@ unanswered_then more none earlier so_far = by earlier so_far
 
 -- ---- results
 
-pub ok_none : {T E : Type 0} (r : Result T E) (refusal : Option E) → RefusedBy r refusal → is_ok r ≡ true → refusal ≡ None
+pub ok_none : {T E : Type 0} (r : Result T E) (refusal : Option E) → RefusedBy r refusal
+    → is_ok r ≡ true → refusal ≡ None
 ok_none (Ok x) refusal is ok = is
 ok_none (Err e) refusal is ok = absurd cc
 
-pub err_some : {T E : Type 0} (r : Result T E) (refusal : Option E) → RefusedBy r refusal → is_ok r ≡ false → (e : E) × (refusal ≡ Some e)
+pub err_some : {T E : Type 0} (r : Result T E) (refusal : Option E) → RefusedBy r refusal → is_ok r ≡ false
+    → (e : E) × (refusal ≡ Some e)
 err_some (Ok x) refusal is err = absurd cc
 err_some (Err e) refusal is err = (e, is)
 
@@ -43,13 +51,15 @@ pub on_err : {T E : Type 0} (r : Result T E) (P : Type 0) → P → OnErr r P
 on_err (Ok x) P holds = tt
 on_err (Err e) P holds = holds
 
-pub token_made : (o : Option Message) (token : List ℕ) → Some token ≡ option_map (λ (m : Message). m.token) o → (m : Message) × (o ≡ Some m) × (token ≡ m.token)
+pub token_made : (o : Option Message) (token : List ℕ) → Some token ≡ option_map (λ (m : Message). m.token) o
+    → (m : Message) × (o ≡ Some m) × (token ≡ m.token)
 token_made None token is = absurd cc
 token_made (Some m) token is = (m, refl, cc)
 
 pub empty_of : (bytes : List ℕ) (b : Bool) → b ≡ (length bytes == 0) → b ≡ true → bytes ≡ []
 empty_of [] b is empty = refl
-empty_of (x ∷ bytes) b is empty = absurd (let none : length (x ∷ bytes) ≡ 0 = eqb-true (length (x ∷ bytes)) 0 (sym is ∙ empty) in omega (arith, none))
+empty_of (x ∷ bytes) b is empty =
+    absurd (let none : length (x ∷ bytes) ≡ 0 = eqb-true (length (x ∷ bytes)) 0 (sym is ∙ empty) in omega (arith, none))
 
 -- ---- 5.00
 
@@ -58,14 +68,23 @@ short_extension n small =
     rw (lt-ltb n 269 (omega (arith, small)))
     (let low : ℕ × List ℕ = (n, []) in
     let middle : ℕ × List ℕ = (13, (n - 13) ∷ []) in
-    elim (nat_lt n 13) as (λ b. let form : ℕ × List ℕ = if b then low else middle in length form.1 ≤ 1) [ true ↦ omega arith | false ↦ omega arith ])
+    elim (nat_lt n 13) as (λ b. let form : ℕ × List ℕ = if b then low else middle in length form.1 ≤ 1) [
+      | true ↦ omega arith
+      | false ↦ omega arith
+    ])
 
 -- The message 5.00 with a token has at most 67 bytes.
 pub failure_short : (token : List ℕ) → length token ≤ 64 → length (spelling (failure_with token)) ≤ 67
 unfolding spelling
 failure_short token small =
     let extension : List ℕ = (token_form (length token)).1 in
-    omega (arith, short_extension (length token) small, small, length-append extension token, length-append (extension ++ token) [])
+    omega (
+      arith,
+      short_extension (length token) small,
+      small,
+      length-append extension token,
+      length-append (extension ++ token) [],
+    )
 
 -- ---- a response
 
@@ -86,7 +105,8 @@ module _ (v : ServerValue) (id : ℕ) (bytes : List ℕ) where
 
   pub offered_lies : (i : ℕ) → LiesAt id i v.sessions → LiesAt id i (server_offered v id bytes).sessions
   offered_lies i lies =
-      elim (is_none (responded_refusal v id bytes)) as (λ b. LiesAt id i (if b then server_given v id bytes else v).sessions) [
+      elim (is_none (responded_refusal v id bytes))
+      as (λ b. LiesAt id i (if b then server_given v id bytes else v).sessions) [
         | true ↦ lies_where_taken id i (session_given_by (message_of bytes)) v.host v.sessions lies
         | false ↦ lies
       ]
@@ -96,7 +116,10 @@ module _ (v : ServerValue) (id : ℕ) (bytes : List ℕ) where
 -- No byte is no message.
 no_bytes : (v : ServerValue) (id : ℕ) → is_none (responded_refusal v id []) ≡ false
 unfolding message_of reading.head_at
-no_bytes v id = elim (session_of id v.sessions) as (λ o. is_none (responded_refusal_on [] o) ≡ false) [ None ↦ refl | Some s ↦ refl ]
+no_bytes v id = elim (session_of id v.sessions) as (λ o. is_none (responded_refusal_on [] o) ≡ false) [
+  | None ↦ refl
+  | Some s ↦ refl
+]
 
 pub nothing_offered : (v : ServerValue) (id : ℕ) → server_offered v id [] ≡ v
 nothing_offered v id = ap (λ b. if b then server_given v id [] else v) (no_bytes v id)
@@ -115,9 +138,11 @@ module _ (v : ServerValue) (id : ℕ) (token bytes : List ℕ) where
       by [] free = refl
       by (b ∷ rest) free = ap (λ o. if is_none o then b ∷ rest else spelling (failure_with token)) free
 
-  pub refused_response : (fault : ResponseFault) → responded_refusal v id bytes ≡ Some fault → (bytes ≡ [] → ⊥) → response_for v id token bytes ≡ spelling (failure_with token)
+  pub refused_response : (fault : ResponseFault) → responded_refusal v id bytes ≡ Some fault → (bytes ≡ [] → ⊥)
+      → response_for v id token bytes ≡ spelling (failure_with token)
   refused_response fault some written = by bytes some written
     where
-      by : (all : List ℕ) → responded_refusal v id all ≡ Some fault → (all ≡ [] → ⊥) → response_for v id token all ≡ spelling (failure_with token)
+      by : (all : List ℕ) → responded_refusal v id all ≡ Some fault → (all ≡ [] → ⊥)
+          → response_for v id token all ≡ spelling (failure_with token)
       by [] taken apart = absurd (apart refl)
       by (b ∷ rest) taken apart = ap (λ o. if is_none o then b ∷ rest else spelling (failure_with token)) taken

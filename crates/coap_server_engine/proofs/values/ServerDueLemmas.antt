@@ -1,17 +1,24 @@
 -- A tick to a time before each deadline of a server changes nothing but the time.
 use Rattle.std.proofs.Common.{◌≡◌, ℕ, ◌<◌, ◌≤◌, ◌^◌, [], ◌∷◌, ap, subst, arith, inl, inr}
-use Rattle.coap_server_engine.specs.Prelude.{AllByRecursion, IsStore, ServerState, ServerValue, AreSettled, due_on, IsBefore}
+use Rattle.coap_server_engine.specs.Prelude.{AllByRecursion, IsStore, ServerState, ServerValue, AreSettled, due_on}
+use Rattle.coap_server_engine.specs.Prelude.{IsBefore}
 use Rattle.coap_server_engine.specs.Prelude.{WaitsForDeadlines}
 use Rattle.std.proofs.lemmas.Bool.{cases_lt}
 use Rattle.coap_server_engine.proofs.values.ServerLemmas.{all_settled_stay, Entries}
 use Rattle.coap_server_session.proofs.values.DueLemmas.{at_moment, stays_settled}
 
-stay_settled : (host : ServerState) (later : ℕ) (es : Entries) → IsStore host.store → AreSettled host es → host.now < later → later < 2 ^ 64 → AllByRecursion (λ e. IsBefore later (due_on host.now e.1)) es → AreSettled (at_moment host later) es
+stay_settled : (host : ServerState) (later : ℕ) (es : Entries) → IsStore host.store → AreSettled host es
+    → host.now < later → later < 2 ^ 64 → AllByRecursion (λ e. IsBefore later (due_on host.now e.1)) es
+    → AreSettled (at_moment host later) es
 stay_settled host later [] store settled more fits before = tt
-stay_settled host later (e ∷ es) store settled more fits before = (stays_settled host later e.1 store settled.0 more fits before.0, stay_settled host later es store settled.1 more fits before.1)
+stay_settled host later (e ∷ es) store settled more fits before = (
+  stays_settled host later e.1 store settled.0 more fits before.0,
+  stay_settled host later es store settled.1 more fits before.1,
+)
 
 -- Time alone queues nothing before it is due.
-pub waits_for_what_is_due : (v : ServerValue) (later : ℕ) → IsStore v.host.store → AreSettled v.host v.sessions → v.host.now ≤ later → later < 2 ^ 64 → WaitsForDeadlines v later
+pub waits_for_what_is_due : (v : ServerValue) (later : ℕ) → IsStore v.host.store → AreSettled v.host v.sessions
+    → v.host.now ≤ later → later < 2 ^ 64 → WaitsForDeadlines v later
 waits_for_what_is_due v later store settled on fits before =
     let still : AreSettled (at_moment v.host later) v.sessions = elim (cases_lt v.host.now later) [
       | inl more ↦ stay_settled v.host later v.sessions store settled more fits before
@@ -19,4 +26,5 @@ waits_for_what_is_due v later store settled on fits before =
           let same : v.host.now ≡ later = omega (arith, on, no_more) in
           subst (λ (n : ℕ). AreSettled (at_moment v.host n) v.sessions) same settled
     ] in
-    ap (λ (es : Entries). record v { host = at_moment v.host later; sessions = es }) (all_settled_stay (at_moment v.host later) v.sessions still)
+    ap (λ (es : Entries). record v { host = at_moment v.host later; sessions = es })
+    (all_settled_stay (at_moment v.host later) v.sessions still)

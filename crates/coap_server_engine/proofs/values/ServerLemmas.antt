@@ -1,58 +1,11 @@
 -- The connections of a server: found by id, and changed at their index.
-use Rattle.std.proofs.Common.{
-  ◌≡◌,
-  ℕ,
-  zero,
-  suc,
-  ◌+◌,
-  ◌<◌,
-  ◌≤◌,
-  Bool,
-  true,
-  false,
-  cond,
-  List,
-  [],
-  ◌∷◌,
-  ◌++◌,
-  length,
-  Option,
-  Some,
-  None,
-  is_some,
-  refl,
-  sym,
-  ap,
-  subst,
-  ◌∙◌,
-  arith,
-  map,
-  filter,
-  remove,
-  IfNone,
-  IfSome,
-  OnOk,
-  OnErr,
-  Result,
-  Ok,
-  Err,
-  not,
-  nat_eq,
-  option_map,
-  nat_lt,
-  slice_get,
-  ◌==◌,
-  if◌then◌else◌,
-}
+use Rattle.std.proofs.Common.{◌≡◌, ℕ, zero, suc, ◌+◌, ◌<◌, ◌≤◌, Bool, true, false, cond, List, [], ◌∷◌, ◌++◌, length}
+use Rattle.std.proofs.Common.{Option, Some, None, is_some, refl, sym, ap, subst, ◌∙◌, arith, map, filter, remove}
+use Rattle.std.proofs.Common.{IfNone, IfSome, OnOk, OnErr, Result, Ok, Err, not, nat_eq, option_map, nat_lt, slice_get}
+use Rattle.std.proofs.Common.{◌==◌, if◌then◌else◌}
 use Rattle.coap_server_engine.specs.Prelude.{AllByRecursion, IsDistinct, position_or_len, position, lookup, keys_of}
-use Rattle.coap_server_engine.specs.Prelude.{
-  values_of,
-  nat_eq_equiv,
-  set_value_at,
-  insert_entry,
-  ServerState,
-  SessionValue,
-}
+use Rattle.coap_server_engine.specs.Prelude.{values_of, nat_eq_equiv, set_value_at, insert_entry, ServerState}
+use Rattle.coap_server_engine.specs.Prelude.{SessionValue}
 use Rattle.coap_server_engine.specs.Prelude.{new_session, session_settled, IsSettled, ServerValue, LiesAt, session_of}
 use Rattle.coap_server_engine.specs.Prelude.{is_there, changed_at, session_becomes, on_session, settled_entry}
 use Rattle.coap_server_engine.specs.Prelude.{server_settled, server_ticked, server_opened, server_dropped, AreSettled}

@@ -1,12 +1,17 @@
 -- The takes that accept the bytes of a connection, with the responses of the application.
-use Rattle.std.proofs.Common.{◌≡◌, ◌≢◌, ℕ, ◌+◌, ◌<◌, ◌≤◌, true, false, ◌&&◌, ◌==◌, List, [], ◌∷◌, ◌++◌, length, take, drop, Option, Some, None, refl, sym, ap, ◌∙◌, arith, nat_lt, lt-ltb}
+use Rattle.std.proofs.Common.{◌≡◌, ◌≢◌, ℕ, ◌+◌, ◌<◌, ◌≤◌, true, false, ◌&&◌, ◌==◌, List, [], ◌∷◌, ◌++◌, length, take}
+use Rattle.std.proofs.Common.{drop, Option, Some, None, refl, sym, ap, ◌∙◌, arith, nat_lt, lt-ltb}
 use Rattle.std.proofs.lemmas.Bool.{ne_eqb, le-ltb}
 use Rattle.std.proofs.lemmas.List.{length-drop}
 use Rattle.std.proofs.Math.Bool.{and-false}
-use Rattle.coap_server_engine.specs.Prelude.{ServerValue, session_of, is_there, count_taken, AcceptedCall, Took, ShowsMore, Following, FollowsMore}
-use Rattle.coap_server_engine.specs.Prelude.{InResult, Exchange, Answering, AnswersMore, AreUnanswered, AskResult, asked_by, served, AreMade}
-use Rattle.coap_server_engine.specs.Prelude.{IsServed, IsPartlyServed, IsTakenFor, IsNotTakenFor, asking, asks_for, handed_by, message_limit, server_offered, offered_events, response_for}
-use Rattle.coap_server_engine.specs.Prelude.{Message, LiesAt, keys_of, server_taken, server_taken_on, taking, host_changed}
+use Rattle.coap_server_engine.specs.Prelude.{ServerValue, session_of, is_there, count_taken, AcceptedCall, Took}
+use Rattle.coap_server_engine.specs.Prelude.{ShowsMore, Following, FollowsMore}
+use Rattle.coap_server_engine.specs.Prelude.{InResult, Exchange, Answering, AnswersMore, AreUnanswered, AskResult}
+use Rattle.coap_server_engine.specs.Prelude.{asked_by, served, AreMade}
+use Rattle.coap_server_engine.specs.Prelude.{IsServed, IsPartlyServed, IsTakenFor, IsNotTakenFor, asking, asks_for}
+use Rattle.coap_server_engine.specs.Prelude.{handed_by, message_limit, server_offered, offered_events, response_for}
+use Rattle.coap_server_engine.specs.Prelude.{Message, LiesAt, keys_of, server_taken, server_taken_on, taking}
+use Rattle.coap_server_engine.specs.Prelude.{host_changed}
 use Rattle.coap_server_engine.proofs.values.ServerLemmas.{keys_where_settled, lies_still}
 use Rattle.coap_server_engine.specs.values.InResults.{goes_on}
 use Rattle.coap_server_engine.proofs.scripting.ShownLemmas.{shows_same, shows_then}
@@ -14,7 +19,8 @@ use Rattle.coap_server_engine.proofs.scripting.FollowLemmas.{followed_none, foll
 use Rattle.coap_server_engine.proofs.values.ResponseLemmas.{answers_none, answers_then, nothing_offered, nothing_told}
 
 -- Some takes accepted bytes, and the server is `now`.
-pub record Serves (v : ServerValue) (id : ℕ) (bytes : List ℕ) (now : ServerValue) (taken : ℕ) (told : List AcceptedCall → Type 0) (asks : List Exchange → Type 0) : Type 0 where
+pub record Serves (v : ServerValue) (id : ℕ) (bytes : List ℕ) (now : ServerValue) (taken : ℕ)
+    (told : List AcceptedCall → Type 0) (asks : List Exchange → Type 0) : Type 0 where
   pub there : true ≡ is_there (session_of id v.sessions)
   pub responses : List (List ℕ)
   pub made : AreMade v id bytes responses
@@ -24,7 +30,8 @@ pub record Serves (v : ServerValue) (id : ℕ) (bytes : List ℕ) (now : ServerV
   pub tells : told (served v id bytes responses).events
   pub exchanged : asks (served v id bytes responses).exchanges
 
-pub serves_nothing : (v : ServerValue) (id : ℕ) (bytes : List ℕ) (a : Following) (x : Answering) → true ≡ is_there (session_of id v.sessions) → Serves v id bytes v 0 (FollowsMore a a) (AnswersMore x x)
+pub serves_nothing : (v : ServerValue) (id : ℕ) (bytes : List ℕ) (a : Following) (x : Answering)
+    → true ≡ is_there (session_of id v.sessions) → Serves v id bytes v 0 (FollowsMore a a) (AnswersMore x x)
 unfolding served
 serves_nothing v id bytes a x there = record {
   there = there;
@@ -38,7 +45,8 @@ serves_nothing v id bytes a x there = record {
 }
 
 -- No connection has this id.
-pub serves_nobody : (v : ServerValue) (id : ℕ) (bytes : List ℕ) (a : Following) (x : Answering) → session_of id v.sessions ≡ None → IsServed v id bytes 0 v (FollowsMore a a) (AnswersMore x x)
+pub serves_nobody : (v : ServerValue) (id : ℕ) (bytes : List ℕ) (a : Following) (x : Answering)
+    → session_of id v.sessions ≡ None → IsServed v id bytes 0 v (FollowsMore a a) (AnswersMore x x)
 unfolding served
 serves_nobody v id bytes a x nobody = record {
   responses = [];
@@ -52,7 +60,8 @@ serves_nobody v id bytes a x nobody = record {
   exchanged = answers_none x;
 }
 
-module _ (v : ServerValue) (id : ℕ) (bytes : List ℕ) (now : ServerValue) (taken : ℕ) (a b c : Following) (x y z : Answering) (so : Serves v id bytes now taken (FollowsMore a b) (AnswersMore x y)) where
+module _ (v : ServerValue) (id : ℕ) (bytes : List ℕ) (now : ServerValue) (taken : ℕ) (a b c : Following)
+    (x y z : Answering) (so : Serves v id bytes now taken (FollowsMore a b) (AnswersMore x y)) where
   present : {P : Type 0} → session_of id v.sessions ≡ None → P
   present none = absurd (let gone : true ≡ false = so.there ∙ ap is_there none in cc gone)
 
@@ -61,7 +70,8 @@ module _ (v : ServerValue) (id : ℕ) (bytes : List ℕ) (now : ServerValue) (ta
   serves_all none = record {
     responses = so.responses;
     made = so.made;
-    over = λ going. absurd (let more : (nat_lt taken (length bytes) && true) ≡ true = rw so.so_far at going in cc (le-ltb taken (length bytes) none, more));
+    over = λ going. absurd (let more : (nat_lt taken (length bytes) && true) ≡ true = rw so.so_far at going in
+        cc (le-ltb taken (length bytes) none, more));
     nobody = present;
     counted = ap (λ (f : InResult). f.count) (sym so.so_far);
     server = ap (λ (f : InResult). f.server) (sym so.so_far);
@@ -75,7 +85,8 @@ module _ (v : ServerValue) (id : ℕ) (bytes : List ℕ) (now : ServerValue) (ta
     going = rw (so.so_far, lt-ltb taken (length bytes) left) refl
 
     -- Allocation failed in the next take.
-    pub serves_partly : (after : ServerValue) → IsNotTakenFor now id (drop taken bytes) after (FollowsMore b c) → IsPartlyServed v id bytes after (FollowsMore a c) (AnswersMore x y)
+    pub serves_partly : (after : ServerValue) → IsNotTakenFor now id (drop taken bytes) after (FollowsMore b c)
+        → IsPartlyServed v id bytes after (FollowsMore a c) (AnswersMore x y)
     serves_partly after one = record {
       responses = so.responses;
       made = so.made;
@@ -87,19 +98,23 @@ module _ (v : ServerValue) (id : ℕ) (bytes : List ℕ) (now : ServerValue) (ta
       exchanged = so.exchanged;
     }
 
-    module _ (response : List ℕ) (k : ℕ) (after : ServerValue) (counted : k ≡ count_taken now id (drop taken bytes)) (one : IsTakenFor now id (drop taken bytes) response k after (FollowsMore b c) (AnswersMore y z)) where
+    module _ (response : List ℕ) (k : ℕ) (after : ServerValue) (counted : k ≡ count_taken now id (drop taken bytes))
+        (one : IsTakenFor now id (drop taken bytes) response k after (FollowsMore b c) (AnswersMore y z)) where
       abbrev more : List (List ℕ)
       more = response ∷ so.responses
 
-      more_fed : (served v id bytes more).fed ≡ record { server = after; count = taken + k; done = count_taken now id (drop taken bytes) == 0 }
+      more_fed : (served v id bytes more).fed
+          ≡ record { server = after; count = taken + k; done = count_taken now id (drop taken bytes) == 0 }
       unfolding served
       more_fed = rw (so.so_far, one.server, counted) refl
 
-      more_events : (served v id bytes more).events ≡ (served v id bytes so.responses).events ++ Took id (take k (drop taken bytes)) ∷ (asked_by now id (drop taken bytes) response).events
+      more_events : (served v id bytes more).events ≡ (served v id bytes so.responses).events
+          ++ Took id (take k (drop taken bytes)) ∷ (asked_by now id (drop taken bytes) response).events
       unfolding served
       more_events = rw (so.so_far, counted) refl
 
-      more_exchanges : (served v id bytes more).exchanges ≡ (served v id bytes so.responses).exchanges ++ (asked_by now id (drop taken bytes) response).exchanges
+      more_exchanges : (served v id bytes more).exchanges
+          ≡ (served v id bytes so.responses).exchanges ++ (asked_by now id (drop taken bytes) response).exchanges
       unfolding served
       more_exchanges = rw so.so_far refl
 
@@ -110,10 +125,12 @@ module _ (v : ServerValue) (id : ℕ) (bytes : List ℕ) (now : ServerValue) (ta
       more_tells = rw more_events (followed_then a b c (served v id bytes so.responses).events _ so.tells one.tells)
 
       more_exchanged : AnswersMore x z (served v id bytes more).exchanges
-      more_exchanged = rw more_exchanges (answers_then x y z (served v id bytes so.responses).exchanges _ so.exchanged one.exchanged)
+      more_exchanged =
+          rw more_exchanges (answers_then x y z (served v id bytes so.responses).exchanges _ so.exchanged one.exchanged)
 
       -- A take accepted some bytes.
-      pub serves_more : k ≤ length (drop taken bytes) → k ≢ 0 → Serves v id bytes after (taken + k) (FollowsMore a c) (AnswersMore x z)
+      pub serves_more : k ≤ length (drop taken bytes) → k ≢ 0
+          → Serves v id bytes after (taken + k) (FollowsMore a c) (AnswersMore x z)
       serves_more within some = record {
         there = so.there;
         responses = more;
@@ -129,11 +146,13 @@ module _ (v : ServerValue) (id : ℕ) (bytes : List ℕ) (now : ServerValue) (ta
       pub serves_stopped : k ≡ 0 → IsServed v id bytes taken after (FollowsMore a c) (AnswersMore x z)
       serves_stopped none =
           let same : taken + k ≡ taken = omega (arith, none) in
-          let fed : (served v id bytes more).fed ≡ record { server = after; count = taken; done = true } = more_fed ∙ cc (same, none, counted) in
+          let fed : (served v id bytes more).fed ≡ record { server = after; count = taken; done = true } =
+          more_fed ∙ cc (same, none, counted) in
           record {
             responses = more;
             made = (going, so.made);
-            over = λ goes. absurd (let more_left : (nat_lt taken (length bytes) && false) ≡ true = rw fed at goes in cc (and-false (nat_lt taken (length bytes)), more_left));
+            over = λ goes. absurd (let more_left : (nat_lt taken (length bytes) && false) ≡ true = rw fed at goes in
+                cc (and-false (nat_lt taken (length bytes)), more_left));
             nobody = present;
             counted = ap (λ (f : InResult). f.count) (sym fed);
             server = ap (λ (f : InResult). f.server) (sym fed);
@@ -144,25 +163,31 @@ module _ (v : ServerValue) (id : ℕ) (bytes : List ℕ) (now : ServerValue) (ta
 
 -- ---- the connection stays at its index
 
-pub taken_keys : (v : ServerValue) (id : ℕ) (piece : List ℕ) → keys_of (server_taken v id piece).sessions ≡ keys_of v.sessions
+pub taken_keys : (v : ServerValue) (id : ℕ) (piece : List ℕ)
+    → keys_of (server_taken v id piece).sessions ≡ keys_of v.sessions
 unfolding server_taken
 taken_keys v id piece =
     elim (session_of id v.sessions) as (λ o. keys_of (server_taken_on v id piece o).sessions ≡ keys_of v.sessions) [
       | None ↦ refl
-      | Some s ↦ keys_where_settled id (λ _. (taking v.host s piece).session) (host_changed v.host (taking v.host s piece).change) v.sessions
+      | Some s ↦
+          keys_where_settled id (λ _. (taking v.host s piece).session)
+          (host_changed v.host (taking v.host s piece).change) v.sessions
     ]
 
-pub taken_stays : (v : ServerValue) (id i : ℕ) (piece : List ℕ) → LiesAt id i v.sessions → LiesAt id i (server_taken v id piece).sessions
+pub taken_stays : (v : ServerValue) (id i : ℕ) (piece : List ℕ) → LiesAt id i v.sessions
+    → LiesAt id i (server_taken v id piece).sessions
 taken_stays v id i piece = lies_still id i v.sessions (server_taken v id piece).sessions (taken_keys v id piece)
 
 -- ---- one take
 
 -- If no byte was written, nothing is given.
-unasked : (v : ServerValue) (id limit : ℕ) (o : Option Message) → ((asking v id limit [] o).server ≡ v) × ((asking v id limit [] o).events ≡ [])
+unasked : (v : ServerValue) (id limit : ℕ) (o : Option Message)
+    → ((asking v id limit [] o).server ≡ v) × ((asking v id limit [] o).events ≡ [])
 unasked v id limit None = (refl, refl)
 unasked v id limit (Some m) = (nothing_offered v id, nothing_told v id)
 
-asked_exchanges : (v : ServerValue) (id limit : ℕ) (o : Option Message) → (asking v id limit [] o).exchanges ≡ asks_for id limit [] o
+asked_exchanges : (v : ServerValue) (id limit : ℕ) (o : Option Message)
+    → (asking v id limit [] o).exchanges ≡ asks_for id limit [] o
 asked_exchanges v id limit None = refl
 asked_exchanges v id limit (Some m) = refl
 
@@ -171,13 +196,20 @@ pub asks_unanswered : (id limit : ℕ) (o : Option Message) → AreUnanswered (a
 asks_unanswered id limit None = tt
 asks_unanswered id limit (Some m) = (refl, tt)
 
-module _ (v u after : ServerValue) (id : ℕ) (left response : List ℕ) (k : ℕ) (a b c : Following) (x y : Answering) (took : u ≡ server_taken v id left) (shows : ShowsMore v u (Took id (take k left) ∷ [])) (told : FollowsMore a b (Took id (take k left) ∷ []))
+module _ (v u after : ServerValue) (id : ℕ) (left response : List ℕ) (k : ℕ) (a b c : Following) (x y : Answering)
+    (took : u ≡ server_taken v id left) (shows : ShowsMore v u (Took id (take k left) ∷ []))
+    (told : FollowsMore a b (Took id (take k left) ∷ []))
     (asked : AnswersMore x y (asks_for id (message_limit v id) response (handed_by v id left))) where
   -- A request was handed over, and the application was asked.
-  pub taken_asked : (m : Message) (token : List ℕ) → handed_by v id left ≡ Some m → token ≡ m.token → after ≡ server_offered u id (response_for u id token response)
-      → ShowsMore u after (offered_events u id (response_for u id token response)) → FollowsMore b c (offered_events u id (response_for u id token response)) → IsTakenFor v id left response k after (FollowsMore a c) (AnswersMore x y)
+  pub taken_asked : (m : Message) (token : List ℕ) → handed_by v id left ≡ Some m → token ≡ m.token
+      → after ≡ server_offered u id (response_for u id token response)
+      → ShowsMore u after (offered_events u id (response_for u id token response))
+      → FollowsMore b c (offered_events u id (response_for u id token response))
+      → IsTakenFor v id left response k after (FollowsMore a c) (AnswersMore x y)
   taken_asked m token handed same is gives tells =
-      let effect : asked_by v id left response ≡ asking u id (message_limit v id) response (Some m) = ap (asking (server_taken v id left) id (message_limit v id) response) handed ∙ ap (λ (s : ServerValue). asking s id (message_limit v id) response (Some m)) (sym took) in
+      let effect : asked_by v id left response ≡ asking u id (message_limit v id) response (Some m) =
+      ap (asking (server_taken v id left) id (message_limit v id) response) handed
+      ∙ ap (λ (s : ServerValue). asking s id (message_limit v id) response (Some m)) (sym took) in
       let given : after ≡ server_offered u id (response_for u id m.token response) = rw same at is in
       let gave : ShowsMore u after (offered_events u id (response_for u id m.token response)) = rw same at gives in
       let told_it : FollowsMore b c (offered_events u id (response_for u id m.token response)) = rw same at tells in

@@ -1,8 +1,11 @@
 -- Takes for an application that writes no byte have the effect of takes without one.
-use Rattle.std.proofs.Common.{◌≡◌, ℕ, suc, ◌≤◌, Bool, true, false, not, ◌&&◌, List, [], ◌∷◌, ◌++◌, length, take, drop, Option, Some, None, refl, sym, ap, ◌∙◌, arith, nat_lt}
+use Rattle.std.proofs.Common.{◌≡◌, ℕ, suc, ◌≤◌, Bool, true, false, not, ◌&&◌, List, [], ◌∷◌, ◌++◌, length, take, drop}
+use Rattle.std.proofs.Common.{Option, Some, None, refl, sym, ap, ◌∙◌, arith, nat_lt}
 use Rattle.std.proofs.lemmas.Bool.{and_parts, ltb-true, eqb-false}
-use Rattle.coap_server_engine.specs.Prelude.{ServerValue, session_of, is_there, count_taken, server_taken, server_taken_on, AcceptedCall, Took, taking, host_changed}
-use Rattle.coap_server_engine.specs.Prelude.{InResult, in_result, fed_turns, took, took_turns, where_there, Exchange, AreUnanswered, asked_by, asking, served, ServeResult, AreMade, IsServed}
+use Rattle.coap_server_engine.specs.Prelude.{ServerValue, session_of, is_there, count_taken, server_taken}
+use Rattle.coap_server_engine.specs.Prelude.{server_taken_on, AcceptedCall, Took, taking, host_changed}
+use Rattle.coap_server_engine.specs.Prelude.{InResult, in_result, fed_turns, took, took_turns, where_there, Exchange}
+use Rattle.coap_server_engine.specs.Prelude.{AreUnanswered, asked_by, asking, served, ServeResult, AreMade, IsServed}
 use Rattle.coap_server_engine.specs.Prelude.{Message, handed_by, message_limit, SessionValue}
 use Rattle.coap_server_engine.specs.values.InResults.{goes_on}
 use Rattle.coap_server_engine.proofs.values.ResponseLemmas.{nothing_offered, nothing_told}
@@ -19,24 +22,32 @@ pub record IsTakenAlone (v : ServerValue) (id : ℕ) (left response : List ℕ) 
   pub server : (asked_by v id left response).server ≡ server_taken v id left
   pub events : (asked_by v id left response).events ≡ []
 
-pub unanswered_take : (v : ServerValue) (id : ℕ) (left response : List ℕ) → AreUnanswered (asked_by v id left response).exchanges → IsTakenAlone v id left response
-unanswered_take v id left response none = record { server = (by (handed_by v id left) none).0; events = (by (handed_by v id left) none).1 }
+pub unanswered_take : (v : ServerValue) (id : ℕ) (left response : List ℕ)
+    → AreUnanswered (asked_by v id left response).exchanges → IsTakenAlone v id left response
+unanswered_take v id left response none =
+    record { server = (by (handed_by v id left) none).0; events = (by (handed_by v id left) none).1 }
   where
     u : ServerValue
     u = server_taken v id left
 
-    by : (o : Option Message) → AreUnanswered (asking u id (message_limit v id) response o).exchanges → ((asking u id (message_limit v id) response o).server ≡ u) × ((asking u id (message_limit v id) response o).events ≡ [])
+    by : (o : Option Message) → AreUnanswered (asking u id (message_limit v id) response o).exchanges
+        → ((asking u id (message_limit v id) response o).server ≡ u)
+        × ((asking u id (message_limit v id) response o).events ≡ [])
     by None none = (refl, refl)
     by (Some m) none = rw none.0 (nothing_offered u id, nothing_told u id)
 
 -- The connection is still there after a take.
-taken_there : (v : ServerValue) (id : ℕ) (piece : List ℕ) → is_there (session_of id v.sessions) ≡ true → is_there (session_of id (server_taken v id piece).sessions) ≡ true
+taken_there : (v : ServerValue) (id : ℕ) (piece : List ℕ) → is_there (session_of id v.sessions) ≡ true
+    → is_there (session_of id (server_taken v id piece).sessions) ≡ true
 unfolding server_taken
 taken_there v id piece there = by (session_of id v.sessions) refl there
   where
-    by : (o : Option SessionValue) → session_of id v.sessions ≡ o → is_there o ≡ true → is_there (session_of id (server_taken_on v id piece o).sessions) ≡ true
+    by : (o : Option SessionValue) → session_of id v.sessions ≡ o → is_there o ≡ true
+        → is_there (session_of id (server_taken_on v id piece o).sessions) ≡ true
     by None is there = absurd cc
-    by (Some s) is there = ap is_there (becomes_settled (host_changed v.host (taking v.host s piece).change) id (λ _. (taking v.host s piece).session) v.sessions s is)
+    by (Some s) is there =
+        ap is_there (becomes_settled (host_changed v.host (taking v.host s piece).change) id
+        (λ _. (taking v.host s piece).session) v.sessions s is)
 
 -- The same number of takes without an application.
 record HasTaken (v : ServerValue) (id : ℕ) (bytes : List ℕ) (responses : List (List ℕ)) : Type 0 where
@@ -51,12 +62,14 @@ not_done : (a b : Bool) → (a && not b) ≡ true → (a ≡ true) × (b ≡ fal
 not_done a true is = absurd (let wrong : false ≡ true = (and_parts a false is).1 in cc wrong)
 not_done a false is = ((and_parts a true is).0, refl)
 
-there_told : (id : ℕ) (call : AcceptedCall) (o : Option SessionValue) → is_there o ≡ true → where_there o (λ s. call) ≡ call ∷ []
+there_told : (id : ℕ) (call : AcceptedCall) (o : Option SessionValue) → is_there o ≡ true
+    → where_there o (λ s. call) ≡ call ∷ []
 there_told id call None there = absurd cc
 there_told id call (Some s) there = refl
 
 -- One more take, to be made, whose request got no response at once.
-module _ (v : ServerValue) (id : ℕ) (bytes : List ℕ) (responses : List (List ℕ)) (response : List ℕ) (so_far : HasTaken v id bytes responses) where
+module _ (v : ServerValue) (id : ℕ) (bytes : List ℕ) (responses : List (List ℕ)) (response : List ℕ)
+    (so_far : HasTaken v id bytes responses) where
   abbrev before : InResult
   before = fed_turns so_far.turns v id bytes
 
@@ -70,7 +83,14 @@ module _ (v : ServerValue) (id : ℕ) (bytes : List ℕ) (responses : List (List
 
     more_events : (served v id bytes (response ∷ responses)).events ≡ took_turns (suc so_far.turns) v id bytes
     unfolding served took_turns
-    more_events = rw (so_far.fed, so_far.events, goes, alone.events, there_told id (Took id (take (count_taken before.server id left) left)) (session_of id before.server.sessions) so_far.there) refl
+    more_events = rw (
+      so_far.fed,
+      so_far.events,
+      goes,
+      alone.events,
+      there_told id (Took id (take (count_taken before.server id left) left))
+          (session_of id before.server.sessions) so_far.there,
+    ) refl
 
     has_more : HasTaken v id bytes (response ∷ responses)
     unfolding fed_turns
@@ -82,21 +102,30 @@ module _ (v : ServerValue) (id : ℕ) (bytes : List ℕ) (responses : List (List
           fed = more_fed;
           events = more_events;
           within = omega (arith, so_far.few going.1, some);
-          few = rw goes (λ accepted. omega (arith, so_far.few going.1, eqb-false (count_taken before.server id left) 0 accepted));
+          few =
+              rw goes
+              (λ accepted. omega (arith, so_far.few going.1, eqb-false (count_taken before.server id left) 0 accepted));
           there = rw goes (taken_there before.server id left so_far.there);
         }
 
-has_taken : (v : ServerValue) (id : ℕ) (bytes : List ℕ) (responses : List (List ℕ)) → is_there (session_of id v.sessions) ≡ true → AreMade v id bytes responses → AreUnanswered (served v id bytes responses).exchanges → HasTaken v id bytes responses
+has_taken : (v : ServerValue) (id : ℕ) (bytes : List ℕ) (responses : List (List ℕ))
+    → is_there (session_of id v.sessions) ≡ true → AreMade v id bytes responses
+    → AreUnanswered (served v id bytes responses).exchanges → HasTaken v id bytes responses
 unfolding served fed_turns took_turns
-has_taken v id bytes [] there made none = record { turns = 0; fed = refl; events = refl; within = omega arith; few = λ _. omega arith; there = there }
+has_taken v id bytes [] there made none =
+    record { turns = 0; fed = refl; events = refl; within = omega arith; few = λ _. omega arith; there = there }
 has_taken v id bytes (response ∷ responses) there made none =
     let s : ServeResult = served v id bytes responses in
-    let split = unanswered_parts s.exchanges (asked_by s.fed.server id (drop s.fed.count bytes) response).exchanges none in
+    let split =
+    unanswered_parts s.exchanges (asked_by s.fed.server id (drop s.fed.count bytes) response).exchanges none in
     let so_far = has_taken v id bytes responses there made.1 split.0 in
     let f : InResult = fed_turns so_far.turns v id bytes in
-    has_more v id bytes responses response so_far (rw so_far.fed at made.0) (unanswered_take f.server id (drop f.count bytes) response (rw so_far.fed at split.1))
+    has_more v id bytes responses response so_far (rw so_far.fed at made.0)
+    (unanswered_take f.server id (drop f.count bytes) response (rw so_far.fed at split.1))
 
-pub unanswered_is_alone : (v after : ServerValue) (id count : ℕ) (bytes : List ℕ) (told : List AcceptedCall → Type 0) → IsServed v id bytes count after told (λ xs. AreUnanswered xs) → (after ≡ (in_result v id bytes).server) × (count ≡ (in_result v id bytes).count) × told (took v id bytes)
+pub unanswered_is_alone : (v after : ServerValue) (id count : ℕ) (bytes : List ℕ) (told : List AcceptedCall → Type 0)
+    → IsServed v id bytes count after told (λ xs. AreUnanswered xs)
+    → (after ≡ (in_result v id bytes).server) × (count ≡ (in_result v id bytes).count) × told (took v id bytes)
 unfolding served
 unanswered_is_alone v after id count bytes told part = by (session_of id v.sessions) refl
   where
@@ -107,15 +136,28 @@ unanswered_is_alone v after id count bytes told part = by (session_of id v.sessi
     by None is =
         let none = part.nobody is in
         let nothing = fed_nothing v id is bytes in
-        let events : took v id bytes ≡ [] = none_taken_there v id (ap is_there is) bytes (length bytes) in
-        (rw none at part.server ∙ sym nothing.1, rw none at part.counted ∙ sym nothing.0, rw events (rw none at part.tells))
+        let events : took v id bytes ≡ [] = none_taken_there v id (ap is_there is) bytes (length bytes) in (
+          rw none at part.server ∙ sym nothing.1,
+          rw none at part.counted ∙ sym nothing.0,
+          rw events (rw none at part.tells),
+        )
     by (Some s) is =
         let alone = has_taken v id bytes part.responses (ap is_there is) part.made part.exchanged in
-        let over : goes_on bytes (fed_turns alone.turns v id bytes) ≡ false = stops (goes_on bytes (fed_turns alone.turns v id bytes)) refl in
-        let all : AreTurnsOf v id bytes (length bytes) alone.turns = all_turns_made v id bytes alone.turns over (length bytes) alone.within in
-        let fed : (served v id bytes part.responses).fed ≡ in_result v id bytes = alone.fed ∙ sym all.0 in
-        (part.server ∙ ap (λ (f : InResult). f.server) fed, part.counted ∙ ap (λ (f : InResult). f.count) fed, rw (alone.events ∙ sym all.1) at part.tells)
+        let over : goes_on bytes (fed_turns alone.turns v id bytes) ≡ false =
+        stops (goes_on bytes (fed_turns alone.turns v id bytes)) refl in
+        let all : AreTurnsOf v id bytes (length bytes) alone.turns =
+        all_turns_made v id bytes alone.turns over (length bytes) alone.within in
+        let fed : (served v id bytes part.responses).fed ≡ in_result v id bytes = alone.fed ∙ sym all.0 in (
+          part.server ∙ ap (λ (f : InResult). f.server) fed,
+          part.counted ∙ ap (λ (f : InResult). f.count) fed,
+          rw (alone.events ∙ sym all.1) at part.tells,
+        )
       where
-        stops : (b : Bool) → goes_on bytes (fed_turns (has_taken v id bytes part.responses (ap is_there is) part.made part.exchanged).turns v id bytes) ≡ b → b ≡ false
+        stops : (b : Bool) → goes_on bytes
+            (fed_turns (has_taken v id bytes part.responses (ap is_there is) part.made part.exchanged).turns v id bytes)
+            ≡ b → b ≡ false
         stops false goes = refl
-        stops true goes = absurd (let gone : None ≡ Some s = sym (part.over (rw (has_taken v id bytes part.responses (ap is_there is) part.made part.exchanged).fed goes)) ∙ is in cc gone)
+        stops true goes =
+            absurd (let gone : None ≡ Some s = sym
+            (part.over (rw (has_taken v id bytes part.responses (ap is_there is) part.made part.exchanged).fed goes))
+            ∙ is in cc gone)

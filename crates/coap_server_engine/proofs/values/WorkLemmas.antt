@@ -1,119 +1,27 @@
 -- The connections on which a call leaves the same work.
-use Rattle.std.proofs.Common.{
-  ◌≡◌,
-  ◌≢◌,
-  ℕ,
-  ◌+◌,
-  ◌<◌,
-  ◌≤◌,
-  Bool,
-  nat_eq,
-  nat_lt,
-  inl,
-  inr,
-  subst,
-  List,
-  [],
-  ◌∷◌,
-  ◌++◌,
-  length,
-  Option,
-  Some,
-  refl,
-  sym,
-  ap,
-  ◌∙◌,
-  arith,
-  map,
-  remove,
-  option_map,
-  is_none,
-  is_some,
-  IfSome,
-  None,
-  slice_get,
-  true,
-  false,
-  if◌then◌else◌,
-}
+use Rattle.std.proofs.Common.{◌≡◌, ◌≢◌, ℕ, ◌+◌, ◌<◌, ◌≤◌, Bool, nat_eq, nat_lt, inl, inr, subst, List, [], ◌∷◌, ◌++◌}
+use Rattle.std.proofs.Common.{length, Option, Some, refl, sym, ap, ◌∙◌, arith, map, remove, option_map, is_none}
+use Rattle.std.proofs.Common.{is_some, IfSome, None, slice_get, true, false, if◌then◌else◌}
 use Rattle.std.proofs.lemmas.Bool.{cases_eq, or_parts, ltb-false}
 use Rattle.std.proofs.lemmas.Bool.Decides.{nat_tests}
 use Rattle.std.proofs.lemmas.Map.Entries.{length-values_of}
 use Rattle.std.proofs.lemmas.Map.Made.{keys_of-map_values}
 use Rattle.indexmap.proofs.SetLemmas.{map-remove}
-use Rattle.coap_server_engine.specs.Prelude.{
-  keys_of,
-  values_of,
-  Path,
-  Change,
-  Put,
-  Delete,
-  IsStore,
-  ServerState,
-  SessionValue,
-  host_changed,
-  due_on,
-  path_hash,
-  change_hash,
-}
-use Rattle.coap_server_engine.specs.Prelude.{
-  new_session,
-  session_settled,
-  IsSettled,
-  ServerValue,
-  LiesAt,
-  session_of,
-  session_becomes,
-  settled_entry,
-}
-use Rattle.coap_server_engine.specs.Prelude.{
-  on_session,
-  server_settled,
-  server_opened,
-  server_dropped,
-  server_ticked,
-  server_put,
-  server_removed,
-}
-use Rattle.coap_server_engine.specs.Prelude.{
-  server_given,
-  server_offered,
-  session_given_by,
-  message_of,
-  responded_refusal,
-  AreSettled,
-}
-use Rattle.coap_server_engine.specs.Prelude.{
-  Covers,
-  IsOutside,
-  bit_of,
-  outlook_of,
-  KeepsWork,
-  KeepsOthers,
-  AddsAffected,
-  AddsConcerned,
-  TakeOutcome,
-  taking,
-}
-use Rattle.coap_server_engine.specs.Prelude.{
-  server_taken,
-  server_taken_on,
-  server_taken_so,
-  set_value_at,
-  position_or_len,
-}
+use Rattle.coap_server_engine.specs.Prelude.{keys_of, values_of, Path, Change, Put, Delete, IsStore, ServerState}
+use Rattle.coap_server_engine.specs.Prelude.{SessionValue, host_changed, due_on, path_hash, change_hash}
+use Rattle.coap_server_engine.specs.Prelude.{new_session, session_settled, IsSettled, ServerValue, LiesAt, session_of}
+use Rattle.coap_server_engine.specs.Prelude.{session_becomes, settled_entry}
+use Rattle.coap_server_engine.specs.Prelude.{on_session, server_settled, server_opened, server_dropped, server_ticked}
+use Rattle.coap_server_engine.specs.Prelude.{server_put, server_removed}
+use Rattle.coap_server_engine.specs.Prelude.{server_given, server_offered, session_given_by, message_of}
+use Rattle.coap_server_engine.specs.Prelude.{responded_refusal, AreSettled}
+use Rattle.coap_server_engine.specs.Prelude.{Covers, IsOutside, bit_of, outlook_of, KeepsWork, KeepsOthers}
+use Rattle.coap_server_engine.specs.Prelude.{AddsAffected, AddsConcerned, TakeOutcome, taking}
+use Rattle.coap_server_engine.specs.Prelude.{server_taken, server_taken_on, server_taken_so, set_value_at}
+use Rattle.coap_server_engine.specs.Prelude.{position_or_len}
 use Rattle.coap_server_engine.specs.values.ServerDeadlines.{session_outlook}
-use Rattle.coap_server_session.specs.Prelude.{
-  AllByRecursion,
-  find,
-  list_any,
-  ObserverValue,
-  is_stale,
-  is_time_observer,
-  changed_mark,
-  may_concern,
-  IsBefore,
-}
+use Rattle.coap_server_session.specs.Prelude.{AllByRecursion, find, list_any, ObserverValue, is_stale, is_time_observer}
+use Rattle.coap_server_session.specs.Prelude.{changed_mark, may_concern, IsBefore}
 use Rattle.coap_server_session.specs.declared.cause.Cause.TheVariants as cause
 use Rattle.coap_server_session.proofs.values.SettleLemmas.{settled_stays, settled_still, none_held}
 use Rattle.coap_server_session.proofs.values.CauseLemmas.{hash_where_changed, settled_elsewhere}
@@ -122,20 +30,9 @@ use Rattle.coap_server_session.proofs.values.TakenLemmas.{host_stays}
 use Rattle.coap_server_session.proofs.values.ConcernLemmas.{unconcerned}
 use Rattle.coap_model.proofs.OptionLemmas.{there_at}
 use Rattle.coap_model.proofs.world.EntryLemmas.{none_due}
-use Rattle.coap_server_engine.proofs.values.ServerLemmas.{
-  Entries,
-  settling,
-  one_of_all,
-  one_settles,
-  one_opened,
-  one_removed,
-  keys_where_settled,
-  keys_where_one_changed,
-  lies_still,
-  written_at_index,
-  changed_one,
-  all_are_settled,
-}
+use Rattle.coap_server_engine.proofs.values.ServerLemmas.{Entries, settling, one_of_all, one_settles, one_opened}
+use Rattle.coap_server_engine.proofs.values.ServerLemmas.{one_removed, keys_where_settled, keys_where_one_changed}
+use Rattle.coap_server_engine.proofs.values.ServerLemmas.{lies_still, written_at_index, changed_one, all_are_settled}
 
 -- ---- the other connections
 
@@ -180,7 +77,8 @@ keeps_others v id f settled =
 pub offered_keeps : (v : ServerValue) (id : ℕ) (bytes : List ℕ) → AreSettled v.host v.sessions → KeepsOthers id v
     (server_offered v id bytes)
 offered_keeps v id bytes settled =
-    elim (is_none (responded_refusal v id bytes)) as (λ b. KeepsOthers id v (if b then server_given v id bytes else v)) [
+    elim (is_none (responded_refusal v id bytes))
+    as (λ b. KeepsOthers id v (if b then server_given v id bytes else v)) [
       | true ↦ keeps_others v id (session_given_by (message_of bytes)) settled
       | false ↦ keeps_all id v
     ]

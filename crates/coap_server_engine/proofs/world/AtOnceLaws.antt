@@ -1,5 +1,7 @@
 -- A response of the application directly after the take that handed over its request has room.
-use Rattle.std.proofs.Common.{◌≡◌, ◌≢◌, ◌⊎◌, ℕ, ◌<◌, ◌≤◌, ◌==◌, true, false, List, [], ◌∷◌, map, Option, Some, None, Result, Ok, refl, sym, ap, subst, ◌∙◌, inl, inr, arith, is_none, nat_lt, IfSome, option_map, option_and_then}
+use Rattle.std.proofs.Common.{◌≡◌, ◌≢◌, ◌⊎◌, ℕ, ◌<◌, ◌≤◌, ◌==◌, true, false, List, [], ◌∷◌, map, Option, Some, None}
+use Rattle.std.proofs.Common.{Result, Ok, refl, sym, ap, subst, ◌∙◌, inl, inr, arith, is_none, nat_lt, IfSome}
+use Rattle.std.proofs.Common.{option_map, option_and_then}
 use Rattle.coap_conn.specs.declared.phase.RespondFault.TheVariants as fault
 use Rattle.coap_server_session.specs.values.Sessions.{session_ready}
 use Rattle.std.proofs.lemmas.Bool.{cases_Bool, and_parts, leb-true, ltb-true, ltb-false}
@@ -17,14 +19,23 @@ use Rattle.coap_model.proofs.OptionLemmas.{same_there, one_made}
 use Rattle.coap_model.proofs.world.AcrossLaws.{applications_stay}
 use Rattle.coap_model.proofs.world.HearingLaws.{world_stays, world_known, world_hears}
 use Rattle.coap_model.specs.world.World as world
-use Rattle.coap_server_engine.specs.Prelude.{AllByRecursion, Message, message_of, spelling, FormatFault, Reason, LimitValues, takes_messages, frame_refusal}
-use Rattle.coap_server_engine.specs.Prelude.{RespondFault, ResponseFault, response_fault, ConfigValues, ServerState, SessionValue, session_settled, IsSettled}
-use Rattle.coap_server_engine.specs.Prelude.{ServerValue, session_of, session_becomes, settled_entry, server_settled, server_taken, server_taken_on, AreSettled, TakeOutcome, taking, host_changed}
-use Rattle.coap_server_engine.specs.Prelude.{World, Step, new_world, after_steps, AcceptedCall, world_after, steps_of, server_shown, server_of, Shows}
-use Rattle.coap_server_engine.specs.Prelude.{stop_on, handed_on, handed_frame, handed_by, frame_message, responded_refusal, responded_refusal_on, response_for, failure_with}
+use Rattle.coap_server_engine.specs.Prelude.{AllByRecursion, Message, message_of, spelling, FormatFault, Reason}
+use Rattle.coap_server_engine.specs.Prelude.{LimitValues, takes_messages, frame_refusal}
+use Rattle.coap_server_engine.specs.Prelude.{RespondFault, ResponseFault, response_fault, ConfigValues, ServerState}
+use Rattle.coap_server_engine.specs.Prelude.{SessionValue, session_settled, IsSettled}
+use Rattle.coap_server_engine.specs.Prelude.{ServerValue, session_of, session_becomes, settled_entry, server_settled}
+use Rattle.coap_server_engine.specs.Prelude.{server_taken, server_taken_on, AreSettled, TakeOutcome, taking}
+use Rattle.coap_server_engine.specs.Prelude.{host_changed}
+use Rattle.coap_server_engine.specs.Prelude.{World, Step, new_world, after_steps, AcceptedCall, world_after, steps_of}
+use Rattle.coap_server_engine.specs.Prelude.{server_shown, server_of, Shows}
+use Rattle.coap_server_engine.specs.Prelude.{stop_on, handed_on, handed_frame, handed_by, frame_message}
+use Rattle.coap_server_engine.specs.Prelude.{responded_refusal, responded_refusal_on, response_for, failure_with}
 use Rattle.coap_server_engine.proofs.values.ServerLemmas.{Entries, all_are_settled}
 use Rattle.coap_server_session.proofs.values.SettleLemmas.{settled_stays}
-use Rattle.coap_server_engine.proofs.values.AtOnceLemmas.{with_request, other_fault, accepted_with, asked_last, failure_read, HandsOver, request_handed, deadline, deadline_later, deadline_is_latest, latest, took_session, took_nothing, took_settled}
+use Rattle.coap_server_engine.proofs.values.AtOnceLemmas.{with_request, other_fault, accepted_with, asked_last}
+use Rattle.coap_server_engine.proofs.values.AtOnceLemmas.{failure_read, HandsOver, request_handed, deadline}
+use Rattle.coap_server_engine.proofs.values.AtOnceLemmas.{deadline_later, deadline_is_latest, latest, took_session}
+use Rattle.coap_server_engine.proofs.values.AtOnceLemmas.{took_nothing, took_settled}
 use Rattle.coap_server_engine.proofs.values.DueAtOnceLemmas.{NoneAsked, settles_request, no_request_fault}
 use Rattle.coap_server_engine.proofs.world.DeadlineLaws.{no_request_waits}
 use Rattle.coap_server_engine.proofs.world.ShowLaws.{server_after_settling, host_shown, session_there}
@@ -38,17 +49,21 @@ shown_is_settled v es shows =
     let c : ConfigValues = v.config in
     let w : World = world_after c es in
     let same : server_settled (server_of c es) ≡ server_of c es =
-    sym (server_after_settling c es w (world_known c es shows.moment)) ∙ ap (server_shown c es) (world_stays w (world_hears c es)) in
+    sym (server_after_settling c es w (world_known c es shows.moment))
+    ∙ ap (server_shown c es) (world_stays w (world_hears c es)) in
     let still : server_settled v ≡ v = ap server_settled shows.same ∙ same ∙ sym shows.same in
     subst (λ (u : ServerValue). AreSettled u.host u.sessions) still (all_are_settled v.host v.sessions)
 
-steps_keep_applications : (limits : LimitValues) (w : World) (ss : List Step) → (after_steps limits w ss).store.applications ≡ w.store.applications
+steps_keep_applications : (limits : LimitValues) (w : World) (ss : List Step)
+    → (after_steps limits w ss).store.applications ≡ w.store.applications
 unfolding after_steps
 steps_keep_applications limits w [] = refl
-steps_keep_applications limits w (s ∷ ss) = steps_keep_applications limits (world.step limits w s) ss ∙ applications_stay limits w s
+steps_keep_applications limits w (s ∷ ss) =
+    steps_keep_applications limits (world.step limits w s) ss ∙ applications_stay limits w s
 
 -- Its applications are those of its configuration.
-shown_applications : (v : ServerValue) (es : List AcceptedCall) → Shows v es → v.host.store.applications ≡ v.config.applications
+shown_applications : (v : ServerValue) (es : List AcceptedCall) → Shows v es
+    → v.host.store.applications ≡ v.config.applications
 unfolding world_after
 shown_applications v es shows =
     ap (λ (h : ServerState). h.store.applications) (host_shown v es shows)
@@ -56,22 +71,28 @@ shown_applications v es shows =
 
 -- ---- a connection by its id
 
-one_settled : (host : ServerState) (id : ℕ) (es : Entries) (s : SessionValue) → AreSettled host es → session_of id es ≡ Some s → IsSettled host s
+one_settled : (host : ServerState) (id : ℕ) (es : Entries) (s : SessionValue) → AreSettled host es
+    → session_of id es ≡ Some s → IsSettled host s
 unfolding session_of
 one_settled host id [] s all is = absurd cc
 one_settled host id (e ∷ es) s all is =
     elim (cases_Bool (e.0 == id)) [
-      | inl here ↦ (let found : Some e.1 ≡ Some s = rw here at is in subst (IsSettled host) (same_there e.1 s found) all.0)
+      | inl here ↦
+          (let found : Some e.1 ≡ Some s = rw here at is in subst (IsSettled host) (same_there e.1 s found) all.0)
       | inr other ↦ one_settled host id es s all.1 (rw other at is)
     ]
 
 -- The connection after a call on it, when all have settled.
-pub becomes_settled : (host : ServerState) (id : ℕ) (f : SessionValue → SessionValue) (es : Entries) (s : SessionValue) → session_of id es ≡ Some s → session_of id (map (settled_entry host) (map (session_becomes id f) es)) ≡ Some (session_settled host (f s))
+pub becomes_settled : (host : ServerState) (id : ℕ) (f : SessionValue → SessionValue) (es : Entries) (s : SessionValue)
+    → session_of id es ≡ Some s
+    → session_of id (map (settled_entry host) (map (session_becomes id f) es)) ≡ Some (session_settled host (f s))
 unfolding session_of
 becomes_settled host id f [] s is = absurd cc
 becomes_settled host id f (e ∷ es) s is =
     elim (cases_Bool (e.0 == id)) [
-      | inl here ↦ (let found : Some e.1 ≡ Some s = rw here at is in rw (here, here) (ap (λ (v : SessionValue). Some (session_settled host (f v))) (same_there e.1 s found)))
+      | inl here ↦
+          (let found : Some e.1 ≡ Some s = rw here at is in
+          rw (here, here) (ap (λ (v : SessionValue). Some (session_settled host (f v))) (same_there e.1 s found)))
       | inr other ↦ rw (other, other) (becomes_settled host id f es s (rw other at is))
     ]
 
@@ -87,13 +108,16 @@ none_is : {A : Type 0} (o : Option A) → is_none o ≡ true → o ≡ None
 none_is None none = refl
 none_is (Some x) none = absurd cc
 
-module _ (v : ServerValue) (es : List AcceptedCall) (id : ℕ) (piece : List ℕ) (m : Message) (shows : Shows v es) (asked : handed_by v id piece ≡ Some m) where
+module _ (v : ServerValue) (es : List AcceptedCall) (id : ℕ) (piece : List ℕ) (m : Message) (shows : Shows v es)
+    (asked : handed_by v id piece ≡ Some m) where
   -- The connection before the take.
   there_before : (s : SessionValue) × (session_of id v.sessions ≡ Some s) × HandsOver v.host s piece m
   unfolding handed_frame
   there_before = by (session_of id v.sessions) (stop_on (session_of id (server_taken v id piece).sessions)) refl asked
     where
-      by : (found : Option SessionValue) (stop : Option Reason) → session_of id v.sessions ≡ found → option_and_then frame_message (handed_on v piece found stop) ≡ Some m → (s : SessionValue) × (session_of id v.sessions ≡ Some s) × HandsOver v.host s piece m
+      by : (found : Option SessionValue) (stop : Option Reason) → session_of id v.sessions ≡ found
+          → option_and_then frame_message (handed_on v piece found stop) ≡ Some m
+          → (s : SessionValue) × (session_of id v.sessions ≡ Some s) × HandsOver v.host s piece m
       by None stop there is = absurd cc
       by (Some s) (Some why) there is = absurd cc
       by (Some s) None there is = (s, there, request_handed v.host s piece m is)
@@ -124,26 +148,34 @@ module _ (v : ServerValue) (es : List AcceptedCall) (id : ℕ) (piece : List ℕ
       ∙ ap (λ (h : ServerState). Some (session_settled h t.session)) (took_nothing v.host asking piece m there_before.2)
       ∙ ap (λ (s : SessionValue). Some (session_settled v.host s)) (took_session v.host asking piece m there_before.2)
 
-  refusal_is : (bytes : List ℕ) → responded_refusal (server_taken v id piece) id bytes ≡ option_map response_fault (frame_refusal (session_settled v.host waiting).link (message_of bytes))
+  refusal_is : (bytes : List ℕ) → responded_refusal (server_taken v id piece) id bytes
+      ≡ option_map response_fault (frame_refusal (session_settled v.host waiting).link (message_of bytes))
   refusal_is bytes = ap (responded_refusal_on bytes) there_after
 
   -- ---- a deadline to come
 
   module _ (later : v.host.now < due) where
     stays_settled : session_settled v.host waiting ≡ waiting
-    stays_settled = settled_stays v.host waiting (took_settled v.host asking piece m there_before.2 later asking_settled)
+    stays_settled =
+        settled_stays v.host waiting (took_settled v.host asking piece m there_before.2 later asking_settled)
 
     has_room : (session_settled v.host waiting).link.limits.max_sent ≤ free_in (session_settled v.host waiting).link
-    has_room = subst (λ (s : SessionValue). s.link.limits.max_sent ≤ free_in s.link) (sym stays_settled) (leb-true waiting.link.limits.max_sent (free_in waiting.link) ready)
+    has_room =
+        subst (λ (s : SessionValue). s.link.limits.max_sent ≤ free_in s.link) (sym stays_settled)
+        (leb-true waiting.link.limits.max_sent (free_in waiting.link) ready)
 
-    accepted_later : (bytes : List ℕ) (response : Message) → message_of bytes ≡ Ok response → response.token ≡ m.token → is_plain_response response ≡ true → responded_refusal (server_taken v id piece) id bytes ≡ None
+    accepted_later : (bytes : List ℕ) (response : Message) → message_of bytes ≡ Ok response → response.token ≡ m.token
+        → is_plain_response response ≡ true → responded_refusal (server_taken v id piece) id bytes ≡ None
     accepted_later bytes response reads token plain =
         let has : has_request response.token waiting.link.held ≡ true =
-        subst (λ (t : List ℕ). has_request t waiting.link.held ≡ true) (sym token) (asked_last m.token asking.link.held due) in
+        subst (λ (t : List ℕ). has_request t waiting.link.held ≡ true) (sym token)
+        (asked_last m.token asking.link.held due) in
         refusal_is bytes
-        ∙ ap (λ (read : Result Message FormatFault). option_map response_fault (frame_refusal (session_settled v.host waiting).link read)) reads
+        ∙ ap (λ (read : Result Message FormatFault). option_map response_fault
+        (frame_refusal (session_settled v.host waiting).link read)) reads
         ∙ ap (λ (o : Option RespondFault). option_map response_fault o)
-        (accepted_with (session_settled v.host waiting).link response has_room (subst (λ (s : SessionValue). has_request response.token s.link.held ≡ true) (sym stays_settled) has) plain)
+        (accepted_with (session_settled v.host waiting).link response has_room
+        (subst (λ (s : SessionValue). has_request response.token s.link.held ≡ true) (sym stays_settled) has) plain)
 
   -- ---- a deadline that has come
 
@@ -156,35 +188,49 @@ module _ (v : ServerValue) (es : List AcceptedCall) (id : ℕ) (piece : List ℕ
       let held : asking.link.held ≡ model.side.history.held = ap (λ (s : SessionValue). s.link.held) model.shown in
       let phases : asking.link.phase ≡ model.side.history.phase = ap (λ (s : SessionValue). s.link.phase) model.shown in
       let live : takes_messages model.side.history.phase ≡ true =
-      subst (λ (p : Phase). takes_messages p ≡ true) phases (and_parts (takes_messages asking.link.phase) _ there_before.2.takes).0 in
+      subst (λ (p : Phase). takes_messages p ≡ true) phases
+      (and_parts (takes_messages asking.link.phase) _ there_before.2.takes).0 in
       let silent : first_due v.host.now asking.link.held ≡ None =
-      sym (found_ready v.host asking (and_parts (takes_messages asking.link.phase) _ there_before.2.takes).1).0 ∙ asking_settled.0 in
+      sym (found_ready v.host asking (and_parts (takes_messages asking.link.phase) _ there_before.2.takes).1).0
+      ∙ asking_settled.0 in
       let last : latest v.config.applications v.host.now ≡ due =
-      ap (λ (o : Option ApplicationsValue). latest o v.host.now) (sym (shown_applications v es shows)) ∙ deadline_is_latest v.host asking piece m there_before.2 in
+      ap (λ (o : Option ApplicationsValue). latest o v.host.now) (sym (shown_applications v es shows))
+      ∙ deadline_is_latest v.host asking piece m there_before.2 in
       subst NoneAsked (sym held)
-      (no_request_waits v.config es id model.side model.there (never_stopped model.side.history.phase live) (omega (arith, ap (latest v.config.applications) now, last, now, come))
+      (no_request_waits v.config es id model.side model.there (never_stopped model.side.history.phase live)
+      (omega (arith, ap (latest v.config.applications) now, last, now, come))
       (subst (λ (n : ℕ). AllByRecursion (λ e. due_moment n e ≡ None) model.side.history.held) now
-      (subst (AllByRecursion (λ e. due_moment v.host.now e ≡ None)) held (due_nothing v.host.now asking.link.held silent).0.0)))
+      (subst (AllByRecursion (λ e. due_moment v.host.now e ≡ None)) held
+      (due_nothing v.host.now asking.link.held silent).0.0)))
 
   none_after : due ≤ v.host.now → NoneAsked (session_settled v.host waiting).link.held
   none_after come =
       let silent : first_due v.host.now asking.link.held ≡ None =
-      sym (found_ready v.host asking (and_parts (takes_messages asking.link.phase) _ there_before.2.takes).1).0 ∙ asking_settled.0 in
+      sym (found_ready v.host asking (and_parts (takes_messages asking.link.phase) _ there_before.2.takes).1).0
+      ∙ asking_settled.0 in
       settles_request v.host waiting asking.link.held m.token due refl ready silent come (none_before come)
 
   -- ---- errors
 
-  fault_by : (read : Result Message FormatFault) (why : RespondFault) → frame_refusal (session_settled v.host waiting).link read ≡ Some why → (why ≡ fault.NotAResponse) ⊎ (why ≡ fault.NoSuchRequest)
+  fault_by : (read : Result Message FormatFault) (why : RespondFault)
+      → frame_refusal (session_settled v.host waiting).link read ≡ Some why
+      → (why ≡ fault.NotAResponse) ⊎ (why ≡ fault.NoSuchRequest)
   fault_by read why is =
       elim (cases_Bool (nat_lt v.host.now due)) [
-        | inl later ↦ other_fault (session_settled v.host waiting).link read why (has_room (ltb-true v.host.now due later)) is
-        | inr come ↦ no_request_fault (session_settled v.host waiting).link read why (none_after (ltb-false v.host.now due come)) is
+        | inl later ↦
+            other_fault (session_settled v.host waiting).link read why (has_room (ltb-true v.host.now due later)) is
+        | inr come ↦
+            no_request_fault (session_settled v.host waiting).link read why
+            (none_after (ltb-false v.host.now due come)) is
       ]
 
   -- Only the message and its token can be wrong.
-  pub at_once_refused : (bytes : List ℕ) (why : ResponseFault) → responded_refusal (server_taken v id piece) id bytes ≡ Some why → (why ≡ responding.NotAResponse) ⊎ (why ≡ responding.NoSuchRequest)
+  pub at_once_refused : (bytes : List ℕ) (why : ResponseFault)
+      → responded_refusal (server_taken v id piece) id bytes ≡ Some why
+      → (why ≡ responding.NotAResponse) ⊎ (why ≡ responding.NoSuchRequest)
   at_once_refused bytes why is =
-      let made = one_made response_fault (frame_refusal (session_settled v.host waiting).link (message_of bytes)) why (sym (refusal_is bytes) ∙ is) in
+      let made = one_made response_fault (frame_refusal (session_settled v.host waiting).link (message_of bytes)) why
+      (sym (refusal_is bytes) ∙ is) in
       elim (fault_by (message_of bytes) made.0 made.1) [
         | inl other ↦ inl (sym made.2 ∙ ap response_fault other)
         | inr other ↦ inr (sym made.2 ∙ ap response_fault other)
@@ -194,17 +240,26 @@ module _ (v : ServerValue) (es : List AcceptedCall) (id : ℕ) (piece : List ℕ
 
   module _ (early : v.host.now < 18446744073709551615) where
     to_come : v.host.now < due
-    to_come = deadline_later v.host asking piece m there_before.2 (subst (λ (o : Option ApplicationsValue). IfSome o (λ a. 1 ≤ a.deadline)) (sym (shown_applications v es shows)) shows.deadline) early
+    to_come =
+        deadline_later v.host asking piece m there_before.2
+        (subst (λ (o : Option ApplicationsValue). IfSome o (λ a. 1 ≤ a.deadline))
+        (sym (shown_applications v es shows)) shows.deadline) early
 
     -- A response with the token of the request is accepted.
-    pub at_once_accepted : (bytes : List ℕ) (response : Message) → message_of bytes ≡ Ok response → response.token ≡ m.token → is_plain_response response ≡ true → responded_refusal (server_taken v id piece) id bytes ≡ None
+    pub at_once_accepted : (bytes : List ℕ) (response : Message) → message_of bytes ≡ Ok response
+        → response.token ≡ m.token → is_plain_response response ≡ true
+        → responded_refusal (server_taken v id piece) id bytes ≡ None
     at_once_accepted = accepted_later to_come
 
     -- The server accepts what it gives of the bytes that the application writes.
-    pub at_once_answered : (bytes : List ℕ) → bytes ≢ [] → responded_refusal (server_taken v id piece) id (response_for (server_taken v id piece) id m.token bytes) ≡ None
+    pub at_once_answered : (bytes : List ℕ) → bytes ≢ []
+        → responded_refusal (server_taken v id piece) id (response_for (server_taken v id piece) id m.token bytes)
+        ≡ None
     at_once_answered [] written = absurd (written refl)
     at_once_answered (b ∷ rest) written =
         elim (cases_Bool (is_none (responded_refusal (server_taken v id piece) id (b ∷ rest)))) [
           | inl none ↦ rw none (none_is (responded_refusal (server_taken v id piece) id (b ∷ rest)) none)
-          | inr other ↦ rw other (accepted_later to_come (spelling (failure_with m.token)) (failure_with m.token) (failure_read there_before.2.frame m there_before.2.reads) refl refl)
+          | inr other ↦
+              rw other (accepted_later to_come (spelling (failure_with m.token)) (failure_with m.token)
+              (failure_read there_before.2.frame m there_before.2.reads) refl refl)
         ]

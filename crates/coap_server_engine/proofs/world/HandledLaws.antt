@@ -4,13 +4,19 @@ use Rattle.std.proofs.Common.{◌≡◌, ℕ, ◌+◌, Bool, true, List, [], ◌
 use Rattle.std.proofs.Common.{Ok, Err, refl, sym, ap, subst, ◌∙◌, ◌⊎◌, inl, inr, arith, option_map, IfOk, ◌≢◌}
 use Rattle.std.proofs.lemmas.Bool.{lt-ltb, le-ltb, cases_eq, cases_Bool}
 use Rattle.std.proofs.lemmas.List.{append-nil, length-append, take_all}
-use Rattle.coap_server_engine.specs.Prelude.{Message, message_of, FormatFault, OfFrame, Format, Stream, FrameEventValue, AFrame}
-use Rattle.coap_server_engine.specs.Prelude.{AFault, framing, Reason, stop_of, after, ConfigValues, ServerState, Taken, TakeFault}
+use Rattle.coap_server_engine.specs.Prelude.{Message, message_of, FormatFault, OfFrame, Format, Stream, FrameEventValue}
+use Rattle.coap_server_engine.specs.Prelude.{AFrame}
+use Rattle.coap_server_engine.specs.Prelude.{AFault, framing, Reason, stop_of, after, ConfigValues, ServerState, Taken}
+use Rattle.coap_server_engine.specs.Prelude.{TakeFault}
 use Rattle.coap_server_engine.specs.Prelude.{SessionValue, taking, taking_read, taking_found, ServerValue, session_of}
-use Rattle.coap_server_engine.specs.Prelude.{count_taken, server_taken_on, server_taken, stop_on, handled_so, handled_on}
-use Rattle.coap_server_engine.specs.Prelude.{handled_by, Connection, handles, new_side, World, Step, side_of, AcceptedCall, Took}
-use Rattle.coap_server_engine.specs.Prelude.{stream_on, beyond, steps_by, world_after, takes, IfSide, IsAccepted, AreAccepted}
-use Rattle.coap_server_engine.specs.Prelude.{size_on, taken_in, session_shown, Shows, handled_between, handled_in, count_of}
+use Rattle.coap_server_engine.specs.Prelude.{count_taken, server_taken_on, server_taken, stop_on, handled_so}
+use Rattle.coap_server_engine.specs.Prelude.{handled_on}
+use Rattle.coap_server_engine.specs.Prelude.{handled_by, Connection, handles, new_side, World, Step, side_of}
+use Rattle.coap_server_engine.specs.Prelude.{AcceptedCall, Took}
+use Rattle.coap_server_engine.specs.Prelude.{stream_on, beyond, steps_by, world_after, takes, IfSide, IsAccepted}
+use Rattle.coap_server_engine.specs.Prelude.{AreAccepted}
+use Rattle.coap_server_engine.specs.Prelude.{size_on, taken_in, session_shown, Shows, handled_between, handled_in}
+use Rattle.coap_server_engine.specs.Prelude.{count_of}
 use Rattle.coap_frame.specs.Framing.{Nothing}
 use Rattle.coap_model.specs.world.Events.{front_of}
 use Rattle.coap_model.proofs.world.StepLaws.{world_same, world_step, by_events, stream_same, stream_elsewhere}
@@ -30,7 +36,8 @@ use Rattle.coap_model.proofs.world.BecameLaws.{NoStep, OneMessage, OneFault, bec
 use Rattle.coap_model.proofs.world.BecameLaws.{TakesSo, Became, IsElsewhere, rests_of, Agrees, rests_agrees}
 use Rattle.coap_model.proofs.world.BecameLaws.{silent_agrees, became_agrees, AgreesOn, first_agrees}
 
-module _ (c : ConfigValues) (es : List AcceptedCall) (id : ℕ) (piece : List ℕ) (s : Connection) (is : IsReached c es) (there : side_of id (world_after c es).sides ≡ Some s) where
+module _ (c : ConfigValues) (es : List AcceptedCall) (id : ℕ) (piece : List ℕ) (s : Connection) (is : IsReached c es)
+    (there : side_of id (world_after c es).sides ≡ Some s) where
   abbrev pub rest_before : List ℕ
   rest_before = (stream_on c.limits.max_message id es).rest
 
@@ -46,43 +53,67 @@ module _ (c : ConfigValues) (es : List AcceptedCall) (id : ℕ) (piece : List �
 
   module _ (host : ServerState) (does : handles s ≡ true) where
     abbrev TakesFront : Bool → Type 0
-    TakesFront message = TakesSo c.limits.max_message id es (take (front_of handling_size rest_before piece) piece) s message
+    TakesFront message =
+        TakesSo c.limits.max_message id es (take (front_of handling_size rest_before piece) piece) s message
 
     pub no_fault_before : (stream_on c.limits.max_message id es).fault ≡ None
     no_fault_before = handling_goes_on c es id s is there does
 
-    frame_so : (frame : List ℕ) (read : Result Message FormatFault) → (framing handling_size rest_before piece).finding ≡ AFrame frame → message_of frame ≡ read → TakesFront (taking_read host session_before (framing handling_size rest_before piece).taken read).handled
-    frame_so frame (Ok m) e reads = OneMessage refl does m (piece_adds_message c.limits.max_message id es piece no_fault_before frame m e reads)
-    frame_so frame (Err f) e reads = OneFault refl does Format frame (piece_adds_bad c.limits.max_message id es piece no_fault_before frame f e reads)
+    frame_so : (frame : List ℕ) (read : Result Message FormatFault)
+        → (framing handling_size rest_before piece).finding ≡ AFrame frame → message_of frame ≡ read
+        → TakesFront (taking_read host session_before (framing handling_size rest_before piece).taken read).handled
+    frame_so frame (Ok m) e reads =
+        OneMessage refl does m (piece_adds_message c.limits.max_message id es piece no_fault_before frame m e reads)
+    frame_so frame (Err f) e reads =
+        OneFault refl does Format frame
+        (piece_adds_bad c.limits.max_message id es piece no_fault_before frame f e reads)
 
-    found_so : (found : FrameEventValue) → (framing handling_size rest_before piece).finding ≡ found → TakesFront (taking_found host session_before (framing handling_size rest_before piece) found).handled
+    found_so : (found : FrameEventValue) → (framing handling_size rest_before piece).finding ≡ found
+        → TakesFront (taking_found host session_before (framing handling_size rest_before piece) found).handled
     found_so Nothing e =
         let adds = piece_adds_nothing c.limits.max_message id es piece no_fault_before e in
         NoStep refl adds.steps (rw (adds.stream, append-nil) refl) (rw adds.stream (sym no_fault_before))
     found_so (AFrame frame) e = frame_so frame (message_of frame) e refl
-    found_so (AFault fault) e = OneFault refl does (OfFrame fault) _ (piece_adds_fault c.limits.max_message id es piece no_fault_before fault e)
+    found_so (AFault fault) e =
+        OneFault refl does (OfFrame fault) _ (piece_adds_fault c.limits.max_message id es piece no_fault_before fault e)
 
   -- The accepted bytes of any slice.
-  pub took_so : (host : ServerState) → TakesSo c.limits.max_message id es bytes_taken s (taking host session_before piece).handled
+  pub took_so : (host : ServerState)
+      → TakesSo c.limits.max_message id es bytes_taken s (taking host session_before piece).handled
   took_so host =
       elim (cases_Bool (handles s)) [
-        | inl does ↦ rw (takes_there c es id piece s there, does, taking_front host handling_size rest_before piece s (is.sizes id s there) does)
+        | inl does ↦ rw (
+          takes_there c es id piece s there,
+          does,
+          taking_front host handling_size rest_before piece s (is.sizes id s there) does,
+        )
             (found_so host does (framing handling_size rest_before piece).finding refl)
-        | inr stopped ↦ rw (takes_there c es id piece s there, stopped, taking_stopped host session_before piece stopped)
-            (NoStep refl (no_bytes_steps c.limits.max_message id es) (rw (no_bytes_stream c.limits.max_message id es) refl) (rw (no_bytes_stream c.limits.max_message id es) refl))
+        | inr stopped ↦
+            rw (takes_there c es id piece s there, stopped, taking_stopped host session_before piece stopped)
+            (NoStep refl (no_bytes_steps c.limits.max_message id es)
+            (rw (no_bytes_stream c.limits.max_message id es) refl)
+            (rw (no_bytes_stream c.limits.max_message id es) refl))
       ]
 
 -- The same for all bytes of an accepted take.
-accepted_so : (c : ConfigValues) (es : List AcceptedCall) (id : ℕ) (bytes : List ℕ) (s : Connection) → IsReached c es → side_of id (world_after c es).sides ≡ Some s → takes c es id bytes ≡ length bytes
+accepted_so : (c : ConfigValues) (es : List AcceptedCall) (id : ℕ) (bytes : List ℕ) (s : Connection) → IsReached c es
+    → side_of id (world_after c es).sides ≡ Some s → takes c es id bytes ≡ length bytes
     → (message : Bool) × TakesSo c.limits.max_message id es bytes s message
 accepted_so c es id bytes s is there all =
     let host : ServerState = record { store = (world_after c es).store; now = (world_after c es).now } in
-    let whole : bytes_taken c es id bytes s is there ≡ bytes = take_all (takes c es id bytes) bytes (omega (arith, all)) in
-    let message : Bool = (taking host (session_shown (stream_on c.limits.max_message id es).rest s) bytes).handled in
-    (message, subst (λ (b : List ℕ). TakesSo c.limits.max_message id es b s message) whole (took_so c es id bytes s is there host))
+    let whole : bytes_taken c es id bytes s is there ≡ bytes =
+    take_all (takes c es id bytes) bytes (omega (arith, all)) in
+    let message : Bool = (taking host (session_shown (stream_on c.limits.max_message id es).rest s) bytes).handled in (
+      message,
+      subst (λ (b : List ℕ). TakesSo c.limits.max_message id es b s message) whole
+          (took_so c es id bytes s is there host),
+    )
 
-pub took_became : (c : ConfigValues) (es : List AcceptedCall) (id : ℕ) (bytes : List ℕ) (s t : Connection) → IsReached c es → takes c es id bytes ≡ length bytes → side_of id (world_after c es).sides ≡ Some s → side_of id (world_after c (es ++ Took id bytes ∷ [])).sides ≡ Some t
-    → (message : Bool) × Became (stream_on c.limits.max_message id es) (stream_on c.limits.max_message id (es ++ Took id bytes ∷ [])) s t message
+pub took_became : (c : ConfigValues) (es : List AcceptedCall) (id : ℕ) (bytes : List ℕ) (s t : Connection)
+    → IsReached c es → takes c es id bytes ≡ length bytes → side_of id (world_after c es).sides ≡ Some s
+    → side_of id (world_after c (es ++ Took id bytes ∷ [])).sides ≡ Some t
+    → (message : Bool) × Became (stream_on c.limits.max_message id es)
+    (stream_on c.limits.max_message id (es ++ Took id bytes ∷ [])) s t message
 took_became c es id bytes s t is all there then =
     let so = accepted_so c es id bytes s is there all in
     let after = became c es id bytes s so.0 there so.1 in
@@ -90,7 +121,8 @@ took_became c es id bytes s t is all there then =
 
 -- ---- the result that a take reports
 
-tells_what_became : (before after : Stream) (s t : Connection) (message : Bool) → Became before after s t message → handled_so (handles s) message (stop_of t.history.phase) ≡ handled_between (Some s) (Some t)
+tells_what_became : (before after : Stream) (s t : Connection) (message : Bool) → Became before after s t message
+    → handled_so (handles s) message (stop_of t.history.phase) ≡ handled_between (Some s) (Some t)
 tells_what_became before after s t message became = grind (arith, le-ltb, lt-ltb, length-append)
 
 -- ---- the clause of a take
@@ -108,17 +140,21 @@ module _ (v : ServerValue) (es : List AcceptedCall) (id : ℕ) (piece : List ℕ
   stop_then = stop_on (session_of id (server_taken v id piece).sessions)
 
   -- This reason is the same in the server and in the model.
-  pub stop_shown : (s : SessionValue) → session_of id v.sessions ≡ Some s → stop_then ≡ side_stop (side_of id (world_after v.config (es ++ event_then ∷ [])).sides)
+  pub stop_shown : (s : SessionValue) → session_of id v.sessions ≡ Some s
+      → stop_then ≡ side_stop (side_of id (world_after v.config (es ++ event_then ∷ [])).sides)
   unfolding server_taken
   stop_shown s e =
       let after : ServerValue = server_taken v id piece in
       let fs : List AcceptedCall = es ++ event_then ∷ [] in
       let rest : List ℕ = (stream_on after.config.limits.max_message id fs).rest in
       ap stop_on (sessions_shown after fs id (shows_taken v es id piece s shows e))
-      ∙ elim (side_of id (world_after after.config fs).sides) as (λ there. stop_on (option_map (session_shown rest) there) ≡ side_stop there) [ None ↦ refl | Some t ↦ refl ]
-      ∙ ap (λ (k : ConfigValues). side_stop (side_of id (world_after k fs).sides)) (ap (λ (o : Option SessionValue). (server_taken_on v id piece o).config) e)
+      ∙ elim (side_of id (world_after after.config fs).sides)
+      as (λ there. stop_on (option_map (session_shown rest) there) ≡ side_stop there) [ None ↦ refl | Some t ↦ refl ]
+      ∙ ap (λ (k : ConfigValues). side_stop (side_of id (world_after k fs).sides))
+      (ap (λ (o : Option SessionValue). (server_taken_on v id piece o).config) e)
 
-  tells_handled : (there : Option Connection) → side_of id (world_after v.config es).sides ≡ there → handled_on v piece (session_of id v.sessions) stop_then ≡ handled_in v.config es event_then id
+  tells_handled : (there : Option Connection) → side_of id (world_after v.config es).sides ≡ there
+      → handled_on v piece (session_of id v.sessions) stop_then ≡ handled_in v.config es event_then id
   tells_handled None none = rw (no_session v es id shows none, none) refl
   tells_handled (Some s) there =
       let c : ConfigValues = v.config in
@@ -126,12 +162,16 @@ module _ (v : ServerValue) (es : List AcceptedCall) (id : ℕ) (piece : List ℕ
       let at : session_of id v.sessions ≡ Some (session_shown rest s) = side_there v es id s shows there in
       let message : Bool = (taking v.host (session_shown rest s) piece).handled in
       let so : TakesSo c.limits.max_message id es (take (count_taken v id piece) piece) s message =
-      subst (λ (n : ℕ). TakesSo c.limits.max_message id es (take n piece) s message) (sym (takes_shown v es id piece shows)) (took_so c es id piece s (accepted_is c es shows.accepted) there v.host) in
+      subst (λ (n : ℕ). TakesSo c.limits.max_message id es (take n piece) s message)
+      (sym (takes_shown v es id piece shows))
+      (took_so c es id piece s (accepted_is c es shows.accepted) there v.host) in
       let after = became c es id (take (count_taken v id piece) piece) s message there so in
       rw (at, stop_shown (session_shown rest s) at, after.1, there) (tells_what_became _ _ s after.0 message after.2)
 
-pub take_says : (r : Result Taken TakeFault) (v : ServerValue) (id : ℕ) (piece : List ℕ) → IfOk r (λ t. t.bytes ≡ count_taken v id piece) → IfOk r (λ t. t.handled ≡ handled_by v id piece)
-    → IfOk r (λ t. (es : List AcceptedCall) → Shows v es → t.handled ≡ handled_in v.config es (Took id (take t.bytes piece)) id)
+pub take_says : (r : Result Taken TakeFault) (v : ServerValue) (id : ℕ) (piece : List ℕ)
+    → IfOk r (λ t. t.bytes ≡ count_taken v id piece) → IfOk r (λ t. t.handled ≡ handled_by v id piece)
+    → IfOk r
+    (λ t. (es : List AcceptedCall) → Shows v es → t.handled ≡ handled_in v.config es (Took id (take t.bytes piece)) id)
 unfolding handled_by
 take_says (Ok t) v id piece count says = λ es shows.
     says ∙ tells_handled v es id piece shows (side_of id (world_after v.config es).sides) refl
@@ -140,12 +180,16 @@ take_says (Err e) v id piece count says = tt
 
 -- ---- the number of processed messages
 
-counted : (before after : Stream) (s t : Connection) (message : Bool) → Became before after s t message → length t.history.handled ≡ length s.history.handled + count_of (handled_between (Some s) (Some t))
+counted : (before after : Stream) (s t : Connection) (message : Bool) → Became before after s t message
+    → length t.history.handled ≡ length s.history.handled + count_of (handled_between (Some s) (Some t))
 counted before after s t message became = grind (arith, le-ltb, lt-ltb, length-append, no_message_reason)
 
 -- A take has processed as many messages as its result counts.
-pub messages_counted : (c : ConfigValues) (es : List AcceptedCall) (id : ℕ) (piece : List ℕ) (s t : Connection) → AreAccepted c es → side_of id (world_after c es).sides ≡ Some s → side_of id (world_after c (es ++ Took id (take (takes c es id piece) piece) ∷ [])).sides ≡ Some t
-    → length t.history.handled ≡ length s.history.handled + count_of (handled_in c es (Took id (take (takes c es id piece) piece)) id)
+pub messages_counted : (c : ConfigValues) (es : List AcceptedCall) (id : ℕ) (piece : List ℕ) (s t : Connection)
+    → AreAccepted c es → side_of id (world_after c es).sides ≡ Some s
+    → side_of id (world_after c (es ++ Took id (take (takes c es id piece) piece) ∷ [])).sides ≡ Some t
+    → length t.history.handled
+    ≡ length s.history.handled + count_of (handled_in c es (Took id (take (takes c es id piece) piece)) id)
 unfolding IsAccepted
 messages_counted c es id piece s t accepted there then =
     let is : IsReached c es = accepted_is c es accepted in
@@ -155,39 +199,55 @@ messages_counted c es id piece s t accepted there then =
     rw (there, then) (counted _ _ s t after.0 after.1)
 
 -- A take makes at most one step, since its bytes complete at most one message or error.
-pub one_step_at_most : (c : ConfigValues) (es : List AcceptedCall) (id : ℕ) (piece : List ℕ) (s : Connection) → IsReached c es → side_of id (world_after c es).sides ≡ Some s
-    → (beyond id (stream_on c.limits.max_message id es) (stream_on c.limits.max_message id (es ++ Took id (take (takes c es id piece) piece) ∷ [])) ≡ [])
-    ⊎ ((st : Step) × (beyond id (stream_on c.limits.max_message id es) (stream_on c.limits.max_message id (es ++ Took id (take (takes c es id piece) piece) ∷ [])) ≡ st ∷ []))
+pub one_step_at_most : (c : ConfigValues) (es : List AcceptedCall) (id : ℕ) (piece : List ℕ) (s : Connection)
+    → IsReached c es → side_of id (world_after c es).sides ≡ Some s
+    → (beyond id (stream_on c.limits.max_message id es)
+    (stream_on c.limits.max_message id (es ++ Took id (take (takes c es id piece) piece) ∷ [])) ≡ [])
+    ⊎ ((st : Step) × (beyond id (stream_on c.limits.max_message id es)
+    (stream_on c.limits.max_message id (es ++ Took id (take (takes c es id piece) piece) ∷ [])) ≡ st ∷ []))
 unfolding steps_by
 one_step_at_most c es id piece s is there =
-    let so = took_so c es id piece s is there (record { store = (world_after c es).store; now = (world_after c es).now }) in grind arith
+    let so =
+    took_so c es id piece s is there (record { store = (world_after c es).store; now = (world_after c es).now }) in
+    grind arith
 
 module _ (c : ConfigValues) (es : List AcceptedCall) (id : ℕ) (is : IsReached c es) (before : AgreesOn c es id) where
   -- The connection, or a new one, after a step that is none of its messages or errors.
-  from_agrees : (st : Step) (t : Connection) → OpensNext c (world_after c es) st → HoldsFrom (Between HandlesNone) c.limits (world_after c es) st id t → Agrees (stream_on c.limits.max_message id es) t
-  from_agrees st t next (inl old) = rests_agrees (stream_on c.limits.max_message id es) old.0 t (before old.0 old.1) old.2
+  from_agrees : (st : Step) (t : Connection) → OpensNext c (world_after c es) st
+      → HoldsFrom (Between HandlesNone) c.limits (world_after c es) st id t
+      → Agrees (stream_on c.limits.max_message id es) t
+  from_agrees st t next (inl old) =
+      rests_agrees (stream_on c.limits.max_message id es) old.0 t (before old.0 old.1) old.2
   from_agrees st t next (inr new) =
       let opened = subst (OpensNext c (world_after c es)) new.1 next in
       rests_agrees (stream_on c.limits.max_message id es) (new_side c.limits) t
       (silent_agrees c.limits c.limits.max_message id es (is.silent id (omega (arith, opened.0)))) new.2
 
   -- An event that makes one step and accepts no byte on the connection.
-  step_agrees : (e : AcceptedCall) (st : Step) → steps_by c.limits.max_message es e ≡ st ∷ [] → OpensNext c (world_after c es) st → IsElsewhere st id → taken_in id e ≡ [] → AgreesOn c (es ++ e ∷ []) id
+  step_agrees : (e : AcceptedCall) (st : Step) → steps_by c.limits.max_message es e ≡ st ∷ []
+      → OpensNext c (world_after c es) st → IsElsewhere st id → taken_in id e ≡ [] → AgreesOn c (es ++ e ∷ []) id
   step_agrees e st one next away none t there =
-      let at : side_of id (world.step c.limits (world_after c es) st).sides ≡ Some t = ap (λ (w : World). side_of id w.sides) (sym (world_step c es e st one)) ∙ there in
+      let at : side_of id (world.step c.limits (world_after c es) st).sides ≡ Some t =
+      ap (λ (w : World). side_of id w.sides) (sym (world_step c es e st one)) ∙ there in
       subst (λ (u : Stream). Agrees u t) (sym (stream_same c.limits.max_message id es e none))
-      (from_agrees st t next (step_across (Between HandlesNone) c.limits (world_after c es) st id (rests_of (world_after c es) st id away) t at))
+      (from_agrees st t next (step_across (Between HandlesNone) c.limits (world_after c es) st id
+      (rests_of (world_after c es) st id away) t at))
 
-  other_agrees : (other : ℕ) (bytes : List ℕ) (s : Connection) (message : Bool) → other ≢ id → TakesSo c.limits.max_message other es bytes s message → AgreesOn c (es ++ event.Took other bytes ∷ []) id
+  other_agrees : (other : ℕ) (bytes : List ℕ) (s : Connection) (message : Bool) → other ≢ id
+      → TakesSo c.limits.max_message other es bytes s message → AgreesOn c (es ++ event.Took other bytes ∷ []) id
   other_agrees other bytes s message apart (NoStep e steps messages fault) t then =
       subst (λ (u : Stream). Agrees u t) (sym (stream_elsewhere c.limits.max_message id other es bytes apart))
       (before t (ap (λ (w : World). side_of id w.sides) (sym (world_same c es (event.Took other bytes) steps)) ∙ then))
   other_agrees other bytes s message apart (OneMessage e does m adds) t then =
-      step_agrees (event.Took other bytes) (world.Handled other m) adds.steps tt apart (taken_elsewhere id other bytes apart) t then
+      step_agrees (event.Took other bytes) (world.Handled other m) adds.steps tt apart
+      (taken_elsewhere id other bytes apart) t then
   other_agrees other bytes s message apart (OneFault e does fault rest adds) t then =
-      step_agrees (event.Took other bytes) (world.Faulted other fault) adds.steps tt apart (taken_elsewhere id other bytes apart) t then
+      step_agrees (event.Took other bytes) (world.Faulted other fault) adds.steps tt apart
+      (taken_elsewhere id other bytes apart) t then
 
-  took_agrees : (other : ℕ) (bytes : List ℕ) (there : Option Connection) → side_of other (world_after c es).sides ≡ there → IfSide there (λ s. takes c es other bytes ≡ length bytes) → AgreesOn c (es ++ event.Took other bytes ∷ []) id
+  took_agrees : (other : ℕ) (bytes : List ℕ) (there : Option Connection)
+      → side_of other (world_after c es).sides ≡ there → IfSide there (λ s. takes c es other bytes ≡ length bytes)
+      → AgreesOn c (es ++ event.Took other bytes ∷ []) id
   took_agrees other bytes None at all = absurd all
   took_agrees other bytes (Some s) at all =
       elim (cases_eq other id) [
@@ -205,14 +265,18 @@ module _ (c : ConfigValues) (es : List AcceptedCall) (id : ℕ) (is : IsReached 
   event_agrees (event.Took other bytes) all = took_agrees other bytes (side_of other (world_after c es).sides) refl all
   event_agrees (event.Wrote n k) all = step_agrees (event.Wrote n k) (world.Written n k) refl tt tt refl
   event_agrees (event.Ticked now) all = step_agrees (event.Ticked now) (world.Ticked now) refl tt tt refl
-  event_agrees (event.Stored path format bytes) all = step_agrees (event.Stored path format bytes) (world.Stored path format bytes) refl tt tt refl
+  event_agrees (event.Stored path format bytes) all =
+      step_agrees (event.Stored path format bytes) (world.Stored path format bytes) refl tt tt refl
   event_agrees (event.Removed path) all = step_agrees (event.Removed path) (world.Removed path) refl tt tt refl
   event_agrees (event.Ended n) all = step_agrees (event.Ended n) _ refl tt tt refl
   event_agrees (event.Released n) all = step_agrees (event.Released n) (world.Released n) refl tt tt refl
-  event_agrees (event.Announced n size) all = step_agrees (event.Announced n size) (world.Announced n size) refl tt tt refl
+  event_agrees (event.Announced n size) all =
+      step_agrees (event.Announced n size) (world.Announced n size) refl tt tt refl
   event_agrees (event.Responded n m) all = step_agrees (event.Responded n m) (world.Responded n m) refl tt tt refl
   event_agrees (event.Dropped n) all = step_agrees (event.Dropped n) (world.Dropped n) refl tt tt refl
 
-pub handled_agrees : (c : ConfigValues) (es : List AcceptedCall) (id : ℕ) (s : Connection) → AreAccepted c es → side_of id (world_after c es).sides ≡ Some s → Agrees (stream_on c.limits.max_message id es) s
+pub handled_agrees : (c : ConfigValues) (es : List AcceptedCall) (id : ℕ) (s : Connection) → AreAccepted c es
+    → side_of id (world_after c es).sides ≡ Some s → Agrees (stream_on c.limits.max_message id es) s
 handled_agrees c es id s accepted there =
-    by_events c (λ fs. AgreesOn c fs id) (first_agrees c id) (λ fs e all last before. event_agrees c fs id (accepted_is c fs all) before e last) es accepted s there
+    by_events c (λ fs. AgreesOn c fs id) (first_agrees c id)
+    (λ fs e all last before. event_agrees c fs id (accepted_is c fs all) before e last) es accepted s there

@@ -1,10 +1,15 @@
 -- A failed allocation in a take: the bytes before the last one of the message make no step. This byte completes the
 -- message, which stores a representation.
-use Rattle.std.proofs.Common.{◌≡◌, ℕ, suc, ◌+◌, ◌<◌, List, [], ◌∷◌, ◌++◌, length, take, drop, get_or, Some, None, Result, refl, sym, ap, subst, ◌∙◌, append_assoc, arith, IfErr}
-use Rattle.coap_server_engine.specs.Prelude.{AllByRecursion, Message, Stream, split, split_on, Framing, IsPut, ConfigValues}
-use Rattle.coap_server_engine.specs.Prelude.{ServerState, SessionValue, change_by, RefusesPiece, ServerValue, session_of, count_on}
-use Rattle.coap_server_engine.specs.Prelude.{count_taken, Connection, World, side_of, Handled, AcceptedCall, stream_on, beyond}
-use Rattle.coap_server_engine.specs.Prelude.{world_after, size_on, Took, steps_by, takes, change_made, session_shown, Shows}
+use Rattle.std.proofs.Common.{◌≡◌, ℕ, suc, ◌+◌, ◌<◌, List, [], ◌∷◌, ◌++◌, length, take, drop, get_or, Some, None}
+use Rattle.std.proofs.Common.{Result, refl, sym, ap, subst, ◌∙◌, append_assoc, arith, IfErr}
+use Rattle.coap_server_engine.specs.Prelude.{AllByRecursion, Message, Stream, split, split_on, Framing, IsPut}
+use Rattle.coap_server_engine.specs.Prelude.{ConfigValues}
+use Rattle.coap_server_engine.specs.Prelude.{ServerState, SessionValue, change_by, RefusesPiece, ServerValue}
+use Rattle.coap_server_engine.specs.Prelude.{session_of, count_on}
+use Rattle.coap_server_engine.specs.Prelude.{count_taken, Connection, World, side_of, Handled, AcceptedCall, stream_on}
+use Rattle.coap_server_engine.specs.Prelude.{beyond}
+use Rattle.coap_server_engine.specs.Prelude.{world_after, size_on, Took, steps_by, takes, change_made, session_shown}
+use Rattle.coap_server_engine.specs.Prelude.{Shows}
 use Rattle.coap_server_engine.specs.Prelude.{IsNotTaken, Taken, TakeFault, IsRefusedStored}
 use Rattle.coap_server_engine.specs.Prelude.{IsRefusedFor, StoresNothing}
 use Rattle.std.proofs.lemmas.Grind.{take_at_read}
@@ -14,7 +19,8 @@ use Rattle.std.proofs.Math.Seq.{drop-cons}
 use Rattle.coap_frame.proofs.FrontLaws.{added_front}
 use Rattle.coap_model.proofs.world.TookLaws.{Adds, adds_nothing, piece_adds_message, front_within, but_last_unfinished}
 use Rattle.coap_server_session.proofs.world.SideShown.{change_shown}
-use Rattle.coap_server_engine.proofs.world.ShowLaws.{session_there, host_shown, sessions_shown, takes_shown, refused_on, refused_unfinished, refused_message, refused_front}
+use Rattle.coap_server_engine.proofs.world.ShowLaws.{session_there, host_shown, sessions_shown, takes_shown, refused_on}
+use Rattle.coap_server_engine.proofs.world.ShowLaws.{refused_unfinished, refused_message, refused_front}
 use Rattle.coap_model.proofs.world.StepLaws.{stream_more}
 use Rattle.coap_model.proofs.OptionLemmas.{none_made}
 use Rattle.coap_model.specs.world.World as world
@@ -32,15 +38,22 @@ pub record RefusesLast (v : ServerValue) (es : List AcceptedCall) (id : ℕ) (pi
   pub all : piece ≡ take n piece ++ last ∷ behind
   pub quiet : beyond id (stream_on v.config.limits.max_message id es) (gone_on_with v.config es id (take n piece)) ≡ []
   pub message : Message
-  pub ends : beyond id (stream_on v.config.limits.max_message id es) (gone_on_with v.config es id (take (n + 1) piece)) ≡ world.Handled id message ∷ []
-  pub one_more : split_on (size_on v.config.limits.max_message id es) (gone_on_with v.config es id (take n piece)) (last ∷ [])
-      ≡ record { messages = (gone_on_with v.config es id (take n piece)).messages ++ message ∷ []; rest = []; fault = None }
+  pub ends : beyond id (stream_on v.config.limits.max_message id es) (gone_on_with v.config es id (take (n + 1) piece))
+      ≡ world.Handled id message ∷ []
+  pub one_more : split_on (size_on v.config.limits.max_message id es)
+      (gone_on_with v.config es id (take n piece)) (last ∷ [])
+      ≡ record {
+        messages = (gone_on_with v.config es id (take n piece)).messages ++ message ∷ [];
+        rest = [];
+        fault = None;
+      }
   pub stores : IsPut (change_made (world_after v.config es) id message)
 
 -- ---- a failed allocation
 
 -- If allocation fails for a slice, it fails for the message that the next byte would complete.
-pub refuses_last : (v : ServerValue) (es : List AcceptedCall) (id : ℕ) (piece : List ℕ) (n : ℕ) (s : SessionValue) → Shows v es → session_of id v.sessions ≡ Some s → RefusesPiece v.host s piece n → RefusesLast v es id piece n
+pub refuses_last : (v : ServerValue) (es : List AcceptedCall) (id : ℕ) (piece : List ℕ) (n : ℕ) (s : SessionValue)
+    → Shows v es → session_of id v.sessions ≡ Some s → RefusesPiece v.host s piece n → RefusesLast v es id piece n
 unfolding steps_by
 refuses_last v es id piece n s shows e refused =
     let w : World = world_after v.config es in
@@ -55,13 +68,16 @@ refuses_last v es id piece n s shows e refused =
     let clean = refused_unfinished v es id piece n t shows at.there refuses in
     let stored = refused_message v es id piece n t shows at.there refuses in
     let all = refused_front v es id piece n t shows at.there refuses in
-    let within : n < length piece = omega (arith, front_within N so_far.rest piece stored.frame n clean.1 stored.is all) in
+    let within : n < length piece =
+    omega (arith, front_within N so_far.rest piece stored.frame n clean.1 stored.is all) in
     let nothing : Adds M id es front (record { messages = []; rest = so_far.rest ++ front; fault = None }) =
-    adds_nothing M id es front clean.0 (ap (λ (f : Framing). f.finding) (but_last_unfinished N so_far.rest piece stored.frame n clean.1 stored.is all)) in
+    adds_nothing M id es front clean.0
+    (ap (λ (f : Framing). f.finding) (but_last_unfinished N so_far.rest piece stored.frame n clean.1 stored.is all)) in
     let message : Stream = record { messages = stored.message ∷ []; rest = []; fault = None } in
     let one : Adds M id es (take (n + 1) piece) message =
     rw all at (piece_adds_message M id es piece clean.0 stored.frame stored.message stored.is stored.reads) in
-    let spelled : split N (so_far.rest ++ take (n + 1) piece) ≡ message = rw (all, stored.is, stored.reads) at (added_front N so_far.rest piece clean.1) in
+    let spelled : split N (so_far.rest ++ take (n + 1) piece) ≡ message =
+    rw (all, stored.is, stored.reads) at (added_front N so_far.rest piece clean.1) in
     record {
       last = get_or piece n 0;
       behind = drop (suc n) piece;
@@ -69,15 +85,22 @@ refuses_last v es id piece n s shows e refused =
       quiet = rw (stream_more M id es front) at nothing.steps;
       message = stored.message;
       ends = rw (stream_more M id es (take (n + 1) piece)) at one.steps;
-      one_more = rw (sym (stream_more M id es front) ∙ nothing.stream, append_assoc so_far.rest front last, ← (take_at_read piece n 0 within).1, spelled) refl;
+      one_more = rw (
+        sym (stream_more M id es front) ∙ nothing.stream,
+        append_assoc so_far.rest front last,
+        ← (take_at_read piece n 0 within).1,
+        spelled,
+      ) refl;
       stores = rw (at.there, change_shown w.store w.now t stored.message refuses.takes)
-          (subst (λ (h : ServerState). IsPut (change_by h (session_shown so_far.rest t).link stored.message)) (host_shown v es shows) stored.puts);
+          (subst (λ (h : ServerState). IsPut (change_by h (session_shown so_far.rest t).link stored.message))
+          (host_shown v es shows) stored.puts);
     }
 
 -- ---- the message for which allocation failed, from the events: the next byte of the slice would complete it
 
 -- This message stores a representation.
-pub refused_is_stored : (v after : ServerValue) (es : List AcceptedCall) (id : ℕ) (piece : List ℕ) (n : ℕ) → Shows v es → IsNotTaken v id piece (fault.Memory n) after → IsRefusedStored v.config es id piece n
+pub refused_is_stored : (v after : ServerValue) (es : List AcceptedCall) (id : ℕ) (piece : List ℕ) (n : ℕ) → Shows v es
+    → IsNotTaken v id piece (fault.Memory n) after → IsRefusedStored v.config es id piece n
 unfolding count_taken steps_by
 refused_is_stored v after es id piece n shows not =
     let M : ℕ = v.config.limits.max_message in
@@ -92,22 +115,27 @@ refused_is_stored v after es id piece n shows not =
     }
 
 -- Allocation fails for no other message.
-pub other_not_refused : (v after : ServerValue) (es : List AcceptedCall) (id : ℕ) (piece : List ℕ) (n : ℕ) → Shows v es → StoresNothing v.config es id piece → IsNotTaken v id piece (fault.Memory n) after → ⊥
+pub other_not_refused : (v after : ServerValue) (es : List AcceptedCall) (id : ℕ) (piece : List ℕ) (n : ℕ) → Shows v es
+    → StoresNothing v.config es id piece → IsNotTaken v id piece (fault.Memory n) after → ⊥
 other_not_refused v after es id piece n shows nothing not =
     let c : ConfigValues = v.config in
     let refused = refused_is_stored v after es id piece n shows not in
-    let all : steps_by c.limits.max_message es (Took id (take (takes c es id piece) piece)) ≡ Handled id refused.message ∷ [] =
+    let all : steps_by c.limits.max_message es (Took id (take (takes c es id piece) piece))
+    ≡ Handled id refused.message ∷ [] =
     rw (← refused.last) refused.ends in
     (subst (AllByRecursion (λ s. IsPut (view.change_by (world_after c es) s) → ⊥)) all nothing).0 refused.stores
 
 -- ---- the clause of a take
 
-not_taken_for : (why : TakeFault) (v new : ServerValue) (id : ℕ) (piece : List ℕ) → IsNotTaken v id piece why new → (es : List AcceptedCall) → Shows v es → IsRefusedFor v.config es id piece why
+not_taken_for : (why : TakeFault) (v new : ServerValue) (id : ℕ) (piece : List ℕ) → IsNotTaken v id piece why new
+    → (es : List AcceptedCall) → Shows v es → IsRefusedFor v.config es id piece why
 not_taken_for fault.NoSuch v new id piece not es shows =
     let shown : Connection → SessionValue = session_shown (stream_on v.config.limits.max_message id es).rest in
     none_made shown (side_of id (world_after v.config es).sides) (sym (sessions_shown v es id shows) ∙ not.0)
 not_taken_for (fault.Memory n) v new id piece not es shows = refused_is_stored v new es id piece n shows not
 
-pub take_refused_for : (r : Result Taken TakeFault) (v new : ServerValue) (id : ℕ) (piece : List ℕ) → IfErr r (λ why. IsNotTaken v id piece why new)
+pub take_refused_for : (r : Result Taken TakeFault) (v new : ServerValue) (id : ℕ) (piece : List ℕ)
+    → IfErr r (λ why. IsNotTaken v id piece why new)
     → IfErr r (λ why. (es : List AcceptedCall) → Shows v es → IsRefusedFor v.config es id piece why)
-take_refused_for r v new id piece not = IfErr-weaker r (λ why. IsNotTaken v id piece why new) _ (λ why no. not_taken_for why v new id piece no) not
+take_refused_for r v new id piece not =
+    IfErr-weaker r (λ why. IsNotTaken v id piece why new) _ (λ why no. not_taken_for why v new id piece no) not

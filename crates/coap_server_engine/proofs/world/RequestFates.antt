@@ -1,5 +1,6 @@
 -- The request that a take lends is the one that was handed to the application.
-use Rattle.std.proofs.Common.{◌≡◌, ℕ, Bool, true, cond, ◌&&◌, List, [], ◌∷◌, ◌++◌, length, drop, Option, Some, None, refl, sym, ap, ◌∙◌, inl, inr, option_and_then}
+use Rattle.std.proofs.Common.{◌≡◌, ℕ, Bool, true, cond, ◌&&◌, List, [], ◌∷◌, ◌++◌, length, drop, Option, Some, None}
+use Rattle.std.proofs.Common.{refl, sym, ap, ◌∙◌, inl, inr, option_and_then}
 use Rattle.std.specs.Option.{option_to_list}
 use Rattle.std.specs.List.{flat_map}
 use Rattle.std.proofs.lemmas.Bool.{cases_Bool}
@@ -9,11 +10,13 @@ use Rattle.coap_conn.specs.History.{after}
 use Rattle.coap_conn.specs.Calls as call
 use Rattle.coap_conn.specs.declared.pending.Responder.{Responder}
 use Rattle.coap_conn.specs.declared.pending.Responder.TheVariants.{Engine, Application}
-use Rattle.coap_server_engine.specs.Prelude.{Message, Stream, takes_messages, ConfigValues, Connection, World, side_of, AcceptedCall, Took, IsAccepted, AreAccepted, takes, world_after, is_handed}
+use Rattle.coap_server_engine.specs.Prelude.{Message, Stream, takes_messages, ConfigValues, Connection, World, side_of}
+use Rattle.coap_server_engine.specs.Prelude.{AcceptedCall, Took, IsAccepted, AreAccepted, takes, world_after, is_handed}
 use Rattle.coap_server_engine.specs.Prelude.{request_in, request_between, request_to, message_between}
 use Rattle.coap_server_session.specs.values.HandedRequests.{is_application}
 use Rattle.coap_model.specs.world.Connections.{asks_answer, held_for, delay_of, Delay}
-use Rattle.coap_model.specs.world.Fates.{requests_on, handed_requests, handed_in, handed_between, is_by_application, is_responder}
+use Rattle.coap_model.specs.world.Fates.{requests_on, handed_requests, handed_in, handed_between, is_by_application}
+use Rattle.coap_model.specs.world.Fates.{is_responder}
 use Rattle.coap_model.proofs.world.ReachedLaws.{accepted_is, on_one}
 use Rattle.coap_model.proofs.world.BecameLaws.{Became, Stayed, Heard, Rejected}
 use Rattle.coap_model.proofs.world.FateHanded.{event_hands}
@@ -53,23 +56,31 @@ module _ (w : World) (s t : Connection) where
       ∙ append-nil (handed_in w.store w.now s m) ∙ message_lent m
       ∙ ap (λ o. option_to_list (option_and_then (request_to w.store w.now s) o)) (sym (one_between s t m one))
 
-  became_lent : (earlier later : Stream) (message : Bool) → Became earlier later s t message → handed_between w s t ≡ lent
-  became_lent earlier later message (Stayed e same messages fault) = none_lent (ap (λ (u : Connection). u.history.handled) same)
+  became_lent : (earlier later : Stream) (message : Bool) → Became earlier later s t message
+      → handed_between w s t ≡ lent
+  became_lent earlier later message (Stayed e same messages fault) =
+      none_lent (ap (λ (u : Connection). u.history.handled) same)
   became_lent earlier later message (Heard e does m one stops messages fault) = one_lent m one
   became_lent earlier later message (Rejected e does fault rejects messages is) = none_lent rejects.handled
 
 -- An accepted take adds to the requests handed over the one that it lends, unless the connection stopped.
-pub lent_is_handed : (c : ConfigValues) (es : List AcceptedCall) (id : ℕ) (bytes : List ℕ) (s t : Connection) → AreAccepted c es → IsAccepted c es (Took id bytes)
-    → side_of id (world_after c es).sides ≡ Some s → side_of id (world_after c (es ++ Took id bytes ∷ [])).sides ≡ Some t → takes_messages t.history.phase ≡ true
-    → handed_requests (requests_on c id (es ++ Took id bytes ∷ [])) ≡ handed_requests (requests_on c id es) ++ option_to_list (request_in c es (Took id bytes) id)
+pub lent_is_handed : (c : ConfigValues) (es : List AcceptedCall) (id : ℕ) (bytes : List ℕ) (s t : Connection)
+    → AreAccepted c es → IsAccepted c es (Took id bytes)
+    → side_of id (world_after c es).sides ≡ Some s
+    → side_of id (world_after c (es ++ Took id bytes ∷ [])).sides ≡ Some t → takes_messages t.history.phase ≡ true
+    → handed_requests (requests_on c id (es ++ Took id bytes ∷ []))
+    ≡ handed_requests (requests_on c id es) ++ option_to_list (request_in c es (Took id bytes) id)
 unfolding IsAccepted
 lent_is_handed c es id bytes s t accepted own there then takes_more =
     let w : World = world_after c es in
-    let all : takes c es id bytes ≡ length bytes = (on_one (λ u. takes c es id bytes ≡ length bytes) (side_of id w.sides) own).2 in
+    let all : takes c es id bytes ≡ length bytes =
+    (on_one (λ u. takes c es id bytes ≡ length bytes) (side_of id w.sides) own).2 in
     let became = took_became c es id bytes s t (accepted_is c es accepted) all there then in
-    let request : request_in c es (Took id bytes) id ≡ option_and_then (request_to w.store w.now s) (message_between s t) =
+    let request : request_in c es (Took id bytes) id
+    ≡ option_and_then (request_to w.store w.now s) (message_between s t) =
     ap (λ o. request_between w o (side_of id (world_after c (es ++ Took id bytes ∷ [])).sides)) there
     ∙ ap (request_between w (Some s)) then
     ∙ ap (λ b. cond b (option_and_then (request_to w.store w.now s) (message_between s t)) None) takes_more in
     event_hands c es id s accepted there (Took id bytes) own t then
-    ∙ ap (λ ms. handed_requests (requests_on c id es) ++ ms) (became_lent w s t _ _ became.0 became.1 ∙ ap option_to_list (sym request))
+    ∙ ap (λ ms. handed_requests (requests_on c id es) ++ ms)
+    (became_lent w s t _ _ became.0 became.1 ∙ ap option_to_list (sym request))

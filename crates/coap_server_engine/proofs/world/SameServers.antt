@@ -12,13 +12,17 @@ use Rattle.coap_model.proofs.world.HearingLaws.{each_same, same_heard}
 -- ---- servers
 
 -- Equal steps and equal kept bytes determine equal servers.
-pub same_servers : (c : ConfigValues) (es fs : List AcceptedCall) → normalised_steps c es ≡ normalised_steps c fs → ((id : ℕ) → kept_at c es id ≡ kept_at c fs id) → server_of c es ≡ server_of c fs
+pub same_servers : (c : ConfigValues) (es fs : List AcceptedCall) → normalised_steps c es ≡ normalised_steps c fs
+    → ((id : ℕ) → kept_at c es id ≡ kept_at c fs id) → server_of c es ≡ server_of c fs
 unfolding server_of
 same_servers c es fs alike kept =
     let M : ℕ = c.limits.max_message in
     let w : World = world_after c es in
     let worlds : w ≡ world_after c fs = same_heard c es fs alike in
-    let same : (id : ℕ) (s : Connection) → side_of id w.sides ≡ Some s → kept_on s (stream_on M id es).rest ≡ kept_on s (stream_on M id fs).rest = λ id s there. cc (kept id) in
-    let sessions : map (place_shown M es) w.sides ≡ map (place_shown M fs) w.sides = each_same (place_shown M es) (place_shown M fs) w.sides (events_distinct c es)
-    (λ id s there. ap (λ (frame : List ℕ). (id, record (session_shown (stream_on M id es).rest s) { frame = frame })) (same id s there)) in
+    let same : (id : ℕ) (s : Connection) → side_of id w.sides ≡ Some s
+    → kept_on s (stream_on M id es).rest ≡ kept_on s (stream_on M id fs).rest = λ id s there. cc (kept id) in
+    let sessions : map (place_shown M es) w.sides ≡ map (place_shown M fs) w.sides =
+    each_same (place_shown M es) (place_shown M fs) w.sides (events_distinct c es)
+    (λ id s there. ap (λ (frame : List ℕ). (id, record (session_shown (stream_on M id es).rest s) { frame = frame }))
+    (same id s there)) in
     cc

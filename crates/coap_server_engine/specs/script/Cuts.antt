@@ -1,5 +1,6 @@
 -- Defined by this project: scripts that differ only in how the input of a connection is divided into `in` events.
-use Rattle.std.specs.Prelude.{◌≡◌, ◌<◌, ◌^◌, ℕ, Bool, true, false, not, List, [], ◌∷◌, ◌++◌, filter, ◌==◌, if◌then◌else◌}
+use Rattle.std.specs.Prelude.{◌≡◌, ◌<◌, ◌^◌, ℕ, Bool, true, false, not, List, [], ◌∷◌, ◌++◌, filter, ◌==◌}
+use Rattle.std.specs.Prelude.{if◌then◌else◌}
 use Rattle.std.specs.List.{AllByRecursion}
 use Rattle.coap_script.specs.script.Events.{ScriptEventValue, In, Tick}
 use Rattle.coap_server_engine.specs.script.Replay.{event_ran}
@@ -8,7 +9,8 @@ use Rattle.coap_server_engine.specs.values.Servers.{ServerValue}
 -- The events after an `in` is put before others. If the first of these is an `in` of the same connection, the two are
 -- joined.
 unfoldable pub in_before : ℕ → List ℕ → List ScriptEventValue → List ScriptEventValue
-in_before id bytes (In other more ∷ es) = if other == id then In id (bytes ++ more) ∷ es else In id bytes ∷ In other more ∷ es
+in_before id bytes (In other more ∷ es) =
+    if other == id then In id (bytes ++ more) ∷ es else In id bytes ∷ In other more ∷ es
 in_before id bytes es = In id bytes ∷ es
 
 -- The events with all consecutive `in`s of a connection joined into one.

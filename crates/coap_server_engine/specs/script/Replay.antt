@@ -1,16 +1,21 @@
 -- Defined by this project: the effect of the events of a script on a server, and the lines that they write.
-use Rattle.std.specs.Prelude.{ℕ, ◌+◌, List, [], ◌∷◌, ◌++◌, length, take, Option, Some, None, option_map, nat_le, codes, if◌then◌else◌}
+use Rattle.std.specs.Prelude.{ℕ, ◌+◌, List, [], ◌∷◌, ◌++◌, length, take, Option, Some, None, option_map, nat_le, codes}
+use Rattle.std.specs.Prelude.{if◌then◌else◌}
 use Rattle.coap_conn.specs.Phases.{stop_of}
 use Rattle.coap_conn.specs.Reasons.{reason_number}
 use Rattle.coap_store.specs.Refusals.{put_refusal, remove_refusal}
 use Rattle.coap_store.specs.declared.fault.StoreFault.{StoreFault}
 use Rattle.coap_store.specs.declared.fault.StoreFault.TheVariants as storing
-use Rattle.coap_script.specs.script.Events.{ScriptEventValue, Open, In, Drain, Tick, Put, Remove, End, Release, Respond, Drop, Status}
-use Rattle.coap_script.specs.script.Lines.{open_line, in_line, out_line, tick_line, put_line, remove_line, word_line, status_line, fault_line}
+use Rattle.coap_script.specs.script.Events.{ScriptEventValue, Open, In, Drain, Tick, Put, Remove, End, Release, Respond}
+use Rattle.coap_script.specs.script.Events.{Drop, Status}
+use Rattle.coap_script.specs.script.Lines.{open_line, in_line, out_line, tick_line, put_line, remove_line, word_line}
+use Rattle.coap_script.specs.script.Lines.{status_line, fault_line}
 use Rattle.coap_server_engine.specs.script.RequestLines.{request_lines}
 use Rattle.coap_server_engine.specs.values.InResults.{InResult, in_result}
 use Rattle.coap_server_session.specs.values.Sessions.{SessionValue}
-use Rattle.coap_server_engine.specs.values.Servers.{ServerValue, session_of, server_opened, server_written, server_ticked, server_put, server_removed, server_ended, server_released, server_given, server_dropped}
+use Rattle.coap_server_engine.specs.values.Servers.{ServerValue, session_of, server_opened, server_written}
+use Rattle.coap_server_engine.specs.values.Servers.{server_ticked, server_put, server_removed, server_ended}
+use Rattle.coap_server_engine.specs.values.Servers.{server_released, server_given, server_dropped}
 use Rattle.coap_server_engine.specs.values.ServerAnswers.{open_refusal, released_refusal, responded_refusal}
 use Rattle.coap_model.specs.declared.answers.OpenFault.{OpenFault}
 use Rattle.coap_model.specs.declared.answers.OpenFault.TheVariants as opening
@@ -82,10 +87,11 @@ abbrev pub stop_number : Option SessionValue → Option ℕ
 stop_number None = None
 stop_number (Some s) = option_map reason_number (stop_of s.link.phase)
 
--- The result of an `in` after the takes of its bytes. Its line is followed by those of the requests that the takes handed
--- to the application, in order.
+-- The result of an `in` after the takes of its bytes. Its line is followed by those of the requests that the takes
+-- handed to the application, in order.
 abbrev pub in_ran : ℕ → List ℕ → InResult → EventResult
-in_ran id requests f = comes_to f.server (in_line id f.count (stop_number (session_of id f.server.sessions)) ++ requests)
+in_ran id requests f =
+    comes_to f.server (in_line id f.count (stop_number (session_of id f.server.sessions)) ++ requests)
 
 -- ---- `drain` and `status`
 
@@ -100,23 +106,43 @@ drain_ran v id bytes = comes_to (server_written v id (length bytes)) (out_line i
 
 -- The result of a `status`.
 abbrev pub status_ran : ServerValue → ℕ → SessionValue → EventResult
-status_ran v id s = comes_to v (status_line id s.link.phase (length s.frame) (length s.link.waiting) (length s.link.held) (length s.observers))
+status_ran v id s =
+    comes_to v
+    (status_line id s.link.phase (length s.frame) (length s.link.waiting) (length s.link.held) (length s.observers))
 
 -- ---- events
 
 -- The result of an event: the server after it, and its line.
 unfoldable pub event_ran : ServerValue → ScriptEventValue → EventResult
-event_ran v Open = unless_refused v (codes "open") None (comes_to (server_opened v) (open_line (v.ids + 1))) (option_map open_number (open_refusal v))
-event_ran v (In id bytes) = on_connection v (codes "in") id (λ s. in_ran id (request_lines v id bytes) (in_result v id bytes)) (session_of id v.sessions)
-event_ran v (Drain id most) = on_connection v (codes "drain") id (λ s. drain_ran v id (drained most s.link.waiting)) (session_of id v.sessions)
-event_ran v (Tick now) = unless_refused v (codes "tick") None (comes_to (server_ticked v now) (tick_line now)) (tick_refusal v now)
+event_ran v Open =
+    unless_refused v (codes "open") None (comes_to (server_opened v) (open_line (v.ids + 1)))
+    (option_map open_number (open_refusal v))
+event_ran v (In id bytes) =
+    on_connection v (codes "in") id (λ s. in_ran id (request_lines v id bytes) (in_result v id bytes))
+    (session_of id v.sessions)
+event_ran v (Drain id most) =
+    on_connection v (codes "drain") id (λ s. drain_ran v id (drained most s.link.waiting)) (session_of id v.sessions)
+event_ran v (Tick now) =
+    unless_refused v (codes "tick") None (comes_to (server_ticked v now) (tick_line now)) (tick_refusal v now)
 event_ran v (Put path format bytes) =
-    unless_refused v (codes "put") None (comes_to (server_put v path format bytes) (put_line (v.host.store.versions + 1))) (option_map store_number (put_refusal v.host.store path bytes))
-event_ran v (Remove path text) = unless_refused v (codes "remove") None (comes_to (server_removed v path) (remove_line text)) (option_map store_number (remove_refusal v.host.store path))
-event_ran v (End id) = on_connection v (codes "end") id (λ s. comes_to (server_ended v id) (word_line (codes "end") id)) (session_of id v.sessions)
-event_ran v (Release id) = unless_refused v (codes "release") (Some id) (comes_to (server_released v id) (word_line (codes "release") id)) (option_map release_number (released_refusal v id))
-event_ran v (Respond id bytes) = unless_refused v (codes "respond") (Some id) (comes_to (server_given v id bytes) (word_line (codes "respond") id)) (option_map response_number (responded_refusal v id bytes))
-event_ran v (Drop id) = on_connection v (codes "drop") id (λ s. comes_to (server_dropped v id) (word_line (codes "drop") id)) (session_of id v.sessions)
+    unless_refused v (codes "put") None
+    (comes_to (server_put v path format bytes) (put_line (v.host.store.versions + 1)))
+    (option_map store_number (put_refusal v.host.store path bytes))
+event_ran v (Remove path text) =
+    unless_refused v (codes "remove") None (comes_to (server_removed v path) (remove_line text))
+    (option_map store_number (remove_refusal v.host.store path))
+event_ran v (End id) =
+    on_connection v (codes "end") id (λ s. comes_to (server_ended v id) (word_line (codes "end") id))
+    (session_of id v.sessions)
+event_ran v (Release id) =
+    unless_refused v (codes "release") (Some id) (comes_to (server_released v id) (word_line (codes "release") id))
+    (option_map release_number (released_refusal v id))
+event_ran v (Respond id bytes) =
+    unless_refused v (codes "respond") (Some id) (comes_to (server_given v id bytes) (word_line (codes "respond") id))
+    (option_map response_number (responded_refusal v id bytes))
+event_ran v (Drop id) =
+    on_connection v (codes "drop") id (λ s. comes_to (server_dropped v id) (word_line (codes "drop") id))
+    (session_of id v.sessions)
 event_ran v (Status id) = on_connection v (codes "status") id (status_ran v id) (session_of id v.sessions)
 
 -- The result `r` with its text after the text `before`.

@@ -1,7 +1,8 @@
 -- Defined by this project: the results of a replay of events.
 use Rattle.std.specs.Prelude.{◌≡◌, ◌≢◌, ℕ, ◌+◌, Bool, true, false, List, [], ◌∷◌, ◌++◌, length, None, Result, Ok, Err}
 use Rattle.coap_store.specs.Refusals.{put_refusal, remove_refusal}
-use Rattle.coap_script.specs.script.Events.{ScriptEventValue, Open, In, Drain, Tick, Put, Remove, End, Release, Respond, Drop, Status}
+use Rattle.coap_script.specs.script.Events.{ScriptEventValue, Open, In, Drain, Tick, Put, Remove, End, Release, Respond}
+use Rattle.coap_script.specs.script.Events.{Drop, Status}
 use Rattle.coap_server_engine.specs.script.Replay.{event_ran, replayed}
 use Rattle.coap_server_engine.specs.script.Shown.{events_ran}
 use Rattle.coap_server_engine.specs.script.RequestLines.{IsUnfinishedIn}
@@ -18,8 +19,8 @@ replay_number (Memory event) = 2
 
 -- States the server after allocation failed for an event. Such an event is an `in`, or it is an `open`, `drain`, `put`,
 -- `remove` or `status` that would not fail otherwise. The server is unchanged, except that an `in` has accepted bytes.
--- These are the bytes before the last one of the message that needed memory. If the line of a request did, they are those
--- up to the end of that request.
+-- These are the bytes before the last one of the message that needed memory. If the line of a request did, they are
+-- those up to the end of that request.
 abbrev pub IsUnrun : ServerValue → ScriptEventValue → ServerValue → Type 0
 IsUnrun v Open after = (open_refusal v ≡ None) × (after ≡ v)
 IsUnrun v (In id bytes) after = IsUnfinishedIn v id bytes after
@@ -35,7 +36,8 @@ IsUnrun v (Status id) after = (is_there (session_of id v.sessions) ≡ true) × 
 
 -- Holds if allocation failed for the event with this number, from 1. The events before it ran, and their lines were
 -- written.
-pub record IsRefusedAt (v : ServerValue) (events : List ScriptEventValue) (number : ℕ) (after : ServerValue) (HasWritten : List ℕ → Type 0) : Type 0 where
+pub record IsRefusedAt (v : ServerValue) (events : List ScriptEventValue) (number : ℕ) (after : ServerValue)
+    (HasWritten : List ℕ → Type 0) : Type 0 where
   pub before : List ScriptEventValue
   pub event : ScriptEventValue
   pub others : List ScriptEventValue
@@ -46,7 +48,8 @@ pub record IsRefusedAt (v : ServerValue) (events : List ScriptEventValue) (numbe
 
 -- Holds if a write failed. The last event that ran has an incomplete line. The server shows this event and those before
 -- it.
-pub record IsCutAt (v : ServerValue) (events : List ScriptEventValue) (after : ServerValue) (HasWritten : List ℕ → Type 0) : Type 0 where
+pub record IsCutAt (v : ServerValue) (events : List ScriptEventValue) (after : ServerValue)
+    (HasWritten : List ℕ → Type 0) : Type 0 where
   pub before : List ScriptEventValue
   pub event : ScriptEventValue
   pub others : List ScriptEventValue
@@ -60,7 +63,8 @@ pub record IsCutAt (v : ServerValue) (events : List ScriptEventValue) (after : S
   pub shows : ShowsMore v after (events_ran v (before ++ event ∷ []))
 
 -- States the server after a replay, and the bytes that it wrote.
-abbrev pub IsReplayed : {T : Type 0} → ServerValue → List ScriptEventValue → ServerValue → (List ℕ → Type 0) → Result T ReplayFault → Type 0
+abbrev pub IsReplayed : {T : Type 0} → ServerValue → List ScriptEventValue → ServerValue → (List ℕ → Type 0)
+    → Result T ReplayFault → Type 0
 IsReplayed v events after HasWritten (Ok x) = (after ≡ (replayed v events).server) × HasWritten (replayed v events).text
 IsReplayed v events after HasWritten (Err Write) = IsCutAt v events after HasWritten
 IsReplayed v events after HasWritten (Err (Memory number)) = IsRefusedAt v events number after HasWritten

@@ -2,14 +2,17 @@
 use Rattle.std.specs.Prelude.{◌≡◌, ℕ, ◌+◌, List, [], ◌∷◌, ◌++◌, length, Option, Some, None, Result, Ok, Err}
 use Rattle.std.specs.declared.alloc.AllocError.{AllocError}
 use Rattle.coap_store.specs.Refusals.{put_refusal, remove_refusal}
-use Rattle.coap_script.specs.script.Events.{ScriptEventValue, Open, In, Drain, Tick, Put, Remove, End, Release, Respond, Drop, Status}
+use Rattle.coap_script.specs.script.Events.{ScriptEventValue, Open, In, Drain, Tick, Put, Remove, End, Release, Respond}
+use Rattle.coap_script.specs.script.Events.{Drop, Status}
 use Rattle.coap_wire.specs.Reading.{message_of}
 use Rattle.coap_server_engine.specs.script.Replay.{drained, tick_refusal, event_ran, replayed}
 use Rattle.coap_server_engine.specs.script.RequestLines.{IsUnfinishedAfter}
 use Rattle.coap_server_engine.specs.values.InResults.{where_there, took, ShowsMore}
 use Rattle.coap_server_engine.specs.values.Servers.{ServerValue, session_of}
-use Rattle.coap_server_engine.specs.values.ServerAnswers.{open_refusal, released_refusal, responded_refusal, response_event}
-use Rattle.coap_model.specs.world.Events.{AcceptedCall, Opened, Wrote, Ticked, Stored, Removed, Ended, Released, Dropped}
+use Rattle.coap_server_engine.specs.values.ServerAnswers.{open_refusal, released_refusal, responded_refusal}
+use Rattle.coap_server_engine.specs.values.ServerAnswers.{response_event}
+use Rattle.coap_model.specs.world.Events.{AcceptedCall, Opened, Wrote, Ticked, Stored, Removed, Ended, Released}
+use Rattle.coap_model.specs.world.Events.{Dropped}
 use Rattle.coap_server_engine.specs.world.Shows.{Shows}
 use Rattle.coap_server_engine.specs.declared.replay.ReplayFault.{ReplayFault}
 use Rattle.coap_server_engine.specs.declared.replay.ReplayFault.TheVariants.{Write, Memory}
@@ -30,7 +33,8 @@ unless_any (Some refusal) es = []
 unfoldable pub events_made : ServerValue → ScriptEventValue → List AcceptedCall
 events_made v Open = unless (open_refusal v) (Opened (v.ids + 1))
 events_made v (In id bytes) = took v id bytes
-events_made v (Drain id most) = where_there (session_of id v.sessions) (λ s. Wrote id (length (drained most s.link.waiting)))
+events_made v (Drain id most) =
+    where_there (session_of id v.sessions) (λ s. Wrote id (length (drained most s.link.waiting)))
 events_made v (Tick now) = unless (tick_refusal v now) (Ticked now)
 events_made v (Put path format bytes) = unless (put_refusal v.host.store path bytes) (Stored path format bytes)
 events_made v (Remove path text) = unless (remove_refusal v.host.store path) (Removed path)
@@ -76,7 +80,8 @@ ShowsRun v e after (Err fault) = ShowsPart v e after
 
 -- Holds if allocation failed for the event with this number, from 1. The server shows the calls of those before it, and
 -- those that it made itself before.
-pub record ShowsRefusedAt (before : List AcceptedCall) (v : ServerValue) (es : List ScriptEventValue) (number : ℕ) (after : ServerValue) : Type 0 where
+pub record ShowsRefusedAt (before : List AcceptedCall) (v : ServerValue) (es : List ScriptEventValue) (number : ℕ)
+    (after : ServerValue) : Type 0 where
   pub ran : List ScriptEventValue
   pub event : ScriptEventValue
   pub others : List ScriptEventValue
@@ -88,7 +93,8 @@ pub record ShowsRefusedAt (before : List AcceptedCall) (v : ServerValue) (es : L
 
 -- States the history that a server shows after a replay, if it showed `before` at its start. After a failed write,
 -- `IsCutAt` states it.
-abbrev pub IsShownReplay : {T : Type 0} → List AcceptedCall → ServerValue → List ScriptEventValue → ServerValue → Result T ReplayFault → Type 0
+abbrev pub IsShownReplay : {T : Type 0} → List AcceptedCall → ServerValue → List ScriptEventValue → ServerValue
+    → Result T ReplayFault → Type 0
 IsShownReplay before v es after (Ok x) = Shows after (before ++ events_ran v es)
 IsShownReplay before v es after (Err Write) = Unit {0}
 IsShownReplay before v es after (Err (Memory number)) = ShowsRefusedAt before v es number after

@@ -1,6 +1,7 @@
 -- Defined by this project: the calls that accept the bytes of a connection and ask the application for responses. Other
 -- calls take later responses from it.
-use Rattle.std.specs.Prelude.{◌≡◌, ◌≤◌, ◌==◌, ℕ, suc, Bool, true, List, [], ◌∷◌, ◌++◌, take, drop, Option, Some, None, is_none, min, Result, if◌then◌else◌, IfOk}
+use Rattle.std.specs.Prelude.{◌≡◌, ◌≤◌, ◌==◌, ℕ, suc, Bool, true, List, [], ◌∷◌, ◌++◌, take, drop, Option, Some, None}
+use Rattle.std.specs.Prelude.{is_none, min, Result, if◌then◌else◌, IfOk}
 use Rattle.coap_wire.specs.Message.{Message}
 use Rattle.coap_wire.specs.Reading.{message_of}
 use Rattle.coap_wire.specs.Refusal.{RefusedBy}
@@ -33,11 +34,12 @@ offered_events v id bytes = if is_none (responded_refusal v id bytes) then respo
 abbrev pub failure_with : List ℕ → Message
 failure_with token = record { code = internal_server_error; token = token; options = []; payload = [] }
 
--- The response that the server sends for one that the application wrote at once. It is 5.00 if the server does not accept
--- the one that was written. If the application wrote no byte, it is empty.
+-- The response that the server sends for one that the application wrote at once. It is 5.00 if the server does not
+-- accept the one that was written. If the application wrote no byte, it is empty.
 abbrev pub response_for : ServerValue → ℕ → List ℕ → List ℕ → List ℕ
 response_for v id token [] = []
-response_for v id token (b ∷ bytes) = if is_none (responded_refusal v id (b ∷ bytes)) then b ∷ bytes else spelling (failure_with token)
+response_for v id token (b ∷ bytes) =
+    if is_none (responded_refusal v id (b ∷ bytes)) then b ∷ bytes else spelling (failure_with token)
 
 -- The effect of a request that the application may answer at once: the server after it, its event and its exchange.
 pub record AskResult : Type 0 where
@@ -77,14 +79,16 @@ asked_by v id left response = asking (server_taken v id left) id (message_limit 
 
 -- Holds for a take of `left` that accepted `count` bytes, and for the response that the application wrote if it was
 -- asked.
-pub record IsTakenFor (v : ServerValue) (id : ℕ) (left response : List ℕ) (count : ℕ) (after : ServerValue) (told : List AcceptedCall → Type 0) (asks : List Exchange → Type 0) : Type 0 where
+pub record IsTakenFor (v : ServerValue) (id : ℕ) (left response : List ℕ) (count : ℕ) (after : ServerValue)
+    (told : List AcceptedCall → Type 0) (asks : List Exchange → Type 0) : Type 0 where
   pub server : after ≡ (asked_by v id left response).server
   pub shows : ShowsMore v after (Took id (take count left) ∷ (asked_by v id left response).events)
   pub tells : told (Took id (take count left) ∷ (asked_by v id left response).events)
   pub exchanged : asks (asked_by v id left response).exchanges
 
 -- Holds if allocation failed in a take of `left`.
-pub record IsNotTakenFor (v : ServerValue) (id : ℕ) (left : List ℕ) (after : ServerValue) (told : List AcceptedCall → Type 0) : Type 0 where
+pub record IsNotTakenFor (v : ServerValue) (id : ℕ) (left : List ℕ) (after : ServerValue)
+    (told : List AcceptedCall → Type 0) : Type 0 where
   pub count : ℕ
   pub refused : IsNotTaken v id left (taking.Memory count) after
   pub shows : ShowsMore v after (Took id (take count left) ∷ [])
@@ -107,23 +111,28 @@ unserved v = record { fed = unfed v; events = []; exchanges = [] }
 abbrev pub served_more : ℕ → List ℕ → List ℕ → ServeResult → ServeResult
 served_more id left response s = record {
   fed = record (fed_more id left s.fed) { server = (asked_by s.fed.server id left response).server };
-  events = s.events ++ Took id (take (count_taken s.fed.server id left) left) ∷ (asked_by s.fed.server id left response).events;
+  events =
+      s.events
+      ++ Took id (take (count_taken s.fed.server id left) left) ∷ (asked_by s.fed.server id left response).events;
   exchanges = s.exchanges ++ (asked_by s.fed.server id left response).exchanges;
 }
 
 -- The value after takes during which the application wrote these responses, the last one first: one for each take.
 unfoldable pub served : ServerValue → ℕ → List ℕ → List (List ℕ) → ServeResult
 served v id bytes [] = unserved v
-served v id bytes (response ∷ responses) = served_more id (drop (served v id bytes responses).fed.count bytes) response (served v id bytes responses)
+served v id bytes (response ∷ responses) =
+    served_more id (drop (served v id bytes responses).fed.count bytes) response (served v id bytes responses)
 
 -- Holds if a number of takes were made, and each was to be made: bytes remained, and the one before accepted some.
 abbrev pub AreMade : ServerValue → ℕ → List ℕ → List (List ℕ) → Type 0
 AreMade v id bytes [] = Unit {0}
-AreMade v id bytes (response ∷ responses) = (goes_on bytes (served v id bytes responses).fed ≡ true) × AreMade v id bytes responses
+AreMade v id bytes (response ∷ responses) =
+    (goes_on bytes (served v id bytes responses).fed ≡ true) × AreMade v id bytes responses
 
 -- Holds if all bytes were offered, and `count` of them were accepted. `after` is the server then, `told` holds of the
 -- events and `asks` of the exchanges. If there is no connection, no take was made.
-pub record IsServed (v : ServerValue) (id : ℕ) (bytes : List ℕ) (count : ℕ) (after : ServerValue) (told : List AcceptedCall → Type 0) (asks : List Exchange → Type 0) : Type 0 where
+pub record IsServed (v : ServerValue) (id : ℕ) (bytes : List ℕ) (count : ℕ) (after : ServerValue)
+    (told : List AcceptedCall → Type 0) (asks : List Exchange → Type 0) : Type 0 where
   pub responses : List (List ℕ)
   pub made : AreMade v id bytes responses
   pub over : goes_on bytes (served v id bytes responses).fed ≡ true → session_of id v.sessions ≡ None
@@ -136,21 +145,26 @@ pub record IsServed (v : ServerValue) (id : ℕ) (bytes : List ℕ) (count : ℕ
 
 -- Holds if allocation failed in a take, after those before it. `after` is the server then. It shows the events of the
 -- takes before it, and of the bytes which the failing take accepted.
-pub record IsPartlyServed (v : ServerValue) (id : ℕ) (bytes : List ℕ) (after : ServerValue) (told : List AcceptedCall → Type 0) (asks : List Exchange → Type 0) : Type 0 where
+pub record IsPartlyServed (v : ServerValue) (id : ℕ) (bytes : List ℕ) (after : ServerValue)
+    (told : List AcceptedCall → Type 0) (asks : List Exchange → Type 0) : Type 0 where
   pub responses : List (List ℕ)
   pub made : AreMade v id bytes responses
   pub going : goes_on bytes (served v id bytes responses).fed ≡ true
   pub count : ℕ
-  pub refused : IsNotTaken (served v id bytes responses).fed.server id (drop (served v id bytes responses).fed.count bytes) (taking.Memory count) after
-  pub shows : ShowsMore v after ((served v id bytes responses).events ++ Took id (take count (drop (served v id bytes responses).fed.count bytes)) ∷ [])
-  pub tells : told ((served v id bytes responses).events ++ Took id (take count (drop (served v id bytes responses).fed.count bytes)) ∷ [])
+  pub refused : IsNotTaken (served v id bytes responses).fed.server id
+      (drop (served v id bytes responses).fed.count bytes) (taking.Memory count) after
+  pub shows : ShowsMore v after ((served v id bytes responses).events
+      ++ Took id (take count (drop (served v id bytes responses).fed.count bytes)) ∷ [])
+  pub tells : told ((served v id bytes responses).events
+      ++ Took id (take count (drop (served v id bytes responses).fed.count bytes)) ∷ [])
   pub exchanged : asks (served v id bytes responses).exchanges
 
 -- ---- later responses
 
 -- Holds if the application was asked for a later response for the connection `id`, and the server gave it, or did not
 -- accept it.
-pub record IsGivenLater (v : ServerValue) (id : ℕ) (after : ServerValue) (told : List AcceptedCall → Type 0) (asks : List Exchange → Type 0) : Type 0 where
+pub record IsGivenLater (v : ServerValue) (id : ℕ) (after : ServerValue) (told : List AcceptedCall → Type 0)
+    (asks : List Exchange → Type 0) : Type 0 where
   pub bytes : List ℕ
   pub outcome : Result Reply ResponseFault
   pub refused : RefusedBy outcome (responded_refusal v id bytes)
@@ -161,7 +175,8 @@ pub record IsGivenLater (v : ServerValue) (id : ℕ) (after : ServerValue) (told
   pub exchanged : asks (Offered id bytes ∷ Given id outcome ∷ [])
 
 -- The same by the connection that the application named. If it named none, nothing happened.
-abbrev pub IsAskedLater : ServerValue → Option ℕ → ServerValue → (List AcceptedCall → Type 0) → (List Exchange → Type 0) → Type 0
+abbrev pub IsAskedLater : ServerValue → Option ℕ → ServerValue → (List AcceptedCall → Type 0)
+    → (List Exchange → Type 0) → Type 0
 IsAskedLater v None after told asks = (after ≡ v) × (told [] × asks [])
 IsAskedLater v (Some id) after told asks = IsGivenLater v id after told asks
 
@@ -169,13 +184,17 @@ IsAskedLater v (Some id) after told asks = IsGivenLater v id after told asks
 -- The server is the last one then.
 pub data AreGivenLater (v : ServerValue) : ℕ → ServerValue → List AcceptedCall → List Exchange → Type 0 where
   NothingGiven : AreGivenLater v 0 v [] []
-  OneMoreGiven : (n : ℕ) (u : ServerValue) (events : List AcceptedCall) (exchanges : List Exchange) (id : ℕ) (bytes : List ℕ) (outcome : Result Reply ResponseFault) → AreGivenLater v n u events exchanges
-      → RefusedBy outcome (responded_refusal u id bytes) → IfOk outcome (λ r. IsReplyOn bytes r (session_of id u.sessions))
-      → AreGivenLater v (suc n) (server_offered u id bytes) (events ++ offered_events u id bytes) (exchanges ++ Offered id bytes ∷ Given id outcome ∷ [])
+  OneMoreGiven : (n : ℕ) (u : ServerValue) (events : List AcceptedCall) (exchanges : List Exchange) (id : ℕ)
+      (bytes : List ℕ) (outcome : Result Reply ResponseFault) → AreGivenLater v n u events exchanges
+      → RefusedBy outcome (responded_refusal u id bytes)
+      → IfOk outcome (λ r. IsReplyOn bytes r (session_of id u.sessions))
+      → AreGivenLater v (suc n) (server_offered u id bytes) (events ++ offered_events u id bytes)
+      (exchanges ++ Offered id bytes ∷ Given id outcome ∷ [])
 
 -- Holds if the application was asked for later responses until it had none (`more` is `false`), or until it had given
 -- `most` of them.
-pub record AreAskedLater (v : ServerValue) (most : ℕ) (more : Bool) (after : ServerValue) (told : List AcceptedCall → Type 0) (asks : List Exchange → Type 0) : Type 0 where
+pub record AreAskedLater (v : ServerValue) (most : ℕ) (more : Bool) (after : ServerValue)
+    (told : List AcceptedCall → Type 0) (asks : List Exchange → Type 0) : Type 0 where
   pub number : ℕ
   pub events : List AcceptedCall
   pub exchanges : List Exchange

@@ -8,7 +8,8 @@ use Rattle.coap_model.specs.world.Events as event
 use Rattle.coap_server_engine.specs.declared.monitor.Call.{Call}
 use Rattle.coap_server_engine.specs.declared.monitor.Call.TheVariants as call
 
--- The message that was read. For bytes that encode none, which no server accepts as a response, this is the empty message.
+-- The message that was read. For bytes that encode none, which no server accepts as a response, this is the
+-- empty message.
 abbrev pub response_in : Result Message FormatFault → Message
 response_in (Ok m) = m
 response_in (Err e) = record { code = 0; token = []; options = []; payload = [] }
@@ -42,4 +43,5 @@ has_passed_if passed (Some m) = passed m
 
 -- After the calls that it had received before, a monitor has received these.
 unfoldable pub FollowsMore : Following → Following → List AcceptedCall → Type 0
-FollowsMore before after more = (start : List ℕ) (calls : List AcceptedCall) → before start calls → after start (calls ++ more)
+FollowsMore before after more =
+    (start : List ℕ) (calls : List AcceptedCall) → before start calls → after start (calls ++ more)

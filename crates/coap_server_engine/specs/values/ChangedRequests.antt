@@ -1,5 +1,5 @@
--- Defined by this project: the request of a `take` that stores or deletes a resource. The stores before and after differ
--- at its path.
+-- Defined by this project: the request of a `take` that stores or deletes a resource. The stores before and after
+-- differ at its path.
 use Rattle.std.specs.Prelude.{◌≡◌, ◌≢◌, ◌∷◌, ◌++◌, [], ℕ, List, Option, Some, None, option_and_then, if◌then◌else◌}
 use Rattle.coap_wire.specs.Message.{Message}
 use Rattle.coap_path.specs.Paths.{Path}

@@ -1,5 +1,6 @@
 -- Defined by this project: the effect of a flush, which writes all queued bytes of a connection until none is queued.
-use Rattle.std.specs.Prelude.{◌≡◌, ◌≤◌, ◌⊎◌, ℕ, zero, suc, ◌+◌, Bool, true, false, List, [], ◌++◌, length, Option, Some, None}
+use Rattle.std.specs.Prelude.{◌≡◌, ◌≤◌, ◌⊎◌, ℕ, zero, suc, ◌+◌, Bool, true, false, List, [], ◌++◌, length, Option, Some}
+use Rattle.std.specs.Prelude.{None}
 use Rattle.coap_server_session.specs.values.Sessions.{SessionValue, session_written, session_settled}
 use Rattle.coap_server_engine.specs.values.Servers.{ServerValue, session_of, changed_at, server_written}
 use Rattle.coap_server_session.specs.declared.server_state.ServerState.{ServerState}
@@ -47,10 +48,12 @@ IsFlushedOnce id v after wrote false = (waiting_at id v ≡ []) × (after ≡ v)
 IsFlushedOnce id v after wrote true = (after ≡ server_written v id (length (waiting_at id v))) × wrote (waiting_at id v)
 
 -- The same for the connection at an index, whose value is `s`.
-abbrev pub IsFlushedAt : ℕ → ServerState → SessionValue → List (ℕ × SessionValue) → List (ℕ × SessionValue) → (List ℕ → Type 0) → Bool → Type 0
+abbrev pub IsFlushedAt : ℕ → ServerState → SessionValue → List (ℕ × SessionValue) → List (ℕ × SessionValue)
+    → (List ℕ → Type 0) → Bool → Type 0
 IsFlushedAt at host s sessions after wrote false = (s.link.waiting ≡ []) × (after ≡ sessions) × wrote []
 IsFlushedAt at host s sessions after wrote true =
-    (after ≡ changed_at at (λ u. session_settled host (session_written u (length s.link.waiting))) sessions) × wrote s.link.waiting
+    (after ≡ changed_at at (λ u. session_settled host (session_written u (length s.link.waiting))) sessions)
+    × wrote s.link.waiting
 
 -- Holds if a flush is complete. It ends when nothing is queued, or after one more iteration than there were pending
 -- entries and observers. `wrote` states which bytes were written.

@@ -31,16 +31,19 @@ handed_on v piece (Some s) (Some why) = None
 
 -- The same for the connection with this id.
 unfoldable pub handed_frame : ServerValue → ℕ → List ℕ → Option (List ℕ)
-handed_frame v id piece = handed_on v piece (session_of id v.sessions) (stop_on (session_of id (server_taken v id piece).sessions))
+handed_frame v id piece =
+    handed_on v piece (session_of id v.sessions) (stop_on (session_of id (server_taken v id piece).sessions))
 
 -- The request that a `take` of `piece` hands to the application.
 abbrev pub handed_by : ServerValue → ℕ → List ℕ → Option Message
 handed_by v id piece = option_and_then frame_message (handed_frame v id piece)
 
--- States the server after a `take_request`: that after the take, or after one that failed, with the events that it shows.
+-- States the server after a `take_request`: that after the take, or after one that failed, with the events
+-- that it shows.
 abbrev pub IsTakenRequest : ServerValue → ℕ → List ℕ → Result TakenRequest TakeFault → ServerValue → Type 0
 IsTakenRequest v id piece (Ok t) after =
     (after ≡ server_taken v id piece)
     × ((events : List AcceptedCall) → Shows v events → Shows after (events ++ Took id (take t.taken.bytes piece) ∷ []))
 IsTakenRequest v id piece (Err fault) after =
-    IsNotTaken v id piece fault after × ((events : List AcceptedCall) → Shows v events → ShowsRefused events id piece fault after)
+    IsNotTaken v id piece fault after
+    × ((events : List AcceptedCall) → Shows v events → ShowsRefused events id piece fault after)

@@ -1,6 +1,7 @@
 -- Defined by this project: the calls of `take` that accept all bytes that a connection received, and those before an
 -- allocation fails.
-use Rattle.std.specs.Prelude.{◌≡◌, ℕ, zero, suc, ◌+◌, Bool, true, false, not, ◌&&◌, List, [], ◌∷◌, ◌++◌, length, take, drop}
+use Rattle.std.specs.Prelude.{◌≡◌, ℕ, zero, suc, ◌+◌, Bool, true, false, not, ◌&&◌, List, [], ◌∷◌, ◌++◌, length, take}
+use Rattle.std.specs.Prelude.{drop}
 use Rattle.std.specs.Prelude.{Option, Some, None, nat_lt, ◌==◌, if◌then◌else◌}
 use Rattle.coap_server_session.specs.values.Sessions.{SessionValue}
 use Rattle.coap_server_engine.specs.values.Servers.{ServerValue, session_of, server_taken, count_taken}
@@ -23,7 +24,11 @@ unfed v = record { server = v; count = 0; done = false }
 
 -- The value after one more take, of the remaining bytes `left`.
 abbrev pub fed_more : ℕ → List ℕ → InResult → InResult
-fed_more id left f = record { server = server_taken f.server id left; count = f.count + count_taken f.server id left; done = count_taken f.server id left == 0 }
+fed_more id left f = record {
+  server = server_taken f.server id left;
+  count = f.count + count_taken f.server id left;
+  done = count_taken f.server id left == 0;
+}
 
 -- `true` if bytes remain, and the last take accepted some.
 abbrev pub goes_on : List ℕ → InResult → Bool
@@ -49,7 +54,8 @@ pub record IsPartialIn (v : ServerValue) (id : ℕ) (bytes : List ℕ) (after : 
   pub count : ℕ
   pub going : goes_on bytes (fed_turns turns v id bytes) ≡ true
   pub refused :
-      IsNotTaken (fed_turns turns v id bytes).server id (drop (fed_turns turns v id bytes).count bytes) (taking.Memory count) after
+      IsNotTaken (fed_turns turns v id bytes).server id (drop (fed_turns turns v id bytes).count bytes)
+      (taking.Memory count) after
 
 -- ---- the events of these takes
 
@@ -60,7 +66,8 @@ where_there (Some s) call = call s ∷ []
 
 -- The event of one more take, of the remaining bytes `left`.
 abbrev pub took_more : ℕ → List ℕ → InResult → List AcceptedCall
-took_more id left f = where_there (session_of id f.server.sessions) (λ s. Took id (take (count_taken f.server id left) left))
+took_more id left f =
+    where_there (session_of id f.server.sessions) (λ s. Took id (take (count_taken f.server id left) left))
 
 -- The event of one more take, if one is to be made.
 abbrev pub took_once : ℕ → List ℕ → InResult → List AcceptedCall
@@ -81,9 +88,11 @@ ShowsMore v after more = (before : List AcceptedCall) → Shows v before → Sho
 
 -- Holds if `more` are the events of the takes before an allocation failed, followed by that of the bytes which the
 -- failing take accepted.
-pub record IsPartlyTaken (v : ServerValue) (id : ℕ) (bytes : List ℕ) (after : ServerValue) (more : List AcceptedCall) : Type 0 where
+pub record IsPartlyTaken (v : ServerValue) (id : ℕ) (bytes : List ℕ) (after : ServerValue)
+    (more : List AcceptedCall) : Type 0 where
   pub in_result : IsPartialIn v id bytes after
-  pub made : more ≡ took_turns in_result.turns v id bytes ++ Took id (take in_result.count (drop (fed_turns in_result.turns v id bytes).count bytes)) ∷ []
+  pub made : more ≡ took_turns in_result.turns v id bytes
+      ++ Took id (take in_result.count (drop (fed_turns in_result.turns v id bytes).count bytes)) ∷ []
 
 -- Holds if an allocation failed in a take, and the server shows these events.
 pub record ShowsPartlyFed (v : ServerValue) (id : ℕ) (bytes : List ℕ) (after : ServerValue) : Type 0 where

@@ -1,5 +1,6 @@
 -- Defined by this project: the results of a server's calls, and the reasons for which they fail.
-use Rattle.std.specs.Prelude.{◌≡◌, ℕ, Bool, true, false, List, [], ◌∷◌, length, take, Option, Some, None, Result, Ok, Err, option_map, nat_le, nat_lt, ◌==◌, if◌then◌else◌}
+use Rattle.std.specs.Prelude.{◌≡◌, ℕ, Bool, true, false, List, [], ◌∷◌, length, take, Option, Some, None, Result, Ok}
+use Rattle.std.specs.Prelude.{Err, option_map, nat_le, nat_lt, ◌==◌, if◌then◌else◌}
 use Rattle.coap_conn.specs.declared.reason.Reason.{Reason}
 use Rattle.coap_conn.specs.Phases.{stop_of}
 use Rattle.coap_conn.specs.LinkValue.{is_finished}
@@ -97,7 +98,8 @@ handled_on v piece (Some s) stop = handled_so (session_takes s) (taking v.host s
 
 -- The result of a `take` of `piece` on the connection with this id.
 unfoldable pub handled_by : ServerValue → ℕ → List ℕ → Handled
-handled_by v id piece = handled_on v piece (session_of id v.sessions) (stop_on (session_of id (server_taken v id piece).sessions))
+handled_by v id piece =
+    handled_on v piece (session_of id v.sessions) (stop_on (session_of id (server_taken v id piece).sessions))
 
 -- Holds if there is a connection, and allocation may fail in its `take` of `piece`.
 abbrev pub RefusesPieceOn : ServerValue → List ℕ → ℕ → Option SessionValue → Type 0

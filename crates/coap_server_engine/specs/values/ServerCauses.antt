@@ -12,18 +12,21 @@ use Rattle.coap_server_engine.specs.values.Servers.{changed_at, AreAllMarked}
 
 -- Holds if every connection that a change cannot affect is settled.
 abbrev pub UnaffectedAreSettled : Cause → ServerState → List (ℕ × SessionValue) → Type 0
-UnaffectedAreSettled why host sessions = AllByRecursion (λ e. IsUnaffected why host.now e.1 → IsSettled host e.1) sessions
+UnaffectedAreSettled why host sessions =
+    AllByRecursion (λ e. IsUnaffected why host.now e.1 → IsSettled host e.1) sessions
 
 -- The same for a change of a path with this hash, if there was any, after the connection at an index is settled too.
 abbrev pub AreOthersSettled : Option ℕ → ℕ → ServerState → List (ℕ × SessionValue) → Type 0
 AreOthersSettled None at host sessions = Unit {0}
 AreOthersSettled (Some hash) at host sessions =
-    (s : SessionValue) → IsSettled host s → UnaffectedAreSettled (cause.Path hash) host (changed_at at (λ _. s) sessions)
+    (s : SessionValue) → IsSettled host s
+    → UnaffectedAreSettled (cause.Path hash) host (changed_at at (λ _. s) sessions)
 
 -- Holds if a change affects no connection from the index `from` up to, but not including, `to`.
 abbrev pub AreUntouched : Cause → ℕ → ℕ → ℕ → List (ℕ × MarkedSession) → Type 0
 AreUntouched why now from to sessions =
-    (i : ℕ) (s : MarkedSession) → from ≤ i → i < to → slice_get (values_of sessions) i ≡ Some s → IsUnaffected why now s.session × ConcernsNone why s.session.observers
+    (i : ℕ) (s : MarkedSession) → from ≤ i → i < to → slice_get (values_of sessions) i ≡ Some s
+    → IsUnaffected why now s.session × ConcernsNone why s.session.observers
 
 -- Holds if all changed marks are current after those are recomputed that a change may affect.
 abbrev pub AreMarkedBut : Cause → ServerState → List (ℕ × MarkedSession) → Type 0

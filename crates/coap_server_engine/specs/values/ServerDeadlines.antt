@@ -14,7 +14,8 @@ use Rattle.coap_server_engine.specs.values.IndexSets.{IsOutside}
 -- the pending entries and the observers of every connection stay the same.
 abbrev pub WaitsForDeadlines : ServerValue → ℕ → Type 0
 WaitsForDeadlines v later =
-    AllByRecursion (λ e. IsBefore later (due_on v.host.now e.1)) v.sessions → server_ticked v later ≡ record v { host = record v.host { now = later } }
+    AllByRecursion (λ e. IsBefore later (due_on v.host.now e.1)) v.sessions
+    → server_ticked v later ≡ record v { host = record v.host { now = later } }
 
 -- ---- the work left on a connection
 
@@ -42,8 +43,8 @@ pub record KeepsOthers (id : ℕ) (v after : ServerValue) : Type 0 where
   pub keys : keys_of after.sessions ≡ keys_of v.sessions
   pub work : (other : ℕ) → other ≢ id → outlook_of after other ≡ outlook_of v other
 
--- The same for those of them that are outside the set with these words. The set has all connections that it had with the
--- words `before`.
+-- The same for those of them that are outside the set with these words. The set has all connections that it had with
+-- the words `before`.
 pub record AddsAffected (id : ℕ) (before words : List ℕ) (v after : ServerValue) : Type 0 where
   pub keys : keys_of after.sessions ≡ keys_of v.sessions
   pub kept : (i : ℕ) → IsOutside words i → IsOutside before i

@@ -1,5 +1,6 @@
 -- Defined by this project: the value of a server, and the effect of each call on it.
-use Rattle.std.specs.Prelude.{◌≡◌, ℕ, zero, suc, ◌+◌, ◌<◌, Bool, true, false, not, List, [], ◌∷◌, ◌++◌, length, map, filter, Option, Some, None, Result, Ok, Err, slice_get, nat_eq, ◌==◌, if◌then◌else◌}
+use Rattle.std.specs.Prelude.{◌≡◌, ℕ, zero, suc, ◌+◌, ◌<◌, Bool, true, false, not, List, [], ◌∷◌, ◌++◌, length, map}
+use Rattle.std.specs.Prelude.{filter, Option, Some, None, Result, Ok, Err, slice_get, nat_eq, ◌==◌, if◌then◌else◌}
 use Rattle.std.specs.List.{AllByRecursion, IsDistinct, position_or_len}
 use Rattle.std.specs.Map.{keys_of, values_of}
 use Rattle.coap_wire.specs.Message.{Message}
@@ -10,7 +11,10 @@ use Rattle.coap_path.specs.Applications.{ApplicationsValue}
 use Rattle.coap_store.specs.Store.{put_in, removed_in}
 use Rattle.coap_model.specs.Configs.{ConfigValues}
 use Rattle.coap_server_session.specs.declared.server_state.ServerState.{ServerState}
-use Rattle.coap_server_session.specs.values.Sessions.{empty_host, host_with, SessionValue, MarkedSession, IsMarked, TakeOutcome, new_session, taking, host_changed, session_written, session_ended, session_released, session_announced, session_given, session_settled, IsSettled}
+use Rattle.coap_server_session.specs.values.Sessions.{empty_host, host_with, SessionValue, MarkedSession, IsMarked}
+use Rattle.coap_server_session.specs.values.Sessions.{TakeOutcome, new_session, taking, host_changed, session_written}
+use Rattle.coap_server_session.specs.values.Sessions.{session_ended, session_released, session_announced, session_given}
+use Rattle.coap_server_session.specs.values.Sessions.{session_settled, IsSettled}
 
 -- A server: its configuration, the resources with the time, the last id, and the connections in ascending order of ids.
 pub record ServerValue : Type 0 where
@@ -104,11 +108,15 @@ new_server c = record {
 }
 
 abbrev pub server_opened : ServerValue → ServerValue
-server_opened v = server_settled (record v { ids = v.ids + 1; sessions = v.sessions ++ (v.ids + 1, new_session v.config.limits) ∷ [] })
+server_opened v = server_settled (record v {
+  ids = v.ids + 1;
+  sessions = v.sessions ++ (v.ids + 1, new_session v.config.limits) ∷ [];
+})
 
 -- The server after a `take` with the effect `t` on the connection with this id.
 abbrev pub server_taken_so : ServerValue → ℕ → TakeOutcome → ServerValue
-server_taken_so v id t = server_settled (record (on_session id (λ s. t.session) v) { host = host_changed v.host t.change })
+server_taken_so v id t =
+    server_settled (record (on_session id (λ s. t.session) v) { host = host_changed v.host t.change })
 
 -- The server after a `take` on a connection, unchanged if there is none.
 abbrev pub server_taken_on : ServerValue → ℕ → List ℕ → Option SessionValue → ServerValue
@@ -135,7 +143,8 @@ abbrev pub server_ticked : ServerValue → ℕ → ServerValue
 server_ticked v now = server_settled (record v { host = record v.host { now = now } })
 
 abbrev pub server_put : ServerValue → Path → Option ℕ → List ℕ → ServerValue
-server_put v path format bytes = server_settled (record v { host = record v.host { store = put_in v.host.store path format bytes } })
+server_put v path format bytes =
+    server_settled (record v { host = record v.host { store = put_in v.host.store path format bytes } })
 
 abbrev pub server_removed : ServerValue → Path → ServerValue
 server_removed v path = server_settled (record v { host = record v.host { store = removed_in v.host.store path } })

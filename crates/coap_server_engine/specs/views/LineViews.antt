@@ -27,4 +27,5 @@ abbrev pub IsDrainable : ℕ → Option ℕ → Option Drained → Option Sessio
 IsDrainable id most None None = Unit {0}
 IsDrainable id most None (Some s) = ⊥
 IsDrainable id most (Some d) None = ⊥
-IsDrainable id most (Some d) (Some s) = (d.line.items ≡ out_line id (drained most s.link.waiting)) × (d.count ≡ length (drained most s.link.waiting))
+IsDrainable id most (Some d) (Some s) =
+    (d.line.items ≡ out_line id (drained most s.link.waiting)) × (d.count ≡ length (drained most s.link.waiting))

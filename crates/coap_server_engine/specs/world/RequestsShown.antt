@@ -1,6 +1,7 @@
--- Defined by this project: the request that a `take` hands to the application, computed from the worlds before and after
--- it.
-use Rattle.std.specs.Prelude.{ℕ, ◌&&◌, List, [], ◌∷◌, ◌++◌, length, Option, Some, None, option_and_then, slice_get, if◌then◌else◌}
+-- Defined by this project: the request that a `take` hands to the application, computed from the worlds
+-- before and after it.
+use Rattle.std.specs.Prelude.{ℕ, ◌&&◌, List, [], ◌∷◌, ◌++◌, length, Option, Some, None, option_and_then, slice_get}
+use Rattle.std.specs.Prelude.{if◌then◌else◌}
 use Rattle.coap_wire.specs.Message.{Message}
 use Rattle.coap_conn.specs.Phases.{takes_messages}
 use Rattle.coap_conn.specs.History.{after}
@@ -19,7 +20,8 @@ message_between before after = slice_get after.history.handled (length before.hi
 -- A message, if it is a request that becomes a pending entry of the application.
 abbrev pub request_to : StoreValue → ℕ → Connection → Message → Option Message
 request_to store now s m =
-    if asks_answer s m && is_handed (held_for (after s.history (call.Handle m)) (delay_of store now m)) then Some m else None
+    if asks_answer s m && is_handed (held_for (after s.history (call.Handle m)) (delay_of store now m))
+    then Some m else None
 
 -- The request between two states of a connection. There is none if the connection did not exist, or no longer accepts
 -- messages.
@@ -27,9 +29,11 @@ abbrev pub request_between : World → Option Connection → Option Connection �
 request_between w None after = None
 request_between w (Some before) None = None
 request_between w (Some before) (Some after) =
-    if takes_messages after.history.phase then option_and_then (request_to w.store w.now before) (message_between before after) else None
+    if takes_messages after.history.phase
+    then option_and_then (request_to w.store w.now before) (message_between before after) else None
 
 -- The request that an event on a connection hands to the application, after earlier events.
 abbrev pub request_in : ConfigValues → List AcceptedCall → AcceptedCall → ℕ → Option Message
 request_in c earlier e id =
-    request_between (world_after c earlier) (side_of id (world_after c earlier).sides) (side_of id (world_after c (earlier ++ e ∷ [])).sides)
+    request_between (world_after c earlier) (side_of id (world_after c earlier).sides)
+    (side_of id (world_after c (earlier ++ e ∷ [])).sides)

@@ -14,13 +14,13 @@ use coap_script::append_request_line;
 use std::alloc::AllocError;
 
 impl Server {
-    /// Accepts bytes as `take_all` does, on the connection at an index. `id` is its id. Appends the line of each request
-    /// that is handed to the application to `requests`.
+    /// Accepts bytes as `take_all` does, on the connection at an index. `id` is its id. Appends the line of each
+    /// request that is handed to the application to `requests`.
     ///
     /// # Errors
     ///
-    /// Returns `AllocError` if allocation fails, in a take or for the line of a request. The messages before the failure
-    /// were processed then, and the request as well.
+    /// Returns `AllocError` if allocation fails, in a take or for the line of a request. The messages before the
+    /// failure were processed then, and the request as well.
     ///
     /// # Preconditions
     ///
@@ -52,8 +52,8 @@ impl Server {
         Ok(taken)
     }
 
-    /// Accepts bytes once, of the remaining bytes `rest`, and returns their number. Appends the line of the request that is
-    /// handed to the application to `requests`.
+    /// Accepts bytes once, of the remaining bytes `rest`, and returns their number. Appends the line of the request
+    /// that is handed to the application to `requests`.
     ///
     /// # Errors
     ///

@@ -62,7 +62,8 @@ impl Server {
         ensures shows_refused { IfErr result (λ fault. (events : List AcceptedCall) → Shows self.old events →
             ShowsRefused events id piece.now fault self.new) }
         ensures refused_for { IfErr result (λ fault.
-            (events : List AcceptedCall) → Shows self.old events → IsRefusedFor self.old.config events id piece.now fault) }
+            (events : List AcceptedCall) → Shows self.old events
+            → IsRefusedFor self.old.config events id piece.now fault) }
     {
         let Some(at) = self.seek(id) else {
             return Err(TakeFault::NoSuch);

@@ -67,8 +67,8 @@ impl Concerned {
         self.time = IndexSet::full();
     }
 
-    /// Adds a connection, at this index, to the set of its last observer. If it has an observer or a pending entry, it is
-    /// added to the set of the time too.
+    /// Adds a connection, at this index, to the set of its last observer. If it has an observer or a pending entry, it
+    /// is added to the set of the time too.
     ///
     /// A message adds at most one observer to a connection, at the end of the list.
     #[inline(always)]

@@ -36,16 +36,16 @@ impl Server {
     ghost use Rattle.coap_server_engine.specs.Prelude.{KeepsWork, AreSettled, AddsAffected};
     ghost use Rattle.coap_server_engine.specs.contracts.server.Server.{the_row};
 
-    /// Accepts bytes as `take` does, and lends the request that it handed to the application, if the accepted bytes end with
-    /// one. It also lends the request that stored or deleted a resource, by which the program follows the resources that
-    /// clients change.
+    /// Accepts bytes as `take` does, and lends the request that it handed to the application, if the accepted bytes end
+    /// with one. It also lends the request that stored or deleted a resource, by which the program follows the
+    /// resources that clients change.
     ///
-    /// The request that changed a resource is lent in every case, also if its response stopped the connection. A request
-    /// that changes nothing is not lent: a GET, one with an error response, or a DELETE of an absent resource.
+    /// The request that changed a resource is lent in every case, also if its response stopped the connection. A
+    /// request that changes nothing is not lent: a GET, one with an error response, or a DELETE of an absent resource.
     ///
     /// The application answers requests of the entries in `Applications`. The server itself answers with 4.02 for an
-    /// unrecognised critical option, 5.05 for proxying, or 5.03 if the list of pending entries is full. No request is lent
-    /// then, nor if the connection stops in the same call.
+    /// unrecognised critical option, 5.05 for proxying, or 5.03 if the list of pending entries is full. No request is
+    /// lent then, nor if the connection stops in the same call.
     ///
     /// # Errors
     ///
@@ -94,7 +94,8 @@ impl Server {
             ChangesBy self.old.config events (Took id (take t.taken.bytes piece.now))
             (option_and_then frame_key (option_copied t.changed))) }
         ensures refused_for { IfErr result (λ fault.
-            (events : List AcceptedCall) → Shows self.old events → IsRefusedFor self.old.config events id piece.now fault) }
+            (events : List AcceptedCall) → Shows self.old events
+            → IsRefusedFor self.old.config events id piece.now fault) }
     {
         let Some(at) = find(&self.sessions, self.recent, id) else {
             return Err(TakeFault::NoSuch);
@@ -186,12 +187,12 @@ impl Server {
         most.min(self.sessions[index.at].peer_max() as usize)
     }
 
-    /// Accepts bytes as `take_request_at` does, and shows the request that is handed over to the application, unless that
-    /// answers none. Returns the token of a request that was shown. `response` is empty before, and has the response of the
-    /// application afterwards.
+    /// Accepts bytes as `take_request_at` does, and shows the request that is handed over to the application, unless
+    /// that answers none. Returns the token of a request that was shown. `response` is empty before, and has the
+    /// response of the application afterwards.
     ///
-    /// The request is parsed again, from its frame. The message that the connection parsed borrows from its framer, and the
-    /// connection settles before the application is asked.
+    /// The request is parsed again, from its frame. The message that the connection parsed borrows from its framer, and
+    /// the connection settles before the application is asked.
     // Always inlined, with `take_for`: a call costs 57 instructions for each message.
     #[inline(always)]
     fn take_and_ask<A: Application>(
@@ -236,8 +237,8 @@ impl Server {
         Ok((taken.taken, Some(request.token().to_token())))
     }
 
-    /// Gives the response that the application wrote at once, or 5.00 if the server does not accept it. If the application
-    /// wrote no byte, nothing is given.
+    /// Gives the response that the application wrote at once, or 5.00 if the server does not accept it. If the
+    /// application wrote no byte, nothing is given.
     ///
     /// The 5.00 is encoded, and parsed as every response, since the monitor receives responses as bytes.
     fn give_at_once<W, M: Monitor<W>>(
@@ -326,14 +327,14 @@ impl Server {
         }
     }
 
-    /// Accepts bytes as `take_all` does, and shows each request that is handed over to the application. A response that the
-    /// application writes at once is given as `respond` gives it, directly after the take. The monitor receives each call of
-    /// `take`, also one that accepts no byte. Returns the number of bytes accepted, and the connections on which the
-    /// messages may have changed the work left.
+    /// Accepts bytes as `take_all` does, and shows each request that is handed over to the application. A response that
+    /// the application writes at once is given as `respond` gives it, directly after the take. The monitor receives
+    /// each call of `take`, also one that accepts no byte. Returns the number of bytes accepted, and the connections on
+    /// which the messages may have changed the work left.
     ///
-    /// If the server does not accept the response, it sends 5.00 (Internal Server Error) with the token of the request. The
-    /// monitor receives `Call::Responded` after `Call::Took`. `response` is the buffer for the responses: it is cleared, and
-    /// no memory is allocated beyond what the application allocates.
+    /// If the server does not accept the response, it sends 5.00 (Internal Server Error) with the token of the request.
+    /// The monitor receives `Call::Responded` after `Call::Took`. `response` is the buffer for the responses: it is
+    /// cleared, and no memory is allocated beyond what the application allocates.
     ///
     /// # Errors
     ///
@@ -386,11 +387,11 @@ impl Server {
         })
     }
 
-    /// Asks the application for one later response, and gives it as `respond` does. Returns the connection of the response,
-    /// or `None` if the application has none now.
+    /// Asks the application for one later response, and gives it as `respond` does. Returns the connection of the
+    /// response, or `None` if the application has none now.
     ///
-    /// The application receives the result. If the server accepted the response, the monitor receives `Call::Responded`.
-    /// `response` is the buffer for the response, and is cleared.
+    /// The application receives the result. If the server accepted the response, the monitor receives
+    /// `Call::Responded`. `response` is the buffer for the response, and is cleared.
     pub fn answer_next<W, M: Monitor<W>, A: Application>(
         &mut self,
         application: &mut A,

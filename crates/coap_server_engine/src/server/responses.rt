@@ -16,8 +16,8 @@ impl Server {
     /// Queues a response of the application, and removes the first pending request with its token. `response` is one
     /// encoded message.
     ///
-    /// A response that exceeds the Max-Message-Size of the peer is reduced to its code and token (`Reply::Bare`). If that
-    /// does not fit either, the connection stops (`Reply::Stopped`).
+    /// A response that exceeds the Max-Message-Size of the peer is reduced to its code and token (`Reply::Bare`). If
+    /// that does not fit either, the connection stops (`Reply::Stopped`).
     ///
     /// # Errors
     ///

@@ -1,12 +1,18 @@
 -- The link and the entries after a request, after a due entry was sent, and after a notification.
-use Rattle.std.proofs.Common.{◌≡◌, ℕ, Bool, true, false, ◌&&◌, List, Option, Some, None, refl, sym, ap, ◌∙◌, ◌==◌, slice_get, slice_set, if◌then◌else◌}
-use Rattle.coap_server_session.specs.Prelude.{remove, Message, Reply, fit, bare_response, first_due, link_after, LinkValue}
-use Rattle.coap_server_session.specs.Prelude.{limit_in, can_hold, path_of, says, only, answer_of, immediate_answer, changes}
-use Rattle.coap_server_session.specs.Prelude.{StoreValue, application_deadline, prompt_answer, unless_handed, Application}
+use Rattle.std.proofs.Common.{◌≡◌, ℕ, Bool, true, false, ◌&&◌, List, Option, Some, None, refl, sym, ap, ◌∙◌, ◌==◌}
+use Rattle.std.proofs.Common.{slice_get, slice_set, if◌then◌else◌}
+use Rattle.coap_server_session.specs.Prelude.{remove, Message, Reply, fit, bare_response, first_due, link_after}
+use Rattle.coap_server_session.specs.Prelude.{LinkValue}
+use Rattle.coap_server_session.specs.Prelude.{limit_in, can_hold, path_of, says, only, answer_of, immediate_answer}
+use Rattle.coap_server_session.specs.Prelude.{changes}
+use Rattle.coap_server_session.specs.Prelude.{StoreValue, application_deadline, prompt_answer, unless_handed}
+use Rattle.coap_server_session.specs.Prelude.{Application}
 use Rattle.coap_server_session.specs.Prelude.{Delay, delay_by, delay_or, hold_call, Engine}
-use Rattle.coap_server_session.specs.Prelude.{response_message, response_with_observe, notification_of, MayObserve, ServerState}
+use Rattle.coap_server_session.specs.Prelude.{response_message, response_with_observe, notification_of, MayObserve}
+use Rattle.coap_server_session.specs.Prelude.{ServerState}
 use Rattle.coap_server_session.specs.Prelude.{moment_after, asks_entry, is_whole, with_entry, goes_on, ObserverValue}
-use Rattle.coap_server_session.specs.Prelude.{new_entry, answer_on, delay_on, held_in, is_stale, mark_of, notification_on}
+use Rattle.coap_server_session.specs.Prelude.{new_entry, answer_on, delay_on, held_in, is_stale, mark_of}
+use Rattle.coap_server_session.specs.Prelude.{notification_on}
 use Rattle.coap_server_session.specs.Prelude.{state_on, first_index, is_observed, response_on, is_sent, link_replied}
 use Rattle.coap_server_session.specs.Prelude.{entries_replied, entries_notified, Response}
 use Rattle.std.proofs.lemmas.List.{append-nil}
@@ -25,15 +31,18 @@ use Rattle.coap_model.proofs.world.EntryLemmas.{asks_to_enter}
 
 -- ---- a request
 
-pub may_watch : (host : ServerState) (m : Message) → asks_entry (answer_on host m).watch ≡ true → MayObserve host.store host.now (path_of m) (answer_on host m)
+pub may_watch : (host : ServerState) (m : Message) → asks_entry (answer_on host m).watch ≡ true
+    → MayObserve host.store host.now (path_of m) (answer_on host m)
 may_watch host m asks =
     prompt_cases host.store host.now m (λ a. a.watch ≡ watch.Add → MayObserve host.store host.now (path_of m) a)
     (λ e. absurd cc) (promptly_watched_is_there host.store host.now m) (asks_to_enter (answer_on host m).watch asks)
 
 -- A request that changes the store gets no entry.
-unobserved : (host : ServerState) (m : Message) (room : ℕ) (others : List ObserverValue) → changes (answer_on host m).change ≡ true → is_observed host room others m ≡ false
+unobserved : (host : ServerState) (m : Message) (room : ℕ) (others : List ObserverValue)
+    → changes (answer_on host m).change ≡ true → is_observed host room others m ≡ false
 unobserved host m room others does =
-    and_left _ _ (false_from_ne_true (asks_entry (answer_on host m).watch) (λ asks. both_ways (changes (answer_on host m).change) (ap changes (may_watch host m asks).quiet) does))
+    and_left _ _ (false_from_ne_true (asks_entry (answer_on host m).watch)
+    (λ asks. both_ways (changes (answer_on host m).change) (ap changes (may_watch host m asks).quiet) does))
 
 -- A change that changes something is not `Nothing`.
 pub nothing_changed : (c : answer.Change) → changes c ≡ false → c ≡ answer.Nothing
@@ -49,7 +58,8 @@ pub record IsRefusedDelay (a : Answer) : Type 0 where
   pub refused : a.response ≡ only code.service_unavailable
   pub unwatched : asks_entry a.watch ≡ false
 
-refused_immediately : (s : StoreValue) (now : ℕ) (m : Message) (seconds : ℕ) → (answer_of s now m).hold ≡ Some seconds → IsRefusedDelay (immediate_answer s now m)
+refused_immediately : (s : StoreValue) (now : ℕ) (m : Message) (seconds : ℕ) → (answer_of s now m).hold ≡ Some seconds
+    → IsRefusedDelay (immediate_answer s now m)
 unfolding immediate_answer
 refused_immediately s now m seconds holds =
     let same : (answer_of s now m).watch ≡ (immediate_answer s now m).watch = cc holds in
@@ -60,16 +70,22 @@ refused_immediately s now m seconds holds =
           (λ asks. held_unwatched s now m seconds holds (same ∙ asks_to_enter (immediate_answer s now m).watch asks));
     }
 
-refused_by : (s : StoreValue) (now : ℕ) (m : Message) (d : Delay) (deadline hold : Option ℕ) → (answer_of s now m).hold ≡ hold → delay_or deadline hold ≡ Some d → IsRefusedDelay (unless_handed deadline (immediate_answer s now m))
+refused_by : (s : StoreValue) (now : ℕ) (m : Message) (d : Delay) (deadline hold : Option ℕ)
+    → (answer_of s now m).hold ≡ hold → delay_or deadline hold ≡ Some d
+    → IsRefusedDelay (unless_handed deadline (immediate_answer s now m))
 refused_by s now m d (Some seconds) hold holds is = record { quiet = refl; refused = refl; unwatched = refl }
 refused_by s now m d None None holds is = absurd cc
 refused_by s now m d None (Some seconds) holds is = refused_immediately s now m seconds holds
 
-refused_delay_of : (host : ServerState) (m : Message) (d : Delay) → delay_on host m ≡ Some d → IsRefusedDelay (answer_on host m)
+refused_delay_of : (host : ServerState) (m : Message) (d : Delay) → delay_on host m ≡ Some d
+    → IsRefusedDelay (answer_on host m)
 unfolding prompt_answer
-refused_delay_of host m d = refused_by host.store host.now m d (application_deadline host.store.applications m) (answer_of host.store host.now m).hold refl
+refused_delay_of host m d =
+    refused_by host.store host.now m d (application_deadline host.store.applications m)
+    (answer_of host.store host.now m).hold refl
 
-module _ (host : ServerState) (m : Message) (d : Delay) (room : ℕ) (others : List ObserverValue) (delays : delay_on host m ≡ Some d) where
+module _ (host : ServerState) (m : Message) (d : Delay) (room : ℕ) (others : List ObserverValue)
+    (delays : delay_on host m ≡ Some d) where
   pub late_quiet : (answer_on host m).change ≡ answer.Nothing
   late_quiet = (refused_delay_of host m d delays).quiet
 
@@ -79,12 +95,16 @@ module _ (host : ServerState) (m : Message) (d : Delay) (room : ℕ) (others : L
 
   -- Its response is delayed if the pending list has room, and is 5.03 otherwise.
   pub late_link : (l after : LinkValue) (moment : ℕ) → moment ≡ moment_after host.now d.seconds
-      → after ≡ (if can_hold l then link_after l (hold_call d.by m.token moment) else link_after l (call.Reply (response_message m.token (only code.service_unavailable)))) → after ≡ link_replied host l room others m (held_in l (delay_on host m))
+      → after ≡ (if can_hold l then link_after l (hold_call d.by m.token moment)
+      else link_after l (call.Reply (response_message m.token (only code.service_unavailable))))
+      → after ≡ link_replied host l room others m (held_in l (delay_on host m))
   late_link l after moment at is =
       let refused : response_message m.token (only code.service_unavailable) ≡ response_on host room others m =
       cc (late_unobserved, (refused_delay_of host m d delays).refused) in
       is
-      ∙ elim (can_hold l) as (λ b. (if b then link_after l (hold_call d.by m.token moment) else link_after l (call.Reply (response_message m.token (only code.service_unavailable)))) ≡ link_replied host l room others m (if b then Some d else None)) [
+      ∙ elim (can_hold l) as (λ b. (if b then link_after l (hold_call d.by m.token moment)
+      else link_after l (call.Reply (response_message m.token (only code.service_unavailable))))
+      ≡ link_replied host l room others m (if b then Some d else None)) [
         | true ↦ cc at
         | false ↦ cc refused
       ]
@@ -92,7 +112,11 @@ module _ (host : ServerState) (m : Message) (d : Delay) (room : ℕ) (others : L
 
   pub late_entries : (l : LinkValue) → others ≡ entries_replied host l room others m (held_in l (delay_on host m))
   late_entries l =
-      rw delays (elim (can_hold l) as (λ b. others ≡ entries_replied host l room others m (if b then Some d else None)) [ true ↦ refl | false ↦ cc late_unobserved ])
+      rw delays
+      (elim (can_hold l) as (λ b. others ≡ entries_replied host l room others m (if b then Some d else None)) [
+        | true ↦ refl
+        | false ↦ cc late_unobserved
+      ])
 
 -- ---- a request that the application does not answer
 
@@ -106,29 +130,41 @@ module _ (host : ServerState) (m : Message) (unhanded : application_deadline hos
 
   -- ---- a request that is answered at once
 
-  pub prompt_is : (a : Answer) → a ≡ answer_of host.store host.now m → a.hold ≡ None → (delay_on host m ≡ None) × (a ≡ answer_on host m)
+  pub prompt_is : (a : Answer) → a ≡ answer_of host.store host.now m → a.hold ≡ None
+      → (delay_on host m ≡ None) × (a ≡ answer_on host m)
   prompt_is a is at_once =
-      let none : (answer_of host.store host.now m).hold ≡ None = cc in
-      (delay_unhanded ∙ ap (delay_by Engine) none, is ∙ sym (same_at_once host.store host.now m none) ∙ sym answer_unhanded)
+      let none : (answer_of host.store host.now m).hold ≡ None = cc in (
+        delay_unhanded ∙ ap (delay_by Engine) none,
+        is ∙ sym (same_at_once host.store host.now m none) ∙ sym answer_unhanded,
+      )
 
 -- The delay of a request that the application answers.
-pub delay_handed : (host : ServerState) (m : Message) (deadline : ℕ) → application_deadline host.store.applications m ≡ Some deadline → delay_on host m ≡ Some (record { by = Application; seconds = deadline })
+pub delay_handed : (host : ServerState) (m : Message) (deadline : ℕ)
+    → application_deadline host.store.applications m ≡ Some deadline
+    → delay_on host m ≡ Some (record { by = Application; seconds = deadline })
 delay_handed host m deadline is = ap (λ (d : Option ℕ). delay_or d (answer_of host.store host.now m).hold) is
 
-module _ (host : ServerState) (m : Message) (l : LinkValue) (room : ℕ) (others : List ObserverValue) (none : delay_on host m ≡ None) where
-  pub prompt_link : link_after l (call.Reply (response_on host room others m)) ≡ link_replied host l room others m (held_in l (delay_on host m))
+module _ (host : ServerState) (m : Message) (l : LinkValue) (room : ℕ) (others : List ObserverValue)
+    (none : delay_on host m ≡ None) where
+  pub prompt_link : link_after l (call.Reply (response_on host room others m))
+      ≡ link_replied host l room others m (held_in l (delay_on host m))
   prompt_link = cc none
 
-  pub prompt_entries : (enters : Bool) → enters ≡ (is_observed host room others m && is_sent l (response_on host room others m)) → with_entry enters others (new_entry host m) ≡ entries_replied host l room others m (held_in l (delay_on host m))
+  pub prompt_entries : (enters : Bool)
+      → enters ≡ (is_observed host room others m && is_sent l (response_on host room others m))
+      → with_entry enters others (new_entry host m) ≡ entries_replied host l room others m (held_in l (delay_on host m))
   prompt_entries enters is = cc
 
   -- A request that changes the store gets no entry.
   module _ (does : changes (answer_on host m).change ≡ true) where
-    pub change_link : (after : LinkValue) (r : Response) → r ≡ (answer_on host m).response → after ≡ link_after l (call.Reply (response_with_observe m.token false r)) → after ≡ link_replied host l room others m (held_in l (delay_on host m))
+    pub change_link : (after : LinkValue) (r : Response) → r ≡ (answer_on host m).response
+        → after ≡ link_after l (call.Reply (response_with_observe m.token false r))
+        → after ≡ link_replied host l room others m (held_in l (delay_on host m))
     change_link after r same is =
         is
         ∙ ap (λ (s : Response). link_after l (call.Reply (response_with_observe m.token false s))) same
-        ∙ ap (λ (b : Bool). link_after l (call.Reply (response_with_observe m.token b (answer_on host m).response))) (sym (unobserved host m room others does))
+        ∙ ap (λ (b : Bool). link_after l (call.Reply (response_with_observe m.token b (answer_on host m).response)))
+        (sym (unobserved host m room others does))
         ∙ prompt_link
 
     pub change_entries : others ≡ entries_replied host l room others m (held_in l (delay_on host m))
@@ -144,18 +180,25 @@ nothing_sent l now none = rw (none, (due_nothing now l.held none).1, append-nil 
 
 -- `true` if a notification is a 2.05 and is sent whole.
 abbrev pub goes_whole : ServerState → LinkValue → ObserverValue → Bool
-goes_whole host l o = goes_on (notification_of host.store host.now o.path o.format) && is_sent l (notification_on host o)
+goes_whole host l o =
+    goes_on (notification_of host.store host.now o.path o.format) && is_sent l (notification_on host o)
 
 -- The entries after the notification of the observer at the index of the first stale one.
-pub notified_entries : (host : ServerState) (l : LinkValue) (entries : List ObserverValue) (index : ℕ) (o : ObserverValue) (stays : Bool) → first_index (is_stale host) entries ≡ Some index → stays ≡ goes_whole host l o
-    → (if stays then slice_set entries index (record o { mark = mark_of host.now (state_on host o.path) }) else remove entries index) ≡ entries_notified host l entries o
+pub notified_entries : (host : ServerState) (l : LinkValue) (entries : List ObserverValue) (index : ℕ)
+    (o : ObserverValue) (stays : Bool) → first_index (is_stale host) entries ≡ Some index → stays ≡ goes_whole host l o
+    → (if stays then slice_set entries index (record o { mark = mark_of host.now (state_on host o.path) })
+    else remove entries index) ≡ entries_notified host l entries o
 notified_entries host l entries index o true first is = (is_first (is_stale host) entries index first).becomes _ ∙ cc
 notified_entries host l entries index o false first is = (is_first (is_stale host) entries index first).goes ∙ cc
 
 -- An observer stays if and only if the code computes so from the entry at the index.
-pub observer_stays_by : (host : ServerState) (l : LinkValue) (entries : List ObserverValue) (index : ℕ) (seen o : ObserverValue) (a : Answer) (c : ℕ) (goes : Bool) (reply : Reply) → slice_get entries index ≡ Some seen → slice_get entries index ≡ Some o
-    → a ≡ says (notification_of host.store host.now seen.path seen.format) → c ≡ a.response.code → goes ≡ (c == code.content)
-    → reply ≡ fit (limit_in l) (response_with_observe seen.token goes a.response) (bare_response (response_with_observe seen.token goes a.response)) → (goes && is_whole reply) ≡ goes_whole host l o
+pub observer_stays_by : (host : ServerState) (l : LinkValue) (entries : List ObserverValue) (index : ℕ)
+    (seen o : ObserverValue) (a : Answer) (c : ℕ) (goes : Bool) (reply : Reply) → slice_get entries index ≡ Some seen
+    → slice_get entries index ≡ Some o
+    → a ≡ says (notification_of host.store host.now seen.path seen.format) → c ≡ a.response.code
+    → goes ≡ (c == code.content)
+    → reply ≡ fit (limit_in l) (response_with_observe seen.token goes a.response)
+    (bare_response (response_with_observe seen.token goes a.response)) → (goes && is_whole reply) ≡ goes_whole host l o
 observer_stays_by host l entries index seen o a c goes reply read at told code_is goes_is sent =
     let same : seen ≡ o = cc (read, at) in
     let stays : (goes && is_whole reply) ≡ goes_whole host l seen = cc (told, code_is, goes_is, sent) in

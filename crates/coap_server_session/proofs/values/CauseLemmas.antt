@@ -1,12 +1,17 @@
 -- A change of a path or of the time leaves the connections settled that it does not affect. These lemmas also give the
 -- marks that it recomputes.
-use Rattle.std.proofs.Common.{◌≡◌, ◌≢◌, ℕ, false, List, [], ◌∷◌, Option, Some, None, is_some, refl, sym, ap, ◌∙◌, ◌==◌, if◌then◌else◌}
-use Rattle.coap_server_session.specs.Prelude.{find, map, not, AllByRecursion, Path, StoreValue, found_in, kind_of_path, key_for}
-use Rattle.coap_server_session.specs.Prelude.{state_at, Root, Time, Async, Listing, Dynamic, Change, Nothing, Put, Delete}
-use Rattle.coap_server_session.specs.Prelude.{changed, changes, IsStore, ServerState, Cause, ObserverValue, SessionValue}
+use Rattle.std.proofs.Common.{◌≡◌, ◌≢◌, ℕ, false, List, [], ◌∷◌, Option, Some, None, is_some, refl, sym, ap, ◌∙◌, ◌==◌}
+use Rattle.std.proofs.Common.{if◌then◌else◌}
+use Rattle.coap_server_session.specs.Prelude.{find, map, not, AllByRecursion, Path, StoreValue, found_in, kind_of_path}
+use Rattle.coap_server_session.specs.Prelude.{key_for}
+use Rattle.coap_server_session.specs.Prelude.{state_at, Root, Time, Async, Listing, Dynamic, Change, Nothing, Put}
+use Rattle.coap_server_session.specs.Prelude.{Delete}
+use Rattle.coap_server_session.specs.Prelude.{changed, changes, IsStore, ServerState, Cause, ObserverValue}
+use Rattle.coap_server_session.specs.Prelude.{SessionValue}
 use Rattle.coap_server_session.specs.Prelude.{is_marked, is_stale, host_changed, IsSettled, path_hash, change_hash}
 use Rattle.coap_server_session.specs.Prelude.{ObservesNone, mark_of, state_on, changed_mark, MarkedSession, IsMarked}
-use Rattle.coap_server_session.specs.Prelude.{is_concerned, AreMarked, marks_after, ConcernsNone, marks_anew, IsMarkedBut}
+use Rattle.coap_server_session.specs.Prelude.{is_concerned, AreMarked, marks_after, ConcernsNone, marks_anew}
+use Rattle.coap_server_session.specs.Prelude.{IsMarkedBut}
 use Rattle.std.proofs.lemmas.Bool.{both_ways, eq-eqb}
 use Rattle.coap_server_session.proofs.values.MarkLemmas.{anew_same, anew_after, anew_unconcerned}
 use Rattle.coap_path.specs.declared.resource_kind.ResourceKind.{ResourceKind}
@@ -25,7 +30,8 @@ hash_where_changed (Put path format bytes) = refl
 hash_where_changed (Delete path) = refl
 
 -- The resource at a path with another hash is unchanged.
-kept_elsewhere : (s : StoreValue) (c : Change) (hash : ℕ) → change_hash c ≡ Some hash → (q : Path) → path_hash q ≢ hash → found_in (changed s c).resources q ≡ found_in s.resources q
+kept_elsewhere : (s : StoreValue) (c : Change) (hash : ℕ) → change_hash c ≡ Some hash → (q : Path) → path_hash q ≢ hash
+    → found_in (changed s c).resources q ≡ found_in s.resources q
 kept_elsewhere s Nothing hash is q other = absurd cc
 kept_elsewhere s (Put path format bytes) hash is q other = other_is_kept_on_put s path q format bytes (λ e. other cc)
 kept_elsewhere s (Delete path) hash is q other = other_is_kept_on_delete s path q (λ e. other cc)
@@ -33,7 +39,9 @@ kept_elsewhere s (Delete path) hash is q other = other_is_kept_on_delete s path 
 -- ---- a state that did not change
 
 -- The mark of a built-in resource is the time, whatever the store has.
-marked_alike : (s t : StoreValue) (now mark : ℕ) (key : Option Path) (p : ResourceKind) → ((q : Path) → key ≡ Some q → found_in t.resources q ≡ found_in s.resources q) → is_marked now mark (state_at t now key p) ≡ is_marked now mark (state_at s now key p)
+marked_alike : (s t : StoreValue) (now mark : ℕ) (key : Option Path) (p : ResourceKind)
+    → ((q : Path) → key ≡ Some q → found_in t.resources q ≡ found_in s.resources q)
+    → is_marked now mark (state_at t now key p) ≡ is_marked now mark (state_at s now key p)
 unfolding state_at
 marked_alike s t now mark key Root same = refl
 marked_alike s t now mark key Time same = refl
@@ -42,13 +50,16 @@ marked_alike s t now mark key Listing same = refl
 marked_alike s t now mark None Dynamic same = refl
 marked_alike s t now mark (Some q) Dynamic same = ap (is_marked now mark) (same q refl)
 
-stale_elsewhere : (host : ServerState) (c : Change) (hash : ℕ) (o : ObserverValue) → change_hash c ≡ Some hash → path_hash o.path ≢ hash → is_stale host o ≡ is_stale (host_changed host c) o
+stale_elsewhere : (host : ServerState) (c : Change) (hash : ℕ) (o : ObserverValue) → change_hash c ≡ Some hash
+    → path_hash o.path ≢ hash → is_stale host o ≡ is_stale (host_changed host c) o
 unfolding is_stale
 stale_elsewhere host c hash o is other =
     ap not (sym (marked_alike host.store (changed host.store c) host.now o.mark (key_for o.path) (kind_of_path o.path)
     (λ q e. kept_elsewhere host.store c hash is q (λ same. other (ap path_hash (key_is o.path q e).1 ∙ same)))))
 
-mark_alike : (s t : StoreValue) (now : ℕ) (key : Option Path) (p : ResourceKind) → ((q : Path) → key ≡ Some q → found_in t.resources q ≡ found_in s.resources q) → mark_of now (state_at s now key p) ≡ mark_of now (state_at t now key p)
+mark_alike : (s t : StoreValue) (now : ℕ) (key : Option Path) (p : ResourceKind)
+    → ((q : Path) → key ≡ Some q → found_in t.resources q ≡ found_in s.resources q)
+    → mark_of now (state_at s now key p) ≡ mark_of now (state_at t now key p)
 unfolding state_at
 mark_alike s t now key Root same = refl
 mark_alike s t now key Time same = refl
@@ -58,50 +69,68 @@ mark_alike s t now None Dynamic same = refl
 mark_alike s t now (Some q) Dynamic same = ap (mark_of now) (sym (same q refl))
 
 -- An observer that the change does not affect keeps its changed mark.
-mark_elsewhere : (host : ServerState) (c : Change) (hash : ℕ) (o : ObserverValue) → change_hash c ≡ Some hash → is_concerned (cause.Path hash) o ≡ false → changed_mark host o ≡ changed_mark (host_changed host c) o
+mark_elsewhere : (host : ServerState) (c : Change) (hash : ℕ) (o : ObserverValue) → change_hash c ≡ Some hash
+    → is_concerned (cause.Path hash) o ≡ false → changed_mark host o ≡ changed_mark (host_changed host c) o
 unfolding changed_mark
 mark_elsewhere host c hash o is other =
-    let apart : path_hash o.path ≢ hash = λ same. both_ways (path_hash o.path == hash) other (eq-eqb (path_hash o.path) hash same) in
+    let apart : path_hash o.path ≢ hash =
+    λ same. both_ways (path_hash o.path == hash) other (eq-eqb (path_hash o.path) hash same) in
     let same = mark_alike host.store (changed host.store c) host.now (key_for o.path) (kind_of_path o.path)
     (λ q e. kept_elsewhere host.store c hash is q (λ same. apart (ap path_hash (key_is o.path q e).1 ∙ same))) in
-    ap (λ b. if b then Some (mark_of host.now (state_on host o.path)) else None) (stale_elsewhere host c hash o is apart)
+    ap (λ b. if b then Some (mark_of host.now (state_on host o.path)) else None)
+    (stale_elsewhere host c hash o is apart)
     ∙ ap (λ (m : ℕ). if is_stale (host_changed host c) o then Some m else None) same
 
-none_elsewhere : (host : ServerState) (c : Change) (hash : ℕ) (os : List ObserverValue) → change_hash c ≡ Some hash → ObservesNone hash os → AllByRecursion (λ o. is_stale host o ≡ false) os → find (is_stale (host_changed host c)) os ≡ None
+none_elsewhere : (host : ServerState) (c : Change) (hash : ℕ) (os : List ObserverValue) → change_hash c ≡ Some hash
+    → ObservesNone hash os → AllByRecursion (λ o. is_stale host o ≡ false) os
+    → find (is_stale (host_changed host c)) os ≡ None
 none_elsewhere host c hash [] is others none = refl
-none_elsewhere host c hash (o ∷ os) is others none = rw (sym (stale_elsewhere host c hash o is others.0) ∙ none.0) (none_elsewhere host c hash os is others.1 none.1)
+none_elsewhere host c hash (o ∷ os) is others none =
+    rw (sym (stale_elsewhere host c hash o is others.0) ∙ none.0) (none_elsewhere host c hash os is others.1 none.1)
 
-pub settled_elsewhere : (host : ServerState) (c : Change) (hash : ℕ) (v : SessionValue) → change_hash c ≡ Some hash → ObservesNone hash v.observers → IsSettled host v → IsSettled (host_changed host c) v
+pub settled_elsewhere : (host : ServerState) (c : Change) (hash : ℕ) (v : SessionValue) → change_hash c ≡ Some hash
+    → ObservesNone hash v.observers → IsSettled host v → IsSettled (host_changed host c) v
 settled_elsewhere host c hash v is others =
-    settled_still host (host_changed host c) v (λ none. none) (λ fresh. none_elsewhere host c hash v.observers is others (none_due (is_stale host) v.observers fresh))
+    settled_still host (host_changed host c) v (λ none. none)
+    (λ fresh. none_elsewhere host c hash v.observers is others (none_due (is_stale host) v.observers fresh))
 
 -- ---- recomputed marks
 
-pub but_changed : (host : ServerState) (c : Change) (hash : ℕ) (s : MarkedSession) → change_hash c ≡ Some hash → IsMarked host s → IsMarkedBut (cause.Path hash) (host_changed host c) s
+pub but_changed : (host : ServerState) (c : Change) (hash : ℕ) (s : MarkedSession) → change_hash c ≡ Some hash
+    → IsMarked host s → IsMarkedBut (cause.Path hash) (host_changed host c) s
 but_changed host c hash s is marked =
     let os = s.session.observers in
-    ap (marks_anew (cause.Path hash) (host_changed host c) os) marked ∙ anew_after (cause.Path hash) host (host_changed host c) os (λ o other. mark_elsewhere host c hash o is other)
+    ap (marks_anew (cause.Path hash) (host_changed host c) os) marked
+    ∙ anew_after (cause.Path hash) host (host_changed host c) os (λ o other. mark_elsewhere host c hash o is other)
 
 -- The same for the marks of one connection, after a change or none.
-pub marked_after : (host : ServerState) (c : Change) (os : List ObserverValue) (marks : List (Option ℕ)) → AreMarked host os marks → marks_after (change_hash c) (host_changed host c) os marks ≡ map (changed_mark (host_changed host c)) os
+pub marked_after : (host : ServerState) (c : Change) (os : List ObserverValue) (marks : List (Option ℕ))
+    → AreMarked host os marks
+    → marks_after (change_hash c) (host_changed host c) os marks ≡ map (changed_mark (host_changed host c)) os
 marked_after host Nothing os marks marked = marked
 marked_after host (Put path format bytes) os marks marked =
     let c : Change = Put path format bytes in
     let hash = path_hash path in
-    ap (marks_anew (cause.Path hash) (host_changed host c) os) marked ∙ anew_after (cause.Path hash) host (host_changed host c) os (λ o other. mark_elsewhere host c hash o refl other)
+    ap (marks_anew (cause.Path hash) (host_changed host c) os) marked
+    ∙ anew_after (cause.Path hash) host (host_changed host c) os (λ o other. mark_elsewhere host c hash o refl other)
 marked_after host (Delete path) os marks marked =
     let c : Change = Delete path in
     let hash = path_hash path in
-    ap (marks_anew (cause.Path hash) (host_changed host c) os) marked ∙ anew_after (cause.Path hash) host (host_changed host c) os (λ o other. mark_elsewhere host c hash o refl other)
+    ap (marks_anew (cause.Path hash) (host_changed host c) os) marked
+    ∙ anew_after (cause.Path hash) host (host_changed host c) os (λ o other. mark_elsewhere host c hash o refl other)
 
-pub but_later : (host : ServerState) (later before : ℕ) (s : MarkedSession) → IsStore host.store → IsMarked host s → IsMarkedBut (cause.Moment before) (at_moment host later) s
+pub but_later : (host : ServerState) (later before : ℕ) (s : MarkedSession) → IsStore host.store → IsMarked host s
+    → IsMarkedBut (cause.Moment before) (at_moment host later) s
 but_later host later before s store marked =
     let os = s.session.observers in
-    ap (marks_anew (cause.Moment before) (at_moment host later) os) marked ∙ anew_after (cause.Moment before) host (at_moment host later) os (λ o other. mark_later host later o store other)
+    ap (marks_anew (cause.Moment before) (at_moment host later) os) marked
+    ∙ anew_after (cause.Moment before) host (at_moment host later) os (λ o other. mark_later host later o store other)
 
 -- Current marks need no recomputation.
 pub but_none : (why : Cause) (host : ServerState) (s : MarkedSession) → IsMarked host s → IsMarkedBut why host s
-but_none why host s marked = ap (marks_anew why host s.session.observers) marked ∙ anew_same why host s.session.observers
+but_none why host s marked =
+    ap (marks_anew why host s.session.observers) marked ∙ anew_same why host s.session.observers
 
-pub marked_untouched : (why : Cause) (host : ServerState) (s : MarkedSession) → ConcernsNone why s.session.observers → IsMarkedBut why host s → IsMarked host s
+pub marked_untouched : (why : Cause) (host : ServerState) (s : MarkedSession) → ConcernsNone why s.session.observers
+    → IsMarkedBut why host s → IsMarked host s
 marked_untouched why host s none but = sym (anew_unconcerned why host s.session.observers s.marks none) ∙ but

@@ -1,5 +1,6 @@
 -- Entries by their index, and the list after the first stale entry is changed.
-use Rattle.std.proofs.Common.{◌≡◌, ℕ, suc, ◌<◌, Bool, true, false, List, [], ◌∷◌, length, map, get_or, Some, None, refl, ap, subst, ◌∙◌, arith, find, filter, not, option_map, slice_get, slice_set, if◌then◌else◌}
+use Rattle.std.proofs.Common.{◌≡◌, ℕ, suc, ◌<◌, Bool, true, false, List, [], ◌∷◌, length, map, get_or, Some, None, refl}
+use Rattle.std.proofs.Common.{ap, subst, ◌∙◌, arith, find, filter, not, option_map, slice_get, slice_set, if◌then◌else◌}
 use Rattle.coap_server_session.specs.Prelude.{AllByRecursion, remove, same_bytes}
 use Rattle.coap_server_session.specs.Prelude.{first_becomes}
 use Rattle.coap_server_session.specs.Prelude.{without_entry, first_index, observer_value}
@@ -20,21 +21,25 @@ pub is_first : {O : Type 0} (due : O → Bool) (os : List O) (i : ℕ) → first
 unfolding first_index first_becomes
 is_first due [] i e = absurd cc
 is_first due (o ∷ os) i e =
-    elim (due o) as (λ b. due o ≡ b → (if b then Some 0 else option_map (λ k. suc k) (first_index due os)) ≡ Some i → IsFirst due (o ∷ os) i) [
+    elim (due o) as (λ b. due o ≡ b → (if b then Some 0 else option_map (λ k. suc k) (first_index due os)) ≡ Some i
+    → IsFirst due (o ∷ os) i) [
       | true ↦ λ here first. (
           let zero_is : 0 ≡ i = cc in
-          subst (IsFirst due (o ∷ os)) zero_is (record { within = omega arith; found = rw here; becomes = λ p. rw here; goes = rw here }))
+          subst (IsFirst due (o ∷ os)) zero_is
+          (record { within = omega arith; found = rw here; becomes = λ p. rw here; goes = rw here }))
       | false ↦ λ other first. (
           let behind = one_made (λ k. suc k) (first_index due os) i first in
           let is = is_first due os behind.0 behind.1 in
-          subst (IsFirst due (o ∷ os)) behind.2 (record { within = omega (arith, is.within); found = cc; becomes = λ p. cc (is.becomes p); goes = cc }))
+          subst (IsFirst due (o ∷ os)) behind.2
+          (record { within = omega (arith, is.within); found = cc; becomes = λ p. cc (is.becomes p); goes = cc }))
     ] refl e
 
 pub none_at_index : {O : Type 0} (due : O → Bool) (os : List O) → first_index due os ≡ None → find due os ≡ None
 unfolding first_index
 none_at_index due [] e = refl
 none_at_index due (o ∷ os) e =
-    elim (due o) as (λ b. (if b then Some 0 else option_map (λ k. suc k) (first_index due os)) ≡ None → (if b then Some o else find due os) ≡ None) [
+    elim (due o) as (λ b. (if b then Some 0 else option_map (λ k. suc k) (first_index due os)) ≡ None
+    → (if b then Some o else find due os) ≡ None) [
       | true ↦ λ none. absurd cc
       | false ↦ λ none. none_at_index due os (none_made (λ k. suc k) (first_index due os) none)
     ] e
@@ -46,14 +51,23 @@ none_in due (o ∷ os) none = rw none.0 (none_in due os none.1)
 -- ---- a loop that searches by the views of elements
 
 -- The view of an entry that is read is at the same index in the list of views.
-pub read_at : (xs : List Observer) (i : ℕ) (x : Observer) → i < length xs → x ≡ get_or xs i x → slice_get (map observer_value xs) i ≡ Some (observer_value x)
-read_at xs i x within read = slice_get-map observer_value xs i ∙ ap (option_map observer_value) (slice_get_read xs (length xs) i x refl within read)
+pub read_at : (xs : List Observer) (i : ℕ) (x : Observer) → i < length xs → x ≡ get_or xs i x
+    → slice_get (map observer_value xs) i ≡ Some (observer_value x)
+read_at xs i x within read =
+    slice_get-map observer_value xs i
+    ∙ ap (option_map observer_value) (slice_get_read xs (length xs) i x refl within read)
 
 -- ---- filtered views
 
-pub others_seen : (token : List ℕ) (os : List Observer) → map observer_value (filter (λ o. not (same_bytes o.token.items token)) os) ≡ without_entry token (map observer_value os)
+pub others_seen : (token : List ℕ) (os : List Observer)
+    → map observer_value (filter (λ o. not (same_bytes o.token.items token)) os)
+    ≡ without_entry token (map observer_value os)
 unfolding without_entry
 others_seen token [] = refl
 others_seen token (o ∷ os) =
     let rest = others_seen token os in
-    elim (not (same_bytes o.token.items token)) as (λ b. map observer_value (if b then o ∷ filter (λ p. not (same_bytes p.token.items token)) os else filter (λ p. not (same_bytes p.token.items token)) os) ≡ (if b then observer_value o ∷ without_entry token (map observer_value os) else without_entry token (map observer_value os))) [ true ↦ cc | false ↦ rest ]
+    elim (not (same_bytes o.token.items token))
+    as (λ b. map observer_value (if b then o ∷ filter (λ p. not (same_bytes p.token.items token)) os
+    else filter (λ p. not (same_bytes p.token.items token)) os)
+    ≡ (if b then observer_value o ∷ without_entry token (map observer_value os)
+    else without_entry token (map observer_value os))) [ true ↦ cc | false ↦ rest ]

@@ -1,5 +1,7 @@
 -- Flags and the changed marks of observers.
-use Rattle.std.proofs.Common.{◌≡◌, ◌≢◌, ℕ, zero, suc, ◌+◌, ◌<◌, Bool, true, false, List, [], ◌∷◌, ◌++◌, length, map, take, set, get_or, replicate, Option, Some, None, is_some, refl, ap, subst, arith, slice_get}
+use Rattle.std.proofs.Common.{◌≡◌, ◌≢◌, ℕ, zero, suc, ◌+◌, ◌<◌, Bool, true, false, List, [], ◌∷◌, ◌++◌, length, map}
+use Rattle.std.proofs.Common.{take, set, get_or, replicate, Option, Some, None, is_some, refl, ap, subst, arith}
+use Rattle.std.proofs.Common.{slice_get}
 use Rattle.coap_server_session.specs.Prelude.{StaleObserver, first_index, IsFirstMarked, flag_of, AreFlagged, mark_in}
 use Rattle.coap_server_session.specs.declared.observer.Observer.{Observer}
 
@@ -27,7 +29,8 @@ pub pushed : {X : Type 0} (xs : List X) (x : X) → slice_get (xs ++ x ∷ []) (
 pushed [] x = refl
 pushed (y ∷ xs) x = pushed xs x
 
-pub not_pushed : {X : Type 0} (xs : List X) (k : ℕ) (x : X) → k < length xs → slice_get (xs ++ x ∷ []) k ≡ slice_get xs k
+pub not_pushed : {X : Type 0} (xs : List X) (k : ℕ) (x : X) → k < length xs
+    → slice_get (xs ++ x ∷ []) k ≡ slice_get xs k
 not_pushed [] k x within = absurd (omega arith)
 not_pushed (y ∷ xs) zero x within = refl
 not_pushed (y ∷ xs) (suc k) x within = not_pushed xs k x (omega arith)
@@ -35,16 +38,20 @@ not_pushed (y ∷ xs) (suc k) x within = not_pushed xs k x (omega arith)
 -- ---- flags
 
 -- A flag is written together with the mark at its index.
-pub put_flagged : (flags : List Bool) (marks : List (Option ℕ)) (i : ℕ) (mark : Option ℕ) → i < length flags → i < length marks → AreFlagged flags marks → (k : ℕ) → get_or (set flags i (is_some mark)) k false ≡ flag_of (slice_get (set marks i mark) k)
+pub put_flagged : (flags : List Bool) (marks : List (Option ℕ)) (i : ℕ) (mark : Option ℕ) → i < length flags
+    → i < length marks → AreFlagged flags marks → (k : ℕ)
+    → get_or (set flags i (is_some mark)) k false ≡ flag_of (slice_get (set marks i mark) k)
 put_flagged [] marks i mark here there flagged k = absurd (omega arith)
 put_flagged (f ∷ fs) [] i mark here there flagged k = absurd (omega arith)
 put_flagged (f ∷ fs) (m ∷ ms) zero mark here there flagged zero = refl
 put_flagged (f ∷ fs) (m ∷ ms) zero mark here there flagged (suc k) = flagged (suc k)
 put_flagged (f ∷ fs) (m ∷ ms) (suc i) mark here there flagged zero = flagged 0
-put_flagged (f ∷ fs) (m ∷ ms) (suc i) mark here there flagged (suc k) = put_flagged fs ms i mark (omega arith) (omega arith) (λ j. flagged (suc j)) k
+put_flagged (f ∷ fs) (m ∷ ms) (suc i) mark here there flagged (suc k) =
+    put_flagged fs ms i mark (omega arith) (omega arith) (λ j. flagged (suc j)) k
 
 -- An entry without a changed mark is appended.
-pub entered_flagged : (flags : List Bool) (marks : List (Option ℕ)) → AreFlagged flags marks → (k : ℕ) → get_or flags k false ≡ flag_of (slice_get (marks ++ None ∷ []) k)
+pub entered_flagged : (flags : List Bool) (marks : List (Option ℕ)) → AreFlagged flags marks → (k : ℕ)
+    → get_or flags k false ≡ flag_of (slice_get (marks ++ None ∷ []) k)
 entered_flagged flags [] flagged zero = flagged 0
 entered_flagged flags [] flagged (suc k) = flagged (suc k)
 entered_flagged [] (m ∷ ms) flagged zero = flagged 0
@@ -54,19 +61,24 @@ entered_flagged (f ∷ fs) (m ∷ ms) flagged (suc k) = entered_flagged fs ms (�
 
 -- ---- the first set flag
 
-pub none_marked : (marks : List (Option ℕ)) → ((i : ℕ) → flag_of (slice_get marks i) ≡ false) → first_index is_some marks ≡ None
+pub none_marked : (marks : List (Option ℕ)) → ((i : ℕ) → flag_of (slice_get marks i) ≡ false)
+    → first_index is_some marks ≡ None
 unfolding first_index
 none_marked [] none = refl
 none_marked (m ∷ ms) none = rw (none 0, none_marked ms (λ i. none (suc i))) refl
 
-first_flagged : (marks : List (Option ℕ)) (i : ℕ) → flag_of (slice_get marks i) ≡ true → ((k : ℕ) → k < i → flag_of (slice_get marks k) ≡ false) → first_index is_some marks ≡ Some i
+first_flagged : (marks : List (Option ℕ)) (i : ℕ) → flag_of (slice_get marks i) ≡ true
+    → ((k : ℕ) → k < i → flag_of (slice_get marks k) ≡ false) → first_index is_some marks ≡ Some i
 unfolding first_index
 first_flagged [] i is before = absurd cc
 first_flagged (m ∷ ms) zero is before = rw is refl
-first_flagged (m ∷ ms) (suc i) is before = rw (before 0 (omega arith), first_flagged ms i is (λ k less. before (suc k) (omega arith))) refl
+first_flagged (m ∷ ms) (suc i) is before =
+    rw (before 0 (omega arith), first_flagged ms i is (λ k less. before (suc k) (omega arith))) refl
 
-pub first_is : (found : StaleObserver) (marks : List (Option ℕ)) → slice_get marks found.index ≡ Some (Some found.mark) → ((k : ℕ) → k < found.index → flag_of (slice_get marks k) ≡ false) → IsFirstMarked marks found
-first_is found marks there before = record { first = first_flagged marks found.index (ap flag_of there) before; mark = there }
+pub first_is : (found : StaleObserver) (marks : List (Option ℕ)) → slice_get marks found.index ≡ Some (Some found.mark)
+    → ((k : ℕ) → k < found.index → flag_of (slice_get marks k) ≡ false) → IsFirstMarked marks found
+first_is found marks there before =
+    record { first = first_flagged marks found.index (ap flag_of there) before; mark = there }
 
 -- A flag is set only at the index of an entry.
 pub flag_within : (marks : List (Option ℕ)) (i : ℕ) → flag_of (slice_get marks i) ≡ true → i < length marks
@@ -76,15 +88,21 @@ flag_within (m ∷ ms) (suc i) is = omega (arith, flag_within ms i is)
 
 -- ---- a loop that sets the flags of observers
 
-one_flagged : (flags : List Bool) (xs : List Observer) (n : ℕ) (x : Observer) → n < length flags → n < length xs → x ≡ get_or xs n x → AreFlagged flags (map mark_in (take n xs)) → (k : ℕ) → get_or (set flags n (is_some (mark_in x))) k false ≡ flag_of (slice_get (map mark_in (take (suc n) xs)) k)
+one_flagged : (flags : List Bool) (xs : List Observer) (n : ℕ) (x : Observer) → n < length flags → n < length xs
+    → x ≡ get_or xs n x → AreFlagged flags (map mark_in (take n xs)) → (k : ℕ)
+    → get_or (set flags n (is_some (mark_in x))) k false ≡ flag_of (slice_get (map mark_in (take (suc n) xs)) k)
 one_flagged [] xs n x here there read flagged k = absurd (omega (arith, here))
 one_flagged (f ∷ fs) [] n x here there read flagged k = absurd (omega (arith, there))
 one_flagged (f ∷ fs) (y ∷ ys) zero x here there read flagged zero = ap (λ (z : Observer). is_some (mark_in z)) read
 one_flagged (f ∷ fs) (y ∷ ys) zero x here there read flagged (suc k) = flagged (suc k)
 one_flagged (f ∷ fs) (y ∷ ys) (suc n) x here there read flagged zero = flagged 0
-one_flagged (f ∷ fs) (y ∷ ys) (suc n) x here there read flagged (suc k) = one_flagged fs ys n x (omega (arith, here)) (omega (arith, there)) read (λ j. flagged (suc j)) k
+one_flagged (f ∷ fs) (y ∷ ys) (suc n) x here there read flagged (suc k) =
+    one_flagged fs ys n x (omega (arith, here)) (omega (arith, there)) read (λ j. flagged (suc j)) k
 
-pub one_more_flagged : (flags : List Bool) (xs : List Observer) (n : ℕ) (x : Observer) → n < length flags → n < length xs → x ≡ get_or xs n x → AreFlagged flags (map mark_in (take n xs)) → AreFlagged (set flags n (is_some (mark_in x))) (map mark_in (take (n + 1) xs))
+pub one_more_flagged : (flags : List Bool) (xs : List Observer) (n : ℕ) (x : Observer) → n < length flags
+    → n < length xs → x ≡ get_or xs n x → AreFlagged flags (map mark_in (take n xs))
+    → AreFlagged (set flags n (is_some (mark_in x))) (map mark_in (take (n + 1) xs))
 one_more_flagged flags xs n x here there read flagged =
     let next : suc n ≡ n + 1 = omega arith in
-    subst (λ (m : ℕ). AreFlagged (set flags n (is_some (mark_in x))) (map mark_in (take m xs))) next (one_flagged flags xs n x here there read flagged)
+    subst (λ (m : ℕ). AreFlagged (set flags n (is_some (mark_in x))) (map mark_in (take m xs))) next
+    (one_flagged flags xs n x here there read flagged)

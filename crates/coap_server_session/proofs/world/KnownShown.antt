@@ -1,5 +1,6 @@
 -- The mark in an observer's value decides whether the observer was sent the current state.
-use Rattle.std.proofs.Common.{◌≡◌, ℕ, ◌≤◌, true, [], Option, Some, None, refl, sym, ap, ◌∙◌, arith, ◌==◌, not, if◌then◌else◌}
+use Rattle.std.proofs.Common.{◌≡◌, ℕ, ◌≤◌, true, [], Option, Some, None, refl, sym, ap, ◌∙◌, arith, ◌==◌, not}
+use Rattle.std.proofs.Common.{if◌then◌else◌}
 use Rattle.coap_server_session.specs.Prelude.{decimal, digits_value, both_ways, Path, same_bytes}
 use Rattle.coap_server_session.specs.Prelude.{Representation, StoreValue, found_in, kind_of_path, state_at, state_of}
 use Rattle.coap_server_session.specs.Prelude.{Time, Dynamic, mark_of, mark_at}
@@ -18,7 +19,8 @@ digits_back : (n : ℕ) → n ≤ 18446744073709551615 → digits_value 10 (deci
 digits_back n small = (decimal_is_IsNumeral n (omega arith)).1
 
 -- Two times are equal if and only if their decimal texts are.
-moment_same : (told now : ℕ) → told ≤ 18446744073709551615 → now ≤ 18446744073709551615 → same_bytes (decimal told) (decimal now) ≡ (now == digits_value 10 (decimal told))
+moment_same : (told now : ℕ) → told ≤ 18446744073709551615 → now ≤ 18446744073709551615
+    → same_bytes (decimal told) (decimal now) ≡ (now == digits_value 10 (decimal told))
 moment_same told now small_told small_now =
     let bytes = bytes_decides (decimal told) (decimal now) in
     both_ways (same_bytes (decimal told) (decimal now)) (now == digits_value 10 (decimal told))
@@ -32,32 +34,47 @@ version_marks : (n : ℕ) (r : Representation) → 1 ≤ r.version → (if r.ver
 version_marks n r some = cond-false (r.version == 0) n r.version (ne_eqb r.version 0 (λ none. omega arith))
 
 -- For a stored path: two states are equal if and only if their marks are.
-stored_same : (store : StoreValue) (now : ℕ) (o : Observer) (known : KnowsStored store o) (found : Option Representation) → IsVersioned store → found_in store.resources o.path ≡ found → same_state (Some known.state) found ≡ is_marked now (mark_told (Some known.state)) found
+stored_same : (store : StoreValue) (now : ℕ) (o : Observer) (known : KnowsStored store o)
+    (found : Option Representation) → IsVersioned store → found_in store.resources o.path ≡ found
+    → same_state (Some known.state) found ≡ is_marked now (mark_told (Some known.state)) found
 stored_same store now o known None is at = refl
 stored_same store now o known (Some r) is at =
     let t : Representation = known.state in
     rw (version_marks now r (is.numbered o.path r at), version_marks (digits_value 10 t.bytes) t known.numbered)
-    (both_ways (same_state (Some t) (Some r)) (r.version == t.version) (λ e. (let one = state_is (Some t) (Some r) e in eq-eqb r.version t.version (cc)))
-    (λ e. ap (λ q. same_state (Some t) (Some q)) (known.same r at (eqb-true r.version t.version e)) ∙ state_itself (Some t)))
+    (both_ways (same_state (Some t) (Some r)) (r.version == t.version)
+    (λ e. (let one = state_is (Some t) (Some r) e in eq-eqb r.version t.version (cc)))
+    (λ e. ap (λ q. same_state (Some t) (Some q)) (known.same r at (eqb-true r.version t.version e))
+    ∙ state_itself (Some t)))
 
-marked_at : (store : StoreValue) (now : ℕ) (o : Observer) (place : ResourceKind) → IsKnownAt place store o → now ≤ 18446744073709551615 → IsVersioned store → same_state o.told (state_at store now (Some o.path) place) ≡ is_marked now (mark_told o.told) (state_at store now (Some o.path) place)
+marked_at : (store : StoreValue) (now : ℕ) (o : Observer) (place : ResourceKind) → IsKnownAt place store o
+    → now ≤ 18446744073709551615 → IsVersioned store → same_state o.told (state_at store now (Some o.path) place)
+    ≡ is_marked now (mark_told o.told) (state_at store now (Some o.path) place)
 unfolding state_at
 marked_at store now o Time known small is = rw known.was (moment_same known.moment now known.small small)
-marked_at store now o Dynamic known small is = rw known.was (stored_same store now o known (found_in store.resources o.path) is refl)
+marked_at store now o Dynamic known small is =
+    rw known.was (stored_same store now o known (found_in store.resources o.path) is refl)
 marked_at store now o other known small is = absurd known
 
-known_marked_now : (store : StoreValue) (now : ℕ) (o : Observer) → IsKnown store o → now ≤ 18446744073709551615 → IsVersioned store → same_state o.told (state_of store now o.path) ≡ is_marked now (mark_told o.told) (state_of store now o.path)
-known_marked_now store now o known small is = rw known.key (marked_at store now o (kind_of_path o.path) known.state small is)
+known_marked_now : (store : StoreValue) (now : ℕ) (o : Observer) → IsKnown store o → now ≤ 18446744073709551615
+    → IsVersioned store
+    → same_state o.told (state_of store now o.path) ≡ is_marked now (mark_told o.told) (state_of store now o.path)
+known_marked_now store now o known small is =
+    rw known.key (marked_at store now o (kind_of_path o.path) known.state small is)
 
 -- The mark decides whether the current state is the one sent last.
-pub due_is_stale : (store : StoreValue) (now : ℕ) (o : Observer) → IsKnown store o → now ≤ 18446744073709551615 → IsVersioned store → is_due store now o ≡ is_stale (record { store = store; now = now }) (observer_shown o)
+pub due_is_stale : (store : StoreValue) (now : ℕ) (o : Observer) → IsKnown store o → now ≤ 18446744073709551615
+    → IsVersioned store → is_due store now o ≡ is_stale (record { store = store; now = now }) (observer_shown o)
 unfolding is_due is_stale
 due_is_stale store now o known small is = ap not (known_marked_now store now o known small is)
 
 -- The mark of the current state in the model is that of the code.
-pub mark_now : (store : StoreValue) (now : ℕ) (path : Path) → now ≤ 18446744073709551615 → IsVersioned store → IsWatchable store now path → mark_told (state_of store now path) ≡ mark_of now (state_of store now path)
+pub mark_now : (store : StoreValue) (now : ℕ) (path : Path) → now ≤ 18446744073709551615 → IsVersioned store
+    → IsWatchable store now path → mark_told (state_of store now path) ≡ mark_of now (state_of store now path)
 mark_now store now path small is can =
     let state : Option Representation = state_of store now path in
-    let known : IsKnown store (record { token = []; path = path; told = state }) = told_known store now [] path small is can in
-    let marked : is_marked now (mark_told state) state ≡ true = sym (known_marked_now store now _ known small is) ∙ state_itself state in
-    rw can.there (sym (eqb-true (mark_at now can.representation) (mark_told (Some can.representation)) (rw can.there at marked)))
+    let known : IsKnown store (record { token = []; path = path; told = state }) =
+    told_known store now [] path small is can in
+    let marked : is_marked now (mark_told state) state ≡ true =
+    sym (known_marked_now store now _ known small is) ∙ state_itself state in
+    rw can.there
+    (sym (eqb-true (mark_at now can.representation) (mark_told (Some can.representation)) (rw can.there at marked)))

@@ -2,21 +2,32 @@
 -- settle.
 use Rattle.std.proofs.Common.{◌≡◌, ℕ, ◌+◌, ◌≤◌, Bool, true, false, cond, List, [], length, map, Option, Some, None}
 use Rattle.std.proofs.Common.{refl, sym, ap, ◌∙◌, ◌&&◌, if◌then◌else◌, zero, suc, find, option_map}
-use Rattle.coap_server_session.specs.Prelude.{Message, StreamFault, takes_messages, is_open, fit, bare_response, reject_of}
-use Rattle.coap_server_session.specs.Prelude.{release_refusal, stop, History, IsHistory, limit_now, after, link_of, Call}
-use Rattle.coap_server_session.specs.Prelude.{end_reason, link_after, LinkValue, link_with, standing_in, StoreValue, path_of}
-use Rattle.coap_server_session.specs.Prelude.{Nothing, prompt_answer, Delay, delay_of, hold_call, Responder, Engine, Application, response_with_observe, ServerState, is_cut}
-use Rattle.coap_server_session.specs.Prelude.{side_responded, session_given, side_announced, may_raise, Connection, handles, waiting_on, has_room, side_with}
-use Rattle.coap_server_session.specs.Prelude.{with_history, moment_after, held_for, side_replied, asks_answer, side_after}
-use Rattle.coap_server_session.specs.Prelude.{change_after, side_faulted, side_written, side_ended, side_released, next_due}
+use Rattle.coap_server_session.specs.Prelude.{Message, StreamFault, takes_messages, is_open, fit, bare_response}
+use Rattle.coap_server_session.specs.Prelude.{reject_of}
+use Rattle.coap_server_session.specs.Prelude.{release_refusal, stop, History, IsHistory, limit_now, after, link_of}
+use Rattle.coap_server_session.specs.Prelude.{Call}
+use Rattle.coap_server_session.specs.Prelude.{end_reason, link_after, LinkValue, link_with, standing_in, StoreValue}
+use Rattle.coap_server_session.specs.Prelude.{path_of}
+use Rattle.coap_server_session.specs.Prelude.{Nothing, prompt_answer, Delay, delay_of, hold_call, Responder, Engine}
+use Rattle.coap_server_session.specs.Prelude.{Application, response_with_observe, ServerState, is_cut}
+use Rattle.coap_server_session.specs.Prelude.{side_responded, session_given, side_announced, may_raise, Connection}
+use Rattle.coap_server_session.specs.Prelude.{handles, waiting_on, has_room, side_with}
+use Rattle.coap_server_session.specs.Prelude.{with_history, moment_after, held_for, side_replied, asks_answer}
+use Rattle.coap_server_session.specs.Prelude.{side_after}
+use Rattle.coap_server_session.specs.Prelude.{change_after, side_faulted, side_written, side_ended, side_released}
+use Rattle.coap_server_session.specs.Prelude.{next_due}
 use Rattle.coap_server_session.specs.Prelude.{notified, next_held, settled_so, settled_once, settled_within, settled}
-use Rattle.coap_server_session.specs.Prelude.{SessionValue, session_with, new_entry, held_in, session_replied, session_handled}
-use Rattle.coap_server_session.specs.Prelude.{change_by, session_rejected, session_written, session_ended, session_released}
+use Rattle.coap_server_session.specs.Prelude.{SessionValue, session_with, new_entry, held_in, session_replied}
+use Rattle.coap_server_session.specs.Prelude.{session_handled}
+use Rattle.coap_server_session.specs.Prelude.{change_by, session_rejected, session_written, session_ended}
+use Rattle.coap_server_session.specs.Prelude.{session_released}
 use Rattle.coap_server_session.specs.Prelude.{without_entry, session_announced, is_stale, next_stale, entry_left}
 use Rattle.coap_server_session.specs.Prelude.{session_notified, next_held_in, session_settled_so, session_settled_once}
-use Rattle.coap_server_session.specs.Prelude.{session_settled_within, session_settled, Observer, without_token, has_place}
+use Rattle.coap_server_session.specs.Prelude.{session_settled_within, session_settled, Observer, without_token}
+use Rattle.coap_server_session.specs.Prelude.{has_place}
 use Rattle.coap_server_session.specs.Prelude.{entry_for, is_whole, with_entry, is_due, goes_on, notification}
-use Rattle.coap_server_session.specs.Prelude.{notification_message, left_of, first_becomes, format_of, observer_shown, kept_on}
+use Rattle.coap_server_session.specs.Prelude.{notification_message, left_of, first_becomes, format_of, observer_shown}
+use Rattle.coap_server_session.specs.Prelude.{kept_on}
 use Rattle.coap_server_session.specs.Prelude.{session_shown, PendingEntryValue, link_sent, held_message, after_sent}
 use Rattle.std.proofs.lemmas.Bool.{and_parts, cond_both, le-leb}
 use Rattle.std.proofs.lemmas.List.{length-map}
@@ -24,7 +35,8 @@ use Rattle.coap_model.proofs.world.KnownLaws.{IsWatchable, entry_watchable, IsKn
 use Rattle.coap_model.proofs.world.KnownLaws.{tells_on_to_observer, left_watchable}
 use Rattle.coap_server_session.proofs.world.KnownShown.{mark_now, due_is_stale}
 use Rattle.coap_model.proofs.world.EntryLemmas.{asks_to_enter, all_to}
-use Rattle.coap_server_session.proofs.world.EntryShown.{without_shown, entered_shown, TellTheSame, found_shown, become_shown}
+use Rattle.coap_server_session.proofs.world.EntryShown.{without_shown, entered_shown, TellTheSame, found_shown}
+use Rattle.coap_server_session.proofs.world.EntryShown.{become_shown}
 use Rattle.coap_model.proofs.world.GoingOn.{GoesOn, call_goes_on, sent_goes_on}
 use Rattle.coap_conn.proofs.LinkLemmas.{after_link}
 use Rattle.coap_model.proofs.world.WalkLaws.{there_or_not}
@@ -39,60 +51,87 @@ host_of store now = record { store = store; now = now }
 -- ---- state that depends on the phase
 
 -- The value of a connection whose history has changed, from its link.
-shown_as : (rest : List ℕ) (h : History) (l : LinkValue) (os : List Observer) → link_of h ≡ l → session_shown rest (side_with h os) ≡ session_with rest l (map observer_shown os)
+shown_as : (rest : List ℕ) (h : History) (l : LinkValue) (os : List Observer) → link_of h ≡ l
+    → session_shown rest (side_with h os) ≡ session_with rest l (map observer_shown os)
 shown_as rest h l os same =
-    let kept = elim (is_open h.phase) as (λ b. map observer_shown (cond b os []) ≡ cond b (map observer_shown os) []) [ true ↦ refl | false ↦ refl ] in
-    ap (λ vs. record (session_shown rest (side_with h os)) { observers = vs }) kept ∙ ap (λ k. session_with rest k (map observer_shown os)) same
+    let kept = elim (is_open h.phase) as (λ b. map observer_shown (cond b os []) ≡ cond b (map observer_shown os) []) [
+      | true ↦ refl
+      | false ↦ refl
+    ] in
+    ap (λ vs. record (session_shown rest (side_with h os)) { observers = vs }) kept
+    ∙ ap (λ k. session_with rest k (map observer_shown os)) same
 
 -- If the history only continues, no frame is kept that was not kept before.
-side_shown : (rest : List ℕ) (s : Connection) (h : History) (l : LinkValue) (os : List Observer) → GoesOn s.history h → link_of h ≡ l → session_shown rest (side_with h os) ≡ session_with (kept_on s rest) l (map observer_shown os)
+side_shown : (rest : List ℕ) (s : Connection) (h : History) (l : LinkValue) (os : List Observer) → GoesOn s.history h
+    → link_of h ≡ l → session_shown rest (side_with h os) ≡ session_with (kept_on s rest) l (map observer_shown os)
 side_shown rest s h l os goes same =
     let with_frame : List ℕ → SessionValue = λ frame. session_with frame (link_of h) (map observer_shown os) in
     shown_as rest h (link_of h) os refl
-    ∙ cond_both (takes_messages s.history.phase) rest [] (λ frame. with_frame rest ≡ with_frame frame) (λ takes. refl) (λ none. rw (goes.over none) refl)
+    ∙ cond_both (takes_messages s.history.phase) rest [] (λ frame. with_frame rest ≡ with_frame frame) (λ takes. refl)
+    (λ none. rw (goes.over none) refl)
     ∙ ap (λ k. session_with (kept_on s rest) k (map observer_shown os)) same
 
 -- ---- calls that need no resource
 
-pub faulted_shown : (rest left : List ℕ) (s : Connection) (fault : StreamFault) → IsHistory s.history → handles s ≡ true → session_shown left (side_faulted s fault) ≡ session_rejected (session_shown rest s) (reject_of fault)
+pub faulted_shown : (rest left : List ℕ) (s : Connection) (fault : StreamFault) → IsHistory s.history → handles s ≡ true
+    → session_shown left (side_faulted s fault) ≡ session_rejected (session_shown rest s) (reject_of fault)
 unfolding side_faulted
 faulted_shown rest left s fault is e =
-    rw e (shown_as left (after s.history (call.Reject (reject_of fault))) _ s.observers (after_link s.history (call.Reject (reject_of fault)) tt is)
+    rw e (shown_as left (after s.history (call.Reject (reject_of fault))) _ s.observers
+    (after_link s.history (call.Reject (reject_of fault)) tt is)
     ∙ rw (handles_parts s e).0 refl)
 
-pub written_shown : (rest : List ℕ) (s : Connection) (n : ℕ) → IsHistory s.history → n ≤ length (waiting_on s) → session_shown rest (side_written s n) ≡ session_written (session_shown rest s) n
+pub written_shown : (rest : List ℕ) (s : Connection) (n : ℕ) → IsHistory s.history → n ≤ length (waiting_on s)
+    → session_shown rest (side_written s n) ≡ session_written (session_shown rest s) n
 unfolding side_written
 written_shown rest s n is within =
-    rw (le-leb n (length (waiting_on s)) within) (ap (λ l. record (session_shown rest s) { link = l }) (after_link s.history (call.Written n) within is))
+    rw (le-leb n (length (waiting_on s)) within)
+    (ap (λ l. record (session_shown rest s) { link = l }) (after_link s.history (call.Written n) within is))
 
 -- The input ends within a frame if bytes of a frame are kept.
-pub ended_side_shown : (rest : List ℕ) (s : Connection) → IsHistory s.history → session_shown rest (side_ended s (is_cut rest)) ≡ session_ended (session_shown rest s)
+pub ended_side_shown : (rest : List ℕ) (s : Connection) → IsHistory s.history
+    → session_shown rest (side_ended s (is_cut rest)) ≡ session_ended (session_shown rest s)
 unfolding side_ended
 ended_side_shown rest s is =
     let v : LinkValue = link_of s.history in
-    let ended : Bool → Bool → LinkValue = λ takes cut. if takes then link_with v (stop (standing_in v) (end_reason cut) []) else v in
-    side_shown rest s _ _ s.observers (call_goes_on s.history (call.End (is_cut rest)) tt) (after_link s.history (call.End (is_cut rest)) tt is)
+    let ended : Bool → Bool → LinkValue =
+    λ takes cut. if takes then link_with v (stop (standing_in v) (end_reason cut) []) else v in
+    side_shown rest s _ _ s.observers (call_goes_on s.history (call.End (is_cut rest)) tt)
+    (after_link s.history (call.End (is_cut rest)) tt is)
     ∙ ap (λ l. session_with (kept_on s rest) l (map observer_shown s.observers))
-    (elim (takes_messages s.history.phase) as (λ takes. ended takes (is_cut rest) ≡ ended takes (is_cut (if takes then rest else []))) [ true ↦ refl | false ↦ refl ])
+    (elim (takes_messages s.history.phase)
+    as (λ takes. ended takes (is_cut rest) ≡ ended takes (is_cut (if takes then rest else []))) [
+      | true ↦ refl
+      | false ↦ refl
+    ])
 
-pub released_shown : (rest : List ℕ) (s : Connection) → IsHistory s.history → release_refusal (link_of s.history) ≡ None → session_shown rest (side_released s) ≡ session_released (session_shown rest s)
+pub released_shown : (rest : List ℕ) (s : Connection) → IsHistory s.history → release_refusal (link_of s.history) ≡ None
+    → session_shown rest (side_released s) ≡ session_released (session_shown rest s)
 unfolding side_released
-released_shown rest s is none = rw none (side_shown rest s _ _ s.observers (call_goes_on s.history call.Release tt) (after_link s.history call.Release tt is))
+released_shown rest s is none =
+    rw none (side_shown rest s _ _ s.observers (call_goes_on s.history call.Release tt)
+    (after_link s.history call.Release tt is))
 
-pub given_shown : (rest : List ℕ) (s : Connection) (m : Message) → IsHistory s.history → session_shown rest (side_responded s m) ≡ session_given (session_shown rest s) m
+pub given_shown : (rest : List ℕ) (s : Connection) (m : Message) → IsHistory s.history
+    → session_shown rest (side_responded s m) ≡ session_given (session_shown rest s) m
 unfolding side_responded
-given_shown rest s m is = side_shown rest s _ _ s.observers (call_goes_on s.history (call.Respond m) tt) (after_link s.history (call.Respond m) tt is)
+given_shown rest s m is =
+    side_shown rest s _ _ s.observers (call_goes_on s.history (call.Respond m) tt)
+    (after_link s.history (call.Respond m) tt is)
 
-pub announced_shown : (rest : List ℕ) (s : Connection) (size : ℕ) → IsHistory s.history → may_raise s size ≡ true → session_shown rest (side_announced s size) ≡ session_announced (session_shown rest s) size
+pub announced_shown : (rest : List ℕ) (s : Connection) (size : ℕ) → IsHistory s.history → may_raise s size ≡ true
+    → session_shown rest (side_announced s size) ≡ session_announced (session_shown rest s) size
 unfolding side_announced
 announced_shown rest s size is may =
-    rw may (side_shown rest s _ _ s.observers (call_goes_on s.history (call.Announce size) tt) (after_link s.history (call.Announce size) tt is))
+    rw may (side_shown rest s _ _ s.observers (call_goes_on s.history (call.Announce size) tt)
+    (after_link s.history (call.Announce size) tt is))
 
 -- ---- a message
 
 module _ (store : StoreValue) (now : ℕ) (small : now ≤ 18446744073709551615) (is : IsVersioned store) where
   replied_shown : (h : History) (os : List Observer) (m : Message) (hold : Option Delay) → IsHistory h
-      → session_shown [] (side_replied store now h os m hold) ≡ session_replied (host_of store now) (link_of h) (map observer_shown os) m hold
+      → session_shown [] (side_replied store now h os m hold)
+      ≡ session_replied (host_of store now) (link_of h) (map observer_shown os) m hold
   replied_shown h os m None history =
       let a = prompt_answer store now m in
       let observes = has_place h.limits.observers os a.watch in
@@ -101,18 +140,27 @@ module _ (store : StoreValue) (now : ℕ) (small : now ≤ 18446744073709551615)
       let entry = entry_for store now m in
       let watchable : enters ≡ true → IsWatchable store now (path_of m) =
       λ e. entry_watchable store now m (asks_to_enter a.watch (and_parts _ _ (and_parts observes _ e).0).0) in
-      let entered = entered_shown enters os entry (new_entry (host_of store now) m) (λ e. cc (mark_now store now (path_of m) small is (watchable e))) in
-      shown_as [] (after h (call.Reply response)) _ (with_entry enters os entry) (after_link h (call.Reply response) tt history)
+      let entered = entered_shown enters os entry (new_entry (host_of store now) m)
+      (λ e. cc (mark_now store now (path_of m) small is (watchable e))) in
+      shown_as [] (after h (call.Reply response)) _ (with_entry enters os entry)
+      (after_link h (call.Reply response) tt history)
       ∙ cc (length-map os observer_shown, entered)
   replied_shown h os m (Some d) history = held_shown d.by
     where
-      held_shown : (by : Responder) → session_shown [] (side_with (after h (hold_call by m.token (moment_after now d.seconds))) os)
-          ≡ session_with [] (link_after (link_of h) (hold_call by m.token (moment_after now d.seconds))) (map observer_shown os)
-      held_shown Engine = let held : Call = call.Hold m.token (moment_after now d.seconds) in shown_as [] (after h held) _ os (after_link h held tt history)
-      held_shown Application = let held : Call = call.HoldRequest m.token (moment_after now d.seconds) in shown_as [] (after h held) _ os (after_link h held tt history)
+      held_shown : (by : Responder)
+          → session_shown [] (side_with (after h (hold_call by m.token (moment_after now d.seconds))) os)
+          ≡ session_with [] (link_after (link_of h) (hold_call by m.token (moment_after now d.seconds)))
+          (map observer_shown os)
+      held_shown Engine =
+          let held : Call = call.Hold m.token (moment_after now d.seconds) in
+          shown_as [] (after h held) _ os (after_link h held tt history)
+      held_shown Application =
+          let held : Call = call.HoldRequest m.token (moment_after now d.seconds) in
+          shown_as [] (after h held) _ os (after_link h held tt history)
 
   -- A message that is processed.
-  pub handled_shown : (rest : List ℕ) (s : Connection) (m : Message) → IsHistory s.history → handles s ≡ true → session_shown [] (side_after store now s m) ≡ session_handled (host_of store now) (session_shown rest s) m
+  pub handled_shown : (rest : List ℕ) (s : Connection) (m : Message) → IsHistory s.history → handles s ≡ true
+      → session_shown [] (side_after store now s m) ≡ session_handled (host_of store now) (session_shown rest s) m
   unfolding side_after session_handled
   handled_shown rest s m history e =
       let h = after s.history (call.Handle m) in
@@ -123,8 +171,10 @@ module _ (store : StoreValue) (now : ℕ) (small : now ≤ 18446744073709551615)
       let host = host_of store now in
       let others = without_token m.token s.observers in
       let vs = without_entry m.token (map observer_shown s.observers) in
-      let before : Bool → Connection = λ asks. if asks then side_replied store now h others m (held_for h hold) else with_history s h in
-      let afterwards : Bool → SessionValue = λ asks. if asks then session_replied host l vs m (held_in l hold) else session_with [] l (map observer_shown s.observers) in
+      let before : Bool → Connection =
+      λ asks. if asks then side_replied store now h others m (held_for h hold) else with_history s h in
+      let afterwards : Bool → SessionValue = λ asks. if asks then session_replied host l vs m (held_in l hold)
+      else session_with [] l (map observer_shown s.observers) in
       rw e (elim (asks_answer s m) as (λ asks. session_shown [] (before asks) ≡ afterwards asks) [
         | true ↦
             replied_shown h others m (held_for h hold) ((call_goes_on s.history (call.Handle m) tt).history history)
@@ -132,41 +182,58 @@ module _ (store : StoreValue) (now : ℕ) (small : now ≤ 18446744073709551615)
         | false ↦ shown_as [] h l s.observers same
       ])
 
-pub change_shown : (store : StoreValue) (now : ℕ) (s : Connection) (m : Message) → handles s ≡ true → change_after store now s m ≡ change_by (host_of store now) (link_of s.history) m
+pub change_shown : (store : StoreValue) (now : ℕ) (s : Connection) (m : Message) → handles s ≡ true
+    → change_after store now s m ≡ change_by (host_of store now) (link_of s.history) m
 unfolding change_after
 change_shown store now s m e = ap (λ b. cond (b && asks_answer s m) (prompt_answer store now m).change Nothing) e
 
 -- ---- the link after a pending entry was sent
 
-pub sent_link : (h : History) (now : ℕ) (e : PendingEntryValue) → IsHistory h → link_of (after_sent h now e) ≡ link_sent (link_of h) now e
+pub sent_link : (h : History) (now : ℕ) (e : PendingEntryValue) → IsHistory h
+    → link_of (after_sent h now e) ≡ link_sent (link_of h) now e
 sent_link h now (held.Answer by token moment) is =
-    after_link (after h (call.Due now)) (call.Reply (held_message by token)) tt ((call_goes_on h (call.Due now) tt).history is)
+    after_link (after h (call.Due now)) (call.Reply (held_message by token)) tt
+    ((call_goes_on h (call.Due now) tt).history is)
     ∙ ap (λ l. link_after l (call.Reply (held_message by token))) (after_link h (call.Due now) tt is)
 sent_link h now (held.Pong token) is = after_link h (call.Due now) tt is
 
 -- ---- one iteration of settling, and all of them
 
 module _ (store : StoreValue) (now : ℕ) (small : now ≤ 18446744073709551615) (is : IsVersioned store) where
-  left_shown : (o : Observer) (stays : Bool) → IsKnown store o → (stays ≡ true → goes_on (notification store now o) ≡ true) → map observer_shown (left_of store now o stays) ≡ entry_left (host_of store now) (observer_shown o) stays
+  left_shown : (o : Observer) (stays : Bool) → IsKnown store o
+      → (stays ≡ true → goes_on (notification store now o) ≡ true)
+      → map observer_shown (left_of store now o stays) ≡ entry_left (host_of store now) (observer_shown o) stays
   left_shown o true known on =
       let tells = tells_on_to_observer store now o (on refl) in
-      cc (ap format_of tells.there ∙ tells.same, mark_now store now o.path small is (left_watchable store now o known (on refl)))
+      cc (
+        ap format_of tells.there ∙ tells.same,
+        mark_now store now o.path small is (left_watchable store now o known (on refl)),
+      )
   left_shown o false known on = refl
 
   -- The tests of an observer and of its value agree.
-  same_tests : (os : List Observer) → AreKnown store os → TellTheSame (is_due store now) (is_stale (host_of store now)) os
-  same_tests os known = all_to (IsKnown store) (λ o. is_due store now o ≡ is_stale (host_of store now) (observer_shown o)) (λ o of. due_is_stale store now o of small is) os known
+  same_tests : (os : List Observer) → AreKnown store os
+      → TellTheSame (is_due store now) (is_stale (host_of store now)) os
+  same_tests os known =
+      all_to (IsKnown store) (λ o. is_due store now o ≡ is_stale (host_of store now) (observer_shown o))
+      (λ o of. due_is_stale store now o of small is) os known
 
-  next_shown : (rest : List ℕ) (s : Connection) → IsKnownSide store s → option_map observer_shown (next_due store now s) ≡ next_stale (host_of store now) (session_shown rest s)
+  next_shown : (rest : List ℕ) (s : Connection) → IsKnownSide store s
+      → option_map observer_shown (next_due store now s) ≡ next_stale (host_of store now) (session_shown rest s)
   unfolding next_stale
   next_shown rest s known =
-      elim (has_room s) as (λ b. option_map observer_shown (if b then find (is_due store now) s.observers else None) ≡ (if b then find (is_stale (host_of store now)) (map observer_shown s.observers) else None)) [
-        | true ↦ found_shown (is_due store now) (is_stale (host_of store now)) s.observers (same_tests s.observers known.told)
+      elim (has_room s) as (λ b. option_map observer_shown (if b then find (is_due store now) s.observers else None)
+      ≡ (if b then find (is_stale (host_of store now)) (map observer_shown s.observers) else None)) [
+        | true ↦
+            found_shown (is_due store now) (is_stale (host_of store now)) s.observers
+            (same_tests s.observers known.told)
         | false ↦ refl
       ]
 
-  notified_shown : (rest : List ℕ) (s : Connection) (found : Option Observer) → IsKnownSide store s → ((o : Observer) → found ≡ Some o → IsKnown store o)
-      → session_shown rest (notified store now s found) ≡ session_notified (host_of store now) (session_shown rest s) (option_map observer_shown found)
+  notified_shown : (rest : List ℕ) (s : Connection) (found : Option Observer) → IsKnownSide store s
+      → ((o : Observer) → found ≡ Some o → IsKnown store o)
+      → session_shown rest (notified store now s found)
+      ≡ session_notified (host_of store now) (session_shown rest s) (option_map observer_shown found)
   notified_shown rest s None known told = refl
   notified_shown rest s (Some o) known told =
       let stale = is_stale (host_of store now) in
@@ -177,25 +244,37 @@ module _ (store : StoreValue) (now : ℕ) (small : now ≤ 18446744073709551615)
       let l = link_after (link_of s.history) (call.Reply m) in
       side_shown rest s _ l (first_becomes (is_due store now) left s.observers)
       (call_goes_on s.history (call.Reply m) tt) (after_link s.history (call.Reply m) tt known.is_history)
-      ∙ cc (become_shown (is_due store now) stale left s.observers (same_tests s.observers known.told), left_shown o stays (told o refl) (λ e. (and_parts on _ e).0))
+      ∙ cc (
+        become_shown (is_due store now) stale left s.observers (same_tests s.observers known.told),
+        left_shown o stays (told o refl) (λ e. (and_parts on _ e).0),
+      )
 
-  once_shown : (rest : List ℕ) (s : Connection) → IsKnownSide store s → session_shown rest (settled_once store now s) ≡ session_settled_once (host_of store now) (session_shown rest s)
+  once_shown : (rest : List ℕ) (s : Connection) → IsKnownSide store s
+      → session_shown rest (settled_once store now s) ≡ session_settled_once (host_of store now) (session_shown rest s)
   unfolding settled_once session_settled_once next_held_in
   once_shown rest s known =
       let v : SessionValue = session_shown rest s in
-      there_or_not (next_held now s) (λ found. session_shown rest (settled_so store now s found) ≡ session_settled_so (host_of store now) v found)
-      (λ none. notified_shown rest s (next_due store now s) known (next_known store now small is s known) ∙ ap (session_notified (host_of store now) v) (next_shown rest s known))
-      (λ e is. side_shown rest s _ _ s.observers (sent_goes_on s.history now e) (sent_link s.history now e known.is_history))
+      there_or_not (next_held now s)
+      (λ found. session_shown rest (settled_so store now s found) ≡ session_settled_so (host_of store now) v found)
+      (λ none. notified_shown rest s (next_due store now s) known (next_known store now small is s known)
+      ∙ ap (session_notified (host_of store now) v) (next_shown rest s known))
+      (λ e is. side_shown rest s _ _ s.observers (sent_goes_on s.history now e)
+      (sent_link s.history now e known.is_history))
 
-  within_shown : (turns : ℕ) (rest : List ℕ) (s : Connection) → IsKnownSide store s → session_shown rest (settled_within turns store now s) ≡ session_settled_within turns (host_of store now) (session_shown rest s)
+  within_shown : (turns : ℕ) (rest : List ℕ) (s : Connection) → IsKnownSide store s
+      → session_shown rest (settled_within turns store now s)
+      ≡ session_settled_within turns (host_of store now) (session_shown rest s)
   unfolding settled_within session_settled_within
   within_shown zero rest s known = refl
   within_shown (suc turns) rest s known =
-      within_shown turns rest (settled_once store now s) (once_known store now small is s known) ∙ ap (session_settled_within turns (host_of store now)) (once_shown rest s known)
+      within_shown turns rest (settled_once store now s) (once_known store now small is s known)
+      ∙ ap (session_settled_within turns (host_of store now)) (once_shown rest s known)
 
   -- A connection settles as its value does.
-  pub settled_shown : (rest : List ℕ) (s : Connection) → IsKnownSide store s → session_shown rest (settled store now s) ≡ session_settled (host_of store now) (session_shown rest s)
+  pub settled_shown : (rest : List ℕ) (s : Connection) → IsKnownSide store s
+      → session_shown rest (settled store now s) ≡ session_settled (host_of store now) (session_shown rest s)
   unfolding settled session_settled
   settled_shown rest s known =
       within_shown (length s.history.held + length s.observers) rest s known
-      ∙ ap (λ more. session_settled_within (length s.history.held + more) (host_of store now) (session_shown rest s)) (sym (length-map s.observers observer_shown))
+      ∙ ap (λ more. session_settled_within (length s.history.held + more) (host_of store now) (session_shown rest s))
+      (sym (length-map s.observers observer_shown))

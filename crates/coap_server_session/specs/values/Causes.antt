@@ -1,5 +1,6 @@
 -- Defined by this project: the connections and observers that a change may affect, and the changed marks after it.
-use Rattle.std.specs.Prelude.{◌≡◌, ◌≢◌, ℕ, ◌+◌, ◌-◌, ◌*◌, ◌%◌, Bool, ◌||◌, false, List, [], ◌∷◌, length, map, nat_le, nat_lt, slice_get, Option, Some, None, option_map, ◌==◌, if◌then◌else◌}
+use Rattle.std.specs.Prelude.{◌≡◌, ◌≢◌, ℕ, ◌+◌, ◌-◌, ◌*◌, ◌%◌, Bool, ◌||◌, false, List, [], ◌∷◌, length, map, nat_le}
+use Rattle.std.specs.Prelude.{nat_lt, slice_get, Option, Some, None, option_map, ◌==◌, if◌then◌else◌}
 use Rattle.std.specs.List.{AllByRecursion, list_any}
 use Rattle.coap_path.specs.Paths.{Path}
 use Rattle.coap_store.specs.Answer.{Change, Nothing, Put, Delete}

@@ -1,6 +1,7 @@
 -- The observer entries of a connection, as the code finds and changes them by index (RFC 7641 section 4), and the
 -- framer after a stop.
-use Rattle.std.specs.Prelude.{◌≡◌, ℕ, Bool, ◌&&◌, List, [], ◌∷◌, length, Option, Some, None, is_some, option_map, slice_get, suc, ◌==◌, if◌then◌else◌}
+use Rattle.std.specs.Prelude.{◌≡◌, ℕ, Bool, ◌&&◌, List, [], ◌∷◌, length, Option, Some, None, is_some, option_map}
+use Rattle.std.specs.Prelude.{slice_get, suc, ◌==◌, if◌then◌else◌}
 use Rattle.coap_wire.specs.Message.{Message}
 use Rattle.coap_frame.specs.Framing.{FramerValue}
 use Rattle.coap_conn.specs.Fit.{fit, bare_response}
@@ -13,7 +14,9 @@ use Rattle.coap_server_session.specs.declared.server_state.ServerState.{ServerSt
 use Rattle.coap_server_session.specs.declared.observers.StaleObserver.{StaleObserver}
 use Rattle.coap_model.specs.world.Connections.{moment_after, Delay, hold_call}
 use Rattle.coap_model.specs.world.Observers.{has_place, is_whole, with_entry, goes_on, first_becomes}
-use Rattle.coap_server_session.specs.values.Sessions.{ObserverValue, SessionValue, frame_on, new_entry, answer_on, entry_left, mark_of, state_on, is_stale, notification_on, session_settled}
+use Rattle.coap_server_session.specs.values.Sessions.{ObserverValue, SessionValue, frame_on, new_entry, answer_on}
+use Rattle.coap_server_session.specs.values.Sessions.{entry_left, mark_of, state_on, is_stale, notification_on}
+use Rattle.coap_server_session.specs.values.Sessions.{session_settled}
 
 -- The index of the first element for which `due` is `true`.
 unfoldable pub first_index : {O : Type 0} → (O → Bool) → List O → Option ℕ
@@ -23,7 +26,8 @@ first_index due (o ∷ os) = if due o then Some 0 else option_map (λ i. suc i) 
 -- Holds if `found` is the first stale observer, with the mark of the current state of its path.
 pub record IsFirstStale (host : ServerState) (observers : List ObserverValue) (found : StaleObserver) : Type 0 where
   pub first : first_index (is_stale host) observers ≡ Some found.index
-  pub mark : (o : ObserverValue) → slice_get observers found.index ≡ Some o → found.mark ≡ mark_of host.now (state_on host o.path)
+  pub mark : (o : ObserverValue) → slice_get observers found.index ≡ Some o
+      → found.mark ≡ mark_of host.now (state_on host o.path)
 
 -- Holds if `found` is the first observer with a changed mark, with that mark.
 pub record IsFirstMarked (marks : List (Option ℕ)) (found : StaleObserver) : Type 0 where
@@ -39,7 +43,8 @@ is_observed host room others m = has_place room others (answer_on host m).watch
 
 -- The response to a request that is answered at once.
 abbrev pub response_on : ServerState → ℕ → List ObserverValue → Message → Message
-response_on host room others m = response_with_observe m.token (is_observed host room others m) (answer_on host m).response
+response_on host room others m =
+    response_with_observe m.token (is_observed host room others m) (answer_on host m).response
 
 -- `true` if a response is sent whole.
 abbrev pub is_sent : LinkValue → Message → Bool
@@ -56,7 +61,8 @@ link_replied host l room others m None = link_after l (call.Reply (response_on h
 link_replied host l room others m (Some d) = link_after l (hold_call d.by m.token (moment_after host.now d.seconds))
 
 -- The entries after a request. A request whose response is delayed has no entry.
-abbrev pub entries_replied : ServerState → LinkValue → ℕ → List ObserverValue → Message → Option Delay → List ObserverValue
+abbrev pub entries_replied : ServerState → LinkValue → ℕ → List ObserverValue → Message
+    → Option Delay → List ObserverValue
 entries_replied host l room others m None = entries_asked host l room others m
 entries_replied host l room others m (Some d) = others
 
@@ -65,7 +71,8 @@ entries_replied host l room others m (Some d) = others
 -- The entries after a notification of `o`, the first stale observer among them.
 abbrev pub entries_notified : ServerState → LinkValue → List ObserverValue → ObserverValue → List ObserverValue
 entries_notified host l entries o =
-    first_becomes (is_stale host) (entry_left host o (goes_on (notification_of host.store host.now o.path o.format) && is_sent l (notification_on host o))) entries
+    first_becomes (is_stale host) (entry_left host o
+    (goes_on (notification_of host.store host.now o.path o.format) && is_sent l (notification_on host o))) entries
 
 -- ---- pending entries
 
@@ -75,7 +82,7 @@ settled_held host v = if length v.link.held == 0 then v else session_settled hos
 
 -- ---- a stop
 
--- The framer of a link: without the bytes of an unfinished frame if the link no longer accepts messages. The split frame
--- that it returned last stays.
+-- The framer of a link: without the bytes of an unfinished frame if the link no longer accepts messages. The split
+-- frame that it returned last stays.
 abbrev pub framer_on : LinkValue → FramerValue → FramerValue
 framer_on l f = record f { kept = frame_on l f.kept }

@@ -12,7 +12,8 @@ use Rattle.coap_conn.specs.declared.pending.Responder.{Responder}
 use Rattle.coap_conn.specs.declared.pending.Responder.TheVariants.{Engine, Application}
 use Rattle.coap_model.specs.world.Connections.{Delay}
 use Rattle.coap_server_session.specs.declared.server_state.ServerState.{ServerState}
-use Rattle.coap_server_session.specs.values.Sessions.{SessionValue, session_takes, session_max, asks_this, delay_on, held_in}
+use Rattle.coap_server_session.specs.values.Sessions.{SessionValue, session_takes, session_max, asks_this, delay_on}
+use Rattle.coap_server_session.specs.values.Sessions.{held_in}
 
 -- `true` if the application responds, and not the engine.
 abbrev pub is_application : Responder → Bool

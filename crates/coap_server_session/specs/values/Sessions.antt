@@ -1,5 +1,6 @@
 -- Defined by this project: the value of a server's connection, and the effect of each call on it and on the store.
-use Rattle.std.specs.Prelude.{◌≡◌, ℕ, zero, suc, ◌+◌, Bool, true, false, not, ◌&&◌, List, [], ◌∷◌, length, map, Option, Some, None, option_map, Result, Ok, Err, find, filter, nat_le, ◌==◌, if◌then◌else◌}
+use Rattle.std.specs.Prelude.{◌≡◌, ℕ, zero, suc, ◌+◌, Bool, true, false, not, ◌&&◌, List, [], ◌∷◌, length, map, Option}
+use Rattle.std.specs.Prelude.{Some, None, option_map, Result, Ok, Err, find, filter, nat_le, ◌==◌, if◌then◌else◌}
 use Rattle.coap_wire.specs.Message.{Message}
 use Rattle.coap_wire.specs.Reading.{message_of}
 use Rattle.coap_wire.specs.Stream.{OfFrame}
@@ -31,7 +32,8 @@ use Rattle.coap_store.specs.Messages.{response_with_observe}
 use Rattle.coap_store.specs.Notifications.{notification_of}
 use Rattle.coap_server_session.specs.declared.server_state.ServerState.{ServerState}
 use Rattle.coap_model.specs.world.Connections.{is_cut, moment_after, held_message, Delay, delay_of, hold_call}
-use Rattle.coap_model.specs.world.Observers.{format_of, has_place, is_whole, with_entry, goes_on, notification_message, first_becomes}
+use Rattle.coap_model.specs.world.Observers.{format_of, has_place, is_whole, with_entry, goes_on, notification_message}
+use Rattle.coap_model.specs.world.Observers.{first_becomes}
 use Rattle.coap_wire.specs.declared.sizes.TheConstants.{LARGEST_MESSAGE}
 
 -- An observer: its token and path, and the format and the mark of the state sent last.
@@ -68,7 +70,8 @@ session_max v = v.link.own_max
 -- The server state at the time `now`, with an empty store and without applications.
 abbrev pub empty_host : (dynamic_max rep_max versions now : ℕ) → ServerState
 empty_host dynamic_max rep_max versions now = record {
-  store = record { dynamic_max = dynamic_max; rep_max = rep_max; resources = []; versions = versions; applications = None };
+  store =
+      record { dynamic_max = dynamic_max; rep_max = rep_max; resources = []; versions = versions; applications = None };
   now = now;
 }
 
@@ -166,13 +169,19 @@ without_entry token observers = filter (λ o. not (same_bytes o.token token)) ob
 
 -- The entry that a request adds. The current state of its path counts as sent.
 abbrev pub new_entry : ServerState → Message → ObserverValue
-new_entry host m = record { token = m.token; path = path_of m; format = format_of (state_on host (path_of m)); mark = mark_of host.now (state_on host (path_of m)) }
+new_entry host m = record {
+  token = m.token;
+  path = path_of m;
+  format = format_of (state_on host (path_of m));
+  mark = mark_of host.now (state_on host (path_of m));
+}
 
 -- The connection after a response to a request. `others` are the entries with other tokens. The entry is added if the
 -- response has Observe (`observes`) and is sent whole.
 abbrev pub session_responded : LinkValue → List ObserverValue → ObserverValue → Bool → Message → SessionValue
 session_responded l others entry observes response =
-    session_with [] (link_after l (call.Reply response)) (with_entry (observes && is_whole (fit (limit_in l) response (bare_response response))) others entry)
+    session_with [] (link_after l (call.Reply response))
+    (with_entry (observes && is_whole (fit (limit_in l) response (bare_response response))) others entry)
 
 -- The connection after the response of an answer, with Observe if `observes` is `true`.
 abbrev pub session_answered_as : ServerState → LinkValue → List ObserverValue → Message → Answer → Bool → SessionValue
@@ -200,7 +209,8 @@ held_in l (Some d) = if can_hold l then Some d else None
 -- The connection after a request: its response is delayed, or was sent at once.
 abbrev pub session_replied : ServerState → LinkValue → List ObserverValue → Message → Option Delay → SessionValue
 session_replied host l others m None = session_answered host l others m (answer_on host m)
-session_replied host l others m (Some d) = session_with [] (link_after l (hold_call d.by m.token (moment_after host.now d.seconds))) others
+session_replied host l others m (Some d) =
+    session_with [] (link_after l (hold_call d.by m.token (moment_after host.now d.seconds))) others
 
 -- `true` if a message is a request that this connection answers.
 abbrev pub asks_this : LinkValue → Message → Bool
@@ -209,7 +219,8 @@ asks_this l m = is_request (react (standing_in l) m).verdict
 -- The connection after it processed a message.
 unfoldable pub session_handled : ServerState → SessionValue → Message → SessionValue
 session_handled host v m =
-    if asks_this v.link m then session_replied host (link_after v.link (call.Handle m)) (without_entry m.token v.observers) m (held_in (link_after v.link (call.Handle m)) (delay_on host m))
+    if asks_this v.link m then session_replied host (link_after v.link (call.Handle m))
+    (without_entry m.token v.observers) m (held_in (link_after v.link (call.Handle m)) (delay_on host m))
     else session_with [] (link_after v.link (call.Handle m)) v.observers
 
 -- The change of the store that a message makes.
@@ -236,19 +247,28 @@ session_rejected v fault = session_with [] (link_after v.link (call.Reject fault
 
 -- The effect of a frame, from its message or from the error of the parser. `count` bytes are accepted.
 abbrev pub taking_read : ServerState → SessionValue → ℕ → Result Message FormatFault → TakeOutcome
-taking_read host v count (Ok m) = record { count = count; handled = true; session = session_handled host v m; change = change_by host v.link m }
-taking_read host v count (Err e) = record { count = count; handled = false; session = session_rejected v reject.Format; change = Change.Nothing }
+taking_read host v count (Ok m) =
+    record { count = count; handled = true; session = session_handled host v m; change = change_by host v.link m }
+taking_read host v count (Err e) =
+    record { count = count; handled = false; session = session_rejected v reject.Format; change = Change.Nothing }
 
 -- The effect of an input slice, from the result of the framer.
 abbrev pub taking_found : ServerState → SessionValue → Framing → FrameEventValue → TakeOutcome
-taking_found host v f Nothing = record { count = f.taken; handled = false; session = record v { frame = f.kept }; change = Change.Nothing }
-taking_found host v f (AFault fault) = record { count = f.taken; handled = false; session = session_rejected v (reject_of (OfFrame fault)); change = Change.Nothing }
+taking_found host v f Nothing =
+    record { count = f.taken; handled = false; session = record v { frame = f.kept }; change = Change.Nothing }
+taking_found host v f (AFault fault) = record {
+  count = f.taken;
+  handled = false;
+  session = session_rejected v (reject_of (OfFrame fault));
+  change = Change.Nothing;
+}
 taking_found host v f (AFrame frame) = taking_read host v f.taken (message_of frame)
 
 -- The effect of an input slice. No byte is accepted if the connection does not accept bytes (`session_takes`).
 unfoldable pub taking : ServerState → SessionValue → List ℕ → TakeOutcome
 taking host v piece =
-    if session_takes v then taking_found host v (framing (session_max v) v.frame piece) (framing (session_max v) v.frame piece).finding
+    if session_takes v
+    then taking_found host v (framing (session_max v) v.frame piece) (framing (session_max v) v.frame piece).finding
     else record { count = 0; handled = false; session = v; change = Change.Nothing }
 
 -- Holds if allocation may fail for the representation that the first message of a slice stores. Then `count` bytes are
@@ -276,7 +296,8 @@ session_given v m = session_with v.frame (link_after v.link (call.Respond m)) v.
 -- `true` if a size may be announced: it is not below the current one and not above the maximum. Also, the connection
 -- must be open, its queue must have room, and the CSM must fit.
 abbrev pub session_raises : SessionValue → ℕ → Bool
-session_raises v size = (nat_le v.link.own_max size && nat_le size LARGEST_MESSAGE) && (session_ready v && may_announce v.link size)
+session_raises v size =
+    (nat_le v.link.own_max size && nat_le size LARGEST_MESSAGE) && (session_ready v && may_announce v.link size)
 
 abbrev pub session_announced : SessionValue → ℕ → SessionValue
 session_announced v size = session_with v.frame (link_after v.link (call.Announce size)) v.observers
@@ -295,7 +316,8 @@ entry_left host o false = []
 -- The connection after the notification `m` of an observer. The entry stays if `stays` is `true` and `m` is sent whole.
 abbrev pub session_notified_so : ServerState → SessionValue → ObserverValue → Message → Bool → SessionValue
 session_notified_so host v o m stays =
-    session_with v.frame (link_after v.link (call.Reply m)) (first_becomes (is_stale host) (entry_left host o (stays && is_whole (fit (limit_in v.link) m (bare_response m)))) v.observers)
+    session_with v.frame (link_after v.link (call.Reply m)) (first_becomes (is_stale host)
+    (entry_left host o (stays && is_whole (fit (limit_in v.link) m (bare_response m)))) v.observers)
 
 -- The notification of an observer.
 abbrev pub notification_on : ServerState → ObserverValue → Message
@@ -305,7 +327,8 @@ notification_on host o = notification_message o.token (notification_of host.stor
 abbrev pub session_notified : ServerState → SessionValue → Option ObserverValue → SessionValue
 session_notified host v None = v
 session_notified host v (Some o) =
-    session_notified_so host v o (notification_on host o) (goes_on (notification_of host.store host.now o.path o.format))
+    session_notified_so host v o (notification_on host o)
+    (goes_on (notification_of host.store host.now o.path o.format))
 
 -- The pending entry that is due first, if the queue has room to send it.
 unfoldable pub next_held_in : ℕ → SessionValue → Option PendingEntryValue
@@ -314,7 +337,8 @@ next_held_in now v = if session_ready v then first_due now v.link.held else None
 -- The link after the pending entry that is due first was removed: its response was sent, or its Pong was queued with
 -- Custody.
 abbrev pub link_sent : LinkValue → ℕ → PendingEntryValue → LinkValue
-link_sent l now (held.Answer by token moment) = link_after (link_after l (call.Due now)) (call.Reply (held_message by token))
+link_sent l now (held.Answer by token moment) =
+    link_after (link_after l (call.Due now)) (call.Reply (held_message by token))
 link_sent l now (held.Pong token) = link_after l (call.Due now)
 
 -- The connection after one iteration of settling: a pending entry is sent before any observer is notified.

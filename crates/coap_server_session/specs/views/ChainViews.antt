@@ -1,6 +1,7 @@
 -- The linked lists (chains) by which the code finds the observers that a change affects: the last one, and from each
 -- the one before it.
-use Rattle.std.specs.Prelude.{◌≡◌, ◌≤◌, ◌<◌, ◌==◌, ℕ, suc, Bool, true, false, not, List, Option, Some, None, slice_get, get_or}
+use Rattle.std.specs.Prelude.{◌≡◌, ◌≤◌, ◌<◌, ◌==◌, ℕ, suc, Bool, true, false, not, List, Option, Some, None, slice_get}
+use Rattle.std.specs.Prelude.{get_or}
 use Rattle.coap_path.specs.Paths.{Path}
 use Rattle.coap_path.specs.ResourceKinds.{kind_of_path, is_dynamic}
 use Rattle.coap_server_session.specs.values.Causes.{path_hash}
@@ -43,9 +44,11 @@ next_index (Some k) = suc k
 pub record IsLastBefore (why : Cause) (n : ℕ) (os : List Linked) (last : Option ℕ) : Type 0 where
   pub within : next_index last ≤ n
   pub concerned : (k : ℕ) (o : Linked) → last ≡ Some k → slice_get os k ≡ Some o → concerns_path why o.path ≡ true
-  pub others : (k : ℕ) (o : Linked) → next_index last ≤ k → k < n → slice_get os k ≡ Some o → concerns_path why o.path ≡ false
+  pub others : (k : ℕ) (o : Linked) → next_index last ≤ k → k < n → slice_get os k ≡ Some o
+      → concerns_path why o.path ≡ false
 
 -- Holds if the observers before the index `n` are linked into chains, for each change.
 pub record AreChainedTo (n : ℕ) (chains : Chains) (os : List Linked) : Type 0 where
   pub last : (why : Cause) → IsLastBefore why n os (last_in why chains)
-  pub each : (why : Cause) (k : ℕ) (o : Linked) → k < n → slice_get os k ≡ Some o → concerns_path why o.path ≡ true → IsLastBefore why k os (previous_in why o)
+  pub each : (why : Cause) (k : ℕ) (o : Linked) → k < n → slice_get os k ≡ Some o → concerns_path why o.path ≡ true
+      → IsLastBefore why k os (previous_in why o)

@@ -1,5 +1,6 @@
 -- The value that contracts see for `Flags`, and its invariant.
-use Rattle.std.specs.Prelude.{◌≡◌, ◌≤◌, ◌<◌, ◌/◌, ℕ, Bool, true, false, List, Option, Some, None, is_some, slice_get, get_or}
+use Rattle.std.specs.Prelude.{◌≡◌, ◌≤◌, ◌<◌, ◌/◌, ℕ, Bool, true, false, List, Option, Some, None, is_some, slice_get}
+use Rattle.std.specs.Prelude.{get_or}
 use Rattle.coap_server_session.specs.declared.flags.Flags.TheInside.{Inside}
 
 abbrev pub flags_value : Inside → List Bool

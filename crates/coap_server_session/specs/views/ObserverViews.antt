@@ -17,7 +17,8 @@ abbrev pub mark_in : Observer → Option ℕ
 mark_in o = o.changed
 
 abbrev pub observers_value : Inside → ObserversValue
-observers_value o = record { room = o.room; entries = map observer_value o.entries.items; marks = map mark_in o.entries.items }
+observers_value o =
+    record { room = o.room; entries = map observer_value o.entries.items; marks = map mark_in o.entries.items }
 
 -- Holds if an observer stores the hash of its path, and whether the path is built in.
 pub record IsTagged (o : Observer) : Type 0 where

@@ -9,4 +9,5 @@ abbrev pub observer_shown : Observer → ObserverValue
 observer_shown o = record { token = o.token; path = o.path; format = format_of o.told; mark = mark_told o.told }
 
 abbrev pub session_shown : List ℕ → Connection → SessionValue
-session_shown rest s = record { frame = kept_on s rest; link = link_of s.history; observers = map observer_shown s.observers }
+session_shown rest s =
+    record { frame = kept_on s rest; link = link_of s.history; observers = map observer_shown s.observers }

@@ -7,8 +7,10 @@ use Rattle.coap_c.proofs.events.event_of.Goals as goal
 
 pub message_event-requires : goal.message_event-requires
 message_event-requires c =
-    ap message_of c.frame.ensures ∙ heard_response _ _ c.in-Some-Response.message (ap (λ (e : Event). Some (event_value e)) (sym c.in-Some-Response.field-0-is) ∙ c.in-Some-Response.ensures)
+    ap message_of c.frame.ensures ∙ heard_response _ _ c.in-Some-Response.message
+    (ap (λ (e : Event). Some (event_value e)) (sym c.in-Some-Response.field-0-is) ∙ c.in-Some-Response.ensures)
 
 pub message_event-requires-in-Some-Notification : goal.message_event-requires-in-Some-Notification
 message_event-requires-in-Some-Notification c =
-    ap message_of c.frame-in-Some-Notification.ensures ∙ heard_notification _ _ c.in-Some-Notification.message (ap (λ (e : Event). Some (event_value e)) (sym c.in-Some-Notification.field-0-is) ∙ c.in-Some-Notification.ensures)
+    ap message_of c.frame-in-Some-Notification.ensures ∙ heard_notification _ _ c.in-Some-Notification.message
+    (ap (λ (e : Event). Some (event_value e)) (sym c.in-Some-Notification.field-0-is) ∙ c.in-Some-Notification.ensures)

@@ -10,7 +10,8 @@ overflow_sub-end c =
     let here = sym c.bytes_from.ensures ∙ c.in-Some.ensures.cases.0 in
     let o = coap_option c.in-Ok-read_option.option in
     let rest = c.in-Ok-read_option.rest.now in
-    let v = option_value c.args.options.now c.args.at.now c.in-Ok.base c.in-Some.first.now c.in-Some.after.now rest o (λ i. omega (arith, c.type_inv.options i)) here c.in-Ok-read_option.ensures in
+    let v = option_value c.args.options.now c.args.at.now c.in-Ok.base c.in-Some.first.now c.in-Some.after.now rest o
+    (λ i. omega (arith, c.type_inv.options i)) here c.in-Ok-read_option.ensures in
     let n = value_count c.args.options.now o rest v in
     omega (arith, n)
 
@@ -19,7 +20,8 @@ overflow_sub-end-2 c =
     let here = sym c.bytes_from.ensures ∙ c.in-Some.ensures.cases.0 in
     let o = coap_option c.in-Ok-read_option.option in
     let rest = c.in-Ok-read_option.rest.now in
-    let v = option_value c.args.options.now c.args.at.now c.in-Ok.base c.in-Some.first.now c.in-Some.after.now rest o (λ i. omega (arith, c.type_inv.options i)) here c.in-Ok-read_option.ensures in
+    let v = option_value c.args.options.now c.args.at.now c.in-Ok.base c.in-Some.first.now c.in-Some.after.now rest o
+    (λ i. omega (arith, c.type_inv.options i)) here c.in-Ok-read_option.ensures in
     let n = value_count c.args.options.now o rest v in
     omega (arith, n)
 
@@ -28,7 +30,8 @@ span_within-requires c =
     let here = sym c.bytes_from.ensures ∙ c.in-Some.ensures.cases.0 in
     let o = coap_option c.in-Ok-read_option.option in
     let rest = c.in-Ok-read_option.rest.now in
-    let v = option_value c.args.options.now c.args.at.now c.in-Ok.base c.in-Some.first.now c.in-Some.after.now rest o (λ i. omega (arith, c.type_inv.options i)) here c.in-Ok-read_option.ensures in
+    let v = option_value c.args.options.now c.args.at.now c.in-Ok.base c.in-Some.first.now c.in-Some.after.now rest o
+    (λ i. omega (arith, c.type_inv.options i)) here c.in-Ok-read_option.ensures in
     let n = value_count c.args.options.now o rest v in
     omega (arith, n)
 
@@ -37,7 +40,8 @@ returns c =
     let here = sym c.bytes_from.ensures ∙ c.in-Some.ensures.cases.0 in
     let o = coap_option c.in-Ok-read_option.option in
     let rest = c.in-Ok-read_option.rest.now in
-    let v = option_value c.args.options.now c.args.at.now c.in-Ok.base c.in-Some.first.now c.in-Some.after.now rest o (λ i. omega (arith, c.type_inv.options i)) here c.in-Ok-read_option.ensures in
+    let v = option_value c.args.options.now c.args.at.now c.in-Ok.base c.in-Some.first.now c.in-Some.after.now rest o
+    (λ i. omega (arith, c.type_inv.options i)) here c.in-Ok-read_option.ensures in
     let n = value_count c.args.options.now o rest v in
     let at = length c.args.options.now - length rest - length o.value in
     let number = c.args.number.now in
@@ -51,6 +55,12 @@ returns c =
       record {
         at_is = omega (arith, n);
         number_is = c.from.ensures;
-        value_is = (at, (omega (arith, n), (c.span_within.ensures, part_at c.args.options.now v.front o.value rest at v.is (omega (arith, n)))));
+        value_is = (
+          at,
+          (
+            omega (arith, n),
+            (c.span_within.ensures, part_at c.args.options.now v.front o.value rest at v.is (omega (arith, n))),
+          ),
+        );
       },
     )

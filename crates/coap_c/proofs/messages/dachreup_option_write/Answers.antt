@@ -10,9 +10,13 @@ returns-then-saturating_sub-len c =
     let value = c.args.value.now in
     let last = c.args.last.now in
     let count = c.args.length.now in
-    let spelled : c.option_head-head.result.items ++ value ≡ option_bytes last number value = c.option_head-head.ensures value refl ∙ ap (λ (n : ℕ). option_bytes last n value) c.in-Ok.ensures.1 in
-    let n : c.len.result + length value ≡ length (option_bytes last number value) = omega (arith, c.len.ensures.value, ap length spelled, length-append c.option_head-head.result.items value) in
-    let full = append_full (length c.args.options.now) count last number value c.in-Ok.ensures.0 c.if-number-last.false c.if-value-gt-MAX_EXTENDED_LENGTH.false (omega (arith, n, c.if-saturating_sub-len.true, c.saturating_sub.ensures)) in
+    let spelled : c.option_head-head.result.items ++ value ≡ option_bytes last number value =
+    c.option_head-head.ensures value refl ∙ ap (λ (n : ℕ). option_bytes last n value) c.in-Ok.ensures.1 in
+    let n : c.len.result + length value ≡ length (option_bytes last number value) =
+    omega (arith, c.len.ensures.value, ap length spelled, length-append c.option_head-head.result.items value) in
+    let full = append_full (length c.args.options.now) count last number value c.in-Ok.ensures.0 c.if-number-last.false
+    c.if-value-gt-MAX_EXTENDED_LENGTH.false
+    (omega (arith, n, c.if-saturating_sub-len.true, c.saturating_sub.ensures)) in
     rw full (refl, refl)
 
 pub returns : goal.returns
@@ -21,10 +25,16 @@ returns c =
     let value = c.args.value.now in
     let last = c.args.last.now in
     let count = c.args.length.now in
-    let spelled : c.option_head-head.result.items ++ value ≡ option_bytes last number value = c.option_head-head.ensures value refl ∙ ap (λ (n : ℕ). option_bytes last n value) c.in-Ok.ensures.1 in
-    let n : c.len.result + length value ≡ length (option_bytes last number value) = omega (arith, c.len.ensures.value, ap length spelled, length-append c.option_head-head.result.items value) in
-    let space : count + length (option_bytes last number value) ≤ length c.args.options.now = omega (arith, n, c.if-saturating_sub-len.false, c.saturating_sub.ensures) in
-    let none = append_none (length c.args.options.now) count last number value c.in-Ok.ensures.0 c.if-number-last.false c.if-value-gt-MAX_EXTENDED_LENGTH.false space in
-    let done = appended c.args.options.now c.deref.result.now value (option_bytes last number value) c.put-at.new.buffer c.put.new.buffer count c.put-at.result c.put.result
-    (ap (λ (y : List ℕ). y ++ value) c.deref.ensures.0 ∙ spelled) space c.put-at.ensures.after c.put.ensures.after c.put-at.ensures.written c.put.ensures.written in
+    let spelled : c.option_head-head.result.items ++ value ≡ option_bytes last number value =
+    c.option_head-head.ensures value refl ∙ ap (λ (n : ℕ). option_bytes last n value) c.in-Ok.ensures.1 in
+    let n : c.len.result + length value ≡ length (option_bytes last number value) =
+    omega (arith, c.len.ensures.value, ap length spelled, length-append c.option_head-head.result.items value) in
+    let space : count + length (option_bytes last number value) ≤ length c.args.options.now =
+    omega (arith, n, c.if-saturating_sub-len.false, c.saturating_sub.ensures) in
+    let none = append_none (length c.args.options.now) count last number value c.in-Ok.ensures.0 c.if-number-last.false
+    c.if-value-gt-MAX_EXTENDED_LENGTH.false space in
+    let done = appended c.args.options.now c.deref.result.now value (option_bytes last number value) c.put-at.new.buffer
+    c.put.new.buffer count c.put-at.result c.put.result
+    (ap (λ (y : List ℕ). y ++ value) c.deref.ensures.0 ∙ spelled) space c.put-at.ensures.after c.put.ensures.after
+    c.put-at.ensures.written c.put.ensures.written in
     rw none (refl, (done.0, (refl, done.1)))

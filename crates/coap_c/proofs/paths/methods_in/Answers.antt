@@ -12,8 +12,10 @@ loop-number-preserved c =
     let r = c.loop-number.rest in
     let old = c.loop-number.methods.items in
     let tail = set_bits (32 - (n + 1)) (r / 2) (n + 1) in
-    ap (λ (y : List ℕ). y ++ tail) (c.in_ok-push_if.ensures ∙ ap (λ (k : ℕ). old ++ (if r % 2 == 1 then k ∷ [] else [])) c.new.ensures)
-    ∙ append_assoc old (if r % 2 == 1 then n ∷ [] else []) tail ∙ ap (λ (y : List ℕ). old ++ y) (sym more) ∙ c.loop-number.invariant
+    ap (λ (y : List ℕ). y ++ tail)
+    (c.in_ok-push_if.ensures ∙ ap (λ (k : ℕ). old ++ (if r % 2 == 1 then k ∷ [] else [])) c.new.ensures)
+    ∙ append_assoc old (if r % 2 == 1 then n ∷ [] else []) tail ∙ ap (λ (y : List ℕ). old ++ y) (sym more)
+    ∙ c.loop-number.invariant
 
 pub returns : goal.returns
 returns c =

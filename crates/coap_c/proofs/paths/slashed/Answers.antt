@@ -10,5 +10,10 @@ loop-segment-init c =
       goes = tt;
       ends = tt;
       left = rw (same, c.new-text.ensures) refl;
-      room = omega (arith, ap written_length same, ap length c.new-text.ensures, path_fits c.args.path.now c.segments-segment-items.ensures.path);
+      room = omega (
+        arith,
+        ap written_length same,
+        ap length c.new-text.ensures,
+        path_fits c.args.path.now c.segments-segment-items.ensures.path,
+      );
     }

@@ -6,4 +6,7 @@ use Rattle.coap_c.proofs.paths.write_path.Goals as goal
 pub returns-then-not-names : goal.returns-then-not-names
 returns-then-not-names c =
     let text = c.without_first-text.ensures ∙ ap (drop 1) (c.deref.ensures.0 ∙ c.slashed-slashed.ensures) in
-    inr (no_text c.args.path.now (λ same. c.names.ensures.no c.if-not-names.true (ap text_path text ∙ same)), (refl, (refl, refl)))
+    inr (
+      no_text c.args.path.now (λ same. c.names.ensures.no c.if-not-names.true (ap text_path text ∙ same)),
+      (refl, (refl, refl)),
+    )

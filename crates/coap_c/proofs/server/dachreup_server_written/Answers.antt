@@ -3,5 +3,6 @@ use Rattle.coap_c.proofs.server.dachreup_server_written.Goals as goal
 
 pub returns-in-Ok : goal.returns-in-Ok
 returns-in-Ok c =
-    written_ok c.args.id c.args.count _ _ c.in-Some.server.value c.deref_mut.result.now c.written-answer.new.self c.in-Some.ensures.value c.deref_mut.ensures.value c.put_back.ensures
+    written_ok c.args.id c.args.count _ _ c.in-Some.server.value c.deref_mut.result.now c.written-answer.new.self
+    c.in-Some.ensures.value c.deref_mut.ensures.value c.put_back.ensures
     c.in-Ok.ensures.answer c.in-Ok.ensures.ok c.in-Ok.ensures.shows

@@ -7,11 +7,13 @@ use Rattle.coap_client_engine.proofs.client.handle_message.Goals as goal
 pub returns-in-Answer-clause-event : goal.returns-in-Answer-clause-event
 returns-in-Answer-clause-event c =
     let m = c.args.message.now in
-    ap (λ token. Some (answer_told m token c.in-Answer.last (first_critical m.options))) (answer_token (standing_in c.args.link.now) m c.in-Answer.token c.in-Answer.last c.in-Answer.ensures.verdict)
+    ap (λ token. Some (answer_told m token c.in-Answer.last (first_critical m.options)))
+    (answer_token (standing_in c.args.link.now) m c.in-Answer.token c.in-Answer.last c.in-Answer.ensures.verdict)
     ∙ ap (event_told m) c.in-Answer.ensures.verdict
 
 pub returns-in-Pong-clause-event : goal.returns-in-Pong-clause-event
 returns-in-Pong-clause-event c =
     let m = c.args.message.now in
-    ap (λ token. Some (Pong token c.in-Pong.custody)) (pong_token (standing_in c.args.link.now) m c.in-Pong.token c.in-Pong.custody c.in-Pong.ensures.verdict)
+    ap (λ token. Some (Pong token c.in-Pong.custody))
+    (pong_token (standing_in c.args.link.now) m c.in-Pong.token c.in-Pong.custody c.in-Pong.ensures.verdict)
     ∙ ap (event_told m) c.in-Pong.ensures.verdict

@@ -8,7 +8,9 @@ invariant-loop g l = record {
   out : g.O.Outlet.is_failed l.out ≡ false;
   err : g.E.Outlet.is_failed l.err ≡ false;
   runs : ExtendsTraceOn l.plan
-      (seen (g.W.Wire.given l.fn.wire) (g.W.Wire.written l.fn.wire) (g.W.Wire.answers l.fn.wire) (g.C.Clock.moments l.fn.clock) (g.O.Outlet.written l.fn.out) (g.E.Outlet.written l.fn.err))
-      (seen (g.W.Wire.given l.wire) (g.W.Wire.written l.wire) (g.W.Wire.answers l.wire) (g.C.Clock.moments l.clock) (g.O.Outlet.written l.out) (g.E.Outlet.written l.err))
+      (seen (g.W.Wire.given l.fn.wire) (g.W.Wire.written l.fn.wire) (g.W.Wire.answers l.fn.wire)
+      (g.C.Clock.moments l.fn.clock) (g.O.Outlet.written l.fn.out) (g.E.Outlet.written l.fn.err))
+      (seen (g.W.Wire.given l.wire) (g.W.Wire.written l.wire) (g.W.Wire.answers l.wire) (g.C.Clock.moments l.clock)
+      (g.O.Outlet.written l.out) (g.E.Outlet.written l.err))
       l.run (IsFlushed l.counter) None;
 }

@@ -7,10 +7,12 @@ use Rattle.coap_command_line.proofs.arguments.server_reason.Goals as goal
 pub returns-in-Ok : goal.returns-in-Ok
 returns-in-Ok g c =
     let found =
-    server_found _ (map g.S.AsStr.text c.args.words.now) (rows_of (found_of c.in-Ok.matches)) c.args.fault.now refl c.in-Ok.ensures.kinds c.in-Ok.ensures.rows in
+    server_found _ (map g.S.AsStr.text c.args.words.now) (rows_of (found_of c.in-Ok.matches)) c.args.fault.now refl
+    c.in-Ok.ensures.kinds c.in-Ok.ensures.rows in
     IfOk-weaker c.server_line.result _ _ (λ line is. is ∙ found) c.server_line.ensures
 
 pub returns-in-Err-Usage : goal.returns-in-Err-Usage
 returns-in-Err-Usage g c =
-    server_rejected _ (map g.S.AsStr.text c.args.words.now) c.in-Err-Usage.field-0 c.in-Err-Usage.field-0-0 c.args.fault.now
+    server_rejected _ (map g.S.AsStr.text c.args.words.now) c.in-Err-Usage.field-0
+    c.in-Err-Usage.field-0-0 c.args.fault.now
     refl c.in-Err-Usage.field-0-is c.in-Err-Usage.ensures.refusal

@@ -9,4 +9,5 @@ returns-in-Err-clause-plan g c =
 
 pub returns-clause-plan : goal.returns-clause-plan
 returns-clause-plan g c =
-    server_told _ (map g.S.AsStr.text c.args.words.now) (rows_of (found_of c.in-Ok.matches)) c.server_plan.result refl c.in-Ok.ensures.kinds c.in-Ok.ensures.rows c.server_plan.ensures.plan
+    server_told _ (map g.S.AsStr.text c.args.words.now) (rows_of (found_of c.in-Ok.matches)) c.server_plan.result refl
+    c.in-Ok.ensures.kinds c.in-Ok.ensures.rows c.server_plan.ensures.plan

@@ -6,4 +6,5 @@ use Rattle.coap_conn.proofs.csm.first_size.Goals as goal
 
 pub returns : goal.returns
 returns c =
-    find_from_yields_List is_size _ _ c.find.result c.find.ensures.ran (YieldsList-from_first coap_option (λ os. os) _ c.options.ensures.all) (λ x b q k. search (rules, tests))
+    find_from_yields_List is_size _ _ c.find.result c.find.ensures.ran
+    (YieldsList-from_first coap_option (λ os. os) _ c.options.ensures.all) (λ x b q k. search (rules, tests))

@@ -6,4 +6,5 @@ use Rattle.coap_conn.proofs.csm.has_critical_option.Goals as goal
 
 pub returns : goal.returns
 returns c =
-    any_from_yields_List (λ (o : CoapOption). o.number % 2 == 1) _ _ _ c.any.ensures.ran (YieldsList-from_first coap_option (λ os. os) _ c.options.ensures.all) (λ x b q k. search (rules, tests))
+    any_from_yields_List (λ (o : CoapOption). o.number % 2 == 1) _ _ _ c.any.ensures.ran
+    (YieldsList-from_first coap_option (λ os. os) _ c.options.ensures.all) (λ x b q k. search (rules, tests))

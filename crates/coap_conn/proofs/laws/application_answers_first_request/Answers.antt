@@ -1,4 +1,5 @@
-use Rattle.coap_conn.proofs.ApplicationLaws.{first_request, others_stay, responds_fitted, whole_answers, absent_stays, responds_never}
+use Rattle.coap_conn.proofs.ApplicationLaws.{first_request, others_stay, responds_fitted, whole_answers, absent_stays}
+use Rattle.coap_conn.proofs.ApplicationLaws.{responds_never}
 use Rattle.coap_conn.proofs.laws.application_answers_first_request.Goals as goal
 
 pub returns-clause-first : goal.returns-clause-first

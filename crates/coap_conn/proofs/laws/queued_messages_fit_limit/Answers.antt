@@ -1,4 +1,5 @@
-use Rattle.coap_conn.proofs.HistoryLaws.{new_fits, reaction_fits, sent_fits, stopped_fits, released_fits, due_fits, asked_fits, cancelled_fits}
+use Rattle.coap_conn.proofs.HistoryLaws.{new_fits, reaction_fits, sent_fits, stopped_fits, released_fits, due_fits}
+use Rattle.coap_conn.proofs.HistoryLaws.{asked_fits, cancelled_fits}
 use Rattle.coap_conn.proofs.AnnounceLaws.{announcement_fits}
 use Rattle.coap_conn.proofs.ApplicationLaws.{responded_fits}
 use Rattle.coap_conn.proofs.laws.queued_messages_fit_limit.Goals as goal

@@ -1,5 +1,6 @@
 use Rattle.coap_conn.specs.Prelude.{matches_response}
-use Rattle.coap_conn.proofs.OutstandingLaws.{answers_asked, last_ends, none_left, notified_stays, request_ended, pong_ends, stranger_stays, response_told, pong_told_of}
+use Rattle.coap_conn.proofs.OutstandingLaws.{answers_asked, last_ends, none_left, notified_stays, request_ended}
+use Rattle.coap_conn.proofs.OutstandingLaws.{pong_ends, stranger_stays, response_told, pong_told_of}
 use Rattle.coap_conn.proofs.laws.responses_end_requests.Goals as goal
 
 pub returns-clause-answer : goal.returns-clause-answer

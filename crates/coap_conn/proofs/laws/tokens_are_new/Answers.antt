@@ -11,7 +11,9 @@ returns-clause-asked c = token_left
 
 pub returns-clause-given : goal.returns-clause-given
 returns-clause-given c h m e none =
-    ap (λ (o : Option RequestFault). (cond (is_none o) (record h { queued = h.queued ++ m ∷ []; outstanding = h.outstanding ++ e ∷ []; tokens = h.tokens + 1 }) h).tokens) none
+    ap (λ (o : Option RequestFault). (cond (is_none o)
+    (record h { queued = h.queued ++ m ∷ []; outstanding = h.outstanding ++ e ∷ []; tokens = h.tokens + 1 }) h).tokens)
+    none
 
 pub returns-clause-others : goal.returns-clause-others
 returns-clause-others c = tokens_stay

@@ -7,5 +7,6 @@ use Rattle.coap_conn.proofs.outstanding.remove_ping_in.Goals as goal
 pub returns-clause-others : goal.returns-clause-others
 returns-clause-others c =
     ap (map outstanding_value)
-    (filter_same _ (λ e. not (matches_pong c.args.token.now (outstanding_value e))) _ (λ x b q k. search (rules, tests)) _ _ c.retain.ensures.filtered)
+    (filter_same _ (λ e. not (matches_pong c.args.token.now (outstanding_value e))) _ (λ x b q k. search (rules, tests))
+    _ _ c.retain.ensures.filtered)
     ∙ values_filtered (λ e. not (matches_pong c.args.token.now e)) c.args.entries.now.items

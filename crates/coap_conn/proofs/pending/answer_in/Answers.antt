@@ -7,6 +7,8 @@ use Rattle.coap_conn.proofs.pending.answer_in.Goals as goal
 
 pub returns : goal.returns
 returns c =
-    position_from_yields_List (λ e. is_answer_at c.in_ok-least.least (held_value e)) _ _ c.position.result c.position.ensures.ran (YieldsList-from_slice c.args.held.now cc) (λ x b q k. search (rules, tests))
+    position_from_yields_List (λ e. is_answer_at c.in_ok-least.least (held_value e)) _ _ c.position.result
+    c.position.ensures.ran (YieldsList-from_slice c.args.held.now cc) (λ x b q k. search (rules, tests))
     ∙ place_of (is_answer_at c.in_ok-least.least) c.args.held.now
-    ∙ ap (λ (moment : Option ℕ). answer_index moment (map held_value c.args.held.now)) (sym (c.in_ok-least.was) ∙ c.earliest_due.ensures)
+    ∙ ap (λ (moment : Option ℕ). answer_index moment (map held_value c.args.held.now))
+    (sym (c.in_ok-least.was) ∙ c.earliest_due.ensures)

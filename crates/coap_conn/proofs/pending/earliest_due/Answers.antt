@@ -9,5 +9,7 @@ use Rattle.coap_conn.proofs.pending.earliest_due.Goals as goal
 pub returns : goal.returns
 returns c =
     sym (option_map_id c.min.result)
-    ∙ min_from_yields_List _ c.min.result c.min.ensures.ran (YieldsList-from_filter_map _ (λ e. due_moment c.args.now (held_value e)) (YieldsList-from_slice c.args.held.now cc) c.filter_map.ensures.closure (λ x r q k. search (rules, tests)))
+    ∙ min_from_yields_List _ c.min.result c.min.ensures.ran
+    (YieldsList-from_filter_map _ (λ e. due_moment c.args.now (held_value e)) (YieldsList-from_slice c.args.held.now cc)
+    c.filter_map.ensures.closure (λ x r q k. search (rules, tests)))
     ∙ ap (reduce min) (moments_of (due_moment c.args.now) c.args.held.now)

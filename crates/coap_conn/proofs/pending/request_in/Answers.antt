@@ -7,9 +7,11 @@ use Rattle.coap_conn.proofs.pending.request_in.Goals as goal
 
 pub returns-clause-first : goal.returns-clause-first
 returns-clause-first c =
-    position_from_yields_List (λ e. is_request_for c.args.token.now (held_value e)) _ _ c.position.result c.position.ensures.ran (YieldsList-from_slice c.args.held.now cc) (λ x b q k. search (rules, tests))
+    position_from_yields_List (λ e. is_request_for c.args.token.now (held_value e)) _ _ c.position.result
+    c.position.ensures.ran (YieldsList-from_slice c.args.held.now cc) (λ x b q k. search (rules, tests))
     ∙ place_of (is_request_for c.args.token.now) c.args.held.now
 
 pub returns-clause-within : goal.returns-clause-within
 returns-clause-within c =
-    subst (λ i. IfSome i (λ i. i < length c.args.held.now)) (sym (returns-clause-first c)) (position_within (is_request_for c.args.token.now) c.args.held.now)
+    subst (λ i. IfSome i (λ i. i < length c.args.held.now)) (sym (returns-clause-first c))
+    (position_within (is_request_for c.args.token.now) c.args.held.now)

@@ -5,12 +5,14 @@ use Rattle.coap_frame.proofs.filling.classify.Goals as goal
 
 pub returns-then-size-max : goal.returns-then-size-max
 returns-then-size-max c =
-    rw c.size_bytes-then-size-max.ensures (stands_too_large c.args.max c.args.piece.now c.in-Known.size (sym c.in-Known.ensures.declared) (omega (arith, c.if-size-max.true)))
+    rw c.size_bytes-then-size-max.ensures (stands_too_large c.args.max c.args.piece.now c.in-Known.size
+    (sym c.in-Known.ensures.declared) (omega (arith, c.if-size-max.true)))
 
 pub returns-then-size-piece : goal.returns-then-size-piece
 returns-then-size-piece c =
     let piece = c.args.piece.now in
-    stands_more c.args.max piece (begin_short c.args.max piece c.in-Known.size (sym c.in-Known.ensures.declared) (omega (arith, c.if-size-max.false)) (omega (arith, c.if-size-piece.true)))
+    stands_more c.args.max piece (begin_short c.args.max piece c.in-Known.size (sym c.in-Known.ensures.declared)
+    (omega (arith, c.if-size-max.false)) (omega (arith, c.if-size-piece.true)))
 
 pub returns-in-Unknown : goal.returns-in-Unknown
 returns-in-Unknown c =
@@ -23,4 +25,5 @@ returns-in-BadToken c =
 
 pub returns-else-size-piece : goal.returns-else-size-piece
 returns-else-size-piece c =
-    stands_whole c.args.max c.args.piece.now c.in-Known.size c.in-Known.layout (sym c.in-Known.ensures.declared) (sym c.in-Known.ensures.exact) (omega (arith, c.if-size-max.false)) (omega (arith, c.if-size-piece.false))
+    stands_whole c.args.max c.args.piece.now c.in-Known.size c.in-Known.layout (sym c.in-Known.ensures.declared)
+    (sym c.in-Known.ensures.exact) (omega (arith, c.if-size-max.false)) (omega (arith, c.if-size-piece.false))

@@ -1,7 +1,8 @@
 use Rattle.std.proofs.Common.{List, ℕ, take, sym, ap, subst, ◌∙◌, arith}
 use Rattle.coap_frame.specs.Prelude.{Framing, IsFilled, finding_in, framer_of, FrameStatus, HasLayoutIn}
 use Rattle.coap_frame.specs.declared.framer.BufferContent.TheVariants as held
-use Rattle.coap_frame.proofs.FramingLemmas.{framing_unfinished, framing_whole, framing_fault, behind_more, behind_frame, behind_fault}
+use Rattle.coap_frame.proofs.FramingLemmas.{framing_unfinished, framing_whole, framing_fault, behind_more, behind_frame}
+use Rattle.coap_frame.proofs.FramingLemmas.{behind_fault}
 use Rattle.coap_frame.proofs.framer.advance_in_buffer.Goals as goal
 
 pub returns-in-Unfinished : goal.returns-in-Unfinished
@@ -11,10 +12,13 @@ returns-in-Unfinished c =
     let p = c.args.piece.now in
     let new = c.fill-taken.new.buffer.items in
     let taken = c.fill-taken.result.0 in
-    let filled = subst (λ (s : FrameStatus). IsFilled max kept p new taken s) c.in-Unfinished.is c.fill-taken.ensures.filled in
+    let filled =
+    subst (λ (s : FrameStatus). IsFilled max kept p new taken s) c.in-Unfinished.is c.fill-taken.ensures.filled in
     let is = framing_unfinished max kept p new taken filled in
     record {
-      after = behind_more max c.args.copied.now kept p new taken c.saturating_add.result c.requires.some c.saturating_add.ensures filled;
+      after =
+          behind_more max c.args.copied.now kept p new taken c.saturating_add.result c.requires.some
+          c.saturating_add.ensures filled;
       taken = sym (ap (λ (f : Framing). f.taken) is);
       within = filled.within;
       layout = subst (HasLayoutIn (take taken p)) (sym c.in-Unfinished.is) tt;
@@ -30,10 +34,13 @@ returns-in-Whole c =
     let new = c.fill-taken.new.buffer.items in
     let taken = c.fill-taken.result.0 in
     let layout = c.in-Whole.field-0 in
-    let filled = subst (λ (s : FrameStatus). IsFilled max kept p new taken s) c.in-Whole.is c.fill-taken.ensures.filled in
+    let filled =
+    subst (λ (s : FrameStatus). IsFilled max kept p new taken s) c.in-Whole.is c.fill-taken.ensures.filled in
     let is = framing_whole max kept p new taken layout filled in
     record {
-      after = behind_frame max c.args.copied.now kept p new taken c.saturating_add.result c.requires.some c.saturating_add.ensures layout filled;
+      after =
+          behind_frame max c.args.copied.now kept p new taken c.saturating_add.result c.requires.some
+          c.saturating_add.ensures layout filled;
       taken = sym (ap (λ (f : Framing). f.taken) is);
       within = filled.within;
       layout = subst (HasLayoutIn new) (sym c.in-Whole.is) filled.stands.3;
@@ -49,10 +56,14 @@ returns-in-Fault c =
     let new = c.fill-taken.new.buffer.items in
     let taken = c.fill-taken.result.0 in
     let fault = c.in-Fault.field-0 in
-    let filled = subst (λ (s : FrameStatus). IsFilled max kept p new taken s) c.in-Fault.is c.fill-taken.ensures.filled in
+    let filled =
+    subst (λ (s : FrameStatus). IsFilled max kept p new taken s) c.in-Fault.is c.fill-taken.ensures.filled in
     let is = framing_fault max kept p new taken fault filled in
     record {
-      after = ap (λ (b : List ℕ). framer_of max held.Prefix b c.saturating_add.result) c.clear.ensures.items ∙ behind_fault max c.args.copied.now kept p new taken c.saturating_add.result c.requires.some c.saturating_add.ensures fault filled;
+      after =
+          ap (λ (b : List ℕ). framer_of max held.Prefix b c.saturating_add.result) c.clear.ensures.items
+          ∙ behind_fault max c.args.copied.now kept p new taken c.saturating_add.result c.requires.some
+          c.saturating_add.ensures fault filled;
       taken = sym (ap (λ (f : Framing). f.taken) is);
       within = filled.within;
       layout = subst (HasLayoutIn (take taken p)) (sym c.in-Fault.is) tt;

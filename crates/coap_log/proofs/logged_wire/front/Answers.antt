@@ -8,4 +8,5 @@ use Rattle.coap_log.proofs.logged_wire.front.Goals as goal
 pub returns : goal.returns
 returns c =
     joined LINE_LENGTH [] c.text.new.self c.number.new.self (codes "connection ") (decimal c.args.number)
-    (c.text.ensures ∙ ap (λ (l : List ℕ). appended LINE_LENGTH l (codes "connection ")) c.new-line.ensures) c.number.ensures
+    (c.text.ensures ∙ ap (λ (l : List ℕ). appended LINE_LENGTH l (codes "connection ")) c.new-line.ensures)
+    c.number.ensures

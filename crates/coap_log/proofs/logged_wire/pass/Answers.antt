@@ -10,5 +10,6 @@ returns g c =
     let after = trace_of g.L.LogWriter.offers g.L.LogWriter.accepted c.log_messages.new.log in
     let nanos = as_nanos c.now.result in (
       nanos,
-      subst (λ (f : List ℕ). LogsBytes (length c.args.bytes.now) nanos f c.args.bytes.now c.args.tap.now c.log_messages.new.tap before after) c.connection_line.ensures c.log_messages.ensures,
+      subst (λ (f : List ℕ). LogsBytes (length c.args.bytes.now) nanos f c.args.bytes.now c.args.tap.now
+          c.log_messages.new.tap before after) c.connection_line.ensures c.log_messages.ensures,
     )

@@ -13,4 +13,5 @@ text-requires c = ap is_text (c.as_str.ensures.value ∙ c.text_of.ensures) ∙ 
 pub returns : goal.returns
 returns c =
     joined LINE_LENGTH c.args.line.now c.text.new.self c.text-2.new.self (local_text c.args.moment) (codes "Z")
-    (c.text.ensures ∙ ap (appended LINE_LENGTH c.args.line.now) (c.as_str.ensures.value ∙ c.text_of.ensures)) c.text-2.ensures
+    (c.text.ensures ∙ ap (appended LINE_LENGTH c.args.line.now) (c.as_str.ensures.value ∙ c.text_of.ensures))
+    c.text-2.ensures

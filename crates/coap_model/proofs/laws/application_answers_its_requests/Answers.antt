@@ -1,4 +1,5 @@
-use Rattle.coap_store.proofs.ApplicationLaws.{prompt_without, none_built_in, none_unchecked, deadline_of_entry, none_elsewhere, prompt_handed}
+use Rattle.coap_store.proofs.ApplicationLaws.{prompt_without, none_built_in, none_unchecked, deadline_of_entry}
+use Rattle.coap_store.proofs.ApplicationLaws.{none_elsewhere, prompt_handed}
 use Rattle.coap_model.proofs.laws.application_answers_its_requests.Goals as goal
 
 pub returns-clause-none : goal.returns-clause-none

@@ -9,7 +9,8 @@ returns c = record {
   requests = λ k events id s there. (requests_accounted k events id s there).requests;
   pending = λ k events id s there. (requests_accounted k events id s there).pending;
   unanswered = λ k events id s there. (requests_accounted k events id s there).handed;
-  given_up = λ k events id s there over. (requests_accounted k events id s there).quiet (off_over k.applications s.history.phase over);
+  given_up = λ k events id s there over.
+      (requests_accounted k events id s there).quiet (off_over k.applications s.history.phase over);
   answered = λ k events id s there. (requests_accounted k events id s there).answered;
   own = λ k events id s there. (requests_accounted k events id s there).own;
   given = given_are_answers;

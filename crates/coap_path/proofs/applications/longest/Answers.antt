@@ -10,7 +10,8 @@ loop-entry-preserved c =
     let es = c.args.entries.now in
     let i = c.loop-entry.entry-index in
     ap (λ (o : Option ApplicationEntryValue). longer_entry o (entry_for (drop (i + 1) es) path)) c.better-best.ensures
-    ∙ longest_goes_on es i c.entry-item.result path (option_copied c.loop-entry.best) c.loop-entry-test.true c.entry-item.is
+    ∙ longest_goes_on es i c.entry-item.result path (option_copied c.loop-entry.best)
+    c.loop-entry-test.true c.entry-item.is
     ∙ c.loop-entry.invariant
 
 pub returns : goal.returns
@@ -18,5 +19,6 @@ returns c =
     let path = segment_list c.args.path.now in
     let best = option_copied c.loop-entry.best in
     sym (longer_none best)
-    ∙ sym (at_drop_all (λ left. longer_entry best (entry_for left path)) c.args.entries.now c.loop-entry.entry-index c.loop-entry-test.false)
+    ∙ sym (at_drop_all (λ left. longer_entry best (entry_for left path)) c.args.entries.now c.loop-entry.entry-index
+    c.loop-entry-test.false)
     ∙ c.loop-entry.invariant

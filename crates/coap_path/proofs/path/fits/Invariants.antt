@@ -6,4 +6,5 @@ use Rattle.coap_path.proofs.path.fits.Given as goal
 abbrev pub invariant-loop-segment : goal.invariant-loop-segment
 invariant-loop-segment l =
     (l.room ≤ 255)
-    × (255 + written_length (segment_list (drop l.segment-index l.segments)) ≡ l.room + written_length (segment_list l.segments))
+    × (255 + written_length (segment_list (drop l.segment-index l.segments))
+    ≡ l.room + written_length (segment_list l.segments))

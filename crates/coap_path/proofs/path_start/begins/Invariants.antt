@@ -8,5 +8,6 @@ invariant-loop-segment l = record {
   goes : (goal.iterator-loop-segment).can_next l.segment-iterator;
   ends : (goal.iterator-loop-segment).is_finite l.segment-iterator;
   within : l.index ≤ length l.path;
-  so_far : begins_with l.segment-iterator (segment_list (drop l.index l.path)) ≡ begins_with l.prefix (segment_list l.path);
+  so_far : begins_with l.segment-iterator (segment_list (drop l.index l.path))
+      ≡ begins_with l.prefix (segment_list l.path);
 }

@@ -7,5 +7,8 @@ loop-segment-init c = record {
   goes = tt;
   ends = tt;
   few = few_segments c.args.prefix.now c.segments-segment-items.ensures.path;
-  so_far = omega (arith, ap length (c.into_iter-segment-iterator.ensures.into_iter_gives ∙ c.segments-segment-items.ensures.value));
+  so_far = omega (
+    arith,
+    ap length (c.into_iter-segment-iterator.ensures.into_iter_gives ∙ c.segments-segment-items.ensures.value),
+  );
 }

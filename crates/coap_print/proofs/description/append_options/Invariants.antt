@@ -10,5 +10,6 @@ abbrev pub invariant-loop-option : goal.invariant-loop-option
 invariant-loop-option l = record {
   goes : (goal.iterator-loop-option).can_next l.option-iterator;
   ends : (goal.iterator-loop-option).is_finite l.option-iterator;
-  all : appended LINE_LENGTH l.line (flat_map (option_text l.code) l.option-iterator) ≡ appended LINE_LENGTH l.fn.line (flat_map (option_text l.code) l.fn.options);
+  all : appended LINE_LENGTH l.line (flat_map (option_text l.code) l.option-iterator)
+      ≡ appended LINE_LENGTH l.fn.line (flat_map (option_text l.code) l.fn.options);
 }

@@ -5,4 +5,6 @@ use Rattle.coap_print.specs.Texts.{is_printable}
 use Rattle.coap_print.proofs.description.is_text.Goals as goal
 
 pub returns : goal.returns
-returns c = all_from_yields_List is_printable _ _ c.all.result c.all.ensures.ran (YieldsList-from_slice c.args.bytes.now cc) (λ x b q k. search (rules, tests))
+returns c =
+    all_from_yields_List is_printable _ _ c.all.result c.all.ensures.ran (YieldsList-from_slice c.args.bytes.now cc)
+    (λ x b q k. search (rules, tests))

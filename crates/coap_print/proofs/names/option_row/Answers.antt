@@ -9,4 +9,5 @@ unfolding known_option
 returns-else-class-eq7-clause-row c =
     let code = c.args.code in
     let number = c.args.number in
-    c.find_option.ensures.row ∙ sym (cond-false (class_of code == 7) (signalling_option code number) (option_in options number) (ne_eqb (class_of code) 7 (λ e. c.if-class-eq7.false (c.class.ensures ∙ e))))
+    c.find_option.ensures.row ∙ sym (cond-false (class_of code == 7) (signalling_option code number)
+    (option_in options number) (ne_eqb (class_of code) 7 (λ e. c.if-class-eq7.false (c.class.ensures ∙ e))))

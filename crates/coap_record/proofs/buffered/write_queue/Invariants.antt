@@ -6,7 +6,8 @@ use Rattle.coap_record.proofs.buffered.write_queue.Given as goal
 abbrev pub invariant-loop-queue : goal.invariant-loop-queue
 invariant-loop-queue g l =
     record {
-      writes : WritesUpTo l.fn.queue.waiting l.queue.waiting (g.O.Outlet.written l.fn.outlet) (g.O.Outlet.written l.outlet);
+      writes : WritesUpTo l.fn.queue.waiting l.queue.waiting (g.O.Outlet.written l.fn.outlet)
+          (g.O.Outlet.written l.outlet);
       works : g.O.Outlet.is_failed l.outlet ≡ false;
       room : room_in l.queue ≡ room_in l.fn.queue;
     }

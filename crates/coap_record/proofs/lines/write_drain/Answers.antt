@@ -5,5 +5,10 @@ use Rattle.coap_record.proofs.lines.write_drain.Goals as goal
 pub returns-clause-text : goal.returns-clause-text
 returns-clause-text g c =
     text_is _ _ _ _ c.write_pieces.result
-    (rw (c.as_slice.ensures.value, c.as_slice-2.ensures.value, c.decimal_digits-id.ensures, c.decimal_digits-count.ensures) (simp append_assoc refl))
+    (rw (
+      c.as_slice.ensures.value,
+      c.as_slice-2.ensures.value,
+      c.decimal_digits-id.ensures,
+      c.decimal_digits-count.ensures,
+    ) (simp append_assoc refl))
     c.write_pieces.ensures.text

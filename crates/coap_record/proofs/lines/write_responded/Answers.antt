@@ -7,7 +7,9 @@ use Rattle.coap_record.proofs.lines.write_responded.Goals as goal
 pub returns-in_err-write_pieces-clause-text : goal.returns-in_err-write_pieces-clause-text
 returns-in_err-write_pieces-clause-text g c =
     fault_first _ _ _ (encode_lower c.args.response.now ++ codes "\n") _ _ c.from_residual.ensures.0
-    (rw (c.as_slice.ensures.value, c.decimal_digits-id.ensures) (responded_parts c.args.id c.args.response.now ∙ append_assoc (codes "respond " ++ (decimal c.args.id ++ codes " ")) (encode_lower c.args.response.now) (codes "\n")))
+    (rw (c.as_slice.ensures.value, c.decimal_digits-id.ensures)
+    (responded_parts c.args.id c.args.response.now ∙ append_assoc (codes "respond " ++ (decimal c.args.id ++ codes " "))
+    (encode_lower c.args.response.now) (codes "\n")))
     c.in_err-write_pieces.ensures.text
 
 pub returns-in_err-write_hex-clause-text : goal.returns-in_err-write_hex-clause-text

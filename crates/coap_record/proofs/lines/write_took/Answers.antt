@@ -10,18 +10,22 @@ returns-then-is_empty-clause-text g c = rw (took_none c.args.id c.args.bytes.now
 pub returns-in_err-write_pieces-clause-text : goal.returns-in_err-write_pieces-clause-text
 returns-in_err-write_pieces-clause-text g c =
     fault_first _ _ _ (encode_lower c.args.bytes.now ++ codes "\n") _ _ c.from_residual.ensures.0
-    (rw (c.as_slice.ensures.value, c.decimal_digits-id.ensures) (took_some c.args.id c.args.bytes.now c.if-is_empty.ensures ∙ append_assoc (codes "in " ++ (decimal c.args.id ++ codes " ")) (encode_lower c.args.bytes.now) (codes "\n")))
+    (rw (c.as_slice.ensures.value, c.decimal_digits-id.ensures)
+    (took_some c.args.id c.args.bytes.now c.if-is_empty.ensures
+    ∙ append_assoc (codes "in " ++ (decimal c.args.id ++ codes " ")) (encode_lower c.args.bytes.now) (codes "\n")))
     c.in_err-write_pieces.ensures.text
 
 pub returns-in_err-write_hex-clause-text : goal.returns-in_err-write_hex-clause-text
 returns-in_err-write_hex-clause-text g c =
     fault_then _ _ _ _ _ (codes "\n") _ _ c.from_residual-in_err-write_hex.ensures.0
-    (rw (c.as_slice.ensures.value, c.decimal_digits-id.ensures) (took_some c.args.id c.args.bytes.now c.if-is_empty.ensures))
+    (rw (c.as_slice.ensures.value, c.decimal_digits-id.ensures)
+    (took_some c.args.id c.args.bytes.now c.if-is_empty.ensures))
     c.in_ok-write_pieces.ensures.text c.in_err-write_hex.ensures.text
 
 pub returns-clause-text : goal.returns-clause-text
 returns-clause-text g c =
     text_then _ _ _ _ (codes "\n") _ c.write_all.result
-    (rw (c.as_slice.ensures.value, c.decimal_digits-id.ensures) (took_some c.args.id c.args.bytes.now c.if-is_empty.ensures))
+    (rw (c.as_slice.ensures.value, c.decimal_digits-id.ensures)
+    (took_some c.args.id c.args.bytes.now c.if-is_empty.ensures))
     (bytes_then _ _ _ _ _ c.in_ok-write_pieces.ensures.text c.in_ok-write_hex.ensures.text)
     (text_of_all _ _ _ c.write_all.result c.write_all.ensures.ok c.write_all.ensures.part)

@@ -7,7 +7,8 @@ use Rattle.coap_record.proofs.pieces.write_hex.Given as goal
 abbrev pub invariant-loop-left : goal.invariant-loop-left
 invariant-loop-left g l =
     record {
-      writes : WritesUpTo (encode_lower l.fn.bytes) (encode_lower l.left) (g.O.Outlet.written l.fn.outlet) (g.O.Outlet.written l.outlet);
+      writes : WritesUpTo (encode_lower l.fn.bytes) (encode_lower l.left) (g.O.Outlet.written l.fn.outlet)
+          (g.O.Outlet.written l.outlet);
       works : g.O.Outlet.is_failed l.outlet ≡ false;
     }
 

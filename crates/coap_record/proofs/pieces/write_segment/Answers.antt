@@ -6,11 +6,14 @@ use Rattle.coap_record.proofs.WriteLemmas.{nothing_yet, piece_written, piece_cut
 use Rattle.coap_record.proofs.pieces.write_segment.Goals as goal
 
 pub returns-in_err-write_all-clause-text : goal.returns-in_err-write_all-clause-text
-returns-in_err-write_all-clause-text g c = fault_first _ _ (slash ∷ []) _ _ _ c.from_residual.ensures.0 refl c.in_err-write_all.ensures.part
+returns-in_err-write_all-clause-text g c =
+    fault_first _ _ (slash ∷ []) _ _ _ c.from_residual.ensures.0 refl c.in_err-write_all.ensures.part
 
 pub loop-piece-init : goal.loop-piece-init
 loop-piece-init g c =
-    let left = ap encoded_text c.into_iter-piece-iterator.ensures.into_iter_gives ∙ c.percent_encode-piece-items.ensures.text ∙ segment_is c.args.segment.now (λ k. omega (arith, c.type_inv.segment k)) in
+    let left =
+    ap encoded_text c.into_iter-piece-iterator.ensures.into_iter_gives ∙ c.percent_encode-piece-items.ensures.text
+    ∙ segment_is c.args.segment.now (λ k. omega (arith, c.type_inv.segment k)) in
     record {
       writes = piece_written _ _ (slash ∷ []) _ _ _ _ (nothing_yet _ _) (rw left refl) c.in_ok-write_all.ensures.ok;
       works = c.in_ok-write_all.ensures.failure;

@@ -5,4 +5,5 @@ use Rattle.coap_request.proofs.request.all_options.Goals as goal
 
 pub insert-requires-clause-short : goal.insert-requires-clause-short
 insert-requires-clause-short c =
-    short_extra (extras_value c.args.extras.now) (record { number = c.in-Some.number; value = c.in-Some.value.now }) (ap (option_map given_option) c.in-Some.is) c.requires.short
+    short_extra (extras_value c.args.extras.now) (record { number = c.in-Some.number; value = c.in-Some.value.now })
+    (ap (option_map given_option) c.in-Some.is) c.requires.short

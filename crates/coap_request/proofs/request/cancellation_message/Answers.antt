@@ -6,4 +6,6 @@ use Rattle.coap_request.proofs.request.cancellation_message.Goals as goal
 pub returns : goal.returns
 returns c =
     let e = extras_value c.args.extras.now in
-    cancel_is_made c.args.target.now e (coap_options c.as_slice.result.now) c.built.result (sym c.has_long_extra.ensures ∙ c.if-has_long_extra.false) (ap coap_options c.as_slice.ensures.value ∙ c.all_options-options.ensures.value) c.built.ensures
+    cancel_is_made c.args.target.now e (coap_options c.as_slice.result.now) c.built.result
+    (sym c.has_long_extra.ensures ∙ c.if-has_long_extra.false)
+    (ap coap_options c.as_slice.ensures.value ∙ c.all_options-options.ensures.value) c.built.ensures

@@ -6,7 +6,8 @@ use Rattle.coap_request.proofs.request.push_each.Given as goal
 abbrev pub invariant-loop-value : goal.invariant-loop-value
 invariant-loop-value l =
     record {
-      added : coap_options l.options.items ≡ coap_options l.fn.options.items ++ options_with l.number (byte_lists (take l.value-index l.values));
+      added : coap_options l.options.items
+          ≡ coap_options l.fn.options.items ++ options_with l.number (byte_lists (take l.value-index l.values));
       row : IsRow l.number (coap_options l.options.items);
       count : length l.options.items ≡ length l.fn.options.items + l.value-index;
     }

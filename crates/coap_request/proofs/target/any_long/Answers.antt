@@ -8,5 +8,6 @@ use Rattle.coap_request.proofs.target.any_long.Goals as goal
 pub returns : goal.returns
 returns c =
     let parts = c.args.parts.now in
-    any_from_yields_List (λ part. is_long part.items) _ _ _ c.any.ensures.ran (YieldsList-from_slice parts cc) (λ x b q k. search (rules, tests))
+    any_from_yields_List (λ part. is_long part.items) _ _ _ c.any.ensures.ran (YieldsList-from_slice parts cc)
+    (λ x b q k. search (rules, tests))
     ∙ sym (any_part is_long parts)

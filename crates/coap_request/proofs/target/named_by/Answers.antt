@@ -5,4 +5,8 @@ use Rattle.coap_request.proofs.target.named_by.Goals as goal
 
 pub returns-clause-some : goal.returns-clause-some
 returns-clause-some c =
-    omega (arith, some_host c.args.url.now c.requires c.path.ensures.valid, ap (λ (bytes : List ℕ). length bytes) (c.in_ok-host_bytes.ensures ∙ ap host_named c.host_in-host.ensures))
+    omega (
+      arith,
+      some_host c.args.url.now c.requires c.path.ensures.valid,
+      ap (λ (bytes : List ℕ). length bytes) (c.in_ok-host_bytes.ensures ∙ ap host_named c.host_in-host.ensures),
+    )

@@ -6,7 +6,8 @@ use Rattle.coap_script.proofs.scripts.script.Given as goal
 abbrev pub invariant-loop-line : goal.invariant-loop-line
 invariant-loop-line l =
     record {
-      said : script_of l.text ≡ said_behind l.lines (map event_value l.events.items) (said_by_parts (parts newline l.left));
+      said : script_of l.text
+          ≡ said_behind l.lines (map event_value l.events.items) (said_by_parts (parts newline l.left));
       counted : l.lines + length l.left ≤ length l.text;
     }
 

@@ -1,16 +1,24 @@
 use Rattle.std.proofs.Common.{◌≡◌, false, length}
-use Rattle.coap_serve.specs.Prelude.{AreTurns, HasRun, Matches, RunTrace, TellsMore, config_of, environment, known_by, known_of_run, new_server, service_of, some_waits, views_of}
+use Rattle.coap_serve.specs.Prelude.{AreTurns, HasRun, Matches, RunTrace, TellsMore, config_of, environment, known_by}
+use Rattle.coap_serve.specs.Prelude.{known_of_run, new_server, service_of, some_waits, views_of}
 use Rattle.coap_serve.proofs.door.run.Given as goal
 
 -- The progress of the run.
 abbrev pub invariant-loop-turn : goal.invariant-loop-turn
 invariant-loop-turn g l =
     record {
-      ran : HasRun (known_by g.M.Monitor.follows g.A.Application.follows l.fn.monitor l.monitor l.fn.application l.application) (new_server (config_of l.fn.config)) l.service.server;
+      ran : HasRun (known_by g.M.Monitor.follows g.A.Application.follows l.fn.monitor l.monitor l.fn.application
+          l.application) (new_server (config_of l.fn.config)) l.service.server;
       front : RunTrace _;
-      made : AreTurns (environment g.A.Application.follows g.A.Application.idle (some_waits g.A.Application.waits) (views_of g.D.Wire.Ready.readable g.D.Wire.Ready.writable g.D.Wire.Wire.given g.D.Wire.Wire.written g.D.Wire.Wire.answers g.D.Wire.Wire.rooms)) l.fn.config front (service_of l.service.server l.service.peers.entries l.service.second l.service.idle) l.wait;
+      made : AreTurns (environment g.A.Application.follows g.A.Application.idle (some_waits g.A.Application.waits)
+          (views_of g.D.Wire.Ready.readable g.D.Wire.Ready.writable g.D.Wire.Wire.given g.D.Wire.Wire.written
+          g.D.Wire.Wire.answers g.D.Wire.Wire.rooms)) l.fn.config front
+          (service_of l.service.server l.service.peers.entries l.service.second l.service.idle) l.wait;
       counted : length front.times ≡ l.turn;
-      matches : Matches (known_of_run (TellsMore (g.C.Clock.moments l.fn.clock) (g.C.Clock.moments l.clock)) (TellsMore (g.U.Clock.moments l.fn.uptime) (g.U.Clock.moments l.uptime))
-          (TellsMore (g.D.Door.calls l.fn.door) (g.D.Door.calls l.door)) (known_by g.M.Monitor.follows g.A.Application.follows l.fn.monitor l.monitor l.fn.application l.application)) front;
+      matches : Matches (known_of_run (TellsMore (g.C.Clock.moments l.fn.clock) (g.C.Clock.moments l.clock))
+          (TellsMore (g.U.Clock.moments l.fn.uptime) (g.U.Clock.moments l.uptime))
+          (TellsMore (g.D.Door.calls l.fn.door) (g.D.Door.calls l.door))
+          (known_by g.M.Monitor.follows g.A.Application.follows l.fn.monitor l.monitor l.fn.application l.application))
+          front;
       ready : l.service.is_spent ≡ false;
     }

@@ -12,7 +12,8 @@ pub returns-clause-text : goal.returns-clause-text
 unfolding header_text
 returns-clause-text c =
     let names = map (λ e. e.now) c.args.entries.now in
-    let bare : c.in_ok-bare.bare.items ≡ entries_text [] names = c.in_ok-bare.ensures ∙ sym (flat_map-map (entry_text []) (λ e. e.now) c.args.entries.now) in
+    let bare : c.in_ok-bare.bare.items ≡ entries_text [] names =
+    c.in_ok-bare.ensures ∙ sym (flat_map-map (entry_text []) (λ e. e.now) c.args.entries.now) in
     let quoted : c.in_ok-quoted.quoted.items ≡ entries_text (codes "'") names =
     c.in_ok-quoted.ensures ∙ sym (flat_map-map (entry_text (codes "'")) (λ e. e.now) c.args.entries.now) in
     rw (
@@ -32,12 +33,14 @@ returns-clause-text c =
       c.as_bytes-2.ensures.value,
       c.as_bytes-3.ensures.value,
     )
-    (laid_out (codes "# Record of ") c.args.program.now (codes " ") VERSION.now (codes ", format 1\n") (codes "# options: ") (options_text c.args.config.now) (entries_text [] names) (codes "\n")
+    (laid_out (codes "# Record of ") c.args.program.now (codes " ") VERSION.now (codes ", format 1\n")
+    (codes "# options: ") (options_text c.args.config.now) (entries_text [] names) (codes "\n")
     (codes "# replay: coap-server --script ") (shown_name c.args.name.now) (entries_text (codes "'") names))
 
 pub returns-clause-comments : goal.returns-clause-comments
 returns-clause-comments c =
     subst SaysNoEvent (sym (returns-clause-text c))
-    (header_says_nothing c.args.program.now VERSION.now c.args.name.now c.args.config.now (map (λ e. e.now) c.args.entries.now) c.requires.program refl
+    (header_says_nothing c.args.program.now VERSION.now c.args.name.now c.args.config.now
+    (map (λ e. e.now) c.args.entries.now) c.requires.program refl
     (rw c.in_ok-options.ensures.text at c.in_ok-options.ensures.printable)
     (ap is_text (flat_map-map (λ e. e) (λ e. e.now) c.args.entries.now) ∙ c.requires.entries))

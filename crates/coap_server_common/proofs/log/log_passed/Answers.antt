@@ -5,4 +5,9 @@ use Rattle.coap_server_common.proofs.log.log_passed.Goals as goal
 
 pub loop-left-smaller : goal.loop-left-smaller
 loop-left-smaller c =
-    rw (rest_of c.take-taken.result c.loop-left.left.now) (omega (arith, c.if-taken-eq0.false, c.take-taken.ensures.within, length-drop c.take-taken.result c.loop-left.left.now))
+    rw (rest_of c.take-taken.result c.loop-left.left.now) (omega (
+      arith,
+      c.if-taken-eq0.false,
+      c.take-taken.ensures.within,
+      length-drop c.take-taken.result c.loop-left.left.now,
+    ))

@@ -5,4 +5,5 @@ pub returns-clause-messages : goal.returns-clause-messages
 returns-clause-messages c k events id s accepted there = (handled_agrees k events id s accepted there).handled
 
 pub returns-clause-fault : goal.returns-clause-fault
-returns-clause-fault c k events id s fault accepted there has = ((handled_agrees k events id s accepted there).stopped fault has).0
+returns-clause-fault c k events id s fault accepted there has =
+    ((handled_agrees k events id s accepted there).stopped fault has).0

@@ -4,6 +4,8 @@ use Rattle.coap_server_engine.proofs.laws.responses_at_once_have_room.Goals as g
 pub returns : goal.returns
 returns c = record {
   refused = λ v events id piece bytes m fault shows asked. at_once_refused v events id piece m shows asked bytes fault;
-  accepted = λ v events id piece bytes m response shows early asked. at_once_accepted v events id piece m shows asked early bytes response;
-  answered = λ v events id piece bytes m shows early asked. at_once_answered v events id piece m shows asked early bytes;
+  accepted = λ v events id piece bytes m response shows early asked. at_once_accepted v events id piece m
+      shows asked early bytes response;
+  answered =
+      λ v events id piece bytes m shows early asked. at_once_answered v events id piece m shows asked early bytes;
 }

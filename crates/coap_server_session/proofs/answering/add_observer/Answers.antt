@@ -8,5 +8,7 @@ returns-clause-marked c = λ marked.
     let host = c.args.host.now in
     let before = c.args.observers.now in
     let entry = new_entry host c.args.request.now in
-    let fresh = fresh_unmarked host entry (marked_now host entry c.requires.watched.representation c.requires.watched.there) in
-    rw (c.add_observer.ensures, c.entry_for.ensures.entry) (entered_marked host before.entries before.marks entry marked fresh)
+    let fresh =
+    fresh_unmarked host entry (marked_now host entry c.requires.watched.representation c.requires.watched.there) in
+    rw (c.add_observer.ensures, c.entry_for.ensures.entry)
+    (entered_marked host before.entries before.marks entry marked fresh)

@@ -13,14 +13,16 @@ returns-in-Some c =
     let room = c.args.observers.now.room in
     let others = without_entry m.token c.args.observers.now.entries in
     let d : Delay = record { by = Application; seconds = c.in-Some.seconds } in
-    let delays : delay_on host m ≡ Some d = delay_handed host m c.in-Some.seconds (sym c.application_deadline.ensures ∙ c.in-Some.is) in
+    let delays : delay_on host m ≡ Some d =
+    delay_handed host m c.in-Some.seconds (sym c.application_deadline.ensures ∙ c.in-Some.is) in
     let at = c.saturating_add-moment.ensures ∙ ap (λ n. min (host.now + n) 18446744073709551615) c.from.ensures in
     let quiet = late_quiet host m d room others delays in
     assumption (
       ap change_hash (sym quiet),
       c.hand_over-handed.ensures.handed ∙ handed_late host m c.in-Some.seconds delays c.args.link.now,
       λ (_ : c.hand_over-handed.result ≡ true). refl {A = Option ℕ} {a = None},
-      late_link host m d room others delays c.args.link.now _ c.saturating_add-moment.result at c.hand_over-handed.ensures.link,
+      late_link host m d room others delays c.args.link.now _ c.saturating_add-moment.result at
+          c.hand_over-handed.ensures.link,
       c.hand_over-handed.ensures.entries ∙ late_entries host m d room others delays c.args.link.now,
       c.hand_over-handed.ensures.room,
       c.hand_over-handed.ensures.marks (changed_mark host) c.requires.marked,

@@ -11,11 +11,13 @@ none_due now held empty = ap (first_due now) (nil_from_length held empty)
 
 pub returns-then-pending-eq0-clause-sent : goal.returns-then-pending-eq0-clause-sent
 returns-then-pending-eq0-clause-sent c = λ e due.
-    let none = none_due c.args.now c.args.link.now.held (omega (arith, c.pending.ensures.count, c.if-pending-eq0.true)) in
+    let none =
+    none_due c.args.now c.args.link.now.held (omega (arith, c.pending.ensures.count, c.if-pending-eq0.true)) in
     let bad : ◌≡◌ {A = Option PendingEntryValue} None (Some e) = sym none ∙ due in
     absurd cc
 
 pub returns-then-pending-eq0-clause-found : goal.returns-then-pending-eq0-clause-found
 returns-then-pending-eq0-clause-found c =
-    let none = none_due c.args.now c.args.link.now.held (omega (arith, c.pending.ensures.count, c.if-pending-eq0.true)) in
+    let none =
+    none_due c.args.now c.args.link.now.held (omega (arith, c.pending.ensures.count, c.if-pending-eq0.true)) in
     ap (λ (e : Option PendingEntryValue). is_some e) (sym none)

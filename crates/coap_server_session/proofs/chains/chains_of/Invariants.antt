@@ -5,4 +5,6 @@ use Rattle.coap_server_session.proofs.chains.chains_of.Given as goal
 
 -- The observers before this one are linked.
 abbrev pub invariant-loop-index : goal.invariant-loop-index
-invariant-loop-index l = IsChaining l.index l.chains l.fn.observers.items l.observers.items × (vec_capacity l.observers ≡ vec_capacity l.fn.observers)
+invariant-loop-index l =
+    IsChaining l.index l.chains l.fn.observers.items l.observers.items
+    × (vec_capacity l.observers ≡ vec_capacity l.fn.observers)

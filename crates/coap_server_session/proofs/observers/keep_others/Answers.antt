@@ -21,10 +21,13 @@ returns-clause-others c = ap (map observer_value) (kept c) ∙ others_seen c.arg
 pub returns-clause-same : goal.returns-clause-same
 returns-clause-same c = λ no_less.
     let many : c.len-before.result ≤ c.len.result = ltb-false c.len.result c.len-before.result no_less in
-    kept c ∙ all_kept_stay (keeps c.args.token.now) c.args.observers.now.items (omega (arith, many, c.len-before.ensures, c.len.ensures, ap length (kept c)))
+    kept c ∙ all_kept_stay (keeps c.args.token.now) c.args.observers.now.items
+    (omega (arith, many, c.len-before.ensures, c.len.ensures, ap length (kept c)))
 
 pub returns-clause-marks : goal.returns-clause-marks
-returns-clause-marks c = λ mark same. rw (kept c) (others_keep_marks (keeps c.args.token.now) mark c.args.observers.now.items same)
+returns-clause-marks c =
+    λ mark same. rw (kept c) (others_keep_marks (keeps c.args.token.now) mark c.args.observers.now.items same)
 
 pub returns-clause-tagged : goal.returns-clause-tagged
-returns-clause-tagged c = λ all. rw (kept c) (all_filter IsTagged (keeps c.args.token.now) c.args.observers.now.items all)
+returns-clause-tagged c =
+    λ all. rw (kept c) (all_filter IsTagged (keeps c.args.token.now) c.args.observers.now.items all)

@@ -24,7 +24,9 @@ loop-segment-preserved g c =
     record {
       goes = tt;
       ends = tt;
-      added = segment_added c.args.response.now c.loop-segment.response c.add.new.response c.args.path c.loop-segment.segment-iterator c.next.new.self c.in-Some.segment.now steps c.add.ensures.added so_far.added;
+      added =
+          segment_added c.args.response.now c.loop-segment.response c.add.new.response c.args.path
+          c.loop-segment.segment-iterator c.next.new.self c.in-Some.segment.now steps c.add.ensures.added so_far.added;
       order = omega (arith, c.add.ensures.order);
       few = omega (arith, c.add.ensures.size, so_far.few, ap path_size steps);
       short = omega (arith, so_far.short, ap written_length steps);

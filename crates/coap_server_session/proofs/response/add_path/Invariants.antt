@@ -9,7 +9,8 @@ abbrev pub invariant-loop-segment : goal.invariant-loop-segment
 invariant-loop-segment g l = record {
   goes : (goal.iterator-loop-segment g).can_next l.segment-iterator;
   ends : (goal.iterator-loop-segment g).is_finite l.segment-iterator;
-  added : record l.response { options = l.response.options ++ each_at numbers.location_path l.segment-iterator } ≡ record l.fn.response { options = l.fn.response.options ++ each_at numbers.location_path l.fn.path };
+  added : record l.response { options = l.response.options ++ each_at numbers.location_path l.segment-iterator }
+      ≡ record l.fn.response { options = l.fn.response.options ++ each_at numbers.location_path l.fn.path };
   order : last_number 0 l.response.options ≤ 8;
   few : encoded_size l.response + path_size l.segment-iterator ≤ encoded_size l.fn.response + path_size l.fn.path;
   short : written_length l.segment-iterator ≤ 255;

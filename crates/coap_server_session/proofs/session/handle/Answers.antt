@@ -12,8 +12,10 @@ use Rattle.std.proofs.lemmas.Bool.{cond-false}
 pub returns-in-Request-clause-after : goal.returns-in-Request-clause-after
 returns-in-Request-clause-after c =
     let v : SessionValue = record { frame = []; link = c.args.link.now; observers = c.args.observers.now.entries } in
-    on_request c.answer.result c.args.host.now v c.args.message.now c.on.new.self c.answer.new.link c.args.observers.now c.answer.new.observers
-    (ap is_request (sym c.in-Request.ensures.verdict)) c.in-Request.ensures.after c.requires.room refl (rw c.keep_moment.ensures at c.answer.ensures.link) (rw c.keep_moment.ensures at c.answer.ensures.entries)
+    on_request c.answer.result c.args.host.now v c.args.message.now c.on.new.self c.answer.new.link
+    c.args.observers.now c.answer.new.observers
+    (ap is_request (sym c.in-Request.ensures.verdict)) c.in-Request.ensures.after c.requires.room refl
+    (rw c.keep_moment.ensures at c.answer.ensures.link) (rw c.keep_moment.ensures at c.answer.ensures.entries)
 
 pub returns-in_default : goal.returns-in_default
 returns-in_default c =
@@ -23,7 +25,9 @@ returns-in_default c =
     let other = ap is_request (sym c.on.ensures.verdict) ∙ no_request_told c.on.result c.in_default.not-Request in
     let same = cond-false (asks_this link m) (answer_on host m).change answer.Nothing other in
     assumption (
-      λ (frame : List ℕ). message_handled host (record { frame = frame; link = link; observers = c.args.observers.now.entries }) m c.on.new.self other c.on.ensures.after,
+      λ (frame : List ℕ). message_handled host
+          (record { frame = frame; link = link; observers = c.args.observers.now.entries }) m
+          c.on.new.self other c.on.ensures.after,
       ap sizes_of c.on.ensures.after ∙ stays_so sizes_of (takes_messages link.phase) link _ refl,
       c.requires.marked,
       ap (λ (e : RequestEffect). e.changed) c.none.ensures ∙ ap change_hash (sym same),

@@ -17,4 +17,6 @@ returns-in-ConnectionAborted c = ap spec.accept_fault (sym c.in-ConnectionAborte
 
 pub returns-in_default : goal.returns-in_default
 returns-in_default c =
-    another_is_full _ (λ is. c.in_default.not-WouldBlock (c.kind.ensures ∙ is)) (λ is. c.in_default.not-Interrupted (c.kind.ensures ∙ is)) (λ is. c.in_default.not-ConnectionAborted (c.kind.ensures ∙ is))
+    another_is_full _ (λ is. c.in_default.not-WouldBlock (c.kind.ensures ∙ is))
+    (λ is. c.in_default.not-Interrupted (c.kind.ensures ∙ is))
+    (λ is. c.in_default.not-ConnectionAborted (c.kind.ensures ∙ is))

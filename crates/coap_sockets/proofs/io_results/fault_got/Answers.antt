@@ -13,4 +13,5 @@ returns-in-Interrupted c = ap spec.fault_got (sym c.in-Interrupted.is ∙ c.kind
 
 pub returns-in_default : goal.returns-in_default
 returns-in_default c =
-    another_is_a_failure _ (λ is. c.in_default.not-WouldBlock (c.kind.ensures ∙ is)) (λ is. c.in_default.not-Interrupted (c.kind.ensures ∙ is))
+    another_is_a_failure _ (λ is. c.in_default.not-WouldBlock (c.kind.ensures ∙ is))
+    (λ is. c.in_default.not-Interrupted (c.kind.ensures ∙ is))

@@ -10,15 +10,18 @@ use Rattle.coap_sockets.proofs.io_results.listen_error_of.Goals as goal
 
 pub returns-in-AddrInUse : goal.returns-in-AddrInUse
 unfolding spec.listen_error_of
-returns-in-AddrInUse c = ap (λ k. spec.listen_error_of k (raw_os_error c.args.error)) (sym c.in-AddrInUse.is ∙ c.kind.ensures)
+returns-in-AddrInUse c =
+    ap (λ k. spec.listen_error_of k (raw_os_error c.args.error)) (sym c.in-AddrInUse.is ∙ c.kind.ensures)
 
 pub returns-in-PermissionDenied : goal.returns-in-PermissionDenied
 unfolding spec.listen_error_of
-returns-in-PermissionDenied c = ap (λ k. spec.listen_error_of k (raw_os_error c.args.error)) (sym c.in-PermissionDenied.is ∙ c.kind.ensures)
+returns-in-PermissionDenied c =
+    ap (λ k. spec.listen_error_of k (raw_os_error c.args.error)) (sym c.in-PermissionDenied.is ∙ c.kind.ensures)
 
 pub returns-in-AddrNotAvailable : goal.returns-in-AddrNotAvailable
 unfolding spec.listen_error_of
-returns-in-AddrNotAvailable c = ap (λ k. spec.listen_error_of k (raw_os_error c.args.error)) (sym c.in-AddrNotAvailable.is ∙ c.kind.ensures)
+returns-in-AddrNotAvailable c =
+    ap (λ k. spec.listen_error_of k (raw_os_error c.args.error)) (sym c.in-AddrNotAvailable.is ∙ c.kind.ensures)
 
 pub returns-in_default : goal.returns-in_default
 returns-in_default c =

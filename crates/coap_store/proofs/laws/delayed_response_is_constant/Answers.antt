@@ -2,7 +2,8 @@ use Rattle.coap_store.proofs.HoldLaws.{held_of, held_unwatched, refused_for_now,
 use Rattle.coap_store.proofs.laws.delayed_response_is_constant.Goals as goal
 
 pub returns-clause-held : goal.returns-clause-held
-returns-clause-held c s now m seconds e = let is = held_of s now m seconds e in (is.asked, is.response, is.change, is.short)
+returns-clause-held c s now m seconds e =
+    let is = held_of s now m seconds e in (is.asked, is.response, is.change, is.short)
 
 pub returns-clause-watch : goal.returns-clause-watch
 returns-clause-watch c = held_unwatched

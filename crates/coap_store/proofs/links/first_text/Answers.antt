@@ -12,4 +12,9 @@ pub returns-clause-short : goal.returns-clause-short
 returns-clause-short c =
     let text = c.loop-entry.text.items in
     let left = flat_map link_bytes (drop c.loop-entry.entry-index c.entries-entries.result.now) in
-    omega (arith, ap length c.loop-entry.invariant, length-append text left, first_short c.args.applications.now c.entries-entries.ensures.kept)
+    omega (
+      arith,
+      ap length c.loop-entry.invariant,
+      length-append text left,
+      first_short c.args.applications.now c.entries-entries.ensures.kept,
+    )

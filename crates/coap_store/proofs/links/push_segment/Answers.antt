@@ -11,5 +11,6 @@ returns c =
     let bytes = flat_map encoded_byte c.args.segment.now in
     let slash = ap (λ (t : List ℕ). t ++ bytes) c.in_ok-push_str.ensures.bytes in
     IfOk-equal c.append_to.result _ _ _ c.append_to.ensures.ok (
-    ap (λ (t : List ℕ). string_bytes c.push_str.new.self ++ t) (c.percent_encode.ensures.text ∙ escaped) ∙ slash ∙ append_assoc (string_bytes c.args.text.now) (47 ∷ []) bytes
+    ap (λ (t : List ℕ). string_bytes c.push_str.new.self ++ t) (c.percent_encode.ensures.text ∙ escaped) ∙ slash
+    ∙ append_assoc (string_bytes c.args.text.now) (47 ∷ []) bytes
     )

@@ -17,12 +17,15 @@ returns c =
     let within : at + k ≤ length xs = omega (arith, c.requires.order, c.requires.within) in
     let value = c.deref_mut.ensures.value in
     let size : length (take k (drop at c.deref_mut.result.now)) ≡ k =
-    ap (λ t. length (take k (drop at t))) value ∙ length-take-le k (drop at xs) (omega (arith, within, length-drop at xs)) in
+    ap (λ t. length (take k (drop at t))) value
+    ∙ length-take-le k (drop at xs) (omega (arith, within, length-drop at xs)) in
     let count : c.args.end - at - 0 ≡ n = omega arith in
-    let now = c.copy_within.ensures.after ∙ (λ i. paste (take k (drop at (value i))) gap (take k (drop at (value i))) (count i)) in
+    let now = c.copy_within.ensures.after
+    ∙ (λ i. paste (take k (drop at (value i))) gap (take k (drop at (value i))) (count i)) in
     let put = put_mid at k c.deref_mut.result.now c.copy_within.new.self in
     let lent : put ≡ put_mid at k xs c.copy_within.new.self = ap (λ t. put_mid at k t c.copy_within.new.self) value in
-    let whole = ap length lent ∙ length_written xs c.copy_within.new.self at k (c.copy_within.ensures.len ∙ size) within in
+    let whole =
+    ap length lent ∙ length_written xs c.copy_within.new.self at k (c.copy_within.ensures.len ∙ size) within in
     with_items_is c.args.bytes.now put (omega (arith, whole, c.args.bytes.now.ok))
     ∙ lent
     ∙ ap (λ t. put_mid at k xs t) now

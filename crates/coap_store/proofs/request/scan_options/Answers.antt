@@ -10,6 +10,8 @@ loop-checked-init c =
     record {
       goes = tt;
       ends = tt;
-      all = ap (λ n. all_noted n (recognised_in c.into_iter-checked-iterator.result)) c.requires ∙ ap (all_noted nothing) (ap recognised_in all ∙ recognised_of_all options);
+      all =
+          ap (λ n. all_noted n (recognised_in c.into_iter-checked-iterator.result)) c.requires
+          ∙ ap (all_noted nothing) (ap recognised_in all ∙ recognised_of_all options);
       bad = ap has_bad all ∙ bad_of_all options;
     }

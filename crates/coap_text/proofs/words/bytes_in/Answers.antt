@@ -11,7 +11,11 @@ unfolding hex_value
 returns-then-is_empty c = rw (nil_from_length c.args.word.now (eqb-true _ 0 (sym c.if-is_empty.ensures)))
 
 pub returns-in-Ok : goal.returns-in-Ok
-returns-in-Ok c = sym (hex_of_some c.args.word.now (eqb-false _ 0 (sym c.if-is_empty.ensures)) ∙ ap result_ok c.in-Ok.ensures.ok)
+returns-in-Ok c =
+    sym (hex_of_some c.args.word.now (eqb-false _ 0 (sym c.if-is_empty.ensures)) ∙ ap result_ok c.in-Ok.ensures.ok)
 
 pub returns-in_default : goal.returns-in_default
-returns-in_default c = elim c.in-Err.ensures.err [ inl memory ↦ absurd (c.in_default.not-OutOfMemory memory) | inr is ↦ sym (hex_of_some c.args.word.now (eqb-false _ 0 (sym c.if-is_empty.ensures)) ∙ ap result_ok is) ]
+returns-in_default c = elim c.in-Err.ensures.err [
+  | inl memory ↦ absurd (c.in_default.not-OutOfMemory memory)
+  | inr is ↦ sym (hex_of_some c.args.word.now (eqb-false _ 0 (sym c.if-is_empty.ensures)) ∙ ap result_ok is)
+]

@@ -5,4 +5,5 @@ pub returns-clause-behind : goal.returns-clause-behind
 returns-clause-behind c = split_same_to
 
 pub returns-clause-before : goal.returns-clause-before
-returns-clause-before c = λ F G kept more unfinished larger same. split_alike F G kept more (record { unfinished = unfinished; larger = larger; same = same })
+returns-clause-before c = λ F G kept more unfinished larger same. split_alike F G kept more
+    (record { unfinished = unfinished; larger = larger; same = same })

@@ -7,7 +7,9 @@ pub returns-clause-front : goal.returns-clause-front
 returns-clause-front c = sized_step
 
 pub returns-clause-rest : goal.returns-clause-rest
-returns-clause-rest c = λ sizes s rest none is. subst (λ (r : List ℕ). prefix_kind (size_for (sizes_of_rest sizes s r) r) r ≡ Unfinished) is (sized_rest sizes s none)
+returns-clause-rest c =
+    λ sizes s rest none is. subst (λ (r : List ℕ). prefix_kind (size_for (sizes_of_rest sizes s r) r) r ≡ Unfinished)
+    is (sized_rest sizes s none)
 
 pub returns-clause-front_of_one_size : goal.returns-clause-front_of_one_size
 returns-clause-front_of_one_size c = split_step

@@ -1,4 +1,5 @@
-use Rattle.coap_wire.proofs.StreamSteps.{unfinished_empty, unfinished_below, unfinished_larger, whole_at_last, fault_at_last}
+use Rattle.coap_wire.proofs.StreamSteps.{unfinished_empty, unfinished_below, unfinished_larger, whole_at_last}
+use Rattle.coap_wire.proofs.StreamSteps.{fault_at_last}
 use Rattle.coap_wire.proofs.laws.unfinished_beginning_needs_more_bytes.Goals as goal
 
 pub returns-clause-empty : goal.returns-clause-empty

@@ -33,17 +33,34 @@ use Rattle.coap_c.proofs.client_handle.ClientHandle.of.Code as code
 
 pub of_spec : {M : Type 1} → statement M
 of_spec 𝓤 𝓛 𝓜 𝓡 wired =
-    let H = 𝓛.H in let 𝓣 = tables 𝓤 H 𝓜 𝓡 𝓡.env in let En = f.ended in let c = f.clauses 𝓛 𝓜.mem 𝓡.returns in let fn = code.function in
-    let R : RattleType = client.the_row in let Z : RattleType = heap.the_row in let LZ = heap_laws.the_row_laws in let P : RattleType = Parts R Z LZ ghosts in
+    let H = 𝓛.H in
+    let 𝓣 = tables 𝓤 H 𝓜 𝓡 𝓡.env in
+    let En = f.ended in
+    let c = f.clauses 𝓛 𝓜.mem 𝓡.returns in
+    let fn = code.function in
+    let R : RattleType = client.the_row in
+    let Z : RattleType = heap.the_row in
+    let LZ = heap_laws.the_row_laws in
+    let P : RattleType = Parts R Z LZ ghosts in
     let hs : Stays En.signature.params En.kept = (stay_dropped (plain (λ _. P)) yes, tt) in
-    proved_at 𝓛 En hs c 𝓜 𝓡 (Goes-blank 𝓛 0 (plain (λ _. P)) yes (λ κs x w. tt), tt) f.Key.name fn (code.unfolded 𝓤 H 𝓜 𝓡 wired) (λ z are.
-    let κs = z.0.0 in let d = z.0.3.0 in let Post : Val → SProp 𝓤 = (walk_of 𝓛 En hs c).post z in let Run : List Val → SProp 𝓤 = λ ws. WpFn 𝓤 H 𝓣.C 𝓣.Λ fn ws Post in
-    qed 𝓛 ((‵ ftrue ⊛ ‵ (owns (types_at En.signature.params κs) z.0.3 z.0.4)) ∷ raw ((c κs z.0.3).requires z.1) ∷ []) ∵ split ! $ move ! (1 ∷ []) $ fsplit ! $
+    proved_at 𝓛 En hs c 𝓜 𝓡 (Goes-blank 𝓛 0 (plain (λ _. P)) yes (λ κs x w. tt), tt) f.Key.name fn
+    (code.unfolded 𝓤 H 𝓜 𝓡 wired) (λ z are.
+    let κs = z.0.0 in
+    let d = z.0.3.0 in
+    let Post : Val → SProp 𝓤 = (walk_of 𝓛 En hs c).post z in
+    let Run : List Val → SProp 𝓤 = λ ws. WpFn 𝓤 H 𝓣.C 𝓣.Λ fn ws Post in
+    qed 𝓛 ((‵ ftrue ⊛ ‵ (owns (types_at En.signature.params κs) z.0.3 z.0.4)) ∷ raw ((c κs z.0.3).requires z.1) ∷ [])
+    ∵ split ! $ move ! (1 ∷ []) $ fsplit ! $
     parts_out R Z LZ ghosts ! d z.0.4.0 (λ b o h e ws fits.
     let w : Val = both (vptr b o) h in let typed = parts_good R Z LZ ghosts b o h fits in let p = block_ptr b o in
-    suffices ! (Run (w ∷ [])) (subst (λ (us : List Val). ent 𝓤 (Run (w ∷ [])) (Run us)) (sym (λ i. ws i ++ [])) (id⊢ 𝓤 (Run (w ∷ [])))) $
+    suffices ! (Run (w ∷ []))
+    (subst (λ (us : List Val). ent 𝓤 (Run (w ∷ [])) (Run us)) (sym (λ i. ws i ++ [])) (id⊢ 𝓤 (Run (w ∷ [])))) $
     enter ! 𝓣.C 𝓣.Λ fn (w ∷ []) Post $ alloc_all ! (λ l. pass_all ! refl (typed, tt) $
-    sets ! (of_opd ! (get_in ! (fld ! refl (stop !)) (sub ! 0 refl (whole !)))) refl (tt, tt) $ sets ! (of_opd ! (get ! refl)) refl (tt, tt) $ sets ! (agg ! (and_then ! (get ! refl) (no_more !))) refl (tt, (tt, tt)) $
+    sets ! (of_opd ! (get_in ! (fld ! refl (stop !)) (sub ! 0 refl (whole !)))) refl (tt, tt)
+    $ sets ! (of_opd ! (get ! refl)) refl (tt, tt)
+    $ sets ! (agg ! (and_then ! (get ! refl) (no_more !))) refl (tt, (tt, tt)) $
     use1 𝓛 (‵ (client_slot p (Some d.value))) (id⊢ 𝓤 _) $ handle_in ! p (Some d.value) $
-    use0 𝓛 (raw (fact 𝓤 (Some d.value ≡ Some d.value))) (fact_i 𝓤 (Some d.value ≡ Some d.value) (emp 𝓤) refl) $ nothing ! $ nothing ! $ fjoin ! $
-    returns ! (look_at ! 0 refl) $ free_all ! refl $ keep ! (5 ∷ 0 ∷ 2 ∷ 1 ∷ []) $ by ! (leaves 𝓛 En hs c z (handle_val p) (handle_of p (Some d.value)) (tt, tt) (tt, tt)))))
+    use0 𝓛 (raw (fact 𝓤 (Some d.value ≡ Some d.value))) (fact_i 𝓤 (Some d.value ≡ Some d.value) (emp 𝓤) refl)
+    $ nothing ! $ nothing ! $ fjoin ! $
+    returns ! (look_at ! 0 refl) $ free_all ! refl $ keep ! (5 ∷ 0 ∷ 2 ∷ 1 ∷ [])
+    $ by ! (leaves 𝓛 En hs c z (handle_val p) (handle_of p (Some d.value)) (tt, tt) (tt, tt)))))

@@ -12,13 +12,16 @@ pub invariant_of-self : goal.invariant_of-self
 invariant_of-self c =
     let is = c.self.invariant in
     is_still c.self.inside c.clear.new.self c.end.new.self is (ap (λ (f : FramerValue). f.max) c.clear.ensures)
-    (subst IsFramer (sym c.clear.ensures) (empty_framer c.self.inside.framer.max [] c.self.inside.framer.copied is.framer.low is.framer.high is.framer.countable refl))
-    (ap (λ (l : LinkValue). l.limits) c.end.ensures.after ∙ ap (λ (both : LimitValues × ℕ). both.0) (end_sizes c.self.inside.link (nat_lt 0 c.kept.result)))
+    (subst IsFramer (sym c.clear.ensures) (empty_framer c.self.inside.framer.max [] c.self.inside.framer.copied
+    is.framer.low is.framer.high is.framer.countable refl))
+    (ap (λ (l : LinkValue). l.limits) c.end.ensures.after
+    ∙ ap (λ (both : LimitValues × ℕ). both.0) (end_sizes c.self.inside.link (nat_lt 0 c.kept.result)))
 
 pub returns-clause-shows : goal.returns-clause-shows
 returns-clause-shows c =
     ended_shown c.args.self.now (record { frame = c.clear.new.self.kept; link = c.end.new.self })
     (ap (λ (f : FramerValue). record { frame = f.kept; link = c.end.new.self }) c.clear.ensures
     ∙ ap (λ (l : LinkValue). record { frame = []; link = l }) c.end.ensures.after
-    ∙ ap (λ (n : ℕ). record { frame = []; link = link_after c.self.inside.link (call.End (nat_lt 0 n)) }) c.kept.ensures.kept
+    ∙ ap (λ (n : ℕ). record { frame = []; link = link_after c.self.inside.link (call.End (nat_lt 0 n)) })
+    c.kept.ensures.kept
     ∙ ap client_ended c.self.view_is)

@@ -8,7 +8,8 @@ pub returns-then-not-takes : goal.returns-then-not-takes
 returns-then-not-takes c =
     let v = c.args.self.now in
     let p = c.args.piece.now in
-    let none = takes_none c.self.inside v p c.self.invariant c.self.view_is (ap client_takes (sym c.self.view_is) ∙ sym c.takes.ensures ∙ c.if-not-takes.true) in
+    let none = takes_none c.self.inside v p c.self.invariant c.self.view_is
+    (ap client_takes (sym c.self.view_is) ∙ sym c.takes.ensures ∙ c.if-not-takes.true) in
     let count = ap (λ (t : ClientTakeOutcome). t.count) (sym none) in
     let event = ap (λ (t : ClientTakeOutcome). t.event) (sym none) in (
       (refl, (λ _. tt), c.self.view_is ∙ ap (λ (t : ClientTakeOutcome). t.client) (sym none)),
@@ -25,7 +26,8 @@ returns-then-not-takes c =
 
 pub invariant_of-self-2 : goal.invariant_of-self-2
 invariant_of-self-2 c =
-    took_is c.self.inside c.args.self.now c.args.piece.now c.self.invariant c.self.view_is c.take_in-bytes.new.framer c.take_in-bytes.new.link c.take_in-bytes.ensures.framer c.take_in-bytes.ensures.link
+    took_is c.self.inside c.args.self.now c.args.piece.now c.self.invariant c.self.view_is c.take_in-bytes.new.framer
+    c.take_in-bytes.new.link c.take_in-bytes.ensures.framer c.take_in-bytes.ensures.link
 
 pub returns : goal.returns
 returns c =
@@ -33,10 +35,18 @@ returns c =
     let p = c.args.piece.now in
     let takes = ap client_takes (sym c.self.view_is) ∙ sym c.takes.ensures ∙ c.if-not-takes.false in
     let all = takes_framed c.self.inside v p c.self.invariant c.self.view_is takes in
-    let given = c.frame_given.ensures ∙ ap (λ spent. frame_back spent (take c.take_in-bytes.result.0 p)) c.split_frame.ensures in
-    let count = c.take_in-bytes.ensures.count ∙ framed_count c.self.inside.framer c.self.inside.link p ∙ ap (λ (t : ClientTakeOutcome). t.count) (sym all) in
-    let event = ap (λ frame. heard_value c.take_in-bytes.result.1 (message_of frame)) given ∙ c.take_in-bytes.ensures.told ∙ ap (λ (t : ClientTakeOutcome). t.event) (sym all) in (
-      (refl, (λ _. tt), took_client c.self.inside v p c.self.invariant c.self.view_is c.take_in-bytes.new.framer c.take_in-bytes.new.link c.take_in-bytes.ensures.framer c.take_in-bytes.ensures.link takes),
+    let given =
+    c.frame_given.ensures ∙ ap (λ spent. frame_back spent (take c.take_in-bytes.result.0 p)) c.split_frame.ensures in
+    let count = c.take_in-bytes.ensures.count ∙ framed_count c.self.inside.framer c.self.inside.link p
+    ∙ ap (λ (t : ClientTakeOutcome). t.count) (sym all) in
+    let event = ap (λ frame. heard_value c.take_in-bytes.result.1 (message_of frame)) given
+    ∙ c.take_in-bytes.ensures.told ∙ ap (λ (t : ClientTakeOutcome). t.event) (sym all) in (
+      (
+        refl,
+        (λ _. tt),
+        took_client c.self.inside v p c.self.invariant c.self.view_is c.take_in-bytes.new.framer
+            c.take_in-bytes.new.link c.take_in-bytes.ensures.framer c.take_in-bytes.ensures.link takes,
+      ),
       record {
         writes_back = tt;
         count = count;

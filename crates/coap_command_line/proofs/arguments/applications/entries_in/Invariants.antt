@@ -5,5 +5,6 @@ use Rattle.coap_command_line.proofs.arguments.applications.entries_in.Given as g
 -- The texts that are left lead to the same entries.
 abbrev pub invariant-loop-text : goal.invariant-loop-text
 invariant-loop-text l = record {
-  same : with_texts l.entries (map (λ t. t.now) (drop l.text-index l.texts)) ≡ with_texts no_entries (map (λ t. t.now) l.texts);
+  same : with_texts l.entries (map (λ t. t.now) (drop l.text-index l.texts))
+      ≡ with_texts no_entries (map (λ t. t.now) l.texts);
 }

@@ -9,4 +9,5 @@ returns-in-Err-clause-plan g c =
 
 pub returns-clause-plan : goal.returns-clause-plan
 returns-clause-plan g c =
-    directory_told _ (map g.S.AsStr.text c.args.words.now) (rows_of (found_of c.in-Ok.matches)) c.directory_plan.result refl c.in-Ok.ensures.kinds c.in-Ok.ensures.rows c.directory_plan.ensures.plan
+    directory_told _ (map g.S.AsStr.text c.args.words.now) (rows_of (found_of c.in-Ok.matches)) c.directory_plan.result
+    refl c.in-Ok.ensures.kinds c.in-Ok.ensures.rows c.directory_plan.ensures.plan

@@ -9,4 +9,5 @@ returns-in-Err g c =
 
 pub returns : goal.returns
 returns g c =
-    explain_told _ (map g.S.AsStr.text c.args.words.now) (rows_of (found_of c.in-Ok.matches)) c.explain_plan.result refl c.in-Ok.ensures.kinds c.in-Ok.ensures.rows c.explain_plan.ensures
+    explain_told _ (map g.S.AsStr.text c.args.words.now) (rows_of (found_of c.in-Ok.matches)) c.explain_plan.result refl
+    c.in-Ok.ensures.kinds c.in-Ok.ensures.rows c.explain_plan.ensures

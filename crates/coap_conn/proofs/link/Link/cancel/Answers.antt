@@ -13,21 +13,28 @@ returns-in_err-queue_asked-clause-answer c =
     let opened : is_open c.args.self.now.phase ≡ true = search (rules, tests) in
     let there : has_observation (asking_in c.args.self.now) c.args.token.now.items ≡ true = search (rules, tests) in
     rw (p.1, p.2)
-    (size_decides_cancel (asking_in c.args.self.now) c.args.token.now.items _ c.with_token.result _ opened there c.with_token.ensures c.in_err-queue_asked.ensures.answer)
+    (size_decides_cancel (asking_in c.args.self.now) c.args.token.now.items _ c.with_token.result _ opened there
+    c.with_token.ensures c.in_err-queue_asked.ensures.answer)
 
 pub returns-clause-answer : goal.returns-clause-answer
 returns-clause-answer c =
     let opened : is_open c.args.self.now.phase ≡ true = search (rules, tests) in
     let there : has_observation (asking_in c.args.self.now) c.args.token.now.items ≡ true = search (rules, tests) in
-    size_decides_cancel (asking_in c.args.self.now) c.args.token.now.items _ c.with_token.result _ opened there c.with_token.ensures c.in_ok-queue_asked.ensures.answer
+    size_decides_cancel (asking_in c.args.self.now) c.args.token.now.items _ c.with_token.result _ opened there
+    c.with_token.ensures c.in_ok-queue_asked.ensures.answer
 
 pub returns-clause-after : goal.returns-clause-after
 returns-clause-after c =
-    ap (λ (entries : List OutstandingValue). record (link_value c.self-2.inside) { outstanding = entries }) c.cancel_in.ensures.cancelled
-    ∙ ap (λ (t : List ℕ). record (link_value c.self-2.inside) { outstanding = with_cancelled t (link_value c.self-2.inside).outstanding }) c.of-lies.ensures
-    ∙ ap (λ (v : LinkValue). record v { outstanding = with_cancelled c.args.token.now.items v.outstanding }) c.self-2.view_is
+    ap (λ (entries : List OutstandingValue). record (link_value c.self-2.inside) { outstanding = entries })
+    c.cancel_in.ensures.cancelled
+    ∙ ap (λ (t : List ℕ). record (link_value c.self-2.inside) {
+      outstanding = with_cancelled t (link_value c.self-2.inside).outstanding;
+    }) c.of-lies.ensures
+    ∙ ap (λ (v : LinkValue). record v { outstanding = with_cancelled c.args.token.now.items v.outstanding })
+    c.self-2.view_is
     ∙ cancel_after c.args.self.now c.queue_asked.new.self c.args.token.now.items c.args.message.now c.with_token.result
     (returns-clause-answer c) c.with_token.ensures c.in_ok-queue_asked.ensures.after
 
 pub returns-clause-shows : goal.returns-clause-shows
-returns-clause-shows c = shows c.args.self.now _ (call.Cancel c.args.token.now.items c.args.message.now) tt (returns-clause-after c)
+returns-clause-shows c =
+    shows c.args.self.now _ (call.Cancel c.args.token.now.items c.args.message.now) tt (returns-clause-after c)

@@ -1,6 +1,7 @@
 use Rattle.std.proofs.Common.{◌≡◌, ℕ, ◌<◌, List, length, slice_get, map, remove, Some, None, refl, sym, ap, subst, ◌∙◌}
 use Rattle.std.proofs.lemmas.Option.{slice_get_read}
-use Rattle.coap_conn.specs.Prelude.{PendingEntryValue, Answer, Pong, PendingEntry, due_told, due_index, first_due, held_value, LinkValue, link_after}
+use Rattle.coap_conn.specs.Prelude.{PendingEntryValue, Answer, Pong, PendingEntry, due_told, due_index, first_due}
+use Rattle.coap_conn.specs.Prelude.{held_value, LinkValue, link_after}
 use Rattle.coap_conn.specs.Prelude.{link_value}
 use Rattle.coap_conn.specs.Calls as call
 use Rattle.coap_conn.specs.declared.pending.PendingEntry.TheVariants as hold
@@ -13,13 +14,17 @@ use Rattle.coap_conn.proofs.link.Link.due.Goals as goal
 
 pub returns-in_default-clause-due : goal.returns-in_default-clause-due
 returns-in_default-clause-due c =
-    let none : due_index c.args.now (map held_value c.self.inside.pending.items) ≡ None = sym (c.in_default.ensures.first ∙ ap (λ (held : List PendingEntry). due_index c.args.now (map held_value held)) c.deref.ensures.value) in
+    let none : due_index c.args.now (map held_value c.self.inside.pending.items) ≡ None =
+    sym (c.in_default.ensures.first
+    ∙ ap (λ (held : List PendingEntry). due_index c.args.now (map held_value held)) c.deref.ensures.value) in
     ap due_told (sym (nothing_first c.args.now (map held_value c.self.inside.pending.items) none))
     ∙ ap (λ (v : LinkValue). due_told (first_due c.args.now v.held)) c.self.view_is
 
 pub returns-in_default-clause-after : goal.returns-in_default-clause-after
 returns-in_default-clause-after c =
-    let none : due_index c.args.now (map held_value c.self.inside.pending.items) ≡ None = sym (c.in_default.ensures.first ∙ ap (λ (held : List PendingEntry). due_index c.args.now (map held_value held)) c.deref.ensures.value) in
+    let none : due_index c.args.now (map held_value c.self.inside.pending.items) ≡ None =
+    sym (c.in_default.ensures.first
+    ∙ ap (λ (held : List PendingEntry). due_index c.args.now (map held_value held)) c.deref.ensures.value) in
     sym c.self.view_is ∙ nothing_due (link_value c.self.inside) c.args.now none
     ∙ ap (λ (v : LinkValue). link_after v (call.Due c.args.now)) c.self.view_is
 
@@ -31,25 +36,42 @@ returns-in_default-clause-shows c = shows c.args.self.now _ (call.Due c.args.now
 pub returns-in-Answer-clause-due : goal.returns-in-Answer-clause-due
 returns-in-Answer-clause-due c =
     let first : due_index c.args.now (map held_value c.self.inside.pending.items) ≡ Some c.in-Some.index =
-    sym (c.in-Some.ensures.first ∙ ap (λ (held : List PendingEntry). due_index c.args.now (map held_value held)) c.deref.ensures.value) in
-    let within : c.in-Some.index < length c.self.inside.pending.items = subst (λ (held : List PendingEntry). c.in-Some.index < length held) c.deref.ensures.value c.in-Some.ensures.within in
-    let taken : slice_get (map held_value c.self.inside.pending.items) c.in-Some.index ≡ Some (held_value (hold.Answer c.in-Answer.responder c.in-Answer.token c.in-Answer.moment)) =
-    held_at_index c.self.inside.pending.items c.in-Some.index (hold.Answer c.in-Answer.responder c.in-Answer.token c.in-Answer.moment) (slice_get_read c.self.inside.pending.items _ c.in-Some.index (hold.Answer c.in-Answer.responder c.in-Answer.token c.in-Answer.moment) refl within c.in-Answer.ensures.value) in
+    sym (c.in-Some.ensures.first
+    ∙ ap (λ (held : List PendingEntry). due_index c.args.now (map held_value held)) c.deref.ensures.value) in
+    let within : c.in-Some.index < length c.self.inside.pending.items =
+    subst (λ (held : List PendingEntry). c.in-Some.index < length held) c.deref.ensures.value
+    c.in-Some.ensures.within in
+    let taken : slice_get (map held_value c.self.inside.pending.items) c.in-Some.index
+    ≡ Some (held_value (hold.Answer c.in-Answer.responder c.in-Answer.token c.in-Answer.moment)) =
+    held_at_index c.self.inside.pending.items c.in-Some.index
+    (hold.Answer c.in-Answer.responder c.in-Answer.token c.in-Answer.moment)
+    (slice_get_read c.self.inside.pending.items _ c.in-Some.index
+    (hold.Answer c.in-Answer.responder c.in-Answer.token c.in-Answer.moment) refl within c.in-Answer.ensures.value) in
     c.due_response.ensures
-    ∙ ap due_told (sym (first_at_index c.args.now (map held_value c.self.inside.pending.items) c.in-Some.index (Answer c.in-Answer.responder c.in-Answer.token.items c.in-Answer.moment) first taken))
+    ∙ ap due_told (sym (first_at_index c.args.now (map held_value c.self.inside.pending.items) c.in-Some.index
+    (Answer c.in-Answer.responder c.in-Answer.token.items c.in-Answer.moment) first taken))
     ∙ ap (λ (v : LinkValue). due_told (first_due c.args.now v.held)) c.self.view_is
 
 pub returns-in-Answer-clause-after : goal.returns-in-Answer-clause-after
 returns-in-Answer-clause-after c =
     let first : due_index c.args.now (map held_value c.self.inside.pending.items) ≡ Some c.in-Some.index =
-    sym (c.in-Some.ensures.first ∙ ap (λ (held : List PendingEntry). due_index c.args.now (map held_value held)) c.deref.ensures.value) in
-    let within : c.in-Some.index < length c.self.inside.pending.items = subst (λ (held : List PendingEntry). c.in-Some.index < length held) c.deref.ensures.value c.in-Some.ensures.within in
-    let taken : slice_get (map held_value c.self.inside.pending.items) c.in-Some.index ≡ Some (held_value (hold.Answer c.in-Answer.responder c.in-Answer.token c.in-Answer.moment)) =
-    held_at_index c.self.inside.pending.items c.in-Some.index (hold.Answer c.in-Answer.responder c.in-Answer.token c.in-Answer.moment) (slice_get_read c.self.inside.pending.items _ c.in-Some.index (hold.Answer c.in-Answer.responder c.in-Answer.token c.in-Answer.moment) refl within c.in-Answer.ensures.value) in
-    let rest : map held_value c.remove.new.self.items ≡ remove (map held_value c.self.inside.pending.items) c.in-Some.index =
+    sym (c.in-Some.ensures.first
+    ∙ ap (λ (held : List PendingEntry). due_index c.args.now (map held_value held)) c.deref.ensures.value) in
+    let within : c.in-Some.index < length c.self.inside.pending.items =
+    subst (λ (held : List PendingEntry). c.in-Some.index < length held) c.deref.ensures.value
+    c.in-Some.ensures.within in
+    let taken : slice_get (map held_value c.self.inside.pending.items) c.in-Some.index
+    ≡ Some (held_value (hold.Answer c.in-Answer.responder c.in-Answer.token c.in-Answer.moment)) =
+    held_at_index c.self.inside.pending.items c.in-Some.index
+    (hold.Answer c.in-Answer.responder c.in-Answer.token c.in-Answer.moment)
+    (slice_get_read c.self.inside.pending.items _ c.in-Some.index
+    (hold.Answer c.in-Answer.responder c.in-Answer.token c.in-Answer.moment) refl within c.in-Answer.ensures.value) in
+    let rest : map held_value c.remove.new.self.items
+    ≡ remove (map held_value c.self.inside.pending.items) c.in-Some.index =
     ap (map held_value) c.in-Answer.ensures.items ∙ held_without c.self.inside.pending.items c.in-Some.index in
     ap (λ (held : List PendingEntryValue). record (link_value c.self.inside) { held = held }) rest
-    ∙ answer_due (link_value c.self.inside) c.args.now c.in-Some.index c.in-Answer.responder c.in-Answer.token.items c.in-Answer.moment first taken
+    ∙ answer_due (link_value c.self.inside) c.args.now c.in-Some.index c.in-Answer.responder c.in-Answer.token.items
+    c.in-Answer.moment first taken
     ∙ ap (λ (v : LinkValue). link_after v (call.Due c.args.now)) c.self.view_is
 
 pub returns-in-Answer-clause-shows : goal.returns-in-Answer-clause-shows
@@ -60,25 +82,42 @@ returns-in-Answer-clause-shows c = shows c.args.self.now _ (call.Due c.args.now)
 pub returns-in-Pong-clause-due : goal.returns-in-Pong-clause-due
 returns-in-Pong-clause-due c =
     let first : due_index c.args.now (map held_value c.self.inside.pending.items) ≡ Some c.in-Some.index =
-    sym (c.in-Some.ensures.first ∙ ap (λ (held : List PendingEntry). due_index c.args.now (map held_value held)) c.deref.ensures.value) in
-    let within : c.in-Some.index < length c.self.inside.pending.items = subst (λ (held : List PendingEntry). c.in-Some.index < length held) c.deref.ensures.value c.in-Some.ensures.within in
-    let taken : slice_get (map held_value c.self.inside.pending.items) c.in-Some.index ≡ Some (held_value (hold.Pong c.in-Pong.token)) =
-    held_at_index c.self.inside.pending.items c.in-Some.index (hold.Pong c.in-Pong.token) (slice_get_read c.self.inside.pending.items _ c.in-Some.index (hold.Pong c.in-Pong.token) refl within c.in-Pong.ensures.value) in
-    ap due_told (sym (first_at_index c.args.now (map held_value c.self.inside.pending.items) c.in-Some.index (Pong c.in-Pong.token.items) first taken))
+    sym (c.in-Some.ensures.first
+    ∙ ap (λ (held : List PendingEntry). due_index c.args.now (map held_value held)) c.deref.ensures.value) in
+    let within : c.in-Some.index < length c.self.inside.pending.items =
+    subst (λ (held : List PendingEntry). c.in-Some.index < length held) c.deref.ensures.value
+    c.in-Some.ensures.within in
+    let taken : slice_get (map held_value c.self.inside.pending.items) c.in-Some.index
+    ≡ Some (held_value (hold.Pong c.in-Pong.token)) =
+    held_at_index c.self.inside.pending.items c.in-Some.index (hold.Pong c.in-Pong.token)
+    (slice_get_read c.self.inside.pending.items _ c.in-Some.index (hold.Pong c.in-Pong.token) refl within
+    c.in-Pong.ensures.value) in
+    ap due_told (sym (first_at_index c.args.now (map held_value c.self.inside.pending.items) c.in-Some.index
+    (Pong c.in-Pong.token.items) first taken))
     ∙ ap (λ (v : LinkValue). due_told (first_due c.args.now v.held)) c.self.view_is
 
 pub returns-in-Pong-clause-after : goal.returns-in-Pong-clause-after
 returns-in-Pong-clause-after c =
     let first : due_index c.args.now (map held_value c.self.inside.pending.items) ≡ Some c.in-Some.index =
-    sym (c.in-Some.ensures.first ∙ ap (λ (held : List PendingEntry). due_index c.args.now (map held_value held)) c.deref.ensures.value) in
-    let within : c.in-Some.index < length c.self.inside.pending.items = subst (λ (held : List PendingEntry). c.in-Some.index < length held) c.deref.ensures.value c.in-Some.ensures.within in
-    let taken : slice_get (map held_value c.self.inside.pending.items) c.in-Some.index ≡ Some (held_value (hold.Pong c.in-Pong.token)) =
-    held_at_index c.self.inside.pending.items c.in-Some.index (hold.Pong c.in-Pong.token) (slice_get_read c.self.inside.pending.items _ c.in-Some.index (hold.Pong c.in-Pong.token) refl within c.in-Pong.ensures.value) in
-    let rest : map held_value c.remove.new.self.items ≡ remove (map held_value c.self.inside.pending.items) c.in-Some.index =
+    sym (c.in-Some.ensures.first
+    ∙ ap (λ (held : List PendingEntry). due_index c.args.now (map held_value held)) c.deref.ensures.value) in
+    let within : c.in-Some.index < length c.self.inside.pending.items =
+    subst (λ (held : List PendingEntry). c.in-Some.index < length held) c.deref.ensures.value
+    c.in-Some.ensures.within in
+    let taken : slice_get (map held_value c.self.inside.pending.items) c.in-Some.index
+    ≡ Some (held_value (hold.Pong c.in-Pong.token)) =
+    held_at_index c.self.inside.pending.items c.in-Some.index (hold.Pong c.in-Pong.token)
+    (slice_get_read c.self.inside.pending.items _ c.in-Some.index (hold.Pong c.in-Pong.token) refl within
+    c.in-Pong.ensures.value) in
+    let rest : map held_value c.remove.new.self.items
+    ≡ remove (map held_value c.self.inside.pending.items) c.in-Some.index =
     ap (map held_value) c.in-Pong.ensures.items ∙ held_without c.self.inside.pending.items c.in-Some.index in
     c.pong.ensures.after
-    ∙ ap (λ (t : List ℕ). link_sent (record (link_value c.self.inside) { held = map held_value c.remove.new.self.items }) t) c.of.ensures
-    ∙ ap (λ (held : List PendingEntryValue). link_sent (record (link_value c.self.inside) { held = held }) c.in-Pong.token.items) rest
+    ∙ ap
+    (λ (t : List ℕ). link_sent (record (link_value c.self.inside) { held = map held_value c.remove.new.self.items }) t)
+    c.of.ensures
+    ∙ ap (λ (held : List PendingEntryValue). link_sent (record (link_value c.self.inside) { held = held })
+    c.in-Pong.token.items) rest
     ∙ pong_due (link_value c.self.inside) c.args.now c.in-Some.index c.in-Pong.token.items first taken
     ∙ ap (λ (v : LinkValue). link_after v (call.Due c.args.now)) c.self.view_is
 

@@ -6,21 +6,32 @@ use Rattle.coap_conn.proofs.RequestLemmas.{react_live, handled_is, request_stays
 use Rattle.coap_conn.proofs.link.Link.on.Goals as goal
 
 pub returns-clause-verdict : goal.returns-clause-verdict
-returns-clause-verdict c = c.handle.ensures.verdict ∙ ap (λ (r : Reaction). r.verdict) (sym (react_live (standing_in c.args.self.now) c.args.message.now c.requires.live))
+returns-clause-verdict c =
+    c.handle.ensures.verdict ∙ ap (λ (r : Reaction). r.verdict)
+    (sym (react_live (standing_in c.args.self.now) c.args.message.now c.requires.live))
 
 pub returns-clause-after : goal.returns-clause-after
 returns-clause-after c = c.handle.ensures.after ∙ sym (handled_is c.args.self.now c.args.message.now c.requires.live)
 
 pub returns-clause-shows : goal.returns-clause-shows
-returns-clause-shows c = shows c.args.self.now _ (call.Handle c.args.message.now) tt (c.handle.ensures.after ∙ sym (handled_is c.args.self.now c.args.message.now c.requires.live))
+returns-clause-shows c =
+    shows c.args.self.now _ (call.Handle c.args.message.now) tt
+    (c.handle.ensures.after ∙ sym (handled_is c.args.self.now c.args.message.now c.requires.live))
 
 pub returns-clause-unchanged : goal.returns-clause-unchanged
 returns-clause-unchanged c = λ asked.
-    let told = c.handle.ensures.verdict ∙ ap (λ (r : Reaction). r.verdict) (sym (react_live (standing_in c.args.self.now) c.args.message.now c.requires.live)) in
-    c.handle.ensures.after ∙ sym (handled_is c.args.self.now c.args.message.now c.requires.live) ∙ request_stays c.args.self.now c.args.message.now (sym told ∙ asked)
+    let told = c.handle.ensures.verdict ∙ ap (λ (r : Reaction). r.verdict)
+    (sym (react_live (standing_in c.args.self.now) c.args.message.now c.requires.live)) in
+    c.handle.ensures.after ∙ sym (handled_is c.args.self.now c.args.message.now c.requires.live)
+    ∙ request_stays c.args.self.now c.args.message.now (sym told ∙ asked)
 
 pub returns-clause-asked : goal.returns-clause-asked
 returns-clause-asked c = λ asked.
-    let told = c.handle.ensures.verdict ∙ ap (λ (r : Reaction). r.verdict) (sym (react_live (standing_in c.args.self.now) c.args.message.now c.requires.live)) in
-    let same = c.handle.ensures.after ∙ sym (handled_is c.args.self.now c.args.message.now c.requires.live) ∙ request_stays c.args.self.now c.args.message.now (sym told ∙ asked) in
-    (subst IsReady (sym same) c.requires.ready, subst (λ (v : LinkValue). IsAnswering v.phase) (sym same) (request_answering c.args.self.now c.args.message.now c.requires.live (sym told ∙ asked)))
+    let told = c.handle.ensures.verdict ∙ ap (λ (r : Reaction). r.verdict)
+    (sym (react_live (standing_in c.args.self.now) c.args.message.now c.requires.live)) in
+    let same = c.handle.ensures.after ∙ sym (handled_is c.args.self.now c.args.message.now c.requires.live)
+    ∙ request_stays c.args.self.now c.args.message.now (sym told ∙ asked) in (
+      subst IsReady (sym same) c.requires.ready,
+      subst (λ (v : LinkValue). IsAnswering v.phase) (sym same)
+          (request_answering c.args.self.now c.args.message.now c.requires.live (sym told ∙ asked)),
+    )

@@ -6,10 +6,18 @@ use Rattle.coap_conn.proofs.link.Link.on_response.Goals as goal
 
 pub invariant_of-self : goal.invariant_of-self
 invariant_of-self c =
-    let fewer : length (map outstanding_value c.remove_request_in.new.entries.items) ≤ length (map outstanding_value c.self.inside.asked.items) =
-    omega (arith, length-map c.remove_request_in.new.entries.items outstanding_value, length-map c.self.inside.asked.items outstanding_value, c.remove_request_in.ensures.fewer) in (
-      link_left (link_value c.self.inside) (map outstanding_value c.remove_request_in.new.entries.items) fewer c.self.invariant.0,
+    let fewer : length (map outstanding_value c.remove_request_in.new.entries.items)
+    ≤ length (map outstanding_value c.self.inside.asked.items) =
+    omega (
+      arith,
+      length-map c.remove_request_in.new.entries.items outstanding_value,
+      length-map c.self.inside.asked.items outstanding_value,
+      c.remove_request_in.ensures.fewer,
+    ) in (
+      link_left (link_value c.self.inside) (map outstanding_value c.remove_request_in.new.entries.items)
+          fewer c.self.invariant.0,
       c.self.invariant.1,
       c.self.invariant.2,
-      subst (λ (n : ℕ). c.self.inside.limits.outstanding ≤ n) (sym c.remove_request_in.ensures.capacity) c.self.invariant.3,
+      subst (λ (n : ℕ). c.self.inside.limits.outstanding ≤ n)
+          (sym c.remove_request_in.ensures.capacity) c.self.invariant.3,
     )

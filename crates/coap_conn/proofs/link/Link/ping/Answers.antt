@@ -9,13 +9,17 @@ use Rattle.coap_conn.proofs.link.Link.ping.Goals as goal
 pub returns-in_err-token-clause-answer : goal.returns-in_err-token-clause-answer
 returns-in_err-token-clause-answer c =
     let p = err_from_is_err_and c.from_residual.result c.from_residual.ensures.1 in
-    rw (p.1, p.2) (refused_new (asking_in c.args.self.now) (ping_with c.args.custody (next_token c.args.self.now.tokens)) c.in_err-token.field-0.0 c.in_err-token.ensures.answer)
+    rw (p.1, p.2)
+    (refused_new (asking_in c.args.self.now) (ping_with c.args.custody (next_token c.args.self.now.tokens))
+    c.in_err-token.field-0.0 c.in_err-token.ensures.answer)
 
 pub returns-in_err-queue_asked-clause-answer : goal.returns-in_err-queue_asked-clause-answer
 returns-in_err-queue_asked-clause-answer c =
-    let p = err_from_is_err_and c.from_residual-in_err-queue_asked.result c.from_residual-in_err-queue_asked.ensures.1 in
+    let p =
+    err_from_is_err_and c.from_residual-in_err-queue_asked.result c.from_residual-in_err-queue_asked.ensures.1 in
     let same = c.ping_to.ensures ∙ ap (ping_with c.args.custody) c.in_ok-token.ensures.token in
-    rw (p.1, p.2) (refused_size (asking_in c.args.self.now) _ c.ping_to.result _ same c.in_ok-token.ensures.answer c.in_err-queue_asked.ensures.answer)
+    rw (p.1, p.2) (refused_size (asking_in c.args.self.now) _ c.ping_to.result _ same c.in_ok-token.ensures.answer
+    c.in_err-queue_asked.ensures.answer)
 
 -- ---- the Ping is outstanding
 
@@ -34,13 +38,16 @@ enter-requires-clause-token c =
 pub returns-clause-answer : goal.returns-clause-answer
 returns-clause-answer c =
     let same = c.ping_to.ensures ∙ ap (ping_with c.args.custody) c.in_ok-token.ensures.token in
-    refused_size (asking_in c.args.self.now) _ c.ping_to.result _ same c.in_ok-token.ensures.answer c.in_ok-queue_asked.ensures.answer
+    refused_size (asking_in c.args.self.now) _ c.ping_to.result _ same c.in_ok-token.ensures.answer
+    c.in_ok-queue_asked.ensures.answer
 
 pub returns-clause-after : goal.returns-clause-after
 returns-clause-after c =
     let same = c.ping_to.ensures ∙ ap (ping_with c.args.custody) c.in_ok-token.ensures.token in
-    asked_after c.args.self.now c.queue_asked.new.self c.enter.new.self _ c.ping_to.result (Ping (next_token c.args.self.now.tokens)) _
-    (returns-clause-answer c) same (ap Ping (c.copy_of.ensures ∙ c.in_ok-token.ensures.token)) c.in_ok-queue_asked.ensures.after c.enter.ensures
+    asked_after c.args.self.now c.queue_asked.new.self c.enter.new.self _ c.ping_to.result
+    (Ping (next_token c.args.self.now.tokens)) _
+    (returns-clause-answer c) same (ap Ping (c.copy_of.ensures ∙ c.in_ok-token.ensures.token))
+    c.in_ok-queue_asked.ensures.after c.enter.ensures
 
 pub returns-clause-shows : goal.returns-clause-shows
 returns-clause-shows c = shows c.args.self.now c.enter.new.self (call.Ping c.args.custody) tt (returns-clause-after c)

@@ -11,13 +11,17 @@ use Rattle.coap_conn.proofs.link.Link.request.Goals.{then-observe, else-observe}
 pub returns-in_err-token-clause-answer : goal.returns-in_err-token-clause-answer
 returns-in_err-token-clause-answer c =
     let p = err_from_is_err_and c.from_residual.result c.from_residual.ensures.1 in
-    rw (p.1, p.2) (refused_new (asking_in c.args.self.now) (with_token c.args.message.now (next_token c.args.self.now.tokens)) c.in_err-token.field-0.0 c.in_err-token.ensures.answer)
+    rw (p.1, p.2)
+    (refused_new (asking_in c.args.self.now) (with_token c.args.message.now (next_token c.args.self.now.tokens))
+    c.in_err-token.field-0.0 c.in_err-token.ensures.answer)
 
 pub returns-in_err-queue_asked-clause-answer : goal.returns-in_err-queue_asked-clause-answer
 returns-in_err-queue_asked-clause-answer c =
-    let p = err_from_is_err_and c.from_residual-in_err-queue_asked.result c.from_residual-in_err-queue_asked.ensures.1 in
+    let p =
+    err_from_is_err_and c.from_residual-in_err-queue_asked.result c.from_residual-in_err-queue_asked.ensures.1 in
     let same = c.with_token.ensures ∙ ap (with_token c.args.message.now) c.in_ok-token.ensures.token in
-    rw (p.1, p.2) (refused_size (asking_in c.args.self.now) _ c.with_token.result _ same c.in_ok-token.ensures.answer c.in_err-queue_asked.ensures.answer)
+    rw (p.1, p.2) (refused_size (asking_in c.args.self.now) _ c.with_token.result _ same c.in_ok-token.ensures.answer
+    c.in_err-queue_asked.ensures.answer)
 
 -- ---- the request is outstanding
 
@@ -36,7 +40,8 @@ enter-requires-clause-token c =
 pub returns-clause-answer : goal.returns-clause-answer
 returns-clause-answer c =
     let same = c.with_token.ensures ∙ ap (with_token c.args.message.now) c.in_ok-token.ensures.token in
-    refused_size (asking_in c.args.self.now) _ c.with_token.result _ same c.in_ok-token.ensures.answer c.in_ok-queue_asked.ensures.answer
+    refused_size (asking_in c.args.self.now) _ c.with_token.result _ same c.in_ok-token.ensures.answer
+    c.in_ok-queue_asked.ensures.answer
 
 pub returns-clause-after : goal.returns-clause-after
 returns-clause-after c =
@@ -52,8 +57,10 @@ returns-clause-after c =
           ∙ ap value.Request (w.copy_of-else-observe.ensures ∙ c.in_ok-token.ensures.token)
           ∙ ap (λ (b : Bool). entry_of b (next_token c.args.self.now.tokens)) (sym w.if-observe.false)
     ] in
-    asked_after c.args.self.now c.queue_asked.new.self c.enter.new.self _ c.with_token.result (entry_of c.args.observe (next_token c.args.self.now.tokens)) _
+    asked_after c.args.self.now c.queue_asked.new.self c.enter.new.self _ c.with_token.result
+    (entry_of c.args.observe (next_token c.args.self.now.tokens)) _
     (returns-clause-answer c) same entered c.in_ok-queue_asked.ensures.after c.enter.ensures
 
 pub returns-clause-shows : goal.returns-clause-shows
-returns-clause-shows c = shows c.args.self.now c.enter.new.self (call.Request c.args.message.now c.args.observe) tt (returns-clause-after c)
+returns-clause-shows c =
+    shows c.args.self.now c.enter.new.self (call.Request c.args.message.now c.args.observe) tt (returns-clause-after c)

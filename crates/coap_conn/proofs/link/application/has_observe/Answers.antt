@@ -7,4 +7,5 @@ use Rattle.coap_conn.proofs.link.application.has_observe.Goals as goal
 
 pub returns : goal.returns
 returns c =
-    any_from_yields_List (λ (o : CoapOption). o.number == number.observe) _ _ _ c.any.ensures.ran (YieldsList-from_first coap_option (λ os. os) _ c.options.ensures.all) (λ x b q k. search (rules, tests))
+    any_from_yields_List (λ (o : CoapOption). o.number == number.observe) _ _ _ c.any.ensures.ran
+    (YieldsList-from_first coap_option (λ os. os) _ c.options.ensures.all) (λ x b q k. search (rules, tests))

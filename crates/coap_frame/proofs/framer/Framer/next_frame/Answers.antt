@@ -3,28 +3,37 @@ use Rattle.coap_frame.specs.Prelude.{FramerValue, IsFramer, framing_of, framer_a
 use Rattle.coap_frame.specs.Prelude.{finding_of_ref, lent_of_ref, AFrame}
 use Rattle.coap_frame.proofs.FramingLemmas.{framing_is_framer}
 use Rattle.coap_frame.proofs.FoundLemmas.{given_more, given_fault, given_whole, given_split}
-use Rattle.coap_frame.proofs.framer.Framer.next_frame.Goals.{in-Unfinished, in-Fault, in-Whole+in-Prefix, in-Whole+in-Split}
+use Rattle.coap_frame.proofs.framer.Framer.next_frame.Goals.{in-Unfinished, in-Fault, in-Whole+in-Prefix}
+use Rattle.coap_frame.proofs.framer.Framer.next_frame.Goals.{in-Whole+in-Split}
 use Rattle.coap_frame.proofs.framer.Framer.next_frame.Goals as goal
 
 pub invariant_of-self : goal.invariant_of-self
 invariant_of-self c =
-    let v = framer_value c.self.inside in
-    (subst IsFramer (sym c.advance-taken.ensures.after) (framing_is_framer v c.args.piece.now c.self.invariant.0), c.advance-taken.ensures.capacity)
+    let v = framer_value c.self.inside in (
+      subst IsFramer (sym c.advance-taken.ensures.after) (framing_is_framer v c.args.piece.now c.self.invariant.0),
+      c.advance-taken.ensures.capacity,
+    )
 
 pub invariant_of-self-in-Fault-1 : goal.invariant_of-self-in-Fault-1
 invariant_of-self-in-Fault-1 c =
-    let v = framer_value c.self.inside in
-    (subst IsFramer (sym c.advance-taken.ensures.after) (framing_is_framer v c.args.piece.now c.self.invariant.0), c.advance-taken.ensures.capacity)
+    let v = framer_value c.self.inside in (
+      subst IsFramer (sym c.advance-taken.ensures.after) (framing_is_framer v c.args.piece.now c.self.invariant.0),
+      c.advance-taken.ensures.capacity,
+    )
 
 pub invariant_of-self-in-Prefix : goal.invariant_of-self-in-Prefix
 invariant_of-self-in-Prefix c =
-    let v = framer_value c.self.inside in
-    (subst IsFramer (sym c.advance-taken.ensures.after) (framing_is_framer v c.args.piece.now c.self.invariant.0), c.advance-taken.ensures.capacity)
+    let v = framer_value c.self.inside in (
+      subst IsFramer (sym c.advance-taken.ensures.after) (framing_is_framer v c.args.piece.now c.self.invariant.0),
+      c.advance-taken.ensures.capacity,
+    )
 
 pub invariant_of-self-in-Split : goal.invariant_of-self-in-Split
 invariant_of-self-in-Split c =
-    let v = framer_value c.self.inside in
-    (subst IsFramer (sym c.advance-taken.ensures.after) (framing_is_framer v c.args.piece.now c.self.invariant.0), c.advance-taken.ensures.capacity)
+    let v = framer_value c.self.inside in (
+      subst IsFramer (sym c.advance-taken.ensures.after) (framing_is_framer v c.args.piece.now c.self.invariant.0),
+      c.advance-taken.ensures.capacity,
+    )
 
 pub returns : goal.returns
 returns c =
@@ -35,14 +44,24 @@ returns c =
     let new = a.new.buffer.items in
     let what = c.match-standing.what in
     let spends = ap (λ (f : FramerValue). f.spent) a.ensures.after in
-    let same : framer_after v p ≡ framer_after c.args.self.now p = ap (λ (f : FramerValue). framer_after f p) c.self.view_is in
+    let same : framer_after v p ≡ framer_after c.args.self.now p =
+    ap (λ (f : FramerValue). framer_after f p) c.self.view_is in
     let framed : IsFramedRef (record { taken = a.result.0; what = what }) (framing_of v p) =
     elim c.match-standing.branch [
-      | in-Unfinished w ↦ given_more v.max v.kept p new a.result.0 a.new.held a.result.1 what a.ensures.taken a.ensures.found spends w.in-Unfinished.is w.what-is
-      | in-Fault w ↦ given_fault v.max v.kept p new a.result.0 a.new.held a.result.1 what a.ensures.taken a.ensures.found spends w.in-Fault.fault w.in-Fault.is w.what-is
-      | in-Whole+in-Prefix w ↦ given_whole v.max v.kept p new a.result.0 a.new.held a.result.1 what a.ensures.taken a.ensures.found spends w.in-Whole.layout w.in-Whole.is w.in-Prefix.is (ap finding_of_ref w.what-is) (ap lent_of_ref w.what-is)
-      | in-Whole+in-Split w ↦ given_split v.max v.kept p new a.result.0 a.new.held a.result.1 what a.ensures.taken a.ensures.found spends w.in-Whole.layout w.in-Whole.is w.in-Split.is
-          (ap finding_of_ref w.what-is ∙ ap (λ bytes. AFrame bytes) w.deref.ensures.value) (ap lent_of_ref w.what-is ∙ w.deref.ensures.value)
+      | in-Unfinished w ↦
+          given_more v.max v.kept p new a.result.0 a.new.held a.result.1 what a.ensures.taken a.ensures.found spends
+          w.in-Unfinished.is w.what-is
+      | in-Fault w ↦
+          given_fault v.max v.kept p new a.result.0 a.new.held a.result.1 what a.ensures.taken a.ensures.found spends
+          w.in-Fault.fault w.in-Fault.is w.what-is
+      | in-Whole+in-Prefix w ↦
+          given_whole v.max v.kept p new a.result.0 a.new.held a.result.1 what a.ensures.taken a.ensures.found spends
+          w.in-Whole.layout w.in-Whole.is w.in-Prefix.is (ap finding_of_ref w.what-is) (ap lent_of_ref w.what-is)
+      | in-Whole+in-Split w ↦
+          given_split v.max v.kept p new a.result.0 a.new.held a.result.1 what a.ensures.taken a.ensures.found spends
+          w.in-Whole.layout w.in-Whole.is w.in-Split.is
+          (ap finding_of_ref w.what-is ∙ ap (λ bytes. AFrame bytes) w.deref.ensures.value)
+          (ap lent_of_ref w.what-is ∙ w.deref.ensures.value)
     ] in
     let after : c.match-standing.self.0 ≡ framer_after c.args.self.now p =
     elim c.match-standing.branch [
@@ -54,7 +73,9 @@ returns c =
       (refl, (λ _. tt), after),
       record {
         writes_back = tt;
-        framed = subst (λ (f : FramerValue). IsFramedRef (record { taken = a.result.0; what = what }) (framing_of f p)) c.self.view_is framed;
+        framed =
+            subst (λ (f : FramerValue). IsFramedRef (record { taken = a.result.0; what = what }) (framing_of f p))
+            c.self.view_is framed;
         within = a.ensures.within;
       },
     )

@@ -7,7 +7,9 @@ pub invariant_of-self-2 : goal.invariant_of-self-2
 invariant_of-self-2 c =
     let was = c.self.inside in
     let left = c.keep_beginning.ensures.items ∙ ap (kept_in was.held) c.grow.ensures.items in (
-      raised_holds was.max c.args.new was.copied was.held c.keep_beginning.new.held was.buffer.items _ c.self.invariant.0
-          (omega (arith, c.if-new-self.false)) (omega (arith, c.if-new-gt-LARGEST_MESSAGE.false)) c.keep_beginning.ensures.held left,
+      raised_holds was.max c.args.new was.copied was.held c.keep_beginning.new.held
+          was.buffer.items _ c.self.invariant.0
+          (omega (arith, c.if-new-self.false)) (omega (arith, c.if-new-gt-LARGEST_MESSAGE.false))
+          c.keep_beginning.ensures.held left,
       omega (arith, c.in-Ok.ensures.ok, c.keep_beginning.ensures.capacity),
     )

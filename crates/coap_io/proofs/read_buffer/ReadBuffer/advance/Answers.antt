@@ -5,4 +5,5 @@ use Rattle.coap_io.proofs.read_buffer.ReadBuffer.advance.Goals as goal
 pub returns : goal.returns
 returns c =
     let rest = c.self.inside in
-    rest_advanced rest.buffer.items rest.from rest.to c.args.count (rw c.self.view_is c.requires) ∙ ap (drop c.args.count) c.self.view_is
+    rest_advanced rest.buffer.items rest.from rest.to c.args.count (rw c.self.view_is c.requires)
+    ∙ ap (drop c.args.count) c.self.view_is

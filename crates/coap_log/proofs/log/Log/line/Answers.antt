@@ -13,11 +13,13 @@ returns-in-AfterReport-clause-on g c on =
     let count = c.in-AfterReport.count in
     let nanos = as_nanos c.args.now in (
       report.0 ∷ line.0 ∷ [],
-      report_and_line c.args.self.now.program nanos c.args.text.now _ count _ c.offer_report.new.self.limit _ report.0 line.0
+      report_and_line c.args.self.now.program nanos c.args.text.now _ count _
+          c.offer_report.new.self.limit _ report.0 line.0
           (ap (admission limit) (sym c.as_secs.ensures) ∙ sym c.admit.ensures.answer ∙ c.in-AfterReport.is)
           report.1
           (subst (λ (p : List ℕ). IsDated p nanos c.args.text.now line.0.line) c.offer_report.ensures.program line.1)
-          (report.2 ∙ ap (limit_after count report.0.accepted) (c.admit.ensures.after ∙ ap (after_admission limit) c.as_secs.ensures))
+          (report.2 ∙ ap (limit_after count report.0.accepted)
+          (c.admit.ensures.after ∙ ap (after_admission limit) c.as_secs.ensures))
           line.2,
       offers_then _ _ _ _ _ _ (report.0 ∷ []) (line.0 ∷ []) report.3 line.3,
     )

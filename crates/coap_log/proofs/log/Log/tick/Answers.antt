@@ -13,6 +13,7 @@ returns-in-Some-clause-reported g c =
       report_alone _ _ _ count _ _ first.0
           (ap (report limit) (sym c.as_secs.ensures) ∙ sym c.report.ensures.answer ∙ c.in-Some.is)
           first.1
-          (first.2 ∙ ap (limit_after count first.0.accepted) (c.report.ensures.after ∙ ap (after_report limit) c.as_secs.ensures)),
+          (first.2 ∙ ap (limit_after count first.0.accepted)
+          (c.report.ensures.after ∙ ap (after_report limit) c.as_secs.ensures)),
       offers_then _ _ _ _ _ _ [] (first.0 ∷ []) (c.flush.ensures.offered, c.flush.ensures.bytes) first.3,
     )

@@ -10,5 +10,13 @@ returns c =
     let kept : c.append_first.new.buffer.items ≡ take inside.room (inside.kept.items ++ c.args.bytes.now) =
     c.append_first.ensures.items ∙ ap (λ (n : ℕ). inside.kept.items ++ take (inside.room - n) c.args.bytes.now) len
     ∙ sym (filled inside.room inside.kept.items c.args.bytes.now (omega (arith, c.self.invariant.0.kept))) in
-    ap (λ (k : List ℕ). record { room = inside.room; kept = k; seen = inside.seen + length c.args.bytes.now; is_whole = inside.is_whole; is_silent = inside.is_silent; messages = inside.messages; bytes = inside.bytes }) kept
+    ap (λ (k : List ℕ). record {
+      room = inside.room;
+      kept = k;
+      seen = inside.seen + length c.args.bytes.now;
+      is_whole = inside.is_whole;
+      is_silent = inside.is_silent;
+      messages = inside.messages;
+      bytes = inside.bytes;
+    }) kept
     ∙ ap (λ (v : TapValue). with_bytes v c.args.bytes.now) c.self.view_is

@@ -7,6 +7,8 @@ use Rattle.coap_log.proofs.tap.Tap.follow.Goals as goal
 pub append-requires : goal.append-requires
 append-requires c =
     let inside = c.self.inside in
-    let unknown = ap (λ (l : List ℕ). declared_of (l ++ c.args.piece.now)) (sym c.deref.ensures.value) ∙ sym c.declared_after.ensures ∙ c.in-Unknown.is in
-    let few = unknown_few inside.room inside.seen inside.kept.items c.args.piece.now c.self.invariant.0.room c.self.invariant.0.kept unknown in
+    let unknown = ap (λ (l : List ℕ). declared_of (l ++ c.args.piece.now)) (sym c.deref.ensures.value)
+    ∙ sym c.declared_after.ensures ∙ c.in-Unknown.is in
+    let few = unknown_few inside.room inside.seen inside.kept.items c.args.piece.now c.self.invariant.0.room
+    c.self.invariant.0.kept unknown in
     omega (arith, few, ap (λ (v : TapValue). v.seen) c.self.view_is)

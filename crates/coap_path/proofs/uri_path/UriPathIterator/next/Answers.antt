@@ -5,4 +5,5 @@ use Rattle.coap_path.proofs.uri_path.UriPathIterator.next.Goals as goal
 
 pub loop-option-preserved : goal.loop-option-preserved
 loop-option-preserved c =
-    sym (option_passed (coap_option c.in-Some.option) _ _ c.in-Some.ensures.steps c.if-option-eq-URI_PATH.false) ∙ c.loop-option.invariant
+    sym (option_passed (coap_option c.in-Some.option) _ _ c.in-Some.ensures.steps c.if-option-eq-URI_PATH.false)
+    ∙ c.loop-option.invariant

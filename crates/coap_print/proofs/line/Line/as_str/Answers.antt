@@ -7,4 +7,5 @@ use Rattle.coap_print.proofs.line.Line.as_str.Goals as goal
 pub unreachable-requires : goal.unreachable-requires
 unreachable-requires c =
     c.in_default.ensures.cases.0
-    (IsUtf8-from_ascii c.as_slice.result.now (subst (λ (bs : List ℕ). IsAscii bs) (sym c.as_slice.ensures.value) (text_is_ascii c.self.inside.bytes.items c.self.invariant.printable)))
+    (IsUtf8-from_ascii c.as_slice.result.now (subst (λ (bs : List ℕ). IsAscii bs) (sym c.as_slice.ensures.value)
+    (text_is_ascii c.self.inside.bytes.items c.self.invariant.printable)))

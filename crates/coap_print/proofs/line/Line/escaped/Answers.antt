@@ -9,4 +9,5 @@ loop-byte-init c = sym (appended_nothing LINE_LENGTH c.args.self.now)
 
 pub loop-byte-preserved : goal.loop-byte-preserved
 loop-byte-preserved c =
-    one_more escape_of LINE_LENGTH c.args.self.now c.loop-byte.self c.escape.new.self c.args.bytes.now c.loop-byte.byte-index c.loop-byte-test.true c.loop-byte.invariant c.escape.ensures
+    one_more escape_of LINE_LENGTH c.args.self.now c.loop-byte.self c.escape.new.self c.args.bytes.now
+    c.loop-byte.byte-index c.loop-byte-test.true c.loop-byte.invariant c.escape.ensures

@@ -9,16 +9,19 @@ returns-then-is_hyphen c = search rules
 
 pub returns-in_err-number : goal.returns-in_err-number
 unfolding format_value
-returns-in_err-number c = rw c.from_residual.ensures (rw ((sym c.if-is_hyphen.ensures), (sym c.number_in.ensures ∙ c.in_err-number.was)) refl)
+returns-in_err-number c =
+    rw c.from_residual.ensures (rw ((sym c.if-is_hyphen.ensures), (sym c.number_in.ensures ∙ c.in_err-number.was)) refl)
 
 pub returns-in_err-format : goal.returns-in_err-format
 returns-in_err-format c =
     let is = sym c.number_in.ensures ∙ c.in_ok-number.was in
-    let read = format_read c.args.word.now c.in_ok-number.number c.try_from.result (sym c.if-is_hyphen.ensures) is c.try_from.ensures in
+    let read = format_read c.args.word.now c.in_ok-number.number c.try_from.result (sym c.if-is_hyphen.ensures)
+    is c.try_from.ensures in
     rw c.from_residual-in_err-format.ensures (rw (sym c.ok.ensures.value ∙ c.in_err-format.was) at read)
 
 pub returns : goal.returns
 returns c =
     let is = sym c.number_in.ensures ∙ c.in_ok-number.was in
-    let read = format_read c.args.word.now c.in_ok-number.number c.try_from.result (sym c.if-is_hyphen.ensures) is c.try_from.ensures in
+    let read = format_read c.args.word.now c.in_ok-number.number c.try_from.result (sym c.if-is_hyphen.ensures)
+    is c.try_from.ensures in
     rw (sym c.ok.ensures.value ∙ c.in_ok-format.was) at read

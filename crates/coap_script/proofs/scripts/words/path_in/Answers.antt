@@ -20,6 +20,8 @@ pub returns : goal.returns
 returns c =
     let collected =
     IfOk-at_ok _ c.in_ok-segments.was
-    (map_from_collect c.collect.result c.collect.ensures.ran (YieldsList-from_map_by _ (λ r. r.now) cow_slice_items (YieldsList-from_slice c.in_ok-decoded.decoded.items cc) c.map.ensures.closure (λ x r q k. search rules))) in
-    path_read c.args.word.now c.in-Some.text.now c.in-Some.first.now (segment_list c.deref-2.result.now) c.from_segments.result c.in-Some.ensures.cases.0 c.if-first-ne47.false
+    (map_from_collect c.collect.result c.collect.ensures.ran (YieldsList-from_map_by _ (λ r. r.now) cow_slice_items
+    (YieldsList-from_slice c.in_ok-decoded.decoded.items cc) c.map.ensures.closure (λ x r q k. search rules))) in
+    path_read c.args.word.now c.in-Some.text.now c.in-Some.first.now (segment_list c.deref-2.result.now)
+    c.from_segments.result c.in-Some.ensures.cases.0 c.if-first-ne47.false
     (ap segment_list c.deref-2.ensures.value ∙ collected ∙ c.in_ok-decoded.ensures) c.from_segments.ensures

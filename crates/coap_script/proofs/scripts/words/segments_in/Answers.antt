@@ -7,7 +7,9 @@ use Rattle.coap_script.specs.Prelude.{segments_of}
 
 pub returns-then-is_empty : goal.returns-then-is_empty
 unfolding segments_of
-returns-then-is_empty c = rw (c.new-segments.ensures.items, nil_from_length c.args.text.now (eqb-true _ 0 (sym c.if-is_empty.ensures)))
+returns-then-is_empty c =
+    rw (c.new-segments.ensures.items, nil_from_length c.args.text.now (eqb-true _ 0 (sym c.if-is_empty.ensures)))
 
 pub loop-segment-init : goal.loop-segment-init
-loop-segment-init c = rw c.new-segments.ensures.items (sym (segments_of_some c.args.text.now (eqb-false _ 0 (sym c.if-is_empty.ensures))))
+loop-segment-init c =
+    rw c.new-segments.ensures.items (sym (segments_of_some c.args.text.now (eqb-false _ 0 (sym c.if-is_empty.ensures))))

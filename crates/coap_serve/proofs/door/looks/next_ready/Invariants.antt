@@ -6,7 +6,8 @@ use Rattle.coap_serve.proofs.door.looks.next_ready.Given as goal
 abbrev pub invariant-loop-at : goal.invariant-loop-at
 invariant-loop-at g l =
     (l.from ≤ l.at) × (l.at ≤ length l.peers.entries)
-    × ((i : ℕ) → l.from ≤ i → i < l.at → IfSome (slice_get l.peers.entries i) (λ e. CanGoOn (peer_status g.W.Ready.readable g.W.Ready.writable l.server e) false))
+    × ((i : ℕ) → l.from ≤ i → i < l.at → IfSome (slice_get l.peers.entries i)
+    (λ e. CanGoOn (peer_status g.W.Ready.readable g.W.Ready.writable l.server e) false))
 
 abbrev pub decreases-loop-at : goal.decreases-loop-at
 decreases-loop-at g l = length l.peers.entries - l.at

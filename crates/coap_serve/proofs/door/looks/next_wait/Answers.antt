@@ -2,14 +2,8 @@ use Rattle.std.proofs.Common.{ap, arith, length, map, refl, ◌+◌, ◌≤◌, 
 use Rattle.std.proofs.lemmas.List.{length-map}
 use Rattle.std.proofs.lemmas.Option.{slice_get-map}
 use Rattle.coap_serve.specs.Prelude.{PeerInterest, peer_status}
-use Rattle.coap_serve.proofs.listener.LookLemmas.{
-  calm_wait,
-  none_seen,
-  one_seen,
-  opened_wait,
-  ready_wait,
-  sleepers_seen,
-}
+use Rattle.coap_serve.proofs.listener.LookLemmas.{calm_wait, none_seen, one_seen, opened_wait, ready_wait}
+use Rattle.coap_serve.proofs.listener.LookLemmas.{sleepers_seen}
 use Rattle.coap_serve.proofs.listener.SleepLemmas.{looked_at, one_looked, sleepers_rest}
 use Rattle.coap_serve.proofs.door.looks.next_wait.Goals as goal
 

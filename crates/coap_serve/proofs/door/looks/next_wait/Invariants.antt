@@ -6,7 +6,8 @@ use Rattle.coap_serve.proofs.door.looks.next_wait.Given as goal
 -- Nothing can be done on the connections before the next one, and `due` is their earliest deadline.
 abbrev pub invariant-loop-at : goal.invariant-loop-at
 invariant-loop-at g l =
-    (l.at ≤ length l.peers.entries) × IsSeenTo (map (peer_status g.W.Ready.readable g.W.Ready.writable l.server) l.peers.entries) l.at l.due
+    (l.at ≤ length l.peers.entries)
+    × IsSeenTo (map (peer_status g.W.Ready.readable g.W.Ready.writable l.server) l.peers.entries) l.at l.due
     × AreAsleep g.W.Ready.readable g.W.Ready.writable l.awake l.server l.peers.entries
 
 abbrev pub decreases-loop-at : goal.decreases-loop-at

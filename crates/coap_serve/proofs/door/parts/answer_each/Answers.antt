@@ -14,14 +14,21 @@ loop-count-preserved g c =
     let one = c.if-not-answer_once.ensures in
     let so_far = c.loop-count.invariant in
     record {
-      given = one_more_given (g.M.Monitor.follows c.args.monitor.now) (g.M.Monitor.follows c.loop-count.monitor) (g.M.Monitor.follows c.answer_once.new.monitor) (g.A.Application.follows c.args.application.now) (g.A.Application.follows c.loop-count.application) (g.A.Application.follows c.answer_once.new.application) one.asked.0 so_far.given one.asked.1 one.asked.2 refl;
+      given =
+          one_more_given (g.M.Monitor.follows c.args.monitor.now) (g.M.Monitor.follows c.loop-count.monitor)
+          (g.M.Monitor.follows c.answer_once.new.monitor) (g.A.Application.follows c.args.application.now)
+          (g.A.Application.follows c.loop-count.application) (g.A.Application.follows c.answer_once.new.application)
+          one.asked.0 so_far.given one.asked.1 one.asked.2 refl;
       kept = sleep_then so_far.kept one.kept;
     }
 
 pub returns-then-not-answer_once-clause-shows : goal.returns-then-not-answer_once-clause-shows
 returns-then-not-answer_once-clause-shows g c =
     let one = c.if-not-answer_once.ensures in
-    no_more_given (g.M.Monitor.follows c.args.monitor.now) (g.M.Monitor.follows c.loop-count.monitor) (g.M.Monitor.follows c.answer_once.new.monitor) (g.A.Application.follows c.args.application.now) (g.A.Application.follows c.loop-count.application) (g.A.Application.follows c.answer_once.new.application) one.asked.0 c.loop-count.invariant.given one.asked.1 one.asked.2 refl (omega (arith, c.loop-count-test.true))
+    no_more_given (g.M.Monitor.follows c.args.monitor.now) (g.M.Monitor.follows c.loop-count.monitor)
+    (g.M.Monitor.follows c.answer_once.new.monitor) (g.A.Application.follows c.args.application.now)
+    (g.A.Application.follows c.loop-count.application) (g.A.Application.follows c.answer_once.new.application)
+    one.asked.0 c.loop-count.invariant.given one.asked.1 one.asked.2 refl (omega (arith, c.loop-count-test.true))
 
 pub returns-then-not-answer_once-clause-kept : goal.returns-then-not-answer_once-clause-kept
 returns-then-not-answer_once-clause-kept g c = sleep_then c.loop-count.invariant.kept c.if-not-answer_once.ensures.kept

@@ -6,6 +6,8 @@ use Rattle.coap_serve.proofs.door.parts.answer_each.Given as goal
 abbrev pub invariant-loop-count : goal.invariant-loop-count
 invariant-loop-count g l =
     record {
-      given : HasGivenLater l.fn.server l.count l.server (FollowsMore (g.M.Monitor.follows l.fn.monitor) (g.M.Monitor.follows l.monitor)) (AnswersMore (g.A.Application.follows l.fn.application) (g.A.Application.follows l.application));
+      given : HasGivenLater l.fn.server l.count l.server
+          (FollowsMore (g.M.Monitor.follows l.fn.monitor) (g.M.Monitor.follows l.monitor))
+          (AnswersMore (g.A.Application.follows l.fn.application) (g.A.Application.follows l.application));
       kept : SleepOn l.fn.awake l.awake l.fn.server l.server;
     }

@@ -18,4 +18,5 @@ returns-in-Ok-clause-accepted g c =
     rw is (record { shows = c.in-Ok.ensures.shows; follows = c.accepted.ensures })
 
 pub returns-in-Ok-clause-kept : goal.returns-in-Ok-clause-kept
-returns-in-Ok-clause-kept g c = rw c.in-Ok.ensures.ok (keeps_others c.args.server.now c.args.id session_ended c.ended.ensures.settled)
+returns-in-Ok-clause-kept g c =
+    rw c.in-Ok.ensures.ok (keeps_others c.args.server.now c.args.id session_ended c.ended.ensures.settled)

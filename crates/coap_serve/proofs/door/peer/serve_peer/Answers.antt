@@ -1,17 +1,6 @@
 use Rattle.std.proofs.Common.{sym, ap, subst, ◌∙◌, ◌||◌, nat_lt}
-use Rattle.coap_serve.specs.Prelude.{
-  IsCourseFor,
-  IsTakenWith,
-  outlook_of,
-  activity_after,
-  course_of,
-  has_written,
-  is_over_in,
-  readiness,
-  state_at,
-  trace_by,
-  visit_state,
-}
+use Rattle.coap_serve.specs.Prelude.{IsCourseFor, IsTakenWith, outlook_of, activity_after, course_of, has_written}
+use Rattle.coap_serve.specs.Prelude.{is_over_in, readiness, state_at, trace_by, visit_state}
 use Rattle.coap_serve.proofs.listener.PeerLemmas.{failed_read_is_a_part, read_failed, steps_are_a_part, write_reason}
 use Rattle.coap_serve.proofs.listener.SleepLemmas.{beside_heard, beside_served}
 use Rattle.coap_serve.proofs.listener.ServingLemmas.{both_made, heard_served, wrote_served}

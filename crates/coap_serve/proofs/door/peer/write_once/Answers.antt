@@ -9,22 +9,32 @@ use Rattle.coap_serve.proofs.door.peer.write_once.Goals as goal
 
 -- The monitor receives the bytes that were written.
 pub accepted-requires : goal.accepted-requires
-accepted-requires g c = first_written (waiting_at c.args.id c.args.server.now) c.first_part-part.result.now c.in-Bytes.count (rw c.in-Some.ensures.parts at c.first_part-part.ensures) c.in-Bytes.ensures.within.1
+accepted-requires g c =
+    first_written (waiting_at c.args.id c.args.server.now) c.first_part-part.result.now c.in-Bytes.count
+    (rw c.in-Some.ensures.parts at c.first_part-part.ensures) c.in-Bytes.ensures.within.1
 
 pub unreachable-requires : goal.unreachable-requires
 unreachable-requires g c =
     none_refused c.args.server.now c.args.id c.in-Bytes.count c.first_part-part.result.now
-    (sym c.in-Some.ensures.there) (rw c.in-Some.ensures.parts at c.first_part-part.ensures) c.in-Bytes.ensures.within.1 c.in_default-written.ensures.answer
+    (sym c.in-Some.ensures.there) (rw c.in-Some.ensures.parts at c.first_part-part.ensures) c.in-Bytes.ensures.within.1
+    c.in_default-written.ensures.answer
 
 pub returns-in-Ok-clause-wrote : goal.returns-in-Ok-clause-wrote
 returns-in-Ok-clause-wrote g c = λ _.
     rw c.if-not-may_write.false
-    (part_written (waiting_at c.args.id c.args.server.now) c.first_part-part.result.now (Bytes c.in-Bytes.count) (g.W.Wire.written c.args.wire.now) (g.W.Wire.written c.write.new.self)
+    (part_written (waiting_at c.args.id c.args.server.now) c.first_part-part.result.now (Bytes c.in-Bytes.count)
+    (g.W.Wire.written c.args.wire.now) (g.W.Wire.written c.write.new.self)
     (rw c.in-Some.ensures.parts at c.first_part-part.ensures).front c.in-Bytes.ensures.within c.in-Bytes.ensures.wrote)
 
 pub returns-in-Ok-clause-accepted : goal.returns-in-Ok-clause-accepted
 returns-in-Ok-clause-accepted g c =
-    record { shows = c.in-Ok.ensures.shows; follows = rw (length-take-le c.in-Bytes.count c.first_part-part.result.now c.in-Bytes.ensures.within.1, add-zero) at c.accepted.ensures }
+    record {
+      shows = c.in-Ok.ensures.shows;
+      follows = rw (
+        length-take-le c.in-Bytes.count c.first_part-part.result.now c.in-Bytes.ensures.within.1,
+        add-zero,
+      ) at c.accepted.ensures;
+    }
 
 -- The wire was written once, and the result of that write is the result of the function.
 pub returns-in-Ok-clause-answered : goal.returns-in-Ok-clause-answered
@@ -59,4 +69,6 @@ pub returns-in-Failed-clause-accepted : goal.returns-in-Failed-clause-accepted
 returns-in-Failed-clause-accepted g c = none_called refl
 
 pub returns-in-Ok-clause-kept : goal.returns-in-Ok-clause-kept
-returns-in-Ok-clause-kept g c = rw c.in-Ok.ensures.ok (keeps_others c.args.server.now c.args.id (λ s. session_written s c.in-Bytes.count) c.written.ensures.settled)
+returns-in-Ok-clause-kept g c =
+    rw c.in-Ok.ensures.ok
+    (keeps_others c.args.server.now c.args.id (λ s. session_written s c.in-Bytes.count) c.written.ensures.settled)

@@ -10,24 +10,34 @@ use Rattle.coap_serve.proofs.door.removal.drop_at.Goals as goal
 pub accepted-requires : goal.accepted-requires
 accepted-requires g c =
     let lies = lies_there c.requires.paired c.args.at (sym c.in-Some.ensures.entry) in
-    reason_left c.args.server.now.host.now (session_of c.in-Some.id c.args.server.now.sessions) c.args.reason (sym (is_there_at c.in-Some.id c.args.at c.args.server.now.sessions lies)) (rw (← c.in-Some.ensures.entry) at c.requires.reason)
+    reason_left c.args.server.now.host.now (session_of c.in-Some.id c.args.server.now.sessions) c.args.reason
+    (sym (is_there_at c.in-Some.id c.args.at c.args.server.now.sessions lies))
+    (rw (← c.in-Some.ensures.entry) at c.requires.reason)
 
 pub unreachable-requires-in_default-drop_conn : goal.unreachable-requires-in_default-drop_conn
 unreachable-requires-in_default-drop_conn g c =
     let lies = lies_there c.requires.paired c.args.at (sym c.in-Some.ensures.entry) in
-    let never : true ≡ false = is_there_at c.in-Some.id c.args.at c.args.server.now.sessions lies ∙ sym c.drop_conn.ensures.answer ∙ ap is_ok c.in_default-drop_conn.is in
+    let never : true ≡ false = is_there_at c.in-Some.id c.args.at c.args.server.now.sessions lies
+    ∙ sym c.drop_conn.ensures.answer ∙ ap is_ok c.in_default-drop_conn.is in
     cc never
 
 pub returns-clause-shows : goal.returns-clause-shows
-returns-clause-shows g c = dropped_served _ _ _ _ c.args.server.now c.in-Some.id c.in-Ok.ensures.ok c.in-Ok.ensures.shows c.accepted.ensures c.gone.ensures
+returns-clause-shows g c =
+    dropped_served _ _ _ _ c.args.server.now c.in-Some.id c.in-Ok.ensures.ok c.in-Ok.ensures.shows
+    c.accepted.ensures c.gone.ensures
 
 pub returns-clause-paired : goal.returns-clause-paired
 returns-clause-paired g c =
-    paired_without c.requires.paired c.in-Some.id c.args.at c.drop_conn.ensures.settled (rw (slice_get-map, ← c.in-Some.ensures.entry) refl) c.in-Ok.ensures.ok c.shift_remove_index.ensures.entries c.shift_remove_index.ensures.unique
+    paired_without c.requires.paired c.in-Some.id c.args.at c.drop_conn.ensures.settled
+    (rw (slice_get-map, ← c.in-Some.ensures.entry) refl) c.in-Ok.ensures.ok c.shift_remove_index.ensures.entries
+    c.shift_remove_index.ensures.unique
 
 pub returns-clause-server : goal.returns-clause-server
 returns-clause-server g c = rw (slice_get-map, ← c.in-Some.ensures.entry) c.in-Ok.ensures.ok
 
 pub returns-clause-accepted : goal.returns-clause-accepted
 returns-clause-accepted g c =
-    rw (slice_get-map, ← c.in-Some.ensures.entry) (record { shows = c.in-Ok.ensures.shows; known = record { calls = c.accepted.ensures; exchanged = c.gone.ensures } })
+    rw (slice_get-map, ← c.in-Some.ensures.entry) (record {
+      shows = c.in-Ok.ensures.shows;
+      known = record { calls = c.accepted.ensures; exchanged = c.gone.ensures };
+    })

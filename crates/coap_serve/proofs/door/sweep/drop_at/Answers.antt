@@ -7,7 +7,8 @@ drop_at-requires-clause-reason g c = silent_reason c.args.server.now c.args.peer
 
 pub returns-clause-part : goal.returns-clause-part
 returns-clause-part g c =
-    dropped_here _ c.args.server.now c.drop_at.new.server c.args.peers.now.entries c.drop_at.new.peers.entries c.args.at c.requires.there c.drop_at.ensures.server c.drop_at.ensures.peers c.drop_at.ensures.accepted
+    dropped_here _ c.args.server.now c.drop_at.new.server c.args.peers.now.entries c.drop_at.new.peers.entries c.args.at
+    c.requires.there c.drop_at.ensures.server c.drop_at.ensures.peers c.drop_at.ensures.accepted
 
 pub returns-clause-within : goal.returns-clause-within
 returns-clause-within g c = omega (arith, c.requires.there, c.drop_at.ensures.fewer)

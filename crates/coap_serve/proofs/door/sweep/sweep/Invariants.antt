@@ -7,8 +7,10 @@ use Rattle.coap_serve.proofs.door.sweep.sweep.Given as goal
 abbrev pub invariant-loop-at : goal.invariant-loop-at
 invariant-loop-at g l =
     (l.at ≤ length l.peers.entries)
-    × IsSweptTo (known_by g.M.Monitor.follows g.A.Application.follows l.fn.monitor l.monitor l.fn.application l.application)
-    (swept l.fn.idle l.fn.now l.fn.server l.fn.peers.entries) l.fn.idle l.fn.now l.fn.server l.server (take l.at l.peers.entries) (drop l.at l.peers.entries)
+    × IsSweptTo
+    (known_by g.M.Monitor.follows g.A.Application.follows l.fn.monitor l.monitor l.fn.application l.application)
+    (swept l.fn.idle l.fn.now l.fn.server l.fn.peers.entries) l.fn.idle l.fn.now l.fn.server l.server
+    (take l.at l.peers.entries) (drop l.at l.peers.entries)
     × ArePaired l.server l.peers.entries
 
 abbrev pub decreases-loop-at : goal.decreases-loop-at

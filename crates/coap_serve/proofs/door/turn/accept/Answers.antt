@@ -6,20 +6,24 @@ use Rattle.coap_serve.proofs.door.turn.accept.Goals as goal
 
 pub returns-clause-paired : goal.returns-clause-paired
 returns-clause-paired g c =
-    paired_with_one g.D.Wire.Ready.readable g.D.Wire.Ready.writable _ c.can_open.ensures.settled c.requires.paired c.in-Ok-open.ensures.id c.in-Ok-open.ensures.ok c.in-Ok-open.ensures.lies
+    paired_with_one g.D.Wire.Ready.readable g.D.Wire.Ready.writable _ c.can_open.ensures.settled c.requires.paired
+    c.in-Ok-open.ensures.id c.in-Ok-open.ensures.ok c.in-Ok-open.ensures.lies
     c.in-Ok-insert.ensures.entries c.in-Ok-insert.ensures.unique
 
 pub returns-clause-asleep : goal.returns-clause-asleep
 returns-clause-asleep g c =
-    asleep_with_one g.D.Wire.Ready.readable g.D.Wire.Ready.writable _ c.can_open.ensures.settled c.requires.paired c.in-Ok-open.ensures.id c.in-Ok-open.ensures.ok c.in-Ok-open.ensures.lies
-    c.in-Ok-insert.ensures.entries c.in-Ok-insert.ensures.unique c.len.ensures.len c.wake.ensures.awake c.wake.ensures.asleep c.requires.asleep
+    asleep_with_one g.D.Wire.Ready.readable g.D.Wire.Ready.writable _ c.can_open.ensures.settled c.requires.paired
+    c.in-Ok-open.ensures.id c.in-Ok-open.ensures.ok c.in-Ok-open.ensures.lies
+    c.in-Ok-insert.ensures.entries c.in-Ok-insert.ensures.unique c.len.ensures.len c.wake.ensures.awake
+    c.wake.ensures.asleep c.requires.asleep
 
 pub returns-clause-opened : goal.returns-clause-opened
 returns-clause-opened g c = record {
   handed = Some c.in-Some.wire;
   asked = search rules;
   opened =
-      one_more_opened _ c.in-Ok-open.ensures.answer c.in-Ok-open.ensures.id c.in-Ok-open.ensures.ok c.in-Ok-insert.ensures.entries c.in-Ok.ensures c.new-activity.ensures;
+      one_more_opened _ c.in-Ok-open.ensures.answer c.in-Ok-open.ensures.id c.in-Ok-open.ensures.ok
+      c.in-Ok-insert.ensures.entries c.in-Ok.ensures c.new-activity.ensures;
   is = refl;
 }
 

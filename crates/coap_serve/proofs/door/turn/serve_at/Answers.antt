@@ -9,7 +9,8 @@ serve_peer-requires g c = record { lies = lies_there c.requires.paired c.args.at
 
 pub returns : goal.returns
 returns g c =
-    let written = set_there c.args.peers.now.entries c.args.at c.serve_peer.new.peer _ _ c.pair_mut-peer.ensures.value in
+    let written =
+    set_there c.args.peers.now.entries c.args.at c.serve_peer.new.peer _ _ c.pair_mut-peer.ensures.value in
     record {
       shows = search rules;
       part =
@@ -17,7 +18,13 @@ returns g c =
           (IfOk-weaker c.serve_peer.result _ _
           (λ x part. record {
             history = part.history;
-            made = record { ready = _; read = c.may_read-may_read.ensures; write = c.may_write-may_write.ensures; part = part.made.0; activity = part.made.1 };
+            made = record {
+              ready = _;
+              read = c.may_read-may_read.ensures;
+              write = c.may_write-may_write.ensures;
+              part = part.made.0;
+              activity = part.made.1;
+            };
             accepted = part.accepted;
           })
           c.serve_peer.ensures.part);

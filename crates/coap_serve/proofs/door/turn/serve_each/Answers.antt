@@ -9,7 +9,9 @@ loop-at-init g c = record {
   within = c.next_ready-at.ensures.within;
   done = record {
     history = no_history;
-    made = skipped_to _ 0 c.next_ready-at.result (omega arith) c.next_ready-at.ensures.within c.next_ready-at.ensures.skipped (none_served _);
+    made =
+        skipped_to _ 0 c.next_ready-at.result (omega arith) c.next_ready-at.ensures.within
+        c.next_ready-at.ensures.skipped (none_served _);
     accepted = accepted_none _ c.args.server.now c.args.server.now refl;
   };
   shows = none_made _ refl;
@@ -27,7 +29,9 @@ loop-at-preserved g c =
       within = next.ensures.within;
       done = record {
         history = history_then so_far.done.history one.history;
-        made = skipped_to _ c.in_ok-later.later next.result next.ensures.from next.ensures.within next.ensures.skipped (one_served _ one.made so_far.done.made);
+        made =
+            skipped_to _ c.in_ok-later.later next.result next.ensures.from next.ensures.within next.ensures.skipped
+            (one_served _ one.made so_far.done.made);
         accepted = accepted_then so_far.done.accepted one.accepted;
       };
       shows = both_made so_far.shows c.serve_next.ensures.shows;

@@ -26,14 +26,18 @@ pub returns-in-Over-clause-part : goal.returns-in-Over-clause-part
 returns-in-Over-clause-part g c =
     one_over _ c.args.server.now c.serve_at.new.server c.args.peers.now.entries c.serve_at.new.peers.entries c.args.at
     c.requires.there c.serve_at.ensures.peers c.requires.ready
-    (journal (g.M.Monitor.follows c.args.monitor.now) (g.A.Application.follows c.args.application.now)) (journal (g.M.Monitor.follows c.serve_at.new.monitor) (g.A.Application.follows c.serve_at.new.application))
-    c.in_ok-served.served.outcome c.in_ok-served.ensures.part (journal (g.M.Monitor.follows c.drop_at.new.monitor) (g.A.Application.follows c.drop_at.new.application)) c.in-Over.is c.drop_at.ensures.peers c.drop_at.ensures.server c.drop_at.ensures.accepted
+    (journal (g.M.Monitor.follows c.args.monitor.now) (g.A.Application.follows c.args.application.now))
+    (journal (g.M.Monitor.follows c.serve_at.new.monitor) (g.A.Application.follows c.serve_at.new.application))
+    c.in_ok-served.served.outcome c.in_ok-served.ensures.part
+    (journal (g.M.Monitor.follows c.drop_at.new.monitor) (g.A.Application.follows c.drop_at.new.application))
+    c.in-Over.is c.drop_at.ensures.peers c.drop_at.ensures.server c.drop_at.ensures.accepted
 
 pub returns-in-Open-clause-part : goal.returns-in-Open-clause-part
 returns-in-Open-clause-part g c =
     one_open _ c.args.server.now c.serve_at.new.server c.args.peers.now.entries c.serve_at.new.peers.entries c.args.at
     c.requires.there c.serve_at.ensures.peers c.requires.ready
-    (journal (g.M.Monitor.follows c.args.monitor.now) (g.A.Application.follows c.args.application.now)) (journal (g.M.Monitor.follows c.serve_at.new.monitor) (g.A.Application.follows c.serve_at.new.application))
+    (journal (g.M.Monitor.follows c.args.monitor.now) (g.A.Application.follows c.args.application.now))
+    (journal (g.M.Monitor.follows c.serve_at.new.monitor) (g.A.Application.follows c.serve_at.new.application))
     c.in_ok-served.served.outcome c.in_ok-served.ensures.part c.in-Open.is
 
 pub returns-in-Over-clause-shows : goal.returns-in-Over-clause-shows
@@ -53,10 +57,15 @@ returns-in-Open-clause-asleep g c =
     let writable = g.W.Ready.writable in
     let at = some_at_index es c.args.at c.requires.there in
     let kept = rw at.1 at c.in_ok-served.ensures.kept in
-    let now : slice_get c.serve_at.new.peers.entries c.args.at ≡ Some (at.0.0, p) = ap (λ xs. slice_get xs c.args.at) c.serve_at.ensures.peers.1 ∙ set_there es c.args.at p at.0.0 at.0.1 at.1 in
-    let seen = looked_at readable writable c.serve_at.new.server c.serve_at.new.peers.entries c.args.at c.in_ok-served.ensures.wants c.index-peer.ensures c.is_ready-is_ready.ensures in
+    let now : slice_get c.serve_at.new.peers.entries c.args.at ≡ Some (at.0.0, p) =
+    ap (λ xs. slice_get xs c.args.at) c.serve_at.ensures.peers.1 ∙ set_there es c.args.at p at.0.0 at.0.1 at.1 in
+    let seen = looked_at readable writable c.serve_at.new.server c.serve_at.new.peers.entries c.args.at
+    c.in_ok-served.ensures.wants c.index-peer.ensures c.is_ready-is_ready.ensures in
     let entry : seen.0 ≡ (at.0.0, p) = cc (seen.1, now) in
-    asleep_beside readable writable c.in_ok-served.served.affected.words c.args.at at.0.0 at.0.1 p kept c.requires.paired at.1 c.serve_at.ensures.peers.1
+    asleep_beside readable writable c.in_ok-served.served.affected.words c.args.at at.0.0 at.0.1 p kept
+    c.requires.paired at.1 c.serve_at.ensures.peers.1
     (λ i apart outside. c.join.ensures i (c.record_look.ensures.asleep i apart outside))
-    (λ outside. subst (λ e. MaySleep (peer_status readable writable c.serve_at.new.server e)) entry (looked_sleeps c.record_look.new.self c.args.at (peer_status readable writable c.serve_at.new.server seen.0) _ seen.3 (rw seen.2 at c.record_look.ensures.awake) outside))
+    (λ outside. subst (λ e. MaySleep (peer_status readable writable c.serve_at.new.server e)) entry
+    (looked_sleeps c.record_look.new.self c.args.at (peer_status readable writable c.serve_at.new.server seen.0) _
+    seen.3 (rw seen.2 at c.record_look.ensures.awake) outside))
     c.requires.asleep

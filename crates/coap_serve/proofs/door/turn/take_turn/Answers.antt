@@ -4,7 +4,8 @@ use Rattle.coap_serve.proofs.listener.SleepLemmas.{some_woken}
 use Rattle.coap_serve.proofs.door.turn.take_turn.Goals as goal
 
 pub accept-requires-clause-asleep : goal.accept-requires-clause-asleep
-accept-requires-clause-asleep g c = some_woken g.D.Wire.Ready.readable g.D.Wire.Ready.writable c.wake_places.ensures c.requires.asleep
+accept-requires-clause-asleep g c =
+    some_woken g.D.Wire.Ready.readable g.D.Wire.Ready.writable c.wake_places.ensures c.requires.asleep
 
 pub returns-in_err-opens-clause-shows : goal.returns-in_err-opens-clause-shows
 returns-in_err-opens-clause-shows g c = turned_so_far c.accept.ensures.shows
@@ -25,5 +26,7 @@ returns-clause-turn g c =
       visits = served.history;
       served = served.made;
       waits = c.next_wait.ensures.wait;
-      accepted = accepted_then (calls_accepted (g.A.Application.follows c.args.application.now) c.in_ok-opens.ensures.accepted) served.accepted;
+      accepted =
+          accepted_then (calls_accepted (g.A.Application.follows c.args.application.now) c.in_ok-opens.ensures.accepted)
+          served.accepted;
     }

@@ -2,4 +2,7 @@ use Rattle.coap_server_engine.proofs.values.IndexSetLemmas.{joined_outside, outs
 use Rattle.coap_server_engine.proofs.index_set.IndexSet.join.Goals as goal
 
 pub returns : goal.returns
-returns c = record { outside = joined_outside c.args.self.now.words c.args.other.now.words; only = outside_joined c.args.self.now.words c.args.other.now.words }
+returns c = record {
+  outside = joined_outside c.args.self.now.words c.args.other.now.words;
+  only = outside_joined c.args.self.now.words c.args.other.now.words;
+}

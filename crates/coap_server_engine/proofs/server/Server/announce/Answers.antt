@@ -9,12 +9,17 @@ pub invariant_of-self : goal.invariant_of-self
 invariant_of-self c =
     let e = c.announce_at.ensures in
     record {
-      server = changed_server_or_not c.announce_at.result _ _ _ _ _ c.self.invariant.server c.in-Some.ensures.some e.ok (still_unmarked c.announce_at.result _ _ e.err);
+      server =
+          changed_server_or_not c.announce_at.result _ _ _ _ _ c.self.invariant.server c.in-Some.ensures.some e.ok
+          (still_unmarked c.announce_at.result _ _ e.err);
       marked = e.marked;
-      covered = covered_changed_or_not c.announce_at.result _ _ _ _ _ _ (announced_adds c.args.new) e.ok (still_unmarked c.announce_at.result _ _ e.err) c.self.invariant.covered;
+      covered =
+          covered_changed_or_not c.announce_at.result _ _ _ _ _ _ (announced_adds c.args.new) e.ok
+          (still_unmarked c.announce_at.result _ _ e.err) c.self.invariant.covered;
     }
 
 pub returns : goal.returns
 returns c =
-    let ok = changed_value_or_not c.announce_at.result _ _ _ _ _ _ c.self.invariant.server c.in-Some.ensures.some c.self.view_is c.announce_at.ensures.ok in
+    let ok = changed_value_or_not c.announce_at.result _ _ _ _ _ _ c.self.invariant.server c.in-Some.ensures.some
+    c.self.view_is c.announce_at.ensures.ok in
     search (rules, ok, announce_shows c.announce_at.result c.args.self.now _ c.args.id c.args.new (search rules) ok)

@@ -11,6 +11,10 @@ returns c =
     let covers = c.self.invariant.covered.paths c.hash_of.result set c.of_path.ensures in
     let v = server_value c.self.inside in
     rw (← c.self.view_is) (record {
-      put = put_keeps v set.words c.args.path.now c.hash_of.result c.hash_of.ensures c.self.invariant.server.settled covers;
-      removed = removed_keeps v set.words c.args.path.now c.hash_of.result c.hash_of.ensures c.self.invariant.server.settled covers;
+      put =
+          put_keeps v set.words c.args.path.now c.hash_of.result c.hash_of.ensures
+          c.self.invariant.server.settled covers;
+      removed =
+          removed_keeps v set.words c.args.path.now c.hash_of.result c.hash_of.ensures
+          c.self.invariant.server.settled covers;
     })

@@ -16,13 +16,19 @@ invariant_of-self c =
     let removed = ap unmarked c.shift_remove_index.ensures.entries ∙ map-remove unmarked_entry es c.in-Some.at in
     record {
       server = dropped_server _ _ _ _ c.self.invariant.server c.in-Some.ensures.some removed;
-      marked = rw c.shift_remove_index.ensures.entries (all_remove (λ e. IsMarked c.self.inside.host e.1) es c.in-Some.at c.self.invariant.marked);
-      covered = rw removed (c.follow_removal.ensures (unmarked es) (length-map es unmarked_entry ∙ sym c.len.ensures.len) c.self.invariant.covered);
+      marked =
+          rw c.shift_remove_index.ensures.entries
+          (all_remove (λ e. IsMarked c.self.inside.host e.1) es c.in-Some.at c.self.invariant.marked);
+      covered =
+          rw removed (c.follow_removal.ensures (unmarked es) (length-map es unmarked_entry ∙ sym c.len.ensures.len)
+          c.self.invariant.covered);
     }
 
 pub returns : goal.returns
 returns c =
     let es = c.self.inside.sessions.entries in
     let there = is_there_at c.args.id _ _ c.in-Some.ensures.some in
-    let ok = dropped_value _ _ _ _ c.self.invariant.server c.in-Some.ensures.some (ap unmarked c.shift_remove_index.ensures.entries ∙ map-remove unmarked_entry es c.in-Some.at) in
-    rw (← c.self.view_is) (assumption (there, ok, drop_shows {T = Unit {0}} {F = Unit {0}} (Ok tt) _ _ c.args.id there ok))
+    let ok = dropped_value _ _ _ _ c.self.invariant.server c.in-Some.ensures.some
+    (ap unmarked c.shift_remove_index.ensures.entries ∙ map-remove unmarked_entry es c.in-Some.at) in
+    rw (← c.self.view_is)
+    (assumption (there, ok, drop_shows {T = Unit {0}} {F = Unit {0}} (Ok tt) _ _ c.args.id there ok))

@@ -10,16 +10,21 @@ pub index-requires-2 : goal.index-requires-2
 index-requires-2 g c =
     let lies = subst (λ v. LiesAt c.args.index.id c.args.index.at v.sessions) (sym c.self.view_is) c.requires.at in
     let here = unmarked_at c.self.inside.sessions.entries c.args.index.at c.index.result.now c.index.ensures in
-    within_unmarked _ _ _ (turned_lies _ _ _ _ c.self.invariant.server lies here _ (AddsBytes _ _) _ (c.in_ok-waited.ensures.ok _ here))
+    within_unmarked _ _ _
+    (turned_lies _ _ _ _ c.self.invariant.server lies here _ (AddsBytes _ _) _ (c.in_ok-waited.ensures.ok _ here))
 
 pub invariant_of-self-2 : goal.invariant_of-self-2
 invariant_of-self-2 g c =
     let lies = subst (λ v. LiesAt c.args.index.id c.args.index.at v.sessions) (sym c.self.view_is) c.requires.at in
     let here = unmarked_at c.self.inside.sessions.entries c.args.index.at c.index.result.now c.index.ensures in
     record {
-      server = turned_server _ _ _ _ c.self.invariant.server lies here _ (AddsBytes _ _) _ (c.in_ok-waited.ensures.ok _ here);
+      server =
+          turned_server _ _ _ _ c.self.invariant.server lies here _ (AddsBytes _ _) _
+          (c.in_ok-waited.ensures.ok _ here);
       marked = c.in_ok-waited.ensures.marked;
-      covered = covered_flushed _ _ _ c.index.result.now.session _ _ (AddsBytes _ _) _ written_adds (c.in_ok-waited.ensures.ok _ here) c.self.invariant.covered;
+      covered =
+          covered_flushed _ _ _ c.index.result.now.session _ _ (AddsBytes _ _) _ written_adds
+          (c.in_ok-waited.ensures.ok _ here) c.self.invariant.covered;
     }
 
 pub returns-clause-ok : goal.returns-clause-ok
@@ -33,14 +38,21 @@ pub returns-clause-stop : goal.returns-clause-stop
 returns-clause-stop g c =
     let lies = subst (λ v. LiesAt c.args.index.id c.args.index.at v.sessions) (sym c.self.view_is) c.requires.at in
     let here = unmarked_at c.self.inside.sessions.entries c.args.index.at c.index.result.now c.index.ensures in
-    let still = turned_lies _ c.args.index.id _ _ c.self.invariant.server lies here _ (AddsBytes _ _) _ (c.in_ok-waited.ensures.ok _ here) in
-    rw (c.stop-stop.ensures, c.phase.ensures, still.found, unmarked_at c.flush_at.new.sessions.entries c.args.index.at c.index-2.result.now c.index-2.ensures)
+    let still = turned_lies _ c.args.index.id _ _ c.self.invariant.server lies here _ (AddsBytes _ _) _
+    (c.in_ok-waited.ensures.ok _ here) in
+    rw (
+      c.stop-stop.ensures,
+      c.phase.ensures,
+      still.found,
+      unmarked_at c.flush_at.new.sessions.entries c.args.index.at c.index-2.result.now c.index-2.ensures,
+    )
 
 pub returns-clause-lies : goal.returns-clause-lies
 returns-clause-lies g c =
     let lies = subst (λ v. LiesAt c.args.index.id c.args.index.at v.sessions) (sym c.self.view_is) c.requires.at in
     let here = unmarked_at c.self.inside.sessions.entries c.args.index.at c.index.result.now c.index.ensures in
-    turned_lies _ c.args.index.id _ _ c.self.invariant.server lies here _ (AddsBytes _ _) _ (c.in_ok-waited.ensures.ok _ here)
+    turned_lies _ c.args.index.id _ _ c.self.invariant.server lies here _ (AddsBytes _ _) _
+    (c.in_ok-waited.ensures.ok _ here)
 
 pub returns-clause-more : goal.returns-clause-more
 returns-clause-more g c =

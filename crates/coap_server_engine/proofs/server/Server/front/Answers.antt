@@ -10,5 +10,13 @@ invariant_of-self-2 c =
 pub returns : goal.returns
 returns c = (
   (refl, (λ _. tt), rw (written_back _ _ _ _ c.index_mut.ensures.value c.front.follows.holds-at-none) c.self.view_is),
-  record { unchanged = tt; front = rw (← c.self.view_is, c.front.ensures.front, c.in_ok-at.ensures.some.found, unmarked_at _ _ _ c.index_mut.ensures.value) },
+  record {
+    unchanged = tt;
+    front = rw (
+      ← c.self.view_is,
+      c.front.ensures.front,
+      c.in_ok-at.ensures.some.found,
+      unmarked_at _ _ _ c.index_mut.ensures.value,
+    );
+  },
 )

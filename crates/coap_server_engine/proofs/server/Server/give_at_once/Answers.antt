@@ -1,5 +1,8 @@
 use Rattle.std.proofs.Common.{◌≡◌, [], refl, sym, ◌∙◌, arith}
-use Rattle.coap_server_engine.proofs.values.ResponseLemmas.{empty_of, ok_none, err_some, empty_response, nothing_offered, nothing_told, response_if_accepted, refused_response, server_if_refused, refused_events, offered_lies}
+use Rattle.coap_server_engine.proofs.values.ResponseLemmas.{empty_of, ok_none, err_some, empty_response}
+use Rattle.coap_server_engine.proofs.values.ResponseLemmas.{nothing_offered, nothing_told, response_if_accepted}
+use Rattle.coap_server_engine.proofs.values.ResponseLemmas.{refused_response, server_if_refused, refused_events}
+use Rattle.coap_server_engine.proofs.values.ResponseLemmas.{offered_lies}
 use Rattle.coap_server_engine.proofs.values.ServerLemmas.{is_there_at}
 use Rattle.coap_server_engine.proofs.scripting.ShownLemmas.{shows_same}
 use Rattle.coap_server_engine.proofs.scripting.FollowLemmas.{followed_none, followed_then}
@@ -8,18 +11,30 @@ use Rattle.coap_server_engine.proofs.server.Server.give_at_once.Goals as goal
 -- The application wrote no byte.
 pub returns-then-is_empty-clause-after : goal.returns-then-is_empty-clause-after
 returns-then-is_empty-clause-after g c =
-    let none : c.args.response.now ≡ [] = empty_of c.args.response.now c.is_empty.result c.is_empty.ensures c.if-is_empty.true in
-    rw (empty_response c.args.self.now c.args.id c.args.token.now.items c.args.response.now none, nothing_offered c.args.self.now c.args.id) refl
+    let none : c.args.response.now ≡ [] =
+    empty_of c.args.response.now c.is_empty.result c.is_empty.ensures c.if-is_empty.true in
+    rw (
+      empty_response c.args.self.now c.args.id c.args.token.now.items c.args.response.now none,
+      nothing_offered c.args.self.now c.args.id,
+    ) refl
 
 pub returns-then-is_empty-clause-shows : goal.returns-then-is_empty-clause-shows
 returns-then-is_empty-clause-shows g c =
-    let none : c.args.response.now ≡ [] = empty_of c.args.response.now c.is_empty.result c.is_empty.ensures c.if-is_empty.true in
-    rw (empty_response c.args.self.now c.args.id c.args.token.now.items c.args.response.now none, nothing_told c.args.self.now c.args.id) (shows_same c.args.self.now c.args.self.now refl)
+    let none : c.args.response.now ≡ [] =
+    empty_of c.args.response.now c.is_empty.result c.is_empty.ensures c.if-is_empty.true in
+    rw (
+      empty_response c.args.self.now c.args.id c.args.token.now.items c.args.response.now none,
+      nothing_told c.args.self.now c.args.id,
+    ) (shows_same c.args.self.now c.args.self.now refl)
 
 pub returns-then-is_empty-clause-told : goal.returns-then-is_empty-clause-told
 returns-then-is_empty-clause-told g c =
-    let none : c.args.response.now ≡ [] = empty_of c.args.response.now c.is_empty.result c.is_empty.ensures c.if-is_empty.true in
-    rw (empty_response c.args.self.now c.args.id c.args.token.now.items c.args.response.now none, nothing_told c.args.self.now c.args.id) (followed_none (g.M.Monitor.follows c.args.monitor.now))
+    let none : c.args.response.now ≡ [] =
+    empty_of c.args.response.now c.is_empty.result c.is_empty.ensures c.if-is_empty.true in
+    rw (
+      empty_response c.args.self.now c.args.id c.args.token.now.items c.args.response.now none,
+      nothing_told c.args.self.now c.args.id,
+    ) (followed_none (g.M.Monitor.follows c.args.monitor.now))
 
 pub offer-given-requires : goal.offer-given-requires
 offer-given-requires g c = record {

@@ -1,5 +1,6 @@
 use Rattle.std.proofs.Common.{◌≡◌, ℕ, Option, Some, IfSome, Ok, sym, ap, subst, ◌∙◌, rules}
-use Rattle.coap_server_engine.specs.Prelude.{LiesAt, message_of, responded_refusal_on, server_given, server_value, ServerValue}
+use Rattle.coap_server_engine.specs.Prelude.{LiesAt, message_of, responded_refusal_on, server_given, server_value}
+use Rattle.coap_server_engine.specs.Prelude.{ServerValue}
 use Rattle.coap_server_engine.proofs.values.ServerLemmas.{changed_server, changed_value}
 use Rattle.coap_server_engine.proofs.values.ConcernedLemmas.{covered_changed, given_by_adds}
 use Rattle.coap_server_engine.proofs.values.ResponseLemmas.{refused_events, server_if_accepted, accepted_events}
@@ -31,8 +32,10 @@ returns-in_err-reply-clause-told g c =
 -- The call of the monitor: the server was the one before.
 pub accepted-requires : goal.accepted-requires
 accepted-requires g c =
-    let lies = lies_at _ _ c.args.id c.in-Some.at _ c.self.view_is c.in-Some.is c.requires.lies in
-    (server_value c.self.inside, changed_value _ c.args.id c.in-Some.at _ _ c.self.invariant.server lies c.in_ok-reply.ensures.ok)
+    let lies = lies_at _ _ c.args.id c.in-Some.at _ c.self.view_is c.in-Some.is c.requires.lies in (
+      server_value c.self.inside,
+      changed_value _ c.args.id c.in-Some.at _ _ c.self.invariant.server lies c.in_ok-reply.ensures.ok,
+    )
 
 pub invariant_of-self-2 : goal.invariant_of-self-2
 invariant_of-self-2 g c =
@@ -40,7 +43,9 @@ invariant_of-self-2 g c =
     record {
       server = changed_server _ c.args.id c.in-Some.at _ _ c.self.invariant.server lies c.in_ok-reply.ensures.ok;
       marked = c.in_ok-reply.ensures.marked;
-      covered = covered_changed _ c.in-Some.at _ _ _ _ (given_by_adds (message_of c.args.response.now)) c.in_ok-reply.ensures.ok c.self.invariant.covered;
+      covered =
+          covered_changed _ c.in-Some.at _ _ _ _ (given_by_adds (message_of c.args.response.now))
+          c.in_ok-reply.ensures.ok c.self.invariant.covered;
     }
 
 pub returns-clause-ok : goal.returns-clause-ok

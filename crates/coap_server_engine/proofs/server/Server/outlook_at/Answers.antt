@@ -6,4 +6,15 @@ use Rattle.coap_server_engine.proofs.server.Server.outlook_at.Goals as goal
 pub returns : goal.returns
 returns c =
     let lies = subst (λ v. LiesAt c.args.index.id c.args.index.at v.sessions) (sym c.self.view_is) c.requires in
-    rw (← c.self.view_is, lies.found, unmarked_at _ _ _ c.index-session.ensures, c.takes.ensures, c.is_some.ensures, c.stop.ensures, c.phase.ensures, c.waiting.ensures, c.finished.ensures, c.due.ensures)
+    rw (
+      ← c.self.view_is,
+      lies.found,
+      unmarked_at _ _ _ c.index-session.ensures,
+      c.takes.ensures,
+      c.is_some.ensures,
+      c.stop.ensures,
+      c.phase.ensures,
+      c.waiting.ensures,
+      c.finished.ensures,
+      c.due.ensures,
+    )

@@ -6,7 +6,8 @@ use Rattle.coap_server_engine.proofs.server.Server.replay.Given as goal
 abbrev pub invariant-loop-index : goal.invariant-loop-index
 invariant-loop-index g l =
     record {
-      replays : Replays l.fn.self (map event_value l.events) l.index l.self (g.W.Outlet.written l.fn.out) (g.W.Outlet.written l.out);
+      replays : Replays l.fn.self (map event_value l.events) l.index l.self (g.W.Outlet.written l.fn.out)
+          (g.W.Outlet.written l.out);
       shows : ShowsFirst l.fn.self (map event_value l.events) l.index l.self;
       works : g.W.Outlet.is_failed l.out ≡ false;
     }

@@ -8,7 +8,8 @@ use Rattle.coap_model.proofs.OptionLemmas.{there_is_none}
 pub returns-in_default : goal.returns-in_default
 unfolding event_ran events_made
 returns-in_default c =
-    let none = none_drainable c.args.id c.args.most (session_of c.args.id c.args.self.now.sessions) (rw c.in_default.is at c.in_ok-drained.ensures.ok) in
+    let none = none_drainable c.args.id c.args.most (session_of c.args.id c.args.self.now.sessions)
+    (rw c.in_default.is at c.in_ok-drained.ensures.ok) in
     rw (there_is_none _ none) (assumption (shows_same _ _ c.in_ok-drained.ensures.unchanged))
 
 pub returns : goal.returns
@@ -20,4 +21,5 @@ returns c =
 
 pub returns-in_err-drained-clause-shows : goal.returns-in_err-drained-clause-shows
 returns-in_err-drained-clause-shows c =
-    run_refused _ _ _ _ c.from_residual.ensures.0 (nothing_made _ (Drain c.args.id c.args.most) _ c.in_err-drained.ensures.unchanged refl)
+    run_refused _ _ _ _ c.from_residual.ensures.0
+    (nothing_made _ (Drain c.args.id c.args.most) _ c.in_err-drained.ensures.unchanged refl)

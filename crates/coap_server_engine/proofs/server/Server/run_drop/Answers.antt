@@ -10,4 +10,6 @@ returns-in-Ok c = rw (there_is _ (sym c.in-Ok.ensures.answer)).1 (assumption (c.
 
 pub returns-in-Err : goal.returns-in-Err
 unfolding event_ran events_made
-returns-in-Err c = rw (there_is_none _ (sym c.in-Err.ensures.answer)) (assumption (c.in-Err.ensures, c.fault_line.ensures, shows_same _ _ c.in-Err.ensures.err))
+returns-in-Err c =
+    rw (there_is_none _ (sym c.in-Err.ensures.answer))
+    (assumption (c.in-Err.ensures, c.fault_line.ensures, shows_same _ _ c.in-Err.ensures.err))

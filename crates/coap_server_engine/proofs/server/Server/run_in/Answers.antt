@@ -9,7 +9,8 @@ pub returns-in_default : goal.returns-in_default
 unfolding event_ran events_made
 returns-in_default c =
     let none = there_is_none _ (sym c.in_default.ensures.there) in
-    rw (none, none_taken_there c.args.self.now c.args.id (ap is_there none)) (assumption (shows_same c.args.self.now _ refl))
+    rw (none, none_taken_there c.args.self.now c.args.id (ap is_there none))
+    (assumption (shows_same c.args.self.now _ refl))
 
 pub returns : goal.returns
 unfolding event_ran events_made
@@ -17,8 +18,12 @@ returns c =
     let it = there_is _ (sym c.in-Some.ensures.there) in
     let e = c.in_ok-taken.ensures in
     let lines : c.take_all_listed.new.requests.items ≡ request_lines c.args.self.now c.args.id c.args.bytes.now =
-    e.listed ∙ ap (λ (xs : List ℕ). xs ++ request_lines c.args.self.now c.args.id c.args.bytes.now) c.new-requests.ensures.items in
-    rw it.1 (record { run = (e.after, rw (← e.count, ← e.after, ← c.stop_number-stop.ensures, ← c.in_line-line.ensures, ← lines) refl); shows = e.shows })
+    e.listed ∙ ap (λ (xs : List ℕ). xs ++ request_lines c.args.self.now c.args.id c.args.bytes.now)
+    c.new-requests.ensures.items in
+    rw it.1 (record {
+      run = (e.after, rw (← e.count, ← e.after, ← c.stop_number-stop.ensures, ← c.in_line-line.ensures, ← lines) refl);
+      shows = e.shows;
+    })
 
 pub returns-in_err-taken-clause-shows : goal.returns-in_err-taken-clause-shows
 returns-in_err-taken-clause-shows c = run_refused _ _ _ _ c.from_residual.ensures.0 c.in_err-taken.ensures.shows_err

@@ -13,7 +13,8 @@ returns-in-Ok c =
 pub returns-in-Some : goal.returns-in-Some
 unfolding event_ran events_made
 returns-in-Some c =
-    let it = one_made open_number _ _ (ap (option_map open_number) c.in-Err.ensures.answer ∙ sym c.open_refused.ensures ∙ c.in-Some.is) in
+    let it = one_made open_number _ _
+    (ap (option_map open_number) c.in-Err.ensures.answer ∙ sym c.open_refused.ensures ∙ c.in-Some.is) in
     rw (it.1, it.2) (assumption (c.in-Err.ensures, c.fault_line.ensures, shows_same _ _ c.in-Err.ensures.err))
 
 pub returns-in-None-clause-shows : goal.returns-in-None-clause-shows

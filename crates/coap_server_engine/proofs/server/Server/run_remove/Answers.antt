@@ -9,13 +9,17 @@ use Rattle.coap_conn.proofs.AskingLaws.{none_where}
 pub returns-then-not-can_remove : goal.returns-then-not-can_remove
 unfolding event_ran events_made
 returns-then-not-can_remove c =
-    rw (no_such_path _ _ (sym c.can_remove.ensures ∙ c.if-not-can_remove.true), ← c.store_number-number.ensures) (assumption (shows_same c.args.self.now _ refl))
+    rw (no_such_path _ _ (sym c.can_remove.ensures ∙ c.if-not-can_remove.true), ← c.store_number-number.ensures)
+    (assumption (shows_same c.args.self.now _ refl))
 
 pub returns-in_err-line : goal.returns-in_err-line
 returns-in_err-line c =
     let event = Remove c.args.path.now c.args.text.now in
     record {
-      run = unrun _ event _ _ c.from_residual.ensures.0 (none_where _ (sym c.can_remove.ensures ∙ c.if-not-can_remove.false), refl);
+      run = unrun _ event _ _ c.from_residual.ensures.0 (
+        none_where _ (sym c.can_remove.ensures ∙ c.if-not-can_remove.false),
+        refl,
+      );
       shows = run_refused _ _ _ _ c.from_residual.ensures.0 (nothing_made _ event _ refl refl);
     }
 

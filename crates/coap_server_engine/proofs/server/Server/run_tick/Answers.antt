@@ -8,4 +8,6 @@ returns-in-Ok c = rw (← c.in-Ok.ensures.answer) (assumption (c.in-Ok.ensures, 
 
 pub returns-in-Err : goal.returns-in-Err
 unfolding event_ran events_made
-returns-in-Err c = rw (← c.in-Err.ensures.answer) (assumption (c.in-Err.ensures, c.fault_line.ensures, shows_same _ _ c.in-Err.ensures.err))
+returns-in-Err c =
+    rw (← c.in-Err.ensures.answer)
+    (assumption (c.in-Err.ensures, c.fault_line.ensures, shows_same _ _ c.in-Err.ensures.err))

@@ -4,4 +4,5 @@ use Rattle.coap_model.specs.declared.answers.TakeFault.TheVariants as taking
 use Rattle.coap_server_engine.proofs.server.Server.take.Goals as goal
 
 pub returns-in_default-clause-refused_for : goal.returns-in_default-clause-refused_for
-returns-in_default-clause-refused_for c = take_refused_for (Err taking.NoSuch) c.args.self.now c.args.self.now c.args.id c.args.piece.now (search rules)
+returns-in_default-clause-refused_for c =
+    take_refused_for (Err taking.NoSuch) c.args.self.now c.args.self.now c.args.id c.args.piece.now (search rules)

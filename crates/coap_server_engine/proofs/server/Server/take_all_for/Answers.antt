@@ -2,7 +2,8 @@ use Rattle.std.proofs.Common.{◌≤◌, length, arith, refl}
 use Rattle.coap_io.proofs.streams.WriteLemmas.{rest_of}
 use Rattle.coap_server_engine.proofs.values.ResponseLemmas.{on_err}
 use Rattle.coap_server_engine.proofs.values.ServerLemmas.{is_there_at}
-use Rattle.coap_server_engine.proofs.values.ServingLemmas.{serves_nothing, serves_nobody, serves_all, serves_partly, serves_more, serves_stopped}
+use Rattle.coap_server_engine.proofs.values.ServingLemmas.{serves_nothing, serves_nobody, serves_all, serves_partly}
+use Rattle.coap_server_engine.proofs.values.ServingLemmas.{serves_more, serves_stopped}
 use Rattle.coap_server_engine.proofs.values.WorkLemmas.{keeps_all_work, none_reported, one_reported}
 use Rattle.coap_server_engine.proofs.server.Server.take_all_for.Goals as goal
 
@@ -10,43 +11,68 @@ use Rattle.coap_server_engine.proofs.server.Server.take_all_for.Goals as goal
 pub returns-in_default-clause-served : goal.returns-in_default-clause-served
 returns-in_default-clause-served g c =
     rw c.in_default.ensures.same
-    (serves_nobody c.args.self.now c.args.id c.args.bytes.now (g.M.Monitor.follows c.args.monitor.now) (g.A.Application.follows c.args.application.now) c.in_default.ensures.none)
+    (serves_nobody c.args.self.now c.args.id c.args.bytes.now (g.M.Monitor.follows c.args.monitor.now)
+    (g.A.Application.follows c.args.application.now) c.in_default.ensures.none)
 
 pub loop-taken-init : goal.loop-taken-init
 loop-taken-init g c =
     let lies = c.in-Some.ensures.at in
-    rw c.in-Some.ensures.same
-    (serves_nothing c.args.self.now c.args.id c.args.bytes.now (g.M.Monitor.follows c.args.monitor.now) (g.A.Application.follows c.args.application.now) (is_there_at c.args.id c.in-Some.at c.args.self.now.sessions lies), (lies, none_reported c.in-Some.at c.insert.new.self.words c.args.self.now c.args.self.now refl c.insert.ensures.set))
+    rw c.in-Some.ensures.same (
+      serves_nothing c.args.self.now c.args.id c.args.bytes.now (g.M.Monitor.follows c.args.monitor.now)
+          (g.A.Application.follows c.args.application.now)
+          (is_there_at c.args.id c.in-Some.at c.args.self.now.sessions lies),
+      (
+        lies,
+        none_reported c.in-Some.at c.insert.new.self.words c.args.self.now c.args.self.now refl c.insert.ensures.set,
+      ),
+    )
 
 -- Allocation failed in a take.
 pub returns-in_err-count-clause-partly : goal.returns-in_err-count-clause-partly
 returns-in_err-count-clause-partly g c =
     let e = rw (rest_of c.loop-taken.taken c.args.bytes.now) at c.in_err-count.ensures in
     on_err c.from_residual.result _ (rw e.silent
-    (serves_partly _ _ _ _ _ (g.M.Monitor.follows c.args.monitor.now) (g.M.Monitor.follows c.loop-taken.monitor) (g.M.Monitor.follows c.take_for.new.monitor) (g.A.Application.follows c.args.application.now) (g.A.Application.follows c.loop-taken.application) (g.A.Application.follows c.loop-taken.application) c.loop-taken.invariant.0 c.loop-taken-test.true _ e.err))
+    (serves_partly _ _ _ _ _ (g.M.Monitor.follows c.args.monitor.now) (g.M.Monitor.follows c.loop-taken.monitor)
+    (g.M.Monitor.follows c.take_for.new.monitor) (g.A.Application.follows c.args.application.now)
+    (g.A.Application.follows c.loop-taken.application) (g.A.Application.follows c.loop-taken.application)
+    c.loop-taken.invariant.0 c.loop-taken-test.true _ e.err))
 
 -- A take accepted no byte.
 pub returns-then-count-eq0-clause-served : goal.returns-then-count-eq0-clause-served
 returns-then-count-eq0-clause-served g c =
     let e = rw (rest_of c.loop-taken.taken c.args.bytes.now) at c.in_ok-count.ensures in
-    serves_stopped _ _ _ _ _ (g.M.Monitor.follows c.args.monitor.now) (g.M.Monitor.follows c.loop-taken.monitor) (g.M.Monitor.follows c.take_for.new.monitor) (g.A.Application.follows c.args.application.now) (g.A.Application.follows c.loop-taken.application) (g.A.Application.follows c.take_for.new.application) c.loop-taken.invariant.0 c.loop-taken-test.true _ _ _ e.count e.ok c.if-count-eq0.true
+    serves_stopped _ _ _ _ _ (g.M.Monitor.follows c.args.monitor.now) (g.M.Monitor.follows c.loop-taken.monitor)
+    (g.M.Monitor.follows c.take_for.new.monitor) (g.A.Application.follows c.args.application.now)
+    (g.A.Application.follows c.loop-taken.application) (g.A.Application.follows c.take_for.new.application)
+    c.loop-taken.invariant.0 c.loop-taken-test.true _ _ _ e.count e.ok c.if-count-eq0.true
 
 pub loop-taken-preserved : goal.loop-taken-preserved
 loop-taken-preserved g c =
-    let e = rw (rest_of c.loop-taken.taken c.args.bytes.now) at c.in_ok-count.ensures in
-    (serves_more _ _ _ _ _ (g.M.Monitor.follows c.args.monitor.now) (g.M.Monitor.follows c.loop-taken.monitor) (g.M.Monitor.follows c.take_for.new.monitor) (g.A.Application.follows c.args.application.now) (g.A.Application.follows c.loop-taken.application) (g.A.Application.follows c.take_for.new.application) c.loop-taken.invariant.0 c.loop-taken-test.true _ _ _ e.count e.ok e.within c.if-count-eq0.false, (e.lies, one_reported _ _ _ _ _ _ _ c.loop-taken.invariant.1.0 e.affected c.loop-taken.invariant.1.1))
+    let e = rw (rest_of c.loop-taken.taken c.args.bytes.now) at c.in_ok-count.ensures in (
+      serves_more _ _ _ _ _ (g.M.Monitor.follows c.args.monitor.now) (g.M.Monitor.follows c.loop-taken.monitor)
+          (g.M.Monitor.follows c.take_for.new.monitor) (g.A.Application.follows c.args.application.now)
+          (g.A.Application.follows c.loop-taken.application) (g.A.Application.follows c.take_for.new.application)
+          c.loop-taken.invariant.0 c.loop-taken-test.true _ _ _ e.count e.ok e.within c.if-count-eq0.false,
+      (e.lies, one_reported _ _ _ _ _ _ _ c.loop-taken.invariant.1.0 e.affected c.loop-taken.invariant.1.1),
+    )
 
 -- No byte is left.
 pub returns-clause-served : goal.returns-clause-served
 returns-clause-served g c =
     let none : length c.args.bytes.now ≤ c.loop-taken.taken = omega (arith, c.loop-taken-test.false) in
-    serves_all _ _ _ _ _ (g.M.Monitor.follows c.args.monitor.now) (g.M.Monitor.follows c.loop-taken.monitor) (g.M.Monitor.follows c.loop-taken.monitor) (g.A.Application.follows c.args.application.now) (g.A.Application.follows c.loop-taken.application) (g.A.Application.follows c.loop-taken.application) c.loop-taken.invariant.0 none
+    serves_all _ _ _ _ _ (g.M.Monitor.follows c.args.monitor.now) (g.M.Monitor.follows c.loop-taken.monitor)
+    (g.M.Monitor.follows c.loop-taken.monitor) (g.A.Application.follows c.args.application.now)
+    (g.A.Application.follows c.loop-taken.application) (g.A.Application.follows c.loop-taken.application)
+    c.loop-taken.invariant.0 none
 
 pub returns-in_default-clause-affected : goal.returns-in_default-clause-affected
-returns-in_default-clause-affected g c = rw c.in_default.ensures.same (keeps_all_work c.empty-affected.result.words c.args.self.now)
+returns-in_default-clause-affected g c =
+    rw c.in_default.ensures.same (keeps_all_work c.empty-affected.result.words c.args.self.now)
 
 pub returns-then-count-eq0-clause-affected : goal.returns-then-count-eq0-clause-affected
-returns-then-count-eq0-clause-affected g c = (one_reported _ _ _ _ _ _ _ c.loop-taken.invariant.1.0 c.in_ok-count.ensures.affected c.loop-taken.invariant.1.1).keeps
+returns-then-count-eq0-clause-affected g c =
+    (one_reported _ _ _ _ _ _ _ c.loop-taken.invariant.1.0 c.in_ok-count.ensures.affected
+    c.loop-taken.invariant.1.1).keeps
 
 pub returns-clause-affected : goal.returns-clause-affected
 returns-clause-affected g c = c.loop-taken.invariant.1.1.keeps

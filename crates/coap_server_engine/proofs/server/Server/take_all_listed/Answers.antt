@@ -3,15 +3,26 @@ use Rattle.std.proofs.lemmas.List.{append-nil}
 use Rattle.coap_server_engine.specs.Prelude.{InResult, fed_turns, took_turns, request_turns}
 use Rattle.coap_io.proofs.streams.WriteLemmas.{rest_of}
 use Rattle.coap_server_engine.proofs.values.ResponseLemmas.{on_err}
-use Rattle.coap_server_engine.proofs.scripting.ReplayLemmas.{feeds_more, fed_and_stopped, stopped_shows, used_up, used_up_shows}
-use Rattle.coap_server_engine.proofs.scripting.ListedLemmas.{lists_more, listed_and_stopped, listed_all, unfinished_in, unfinished_shows}
+use Rattle.coap_server_engine.proofs.scripting.ReplayLemmas.{feeds_more, fed_and_stopped, stopped_shows, used_up}
+use Rattle.coap_server_engine.proofs.scripting.ReplayLemmas.{used_up_shows}
+use Rattle.coap_server_engine.proofs.scripting.ListedLemmas.{lists_more, listed_and_stopped, listed_all, unfinished_in}
+use Rattle.coap_server_engine.proofs.scripting.ListedLemmas.{unfinished_shows}
 use Rattle.coap_server_engine.proofs.scripting.ShownLemmas.{shows_same}
 use Rattle.coap_server_engine.proofs.server.Server.take_all_listed.Goals as goal
 
 pub loop-taken-init : goal.loop-taken-init
 unfolding fed_turns took_turns request_turns
-loop-taken-init c =
-    (record { turns = 0; few = omega arith; within = omega arith; so_far = refl; shows = shows_same c.args.self.now c.args.self.now refl }, c.requires, sym (append-nil c.args.requests.now.items))
+loop-taken-init c = (
+  record {
+    turns = 0;
+    few = omega arith;
+    within = omega arith;
+    so_far = refl;
+    shows = shows_same c.args.self.now c.args.self.now refl;
+  },
+  c.requires,
+  sym (append-nil c.args.requests.now.items),
+)
 
 -- Allocation failed.
 pub returns-in_err-count-clause-err : goal.returns-in_err-count-clause-err
@@ -28,29 +39,35 @@ returns-in_err-count-clause-shows_err c =
 pub returns-then-count-eq0-clause-count : goal.returns-then-count-eq0-clause-count
 returns-then-count-eq0-clause-count c =
     let e = rw (rest_of c.loop-taken.taken c.args.bytes.now) at c.in_ok-count.ensures in
-    ap (λ (f : InResult). f.count) (sym (fed_and_stopped _ _ _ _ _ c.loop-taken.invariant.0 c.loop-taken-test.true _ (sym e.count ∙ c.if-count-eq0.true) e.after))
+    ap (λ (f : InResult). f.count) (sym (fed_and_stopped _ _ _ _ _ c.loop-taken.invariant.0 c.loop-taken-test.true _
+    (sym e.count ∙ c.if-count-eq0.true) e.after))
 
 pub returns-then-count-eq0-clause-after : goal.returns-then-count-eq0-clause-after
 returns-then-count-eq0-clause-after c =
     let e = rw (rest_of c.loop-taken.taken c.args.bytes.now) at c.in_ok-count.ensures in
-    ap (λ (f : InResult). f.server) (sym (fed_and_stopped _ _ _ _ _ c.loop-taken.invariant.0 c.loop-taken-test.true _ (sym e.count ∙ c.if-count-eq0.true) e.after))
+    ap (λ (f : InResult). f.server) (sym (fed_and_stopped _ _ _ _ _ c.loop-taken.invariant.0 c.loop-taken-test.true _
+    (sym e.count ∙ c.if-count-eq0.true) e.after))
 
 pub returns-then-count-eq0-clause-shows : goal.returns-then-count-eq0-clause-shows
 returns-then-count-eq0-clause-shows c =
     let e = rw (rest_of c.loop-taken.taken c.args.bytes.now) at c.in_ok-count.ensures in
-    stopped_shows _ _ _ _ _ c.loop-taken.invariant.0 c.loop-taken-test.true _ (sym e.count ∙ c.if-count-eq0.true) e.after e.shows
+    stopped_shows _ _ _ _ _ c.loop-taken.invariant.0 c.loop-taken-test.true _
+    (sym e.count ∙ c.if-count-eq0.true) e.after e.shows
 
 pub returns-then-count-eq0-clause-listed : goal.returns-then-count-eq0-clause-listed
 returns-then-count-eq0-clause-listed c =
     let e = rw (rest_of c.loop-taken.taken c.args.bytes.now) at c.in_ok-count.ensures in
-    listed_and_stopped _ _ _ _ _ c.loop-taken.invariant.0 c.loop-taken-test.true _ _ c.loop-taken.invariant.2 (sym e.count ∙ c.if-count-eq0.true) _ e.listed
+    listed_and_stopped _ _ _ _ _ c.loop-taken.invariant.0 c.loop-taken-test.true _ _ c.loop-taken.invariant.2
+    (sym e.count ∙ c.if-count-eq0.true) _ e.listed
 
 pub loop-taken-preserved : goal.loop-taken-preserved
 loop-taken-preserved c =
     let e = rw (rest_of c.loop-taken.taken c.args.bytes.now) at c.in_ok-count.ensures in (
-      feeds_more _ _ _ _ _ c.loop-taken.invariant.0 c.loop-taken-test.true _ _ e.within e.count c.if-count-eq0.false e.after e.shows,
+      feeds_more _ _ _ _ _ c.loop-taken.invariant.0 c.loop-taken-test.true _ _ e.within e.count
+          c.if-count-eq0.false e.after e.shows,
       e.lies,
-      lists_more _ _ _ _ _ c.loop-taken.invariant.0 c.loop-taken-test.true _ _ c.loop-taken.invariant.2 _ _ e.within e.count c.if-count-eq0.false e.after e.shows _ e.listed,
+      lists_more _ _ _ _ _ c.loop-taken.invariant.0 c.loop-taken-test.true _ _ c.loop-taken.invariant.2 _ _ e.within
+          e.count c.if-count-eq0.false e.after e.shows _ e.listed,
     )
 
 -- No byte is left.

@@ -8,7 +8,8 @@ use Rattle.coap_server_engine.proofs.server.Server.take_and_ask.Goals as goal
 pub returns-then-not-answers-clause-asked : goal.returns-then-not-answers-clause-asked
 returns-then-not-answers-clause-asked g c =
     rw c.requires.empty
-    (c.answers.ensures.follows c.if-not-answers.true _ (asks_unanswered c.args.id c.args.limit (handed_by c.args.self.now c.args.id c.args.rest.now)))
+    (c.answers.ensures.follows c.if-not-answers.true _
+    (asks_unanswered c.args.id c.args.limit (handed_by c.args.self.now c.args.id c.args.rest.now)))
 
 -- There is no request.
 pub returns-in_default-clause-asked : goal.returns-in_default-clause-asked

@@ -15,10 +15,14 @@ slice_bounds-took-end-in-Err-Memory g c =
 
 -- The monitor receives what the take returned.
 pub accepted-requires : goal.accepted-requires
-accepted-requires g c = let t = c.in-Ok.ensures in WasTaken c.args.self.now c.args.rest.now t.ok (ap (λ (n : ℕ). take n c.args.rest.now) t.count) t.handled
+accepted-requires g c =
+    let t = c.in-Ok.ensures in
+    WasTaken c.args.self.now c.args.rest.now t.ok (ap (λ (n : ℕ). take n c.args.rest.now) t.count) t.handled
 
 pub accepted-requires-in-Err-Memory : goal.accepted-requires-in-Err-Memory
-accepted-requires-in-Err-Memory g c = let e = rw (c.in-Err-Memory.field-0-is) at c.in-Err-Memory.ensures in WasRefused c.args.self.now c.args.rest.now _ e.refused refl refl
+accepted-requires-in-Err-Memory g c =
+    let e = rw (c.in-Err-Memory.field-0-is) at c.in-Err-Memory.ensures in
+    WasRefused c.args.self.now c.args.rest.now _ e.refused refl refl
 
 -- The application was asked.
 pub returns-in-Some-clause-ok : goal.returns-in-Some-clause-ok
@@ -27,8 +31,10 @@ returns-in-Some-clause-ok g c =
     let made = token_made _ _ (sym (rw c.in-Some.is at e.token)) in
     let given = rw c.deref.ensures.value at c.give_at_once.ensures in
     let asked = rw c.message_limit-limit.ensures at e.asked in
-    taken_asked c.args.self.now c.take_and_ask.new.self c.give_at_once.new.self c.args.id c.args.rest.now c.take_and_ask.new.response.items c.in-Ok.taken.bytes
-    (g.M.Monitor.follows c.args.monitor.now) (g.M.Monitor.follows c.accepted.new.self) (g.M.Monitor.follows c.give_at_once.new.monitor)
+    taken_asked c.args.self.now c.take_and_ask.new.self c.give_at_once.new.self c.args.id c.args.rest.now
+    c.take_and_ask.new.response.items c.in-Ok.taken.bytes
+    (g.M.Monitor.follows c.args.monitor.now) (g.M.Monitor.follows c.accepted.new.self)
+    (g.M.Monitor.follows c.give_at_once.new.monitor)
     (g.A.Application.follows c.args.application.now) (g.A.Application.follows c.take_and_ask.new.application)
     e.ok e.shows c.accepted.ensures asked made.0 c.in-Some.token.items made.1 made.2 given.after given.shows given.told
 
@@ -37,8 +43,10 @@ pub returns-in_default-clause-ok : goal.returns-in_default-clause-ok
 returns-in_default-clause-ok g c =
     let e = c.in-Ok.ensures in
     let asked = rw c.message_limit-limit.ensures at e.asked in
-    taken_silent c.args.self.now c.take_and_ask.new.self c.take_and_ask.new.self c.args.id c.args.rest.now c.take_and_ask.new.response.items c.in-Ok.taken.bytes
-    (g.M.Monitor.follows c.args.monitor.now) (g.M.Monitor.follows c.accepted.new.self) (g.M.Monitor.follows c.accepted.new.self)
+    taken_silent c.args.self.now c.take_and_ask.new.self c.take_and_ask.new.self c.args.id c.args.rest.now
+    c.take_and_ask.new.response.items c.in-Ok.taken.bytes
+    (g.M.Monitor.follows c.args.monitor.now) (g.M.Monitor.follows c.accepted.new.self)
+    (g.M.Monitor.follows c.accepted.new.self)
     (g.A.Application.follows c.args.application.now) (g.A.Application.follows c.take_and_ask.new.application)
     e.ok e.shows c.accepted.ensures asked (rw c.in_default.is at e.unasked)
 
@@ -47,7 +55,8 @@ give_at_once-requires g c =
     rw c.in-Ok.ensures.ok (taken_stays c.args.self.now c.args.id c.args.at c.args.rest.now c.requires)
 
 pub returns-in_default-clause-lies : goal.returns-in_default-clause-lies
-returns-in_default-clause-lies g c = rw c.in-Ok.ensures.ok (taken_stays c.args.self.now c.args.id c.args.at c.args.rest.now c.requires)
+returns-in_default-clause-lies g c =
+    rw c.in-Ok.ensures.ok (taken_stays c.args.self.now c.args.id c.args.at c.args.rest.now c.requires)
 
 pub returns-in-Some-clause-affected : goal.returns-in-Some-clause-affected
 returns-in-Some-clause-affected g c =

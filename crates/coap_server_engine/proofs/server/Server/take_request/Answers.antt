@@ -7,7 +7,8 @@ use Rattle.coap_server_engine.proofs.server.Server.take_request.Goals as goal
 -- No connection has this id.
 pub returns-in_default : goal.returns-in_default
 returns-in_default c =
-    let none : session_of c.args.id c.args.self.now.sessions ≡ None = rw (← c.self.view_is) c.in_default.ensures.none in (
+    let none : session_of c.args.id c.args.self.now.sessions ≡ None =
+    rw (← c.self.view_is) c.in_default.ensures.none in (
       (refl, (λ _. tt), ((none, refl), λ es shows. shows)),
       record {
         after = tt;
@@ -21,6 +22,9 @@ returns-in_default c =
         request = tt;
         changed = tt;
         alters = tt;
-        refused_for = take_refused_for (Err taking.NoSuch) c.args.self.now c.args.self.now c.args.id c.args.piece.now (none, refl);
+        refused_for = take_refused_for (Err taking.NoSuch) c.args.self.now c.args.self.now c.args.id c.args.piece.now (
+          none,
+          refl,
+        );
       },
     )

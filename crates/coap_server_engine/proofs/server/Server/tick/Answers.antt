@@ -1,5 +1,6 @@
 use Rattle.std.proofs.Common.{◌≡◌, ℕ, Option, IfNone, Ok, refl, sym, ap, subst, ◌∙◌, arith, rules, length, map}
-use Rattle.coap_server_engine.specs.Prelude.{ServerValue, server_ticked, server_value, settled_entry, unmarked, AreAllMarked}
+use Rattle.coap_server_engine.specs.Prelude.{ServerValue, server_ticked, server_value, settled_entry, unmarked}
+use Rattle.coap_server_engine.specs.Prelude.{AreAllMarked}
 use Rattle.coap_server_engine.specs.Prelude.{AreUntouched}
 use Rattle.coap_server_session.specs.declared.cause.Cause.TheVariants as cause
 use Rattle.coap_model.proofs.OptionLemmas.{there_is_none}
@@ -17,10 +18,13 @@ next_touched-requires c = record { from = omega arith; covered = c.self.invarian
 pub settle_touched-requires : goal.settle_touched-requires
 settle_touched-requires c =
     let store = rw (← c.self.view_is) at c.moment-before.ensures.store in
-    let before : c.moment-before.result ≡ c.self.inside.host.now = rw (c.moment-before.ensures.moment, ← c.self.view_is) in
+    let before : c.moment-before.result ≡ c.self.inside.host.now =
+    rw (c.moment-before.ensures.moment, ← c.self.view_is) in
     rw (c.keep_moment.ensures, c.move_to.ensures) (record {
       covered = c.next_touched.ensures.covered;
-      settled = rw before (untouched_by_moment c.self.inside.host c.args.now _ store (omega (arith, before)) c.ranges.now.fits c.self.invariant.server.settled);
+      settled =
+          rw before (untouched_by_moment c.self.inside.host c.args.now _ store (omega (arith, before)) c.ranges.now.fits
+          c.self.invariant.server.settled);
       marked = all_but_later c.self.inside.host c.args.now _ _ store c.self.invariant.marked;
     })
 
@@ -30,14 +34,19 @@ invariant_of-self c =
     record {
       server = settled_server _ _ c.settle_touched.ensures.after was.numbered was.few;
       marked = c.settle_touched.ensures.marked;
-      covered = covered_time c.self.inside.sets _ _ refl (λ _. c.settle_touched.ensures.covered) (covered_settled _ _ _ _ c.settle_touched.ensures.after c.self.invariant.covered);
+      covered =
+          covered_time c.self.inside.sets _ _ refl (λ _. c.settle_touched.ensures.covered)
+          (covered_settled _ _ _ _ c.settle_touched.ensures.after c.self.invariant.covered);
     }
 
 pub returns-then-is_some-clause-shows : goal.returns-then-is_some-clause-shows
-returns-then-is_some-clause-shows c = tick_shows {T = Unit {0}} {F = Unit {0}} (Ok tt) c.args.self.now _ c.args.now c.ranges.now.fits (search rules) (search rules)
+returns-then-is_some-clause-shows c =
+    tick_shows {T = Unit {0}} {F = Unit {0}} (Ok tt) c.args.self.now _ c.args.now c.ranges.now.fits
+    (search rules) (search rules)
 
 -- The change affects no connection, so all are settled as they are.
-all_stay : (c : Else-is_some) → let es = c.self.inside.sessions.entries in (unmarked es ≡ map (settled_entry c.move_to.new.self) (unmarked es)) × AreAllMarked c.move_to.new.self es
+all_stay : (c : Else-is_some) → let es = c.self.inside.sessions.entries in
+    (unmarked es ≡ map (settled_entry c.move_to.new.self) (unmarked es)) × AreAllMarked c.move_to.new.self es
 all_stay c =
     let host = c.self.inside.host in
     let es = c.self.inside.sessions.entries in
@@ -45,9 +54,12 @@ all_stay c =
     let store = rw (← c.self.view_is) at c.moment-before.ensures.store in
     let before : c.moment-before.result ≡ host.now = rw (c.moment-before.ensures.moment, ← c.self.view_is) in
     let none = there_is_none c.next_touched.result (sym c.is_some.ensures ∙ c.if-is_some.false) in
-    let calm = subst (λ (o : Option ℕ). IfNone o (AreUntouched why c.args.now 0 (length es) es)) none c.next_touched.ensures.none in
-    let settled = untouched_by_moment host c.args.now _ store (omega (arith, before)) c.ranges.now.fits c.self.invariant.server.settled in
-    rw c.move_to.ensures (none_touched why (at_moment host c.args.now) es (rw before settled) (all_but_later host c.args.now _ es store c.self.invariant.marked) calm)
+    let calm = subst (λ (o : Option ℕ). IfNone o (AreUntouched why c.args.now 0 (length es) es)) none
+    c.next_touched.ensures.none in
+    let settled = untouched_by_moment host c.args.now _ store (omega (arith, before)) c.ranges.now.fits
+    c.self.invariant.server.settled in
+    rw c.move_to.ensures (none_touched why (at_moment host c.args.now) es (rw before settled)
+    (all_but_later host c.args.now _ es store c.self.invariant.marked) calm)
 
 pub invariant_of-self-else-is_some : goal.invariant_of-self-else-is_some
 invariant_of-self-else-is_some c =
@@ -61,12 +73,24 @@ invariant_of-self-else-is_some c =
 
 pub returns-else-is_some : goal.returns-else-is_some
 returns-else-is_some c =
-    let moved : Entries → ServerValue = λ es. record (server_value c.self.inside) { host = c.move_to.new.self; sessions = es } in
-    let ok : moved (unmarked c.self.inside.sessions.entries) ≡ server_ticked c.args.self.now c.args.now = rw (← c.self.view_is) (ap moved (all_stay c).0 ∙ rw c.move_to.ensures refl) in
-    search (rules, ok, tick_shows {T = Unit {0}} {F = Unit {0}} (Ok tt) c.args.self.now _ c.args.now c.ranges.now.fits (search rules) ok)
+    let moved : Entries → ServerValue =
+    λ es. record (server_value c.self.inside) { host = c.move_to.new.self; sessions = es } in
+    let ok : moved (unmarked c.self.inside.sessions.entries) ≡ server_ticked c.args.self.now c.args.now =
+    rw (← c.self.view_is) (ap moved (all_stay c).0 ∙ rw c.move_to.ensures refl) in
+    search (
+      rules,
+      ok,
+      tick_shows {T = Unit {0}} {F = Unit {0}} (Ok tt) c.args.self.now _ c.args.now c.ranges.now.fits (search rules) ok,
+    )
 
 pub returns-then-now-before : goal.returns-then-now-before
 returns-then-now-before c =
-    let before : c.moment-before.result ≡ c.self.inside.host.now = rw (c.moment-before.ensures.moment, ← c.self.view_is) in
-    let ok : c.args.self.now ≡ server_ticked c.args.self.now c.args.now = rw (← c.self.view_is) (same_moment _ c.args.now c.self.invariant.server (omega (arith, before))) in
-    search (rules, ok, tick_shows {T = Unit {0}} {F = Unit {0}} (Ok tt) c.args.self.now _ c.args.now c.ranges.now.fits (search rules) ok)
+    let before : c.moment-before.result ≡ c.self.inside.host.now =
+    rw (c.moment-before.ensures.moment, ← c.self.view_is) in
+    let ok : c.args.self.now ≡ server_ticked c.args.self.now c.args.now =
+    rw (← c.self.view_is) (same_moment _ c.args.now c.self.invariant.server (omega (arith, before))) in
+    search (
+      rules,
+      ok,
+      tick_shows {T = Unit {0}} {F = Unit {0}} (Ok tt) c.args.self.now _ c.args.now c.ranges.now.fits (search rules) ok,
+    )

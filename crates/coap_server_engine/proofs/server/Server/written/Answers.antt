@@ -6,12 +6,22 @@ use Rattle.coap_server_engine.proofs.values.ConcernedLemmas.{covered_changed}
 use Rattle.coap_server_engine.proofs.server.Server.written.Goals as goal
 
 pub invariant_of-self : goal.invariant_of-self
-invariant_of-self c = record { server = changed_server _ _ _ _ _ c.self.invariant.server c.in-Some.ensures.some c.written_at.ensures.after; marked = c.written_at.ensures.marked; covered = covered_changed _ _ _ _ _ _ (written_adds c.args.count) c.written_at.ensures.after c.self.invariant.covered }
+invariant_of-self c = record {
+  server = changed_server _ _ _ _ _ c.self.invariant.server c.in-Some.ensures.some c.written_at.ensures.after;
+  marked = c.written_at.ensures.marked;
+  covered = covered_changed _ _ _ _ _ _ (written_adds c.args.count) c.written_at.ensures.after c.self.invariant.covered;
+}
 
 pub returns-clause-ok : goal.returns-clause-ok
-returns-clause-ok c = rw (← c.self.view_is) (changed_value _ _ _ _ _ c.self.invariant.server c.in-Some.ensures.some c.written_at.ensures.after)
+returns-clause-ok c =
+    rw (← c.self.view_is)
+    (changed_value _ _ _ _ _ c.self.invariant.server c.in-Some.ensures.some c.written_at.ensures.after)
 
 pub returns-clause-shows : goal.returns-clause-shows
 returns-clause-shows c = written_shows {T = Unit {0}} (Ok tt) c.args.self.now _ c.args.id c.args.count
-    (rw (← c.self.view_is, c.in-Some.ensures.some.found, unmarked_at c.self.inside.sessions.entries c.in-Some.at c.index.result.now c.index.ensures)
+    (rw (
+      ← c.self.view_is,
+      c.in-Some.ensures.some.found,
+      unmarked_at c.self.inside.sessions.entries c.in-Some.at c.index.result.now c.index.ensures,
+    )
     (enough_waits _ _ c.args.count (omega (arith, c.waiting.ensures)))) (returns-clause-ok c)

@@ -11,7 +11,11 @@ loop-at-init c =
     let e = c.next-at.ensures in (
       e.from,
       omega (arith, e.within, c.len-end.ensures),
-      (gap_untouched c.args.cause c.args.now c.args.from c.args.from _ _ es c.requires.covered e.between (none_passed c.args.cause c.args.now c.args.from es), c.requires.covered),
+      (
+        gap_untouched c.args.cause c.args.now c.args.from c.args.from _ _ es c.requires.covered e.between
+            (none_passed c.args.cause c.args.now c.args.from es),
+        c.requires.covered,
+      ),
     )
 
 pub loop-at-preserved : goal.loop-at-preserved
@@ -21,8 +25,11 @@ loop-at-preserved c =
     let e = c.is_touched.ensures in
     let calm = c.if-is_touched.false in
     let removed = c.remove_unless.ensures in
-    let covers = covers_removed why _ _ c.loop-at.at (unmarked es) _ _ (unmarked_at es c.loop-at.at _ c.index-session.ensures) c.may_be_touched.ensures removed.kept removed.others c.loop-at.invariant.2.1 in
-    let passed = one_passed why c.args.now c.args.from c.loop-at.at es _ c.index-session.ensures (e.untouched calm, e.unmarked calm) c.loop-at.invariant.2.0 in
+    let covers =
+    covers_removed why _ _ c.loop-at.at (unmarked es) _ _ (unmarked_at es c.loop-at.at _ c.index-session.ensures)
+    c.may_be_touched.ensures removed.kept removed.others c.loop-at.invariant.2.1 in
+    let passed = one_passed why c.args.now c.args.from c.loop-at.at es _ c.index-session.ensures
+    (e.untouched calm, e.unmarked calm) c.loop-at.invariant.2.0 in
     let next = c.next-at-in-loop-at.ensures in (
       omega (arith, next.from, c.loop-at.invariant.0),
       omega (arith, next.within, c.len-end.ensures),
@@ -35,5 +42,6 @@ loop-at-smaller c = omega (arith, c.next-at-in-loop-at.ensures.from, c.loop-at-t
 pub returns-clause-none : goal.returns-clause-none
 returns-clause-none c =
     let es = c.args.sessions.now.entries in
-    let end : c.loop-at.at ≡ length es = omega (arith, c.loop-at-test.false, c.len-end.ensures, c.loop-at.invariant.1) in
+    let end : c.loop-at.at ≡ length es =
+    omega (arith, c.loop-at-test.false, c.len-end.ensures, c.loop-at.invariant.1) in
     subst (λ (n : ℕ). AreUntouched c.args.cause c.args.now c.args.from n es) end c.loop-at.invariant.2.0

@@ -2,7 +2,8 @@ use Rattle.std.proofs.Common.{IfSome, Option, Some, refl, sym, ap, subst, ◌∙
 use Rattle.coap_server_engine.specs.Prelude.{MarkedSession, IsMarked, IsMarkedBut, UnaffectedAreSettled, settled_entry}
 use Rattle.coap_server_engine.specs.Prelude.{settled_held, unmarked, AddsConcerned}
 use Rattle.coap_server_session.specs.declared.cause.Cause.TheVariants as cause
-use Rattle.coap_server_engine.proofs.values.ServerLemmas.{splits_written, written_unmarked, set_unmarked, unmarked_at, all_written}
+use Rattle.coap_server_engine.proofs.values.ServerLemmas.{splits_written, written_unmarked, set_unmarked, unmarked_at}
+use Rattle.coap_server_engine.proofs.values.ServerLemmas.{all_written}
 use Rattle.coap_server_session.proofs.values.CauseLemmas.{but_none}
 use Rattle.coap_server_engine.proofs.values.ServerCauseLemmas.{others_untouched, all_settle}
 use Rattle.coap_server_session.proofs.values.ConcernLemmas.{held_adds}
@@ -13,7 +14,8 @@ pub note-requires : goal.note-requires
 note-requires c = c.requires.covered.many
 
 pub settle_if_pending-requires : goal.settle_if_pending-requires
-settle_if_pending-requires c = subst (λ (o : Option MarkedSession). IfSome o (IsMarked c.args.host.now)) c.index_mut.ensures.value c.requires.own
+settle_if_pending-requires c =
+    subst (λ (o : Option MarkedSession). IfSome o (IsMarked c.args.host.now)) c.index_mut.ensures.value c.requires.own
 
 pub returns-in-None : goal.returns-in-None
 returns-in-None c =
@@ -25,11 +27,16 @@ returns-in-None c =
       after = written_unmarked (settled_held host) es c.args.at _ _ c.index_mut.ensures.value e.after;
       marked = all_written (IsMarked host) es c.args.at _ (rw c.in-None.is at c.requires.marked) e.marked;
       affected = record { kept = λ i outside. outside; covers = tt };
-      covered = covered_changed_by _ c.args.at (settled_held host) _ _ (held_adds host) (written_unmarked (settled_held host) es c.args.at _ _ c.index_mut.ensures.value e.after) (c.note.ensures _ (unmarked_at es c.args.at _ c.index.ensures) c.requires.covered);
+      covered =
+          covered_changed_by _ c.args.at (settled_held host) _ _ (held_adds host)
+          (written_unmarked (settled_held host) es c.args.at _ _ c.index_mut.ensures.value e.after)
+          (c.note.ensures _ (unmarked_at es c.args.at _ c.index.ensures) c.requires.covered);
     })
 
 pub settle-requires : goal.settle-requires
-settle-requires c = subst (λ (o : Option MarkedSession). IfSome o (IsMarked c.args.host.now)) c.index_mut-in-Some.ensures.value c.requires.own
+settle-requires c =
+    subst (λ (o : Option MarkedSession). IfSome o (IsMarked c.args.host.now))
+    c.index_mut-in-Some.ensures.value c.requires.own
 
 pub settle_observers-requires : goal.settle_observers-requires
 settle_observers-requires c =
@@ -38,11 +45,16 @@ settle_observers-requires c =
     let why = cause.Path c.in-Some.hash in
     let now = c.settle.new.self in
     let e = c.settle.ensures in
-    let others = others_untouched host c.args.at c.in-Some.hash _ _ _ (unmarked_at es c.args.at _ c.index_mut-in-Some.ensures.value) e.after (rw c.in-Some.is at c.requires.others) in
+    let others = others_untouched host c.args.at c.in-Some.hash _ _ _
+    (unmarked_at es c.args.at _ c.index_mut-in-Some.ensures.value) e.after (rw c.in-Some.is at c.requires.others) in
     record {
-      covered = covered_one_marked _ host c.args.at es _ now c.index_mut-in-Some.ensures.value e.after (c.note.ensures _ (unmarked_at es c.args.at _ c.index.ensures) c.requires.covered);
+      covered =
+          covered_one_marked _ host c.args.at es _ now c.index_mut-in-Some.ensures.value e.after
+          (c.note.ensures _ (unmarked_at es c.args.at _ c.index.ensures) c.requires.covered);
       settled = subst (UnaffectedAreSettled why host) (sym (set_unmarked es c.args.at now now.session refl)) others;
-      marked = all_written (IsMarkedBut why host) es c.args.at now (rw c.in-Some.is at c.requires.marked) (but_none why host now e.marked);
+      marked =
+          all_written (IsMarkedBut why host) es c.args.at now (rw c.in-Some.is at c.requires.marked)
+          (but_none why host now e.marked);
     }
 
 pub returns-in-Some : goal.returns-in-Some
@@ -52,12 +64,24 @@ returns-in-Some c =
     let now = c.settle.new.self in
     let e = c.settle_observers.ensures in
     let covered = c.note.ensures _ (unmarked_at es c.args.at _ c.index.ensures) c.requires.covered in
-    let affected : AddsConcerned (Some c.in-Some.hash) c.args.affected.now.words c.join.new.self.words (unmarked es) = record {
+    let affected : AddsConcerned (Some c.in-Some.hash) c.args.affected.now.words c.join.new.self.words (unmarked es) =
+    record {
       kept = λ i outside. (c.join.ensures.outside i outside).0;
-      covers = λ i s at outside. covered.paths c.in-Some.hash c.of_path.result.now c.of_path.ensures i s at (c.join.ensures.outside i outside).1;
+      covers = λ i s at outside. covered.paths c.in-Some.hash c.of_path.result.now c.of_path.ensures i s at
+          (c.join.ensures.outside i outside).1;
     } in
-    let all = all_settle host c.args.at c.in-Some.hash _ _ _ (unmarked_at es c.args.at _ c.index_mut-in-Some.ensures.value) c.settle.ensures.after in
-    rw c.in-Some.is (record { affected = affected; splits = e.splits ∙ splits_written es c.args.at c.index_mut-in-Some.result.now now c.index_mut-in-Some.ensures.value c.settle.ensures.split; after = e.after ∙ ap (map (settled_entry host)) (set_unmarked es c.args.at now now.session refl) ∙ all; marked = e.marked; covered = e.covered })
+    let all = all_settle host c.args.at c.in-Some.hash _ _ _
+    (unmarked_at es c.args.at _ c.index_mut-in-Some.ensures.value) c.settle.ensures.after in
+    rw c.in-Some.is (record {
+      affected = affected;
+      splits =
+          e.splits ∙ splits_written es c.args.at c.index_mut-in-Some.result.now now c.index_mut-in-Some.ensures.value
+          c.settle.ensures.split;
+      after = e.after ∙ ap (map (settled_entry host)) (set_unmarked es c.args.at now now.session refl) ∙ all;
+      marked = e.marked;
+      covered = e.covered;
+    })
 
 pub of_path-requires : goal.of_path-requires
-of_path-requires c = (c.note.ensures _ (unmarked_at c.args.sessions.now.entries c.args.at _ c.index.ensures) c.requires.covered).many
+of_path-requires c =
+    (c.note.ensures _ (unmarked_at c.args.sessions.now.entries c.args.at _ c.index.ensures) c.requires.covered).many

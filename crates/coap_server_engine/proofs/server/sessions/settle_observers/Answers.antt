@@ -12,9 +12,12 @@ settle_touched-requires c =
     let sets = c.args.sets.now in
     let set = c.index_mut.result.now in
     let within : c.from.result < length sets.paths.items = omega (arith, c.requires.covered.many, c.from.ensures) in
-    let there : slice_get sets.paths.items c.from.result ≡ Some set = slice_get_read sets.paths.items _ c.from.result set refl within c.index_mut.ensures.value in
+    let there : slice_get sets.paths.items c.from.result ≡ Some set =
+    slice_get_read sets.paths.items _ c.from.result set refl within c.index_mut.ensures.value in
     record {
-      covered = c.requires.covered.paths c.args.hash set (subst (λ k. slice_get sets.paths.items k ≡ Some set) c.from.ensures there);
+      covered =
+          c.requires.covered.paths c.args.hash set
+          (subst (λ k. slice_get sets.paths.items k ≡ Some set) c.from.ensures there);
       settled = c.requires.settled;
       marked = c.requires.marked;
     }
@@ -26,9 +29,13 @@ returns c =
     let set = c.settle_touched.new.set in
     let es = unmarked c.settle_touched.new.sessions.entries in
     let now : Concerned = record { paths = with_item sets.paths c.from.result set; time = sets.time } in
-    let own : Covers (cause.Path c.from.result) set.words es = subst (λ k. Covers (cause.Path k) set.words es) (sym c.from.ensures) e.covered in
+    let own : Covers (cause.Path c.from.result) set.words es =
+    subst (λ k. Covers (cause.Path k) set.words es) (sym c.from.ensures) e.covered in
     record {
-      covered = covered_path sets now c.from.result set es refl refl (length-set sets.paths.items c.from.result set ∙ c.requires.covered.many) own (covered_settled sets _ _ es e.after c.requires.covered);
+      covered =
+          covered_path sets now c.from.result set es refl refl
+          (length-set sets.paths.items c.from.result set ∙ c.requires.covered.many) own
+          (covered_settled sets _ _ es e.after c.requires.covered);
       after = e.after;
       marked = e.marked;
       splits = e.splits;

@@ -6,7 +6,10 @@ use Rattle.coap_server_engine.proofs.server.sessions.settle_touched.Given as goa
 -- The connections before this one are settled, and their changed marks are current. All split frames stay. The set
 -- has all connections that the change may concern.
 abbrev pub invariant-loop-at : goal.invariant-loop-at
-invariant-loop-at l = (l.from ≤ length l.sessions.entries) × (AreUpTo l.from l.cause l.host l.fn.sessions.entries l.sessions.entries × ((splits_of l.sessions.entries ≡ splits_of l.fn.sessions.entries) × Covers l.cause l.set.words (unmarked l.sessions.entries)))
+invariant-loop-at l =
+    (l.from ≤ length l.sessions.entries) × (AreUpTo l.from l.cause l.host l.fn.sessions.entries l.sessions.entries
+    × ((splits_of l.sessions.entries ≡ splits_of l.fn.sessions.entries)
+    × Covers l.cause l.set.words (unmarked l.sessions.entries)))
 
 abbrev pub decreases-loop-at : goal.decreases-loop-at
 decreases-loop-at l = length l.sessions.entries - l.from

@@ -9,7 +9,9 @@ written_and_settled-requires c =
     let es = c.args.sessions.now.entries in
     let here = c.index_mut.ensures.value in
     record {
-      within = subst (λ (o : Option SessionValue). IfSome o (λ s. c.args.count ≤ length s.link.waiting)) (unmarked_at es c.args.at _ here) c.requires.waiting;
+      within =
+          subst (λ (o : Option SessionValue). IfSome o (λ s. c.args.count ≤ length s.link.waiting))
+          (unmarked_at es c.args.at _ here) c.requires.waiting;
       settled = one_of_all (IsSettled host) c.args.at _ _ c.requires.settled (unmarked_at es c.args.at _ here);
       marked = one_of_all (IsMarked host) c.args.at es _ c.requires.marked here;
     }
@@ -20,6 +22,8 @@ returns c =
     let es = c.args.sessions.now.entries in
     let e = c.written_and_settled.ensures in
     record {
-      after = written_unmarked (λ s. session_settled host (session_written s c.args.count)) es c.args.at _ _ c.index_mut.ensures.value e.after;
+      after =
+          written_unmarked (λ s. session_settled host (session_written s c.args.count)) es c.args.at _ _
+          c.index_mut.ensures.value e.after;
       marked = all_written (IsMarked host) es c.args.at _ c.requires.marked e.marked;
     }

@@ -4,4 +4,6 @@ use Rattle.coap_server_session.specs.Prelude.{present_mark}
 use Rattle.coap_server_session.proofs.observer.Observer.present_by.Goals as goal
 
 pub returns-then-eq : goal.returns-then-eq
-returns-then-eq c = c.requires.present ∙ ap (present_mark c.args.host.now) (sym ((keys_equal c.args.self.now.path c.args.known.now).0 (sym c.if-eq.ensures)))
+returns-then-eq c =
+    c.requires.present ∙ ap (present_mark c.args.host.now)
+    (sym ((keys_equal c.args.self.now.path c.args.known.now).0 (sym c.if-eq.ensures)))

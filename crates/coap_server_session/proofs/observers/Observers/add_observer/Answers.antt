@@ -15,10 +15,23 @@ invariant_of-self c =
     let unmarked : mark_in y ≡ None = e.mark ∙ c.requires.unmarked in
     let marks = map_push mark_in items y ∙ ap (λ m. map mark_in items ++ m ∷ []) unmarked in
     record {
-      few = omega (arith, ap length c.push_reserved.ensures.items, length_push items y, length-map items observer_value, room);
+      few = omega (
+        arith,
+        ap length c.push_reserved.ensures.items,
+        length_push items y,
+        length-map items observer_value,
+        room,
+      );
       reserved = omega (arith, c.push_reserved.ensures.capacity, c.self.invariant.reserved);
       least = c.self.invariant.least;
       tagged = rw c.push_reserved.ensures.items (all_append IsTagged items _ c.self.invariant.tagged (e.tagged, tt));
-      chained = rw c.push_reserved.ensures.items (entered_chained c.self.inside.chains c.link.new.self items c.args.observer y c.self.invariant.chained e.value e.previous (λ why. e.last why ∙ ap (λ (n : ℕ). if concerns_path why c.args.observer.path then Some n else last_in why c.self.inside.chains) (c.len.ensures ∙ c.self.inside.entries.ok.0)));
-      flagged = rw (c.push_reserved.ensures.items, marks) (entered_flagged c.self.inside.marked (map mark_in items) c.self.invariant.flagged);
+      chained =
+          rw c.push_reserved.ensures.items (entered_chained c.self.inside.chains c.link.new.self items c.args.observer y
+          c.self.invariant.chained e.value e.previous (λ why. e.last why
+          ∙ ap (λ (n : ℕ). if concerns_path why c.args.observer.path then Some n else last_in why c.self.inside.chains)
+          (c.len.ensures ∙ c.self.inside.entries.ok.0)));
+      flagged = rw (
+        c.push_reserved.ensures.items,
+        marks,
+      ) (entered_flagged c.self.inside.marked (map mark_in items) c.self.invariant.flagged);
     }

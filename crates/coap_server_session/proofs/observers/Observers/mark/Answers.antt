@@ -8,7 +8,8 @@ invariant_of-self c =
     let items = c.self.inside.entries.items in
     let after = c.mark_chain.new.observers.items in
     let e = c.mark_chain.ensures in
-    let many : length after ≡ length items = sym (length-map after observer_value) ∙ ap length e.entries ∙ length-map items observer_value in
+    let many : length after ≡ length items =
+    sym (length-map after observer_value) ∙ ap length e.entries ∙ length-map items observer_value in
     record {
       few = omega (arith, many, c.self.invariant.few);
       reserved = omega (arith, e.capacity, c.self.invariant.reserved);

@@ -4,4 +4,6 @@ use Rattle.coap_server_session.proofs.values.ChainLemmas.{last_tells}
 use Rattle.coap_server_session.proofs.observers.Observers.may_observe.Goals as goal
 
 pub returns : goal.returns
-returns c = rw (← c.self.view_is) (c.is_some.ensures ∙ ap is_some c.last.ensures ∙ last_tells (cause.Path c.args.hash) c.self.inside.chains c.self.inside.entries.items c.self.invariant.chained)
+returns c =
+    rw (← c.self.view_is) (c.is_some.ensures ∙ ap is_some c.last.ensures
+    ∙ last_tells (cause.Path c.args.hash) c.self.inside.chains c.self.inside.entries.items c.self.invariant.chained)

@@ -8,6 +8,9 @@ pub returns : goal.returns
 returns c =
     let items = c.self.inside.entries.items in
     let e = c.find_anew.ensures in
-    two_lists c.self.inside.room _ _ _ _ (e.entries ∙ ap (map observer_value) c.remove.ensures.items ∙ map-remove observer_value items c.args.index)
+    two_lists c.self.inside.room _ _ _ _
+    (e.entries ∙ ap (map observer_value) c.remove.ensures.items ∙ map-remove observer_value items c.args.index)
     (e.marks ∙ ap (map mark_in) c.remove.ensures.items ∙ map-remove mark_in items c.args.index)
-    ∙ ap (λ (v : ObserversValue). record v { entries = remove v.entries c.args.index; marks = remove v.marks c.args.index }) c.self.view_is
+    ∙ ap
+    (λ (v : ObserversValue). record v { entries = remove v.entries c.args.index; marks = remove v.marks c.args.index })
+    c.self.view_is

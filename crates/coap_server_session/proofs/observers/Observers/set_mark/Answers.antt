@@ -20,11 +20,23 @@ invariant_of-self c =
       few = omega (arith, length-set items index told, c.self.invariant.few);
       reserved = c.self.invariant.reserved;
       least = c.self.invariant.least;
-      tagged = all_set IsTagged items index told c.self.invariant.tagged (record { hash = tag.hash; built_in = tag.built_in });
-      chained = rw (length-set items index told, map-set_same linked items index told old (ap linked c.index_mut-observer.ensures.value)) c.self.invariant.chained;
+      tagged =
+          all_set IsTagged items index told c.self.invariant.tagged
+          (record { hash = tag.hash; built_in = tag.built_in });
+      chained = rw (
+        length-set items index told,
+        map-set_same linked items index told old (ap linked c.index_mut-observer.ensures.value),
+      ) c.self.invariant.chained;
       flagged =
           rw (map-set mark_in items index told, c.put.ensures.value)
-          (put_flagged c.self.inside.marked (map mark_in items) index None (omega (arith, within, length-map items observer_value, c.put.ensures.many, c.self.invariant.few, c.self.invariant.least))
+          (put_flagged c.self.inside.marked (map mark_in items) index None (omega (
+            arith,
+            within,
+            length-map items observer_value,
+            c.put.ensures.many,
+            c.self.invariant.few,
+            c.self.invariant.least,
+          ))
           (omega (arith, within, length-map items observer_value, length-map items mark_in)) c.self.invariant.flagged);
     }
 
@@ -33,5 +45,6 @@ returns c = λ o at.
     let items = c.self.inside.entries.items in
     let within = rw (← c.self.view_is) at c.requires in
     rw (← c.self.view_is)
-    (told_value c.self.inside.room items c.args.index c.args.mark c.args.place c.index_mut-observer.result.now o (omega (arith, within, length-map items observer_value)) c.index_mut-observer.ensures.value
+    (told_value c.self.inside.room items c.args.index c.args.mark c.args.place c.index_mut-observer.result.now o
+    (omega (arith, within, length-map items observer_value)) c.index_mut-observer.ensures.value
     (rw (← c.self.view_is) at at))

@@ -6,6 +6,7 @@ use Rattle.coap_server_session.proofs.session.Session.end.Goals as goal
 
 pub invariant_of-self : goal.invariant_of-self
 invariant_of-self c =
-    given_up c.self.inside c.end.new.self c.self.inside.framer c.discard_if_closed.new.framer c.self.inside.observers c.discard_if_closed.new.observers c.self.invariant
+    given_up c.self.inside c.end.new.self c.self.inside.framer c.discard_if_closed.new.framer c.self.inside.observers
+    c.discard_if_closed.new.observers c.self.invariant
     (ap sizes_of c.end.ensures.after ∙ end_sizes c.self.inside.link _)
     refl c.self.invariant.framer refl c.discard_if_closed.ensures.framer c.discard_if_closed.ensures.observers

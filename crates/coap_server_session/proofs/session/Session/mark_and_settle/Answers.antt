@@ -5,7 +5,13 @@ use Rattle.coap_server_session.proofs.session.Session.mark_and_settle.Goals as g
 pub invariant_of-self : goal.invariant_of-self
 invariant_of-self c =
     let was = c.self.invariant in
-    rw c.mark.ensures (record { ranges = was.ranges; greatest = was.greatest; framer = was.framer; room = was.room; open_only = was.open_only })
+    rw c.mark.ensures (record {
+      ranges = was.ranges;
+      greatest = was.greatest;
+      framer = was.framer;
+      room = was.room;
+      open_only = was.open_only;
+    })
 
 pub settle-requires : goal.settle-requires
 settle-requires c = rw c.mark.ensures (subst (IsMarkedBut c.args.cause c.args.host.now) (sym c.self.view_is) c.requires)
@@ -14,7 +20,8 @@ pub returns : goal.returns
 returns c =
     let host = c.args.host.now in
     let s = c.self.inside in
-    let with_observers : ObserversValue → SessionValue = λ o. record { frame = s.framer.kept; link = s.link; observers = o.entries } in
+    let with_observers : ObserversValue → SessionValue =
+    λ o. record { frame = s.framer.kept; link = s.link; observers = o.entries } in
     record {
       after =
           c.settle.ensures.after ∙ ap (λ (o : ObserversValue). session_settled host (with_observers o)) c.mark.ensures

@@ -6,6 +6,8 @@ use Rattle.coap_conn.proofs.LinkLemmas.{stays_so}
 
 pub invariant_of-self-2 : goal.invariant_of-self-2
 invariant_of-self-2 c =
-    given_up c.self.inside c.release.new.self c.self.inside.framer c.discard_if_closed.new.framer c.self.inside.observers c.discard_if_closed.new.observers c.self.invariant
-    (ap sizes_of c.in_ok-release.ensures.after ∙ (stays_so sizes_of (is_open c.self.inside.link.phase) c.self.inside.link _ refl))
+    given_up c.self.inside c.release.new.self c.self.inside.framer c.discard_if_closed.new.framer
+    c.self.inside.observers c.discard_if_closed.new.observers c.self.invariant
+    (ap sizes_of c.in_ok-release.ensures.after
+    ∙ (stays_so sizes_of (is_open c.self.inside.link.phase) c.self.inside.link _ refl))
     refl c.self.invariant.framer refl c.discard_if_closed.ensures.framer c.discard_if_closed.ensures.observers

@@ -1,5 +1,6 @@
 use Rattle.std.proofs.Common.{◌≡◌, refl, sym, ap, subst, ◌∙◌, ◌||◌, Option, is_some}
-use Rattle.coap_server_session.specs.Prelude.{PendingEntryValue, first_due, ObserverValue, SessionValue, MarkedSession, LinkValue, FramerValue}
+use Rattle.coap_server_session.specs.Prelude.{PendingEntryValue, first_due, ObserverValue, SessionValue, MarkedSession}
+use Rattle.coap_server_session.specs.Prelude.{LinkValue, FramerValue}
 use Rattle.coap_server_session.specs.Prelude.{next_held_in, next_stale, IsMarked}
 use Rattle.coap_server_session.specs.Prelude.{session_ready, session_settled_once, session_settled_so, session_notified}
 use Rattle.coap_server_session.specs.Prelude.{session_value}
@@ -13,11 +14,14 @@ pub returns-then-not-ready : goal.returns-then-not-ready
 returns-then-not-ready c =
     let host = c.args.host.now in
     let v = c.args.self.now.session in
-    let unready = ap (λ (m : MarkedSession). session_ready m.session) (sym c.self.view_is) ∙ ready_is c.self.inside.link c.ready.result c.ready.ensures ∙ c.if-not-ready.true in
+    let unready = ap (λ (m : MarkedSession). session_ready m.session) (sym c.self.view_is)
+    ∙ ready_is c.self.inside.link c.ready.result c.ready.ensures ∙ c.if-not-ready.true in
     let settled = settled_unready host v unready in
     record {
       after = sym (stays_once host v settled);
-      found = ap (λ (o : Option ObserverValue). is_some o) (sym settled.1) ∙ ap (λ (e : Option PendingEntryValue). is_some e || is_some (next_stale host v)) (sym settled.0);
+      found =
+          ap (λ (o : Option ObserverValue). is_some o) (sym settled.1)
+          ∙ ap (λ (e : Option PendingEntryValue). is_some e || is_some (next_stale host v)) (sym settled.0);
       marked = c.requires;
       split = refl;
     }
@@ -27,7 +31,9 @@ pub invariant_of-self : goal.invariant_of-self
 invariant_of-self c =
     let ready = ready_is c.self.inside.link c.ready.result c.ready.ensures ∙ c.if-not-ready.false in
     let some = sym c.send_due.ensures.found ∙ c.if-send_due.true in
-    sent_session c.args.host.now c.self.inside _ ready some c.send_due.ensures.sent c.discard_if_closed.new.framer c.discard_if_closed.new.observers c.self.invariant c.discard_if_closed.ensures.framer c.discard_if_closed.ensures.observers
+    sent_session c.args.host.now c.self.inside _ ready some c.send_due.ensures.sent c.discard_if_closed.new.framer
+    c.discard_if_closed.new.observers c.self.invariant c.discard_if_closed.ensures.framer
+    c.discard_if_closed.ensures.observers
 
 pub returns-then-send_due : goal.returns-then-send_due
 returns-then-send_due c =
@@ -37,13 +43,19 @@ returns-then-send_due c =
     let some = sym c.send_due.ensures.found ∙ c.if-send_due.true in
     record {
       after =
-          sent_once host s _ ready some c.send_due.ensures.sent c.discard_if_closed.new.framer c.discard_if_closed.new.observers c.discard_if_closed.ensures.framer c.discard_if_closed.ensures.observers
+          sent_once host s _ ready some c.send_due.ensures.sent c.discard_if_closed.new.framer
+          c.discard_if_closed.new.observers c.discard_if_closed.ensures.framer c.discard_if_closed.ensures.observers
           ∙ ap (λ (m : MarkedSession). session_settled_once host m.session) c.self.view_is;
       found =
           held_found host s _ ready some c.send_due.ensures.sent
-          ∙ ap (λ (m : MarkedSession). is_some (next_held_in host.now m.session) || is_some (next_stale host m.session)) c.self.view_is;
-      marked = left_marked_by host c.send_due.new.link s.observers c.discard_if_closed.new.observers c.discard_if_closed.ensures.observers (subst (IsMarked host) (sym c.self.view_is) c.requires);
-      split = ap (λ (f : FramerValue). f.spent) c.discard_if_closed.ensures.framer ∙ ap (λ (m : MarkedSession). m.split) c.self.view_is;
+          ∙ ap (λ (m : MarkedSession). is_some (next_held_in host.now m.session) || is_some (next_stale host m.session))
+          c.self.view_is;
+      marked =
+          left_marked_by host c.send_due.new.link s.observers c.discard_if_closed.new.observers
+          c.discard_if_closed.ensures.observers (subst (IsMarked host) (sym c.self.view_is) c.requires);
+      split =
+          ap (λ (f : FramerValue). f.spent) c.discard_if_closed.ensures.framer
+          ∙ ap (λ (m : MarkedSession). m.split) c.self.view_is;
     }
 
 pub notify_once-requires-clause-marked : goal.notify_once-requires-clause-marked
@@ -60,10 +72,14 @@ returns c =
     let quiet = there_is_none (first_due host.now s.link.held) (sym c.send_due.ensures.found ∙ c.if-send_due.false) in
     let none = (found_ready host v ready).0 ∙ quiet in
     let same = c.send_due.ensures.silent quiet in
-    let settles : session_settled_once host v ≡ session_notified host v (next_stale host v) = ap (session_settled_so host v) none in
-    let notifies : LinkValue → SessionValue = λ l. session_notified host (record v { link = l }) (next_stale host (record v { link = l })) in
+    let settles : session_settled_once host v ≡ session_notified host v (next_stale host v) =
+    ap (session_settled_so host v) none in
+    let notifies : LinkValue → SessionValue =
+    λ l. session_notified host (record v { link = l }) (next_stale host (record v { link = l })) in
     record {
-      after = c.notify_once.ensures.after ∙ ap notifies same ∙ sym settles ∙ ap (λ (m : MarkedSession). session_settled_once host m.session) c.self.view_is;
+      after =
+          c.notify_once.ensures.after ∙ ap notifies same ∙ sym settles
+          ∙ ap (λ (m : MarkedSession). session_settled_once host m.session) c.self.view_is;
       found = rw (← c.self.view_is, none) (rw same at c.notify_once.ensures.found);
       marked = c.notify_once.ensures.marked;
       split = c.notify_once.ensures.split ∙ ap (λ (m : MarkedSession). m.split) c.self.view_is;

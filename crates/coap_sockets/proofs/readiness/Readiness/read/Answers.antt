@@ -5,4 +5,5 @@ use Rattle.coap_sockets.proofs.readiness.Readiness.read.Goals as goal
 
 pub returns-clause-within : goal.returns-clause-within
 returns-clause-within g c =
-    subst (IsWithin (length c.read-answer.new.buf)) (sym c.read_got.ensures) (read_is_within _ _ c.read-answer.ensures.bound)
+    subst (IsWithin (length c.read-answer.new.buf)) (sym c.read_got.ensures)
+    (read_is_within _ _ c.read-answer.ensures.bound)

@@ -5,4 +5,5 @@ use Rattle.coap_sockets.proofs.readiness.Readiness.write.Goals as goal
 
 pub returns-clause-within : goal.returns-clause-within
 returns-clause-within g c =
-    subst (IsWithin (length c.args.bytes.now)) (sym c.write_got.ensures) (write_is_within _ _ c.write-answer.ensures.bound)
+    subst (IsWithin (length c.args.bytes.now)) (sym c.write_got.ensures)
+    (write_is_within _ _ c.write-answer.ensures.bound)

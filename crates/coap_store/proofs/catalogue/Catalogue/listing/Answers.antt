@@ -5,5 +5,6 @@ use Rattle.coap_store.proofs.catalogue.Catalogue.listing.Goals as goal
 
 pub returns : goal.returns
 returns c =
-    c.text.ensures ∙ ap joined c.self.invariant.listed ∙ texts_joined c.self.inside.applications (resources_in c.self.inside.resources.entries)
+    c.text.ensures ∙ ap joined c.self.invariant.listed
+    ∙ texts_joined c.self.inside.applications (resources_in c.self.inside.resources.entries)
     ∙ ap (λ (k : CatalogueValue). listing k.applications k.resources) c.self.view_is

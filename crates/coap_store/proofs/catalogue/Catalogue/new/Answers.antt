@@ -11,8 +11,11 @@ pub invariant_of-result : goal.invariant_of-result
 unfolding first_bytes
 invariant_of-result c = record {
   short = omega arith;
-  listed = c.in_ok-append.ensures.ok ∙ ap (λ es. es ++ built_in_bytes ∷ []) c.new-listing.ensures ∙ sym (texts_of_none c.new.result.entries c.new.ensures.empty);
+  listed =
+      c.in_ok-append.ensures.ok ∙ ap (λ es. es ++ built_in_bytes ∷ []) c.new-listing.ensures
+      ∙ sym (texts_of_none c.new.result.entries c.new.ensures.empty);
 }
 
 pub returns : goal.returns
-returns c = ap (λ rs. record { applications = None; resources = rs }) (none_there c.new.result.entries c.new.ensures.empty)
+returns c =
+    ap (λ rs. record { applications = None; resources = rs }) (none_there c.new.result.entries c.new.ensures.empty)

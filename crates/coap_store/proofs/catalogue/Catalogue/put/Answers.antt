@@ -13,18 +13,27 @@ returns-clause-ok c =
     let entries = c.self.inside.resources.entries in
     on_ok_weaker c.replace.result (λ stored.
     ap (λ es. record { applications = c.self.inside.applications; resources = resources_in es }) stored
-    ∙ ap (λ rs. record { applications = c.self.inside.applications; resources = rs }) (set_list entries c.args.path c.in-Some.index (sym c.in-Some.ensures.index) (record { version = c.args.version; format = c.args.format; bytes = c.in_ok-from_slice.field-0 }))
-    ∙ (λ i. record (c.self.view_is i) { resources = put_at (c.self.view_is i).resources c.args.path (record { version = c.args.version; format = c.args.format; bytes = c.in_ok-from_slice.ensures.items i }) })) c.replace.ensures.stored
+    ∙ ap (λ rs. record { applications = c.self.inside.applications; resources = rs })
+    (set_list entries c.args.path c.in-Some.index (sym c.in-Some.ensures.index)
+    (record { version = c.args.version; format = c.args.format; bytes = c.in_ok-from_slice.field-0 }))
+    ∙ (λ i. record (c.self.view_is i) {
+      resources =
+          put_at (c.self.view_is i).resources c.args.path
+          (record { version = c.args.version; format = c.args.format; bytes = c.in_ok-from_slice.ensures.items i });
+    })) c.replace.ensures.stored
 
 pub create-requires-clause-listed : goal.create-requires-clause-listed
 create-requires-clause-listed c = by_head _ _ _ c.self.invariant.listed
 
 pub create-requires-clause-first : goal.create-requires-clause-first
-create-requires-clause-first c = omega (arith, ap length (head_is _ _ _ c.self.invariant.listed), c.self.invariant.short)
+create-requires-clause-first c =
+    omega (arith, ap length (head_is _ _ _ c.self.invariant.listed), c.self.invariant.short)
 
 pub invariant_of-self : goal.invariant_of-self
 invariant_of-self c = record {
-  listed = c.create.ensures.listed ∙ ap (λ f. texts_of f (resources_in c.create.new.resources.entries)) (head_is _ _ _ c.self.invariant.listed);
+  listed =
+      c.create.ensures.listed
+      ∙ ap (λ f. texts_of f (resources_in c.create.new.resources.entries)) (head_is _ _ _ c.self.invariant.listed);
   short = c.self.invariant.short;
 }
 
@@ -32,10 +41,13 @@ pub replace-requires-clause-listed : goal.replace-requires-clause-listed
 replace-requires-clause-listed c = by_head _ _ _ c.self.invariant.listed
 
 pub replace-requires-clause-first : goal.replace-requires-clause-first
-replace-requires-clause-first c = omega (arith, ap length (head_is _ _ _ c.self.invariant.listed), c.self.invariant.short)
+replace-requires-clause-first c =
+    omega (arith, ap length (head_is _ _ _ c.self.invariant.listed), c.self.invariant.short)
 
 pub invariant_of-self-2 : goal.invariant_of-self-2
 invariant_of-self-2 c = record {
-  listed = c.replace.ensures.listed ∙ ap (λ f. texts_of f (resources_in c.replace.new.resources.entries)) (head_is _ _ _ c.self.invariant.listed);
+  listed =
+      c.replace.ensures.listed
+      ∙ ap (λ f. texts_of f (resources_in c.replace.new.resources.entries)) (head_is _ _ _ c.self.invariant.listed);
   short = c.self.invariant.short;
 }

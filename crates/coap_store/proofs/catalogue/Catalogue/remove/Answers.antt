@@ -8,17 +8,25 @@ use Rattle.coap_store.proofs.catalogue.Catalogue.remove.Goals as goal
 pub returns-in_default : goal.returns-in_default
 returns-in_default c =
     let entries = c.self.inside.resources.entries in
-    sym (ap (λ rs. record { applications = c.self.inside.applications; resources = rs }) (removed_absent entries c.args.path.now (sym c.in_default.ensures.found)) ∙ c.self.view_is)
+    sym (ap (λ rs. record { applications = c.self.inside.applications; resources = rs })
+    (removed_absent entries c.args.path.now (sym c.in_default.ensures.found)) ∙ c.self.view_is)
     ∙ ap (λ (k : CatalogueValue). record k { resources = removed_at k.resources c.args.path.now }) c.self.view_is
 
 pub text_index-requires : goal.text_index-requires
-text_index-requires c = found_within c.self.inside.resources.entries c.args.path.now c.in-Some.index (sym c.in-Some.ensures.index)
+text_index-requires c =
+    found_within c.self.inside.resources.entries c.args.path.now c.in-Some.index (sym c.in-Some.ensures.index)
 
 pub remove-requires : goal.remove-requires
 remove-requires c =
     let entries = c.self.inside.resources.entries in
     let within = found_within entries c.args.path.now c.in-Some.index (sym c.in-Some.ensures.index) in
-    omega (arith, within, c.text_index.ensures, ap length c.self.invariant.listed, texts_count (first_bytes c.self.inside.applications) entries)
+    omega (
+      arith,
+      within,
+      c.text_index.ensures,
+      ap length c.self.invariant.listed,
+      texts_count (first_bytes c.self.inside.applications) entries,
+    )
 
 pub invariant_of-self : goal.invariant_of-self
 invariant_of-self c =
@@ -29,11 +37,14 @@ invariant_of-self c =
       listed = c.remove.ensures
           ∙ (λ i. remove (c.self.invariant.listed i) (c.text_index.ensures i))
           ∙ sym (texts_removed (first_bytes c.self.inside.applications) entries c.in-Some.index within)
-          ∙ ap (λ es. texts_of (first_bytes c.self.inside.applications) (resources_in es)) (sym c.shift_remove_index.ensures.entries);
+          ∙ ap (λ es. texts_of (first_bytes c.self.inside.applications) (resources_in es))
+          (sym c.shift_remove_index.ensures.entries);
     }
 
 pub returns : goal.returns
 returns c =
-    ap (λ es. record { applications = c.self.inside.applications; resources = resources_in es }) c.shift_remove_index.ensures.entries
-    ∙ ap (λ rs. record { applications = c.self.inside.applications; resources = rs }) (removed_list c.self.inside.resources.entries c.args.path.now c.in-Some.index (sym c.in-Some.ensures.index))
+    ap (λ es. record { applications = c.self.inside.applications; resources = resources_in es })
+    c.shift_remove_index.ensures.entries
+    ∙ ap (λ rs. record { applications = c.self.inside.applications; resources = rs })
+    (removed_list c.self.inside.resources.entries c.args.path.now c.in-Some.index (sym c.in-Some.ensures.index))
     ∙ ap (λ (k : CatalogueValue). record k { resources = removed_at k.resources c.args.path.now }) c.self.view_is

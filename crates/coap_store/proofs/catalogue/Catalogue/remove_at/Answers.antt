@@ -6,12 +6,25 @@ use Rattle.coap_store.proofs.ListingLemmas.{texts_removed, texts_count}
 use Rattle.coap_store.proofs.catalogue.Catalogue.remove_at.Goals as goal
 
 pub text_index-requires : goal.text_index-requires
-text_index-requires c = omega (arith, c.requires, ap (λ (k : CatalogueValue). length k.resources) c.self.view_is, count_resources c.self.inside.resources.entries)
+text_index-requires c = omega (
+  arith,
+  c.requires,
+  ap (λ (k : CatalogueValue). length k.resources) c.self.view_is,
+  count_resources c.self.inside.resources.entries,
+)
 
 pub remove-requires : goal.remove-requires
 remove-requires c =
     let entries = c.self.inside.resources.entries in
-    omega (arith, c.requires, ap (λ (k : CatalogueValue). length k.resources) c.self.view_is, count_resources entries, c.text_index.ensures, ap length c.self.invariant.listed, texts_count (first_bytes c.self.inside.applications) entries)
+    omega (
+      arith,
+      c.requires,
+      ap (λ (k : CatalogueValue). length k.resources) c.self.view_is,
+      count_resources entries,
+      c.text_index.ensures,
+      ap length c.self.invariant.listed,
+      texts_count (first_bytes c.self.inside.applications) entries,
+    )
 
 pub invariant_of-self : goal.invariant_of-self
 invariant_of-self c =
@@ -20,12 +33,20 @@ invariant_of-self c =
       short = c.self.invariant.short;
       listed = c.remove.ensures
           ∙ (λ i. remove (c.self.invariant.listed i) (c.text_index.ensures i))
-          ∙ sym (texts_removed (first_bytes c.self.inside.applications) entries c.args.index (omega (arith, c.requires, ap (λ (k : CatalogueValue). length k.resources) c.self.view_is, count_resources entries)))
-          ∙ ap (λ es. texts_of (first_bytes c.self.inside.applications) (resources_in es)) (sym c.shift_remove_index.ensures.entries);
+          ∙ sym (texts_removed (first_bytes c.self.inside.applications) entries c.args.index (omega (
+            arith,
+            c.requires,
+            ap (λ (k : CatalogueValue). length k.resources) c.self.view_is,
+            count_resources entries,
+          )))
+          ∙ ap (λ es. texts_of (first_bytes c.self.inside.applications) (resources_in es))
+          (sym c.shift_remove_index.ensures.entries);
     }
 
 pub returns : goal.returns
 returns c =
-    ap (λ es. record { applications = c.self.inside.applications; resources = resources_in es }) c.shift_remove_index.ensures.entries
-    ∙ ap (λ rs. record { applications = c.self.inside.applications; resources = rs }) (removed_index c.self.inside.resources.entries c.args.index)
+    ap (λ es. record { applications = c.self.inside.applications; resources = resources_in es })
+    c.shift_remove_index.ensures.entries
+    ∙ ap (λ rs. record { applications = c.self.inside.applications; resources = rs })
+    (removed_index c.self.inside.resources.entries c.args.index)
     ∙ ap (λ (k : CatalogueValue). record k { resources = remove k.resources c.args.index }) c.self.view_is

@@ -5,7 +5,11 @@ use Rattle.coap_store.proofs.catalogue.Catalogue.with_applications.Goals as goal
 
 pub replace-requires-clause-exists : goal.replace-requires-clause-exists
 replace-requires-clause-exists c =
-    omega (arith, ap length c.self.invariant.listed, texts_count (first_bytes c.self.inside.applications) c.self.inside.resources.entries)
+    omega (
+      arith,
+      ap length c.self.invariant.listed,
+      texts_count (first_bytes c.self.inside.applications) c.self.inside.resources.entries,
+    )
 
 pub replace-requires-clause-short : goal.replace-requires-clause-short
 replace-requires-clause-short c =

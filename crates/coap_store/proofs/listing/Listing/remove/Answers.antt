@@ -8,7 +8,14 @@ pub slice_bounds-total-end : goal.slice_bounds-total-end
 slice_bounds-total-end c =
     let text = listed_as _ _ _ c.self.invariant.whole c.self.view_is in
     let count = counted _ _ _ text in
-    omega (arith, count, c.requires, ap length c.deref.ensures.value, length-take-le c.args.index c.deref.result.now (omega (arith, count, c.requires, ap length c.deref.ensures.value)))
+    omega (
+      arith,
+      count,
+      c.requires,
+      ap length c.deref.ensures.value,
+      length-take-le c.args.index c.deref.result.now
+          (omega (arith, count, c.requires, ap length c.deref.ensures.value)),
+    )
 
 pub remove-length-requires : goal.remove-length-requires
 remove-length-requires c =
@@ -19,7 +26,13 @@ pub remove-requires : goal.remove-requires
 remove-requires c =
     let text = listed_as _ _ _ c.self.invariant.whole c.self.view_is in
     let start = c.total-start.ensures ∙ ap (λ ns. sum (take c.args.index ns)) c.deref.ensures.value in
-    omega (arith, start, c.remove-length.ensures.value, length_at _ _ _ text c.args.index c.remove-length.result c.requires, place_within _ _ _ text c.args.index c.requires)
+    omega (
+      arith,
+      start,
+      c.remove-length.ensures.value,
+      length_at _ _ _ text c.args.index c.remove-length.result c.requires,
+      place_within _ _ _ text c.args.index c.requires,
+    )
 
 pub returns : goal.returns
 returns c =

@@ -17,6 +17,11 @@ pub returns-clause-ok : goal.returns-clause-ok
 returns-clause-ok c =
     let text = listed_as _ _ _ c.self.invariant.whole c.self.view_is in
     let entry = get_or c.args.self.now c.args.index [] in
-    let none : length entry - c.index-count.result.now ≡ 0 = omega (arith, c.index-count.ensures, length_at _ _ _ text c.args.index c.index-count.result.now c.requires.exists) in
+    let none : length entry - c.index-count.result.now ≡ 0 = omega (
+      arith,
+      c.index-count.ensures,
+      length_at _ _ _ text c.args.index c.index-count.result.now c.requires.exists,
+    ) in
     on_ok_weaker c.replace_end.result (λ replaced.
-    replaced ∙ ap (λ n. set c.args.self.now c.args.index (take n entry ++ c.args.entry.now)) none) c.replace_end.ensures.ok
+    replaced ∙ ap (λ n. set c.args.self.now c.args.index (take n entry ++ c.args.entry.now)) none)
+    c.replace_end.ensures.ok

@@ -9,11 +9,16 @@ use Rattle.coap_store.proofs.request.ParsedRequest.has_etag.Goals as goal
 pub returns-then-not-self : goal.returns-then-not-self
 returns-then-not-self c =
     let absent : c.self.inside.notes.now.has_etag ≡ false = cc in
-    none_passes (λ (value : List ℕ). same_bytes value c.args.etag.now) numbers.etag c.self.inside.request.now (sym absent ∙ c.self.invariant.notes.etag)
-    ∙ ap (λ m. list_any (λ (value : List ℕ). same_bytes value c.args.etag.now) (values_of numbers.etag m)) c.self.view_is
+    none_passes (λ (value : List ℕ). same_bytes value c.args.etag.now) numbers.etag c.self.inside.request.now
+    (sym absent ∙ c.self.invariant.notes.etag)
+    ∙ ap (λ m. list_any (λ (value : List ℕ). same_bytes value c.args.etag.now) (values_of numbers.etag m))
+    c.self.view_is
 
 pub returns : goal.returns
 returns c =
-    any_from_yields_List (λ (o : CoapOption). has_number numbers.etag o && same_bytes o.value c.args.etag.now) _ _ _ c.any.ensures.ran (YieldsList-from_first coap_option (λ os. os) _ c.known.ensures) (λ x b q k. search (rules, tests))
+    any_from_yields_List (λ (o : CoapOption). has_number numbers.etag o && same_bytes o.value c.args.etag.now) _ _ _
+    c.any.ensures.ran (YieldsList-from_first coap_option (λ os. os) _ c.known.ensures)
+    (λ x b q k. search (rules, tests))
     ∙ value_passes (λ (value : List ℕ). same_bytes value c.args.etag.now) numbers.etag c.self.inside.request.now
-    ∙ ap (λ m. list_any (λ (value : List ℕ). same_bytes value c.args.etag.now) (values_of numbers.etag m)) c.self.view_is
+    ∙ ap (λ m. list_any (λ (value : List ℕ). same_bytes value c.args.etag.now) (values_of numbers.etag m))
+    c.self.view_is

@@ -28,4 +28,7 @@ unfolding options_after
 returns-in-39 c = rw c.in-39.is (simp (or_none_more, or_one, not_given))
 
 pub returns-in_default : goal.returns-in_default
-returns-in_default c = nothing_noted (notes_value c.args.self.now) (coap_option c.args.option.now) (search rules) (search rules) (search rules) (search rules) (search rules) (search rules) (search rules) (search rules) (search rules) (search rules)
+returns-in_default c =
+    nothing_noted (notes_value c.args.self.now) (coap_option c.args.option.now) (search rules) (search rules)
+    (search rules) (search rules) (search rules) (search rules) (search rules) (search rules)
+    (search rules) (search rules)

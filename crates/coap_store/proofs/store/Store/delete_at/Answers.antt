@@ -1,22 +1,34 @@
 use Rattle.std.proofs.Common.{subst, sym, ap, ◌∙◌, ◌≡◌}
-use Rattle.coap_store.specs.Prelude.{CatalogueValue, store_value, IsStore, IsFoundAt, StoreValue, path_told, removed_at, removed_in}
+use Rattle.coap_store.specs.Prelude.{CatalogueValue, store_value, IsStore, IsFoundAt, StoreValue, path_told, removed_at}
+use Rattle.coap_store.specs.Prelude.{removed_in}
 use Rattle.coap_store.proofs.CatalogueLemmas.{place_within, removed_by_index}
 use Rattle.coap_store.proofs.StoreLemmas.{store_removed}
 use Rattle.coap_store.proofs.store.Store.delete_at.Goals as goal
 
 pub remove_at-requires : goal.remove_at-requires
 remove_at-requires c =
-    place_within _ (path_told c.args._body.now) c.args.index (subst (λ (s : StoreValue). IsFoundAt s.resources (path_told c.args._body.now) c.args.index) (sym c.self.view_is) c.requires)
+    place_within _ (path_told c.args._body.now) c.args.index
+    (subst (λ (s : StoreValue). IsFoundAt s.resources (path_told c.args._body.now) c.args.index)
+    (sym c.self.view_is) c.requires)
 
-removed : (c : goal.After-remove_at) → c.remove_at.new.self ≡ record (c.self.inside.resources) { resources = removed_at c.self.inside.resources.resources (path_told c.args._body.now) }
+removed : (c : goal.After-remove_at) → c.remove_at.new.self ≡ record (c.self.inside.resources) {
+  resources = removed_at c.self.inside.resources.resources (path_told c.args._body.now);
+}
 removed c =
     let path = path_told c.args._body.now in
     c.remove_at.ensures
-    ∙ ap (λ rs. record (c.self.inside.resources) { resources = rs }) (removed_by_index c.self.inside.resources.resources path c.args.index (subst (λ (s : StoreValue). IsFoundAt s.resources path c.args.index) (sym c.self.view_is) c.requires))
+    ∙ ap (λ rs. record (c.self.inside.resources) { resources = rs })
+    (removed_by_index c.self.inside.resources.resources path c.args.index
+    (subst (λ (s : StoreValue). IsFoundAt s.resources path c.args.index) (sym c.self.view_is) c.requires))
 
-after : (c : goal.After-remove_at) → IsStore (record (store_value c.self.inside) { resources = c.remove_at.new.self.resources; applications = c.remove_at.new.self.applications })
+after : (c : goal.After-remove_at) → IsStore (record (store_value c.self.inside) {
+  resources = c.remove_at.new.self.resources;
+  applications = c.remove_at.new.self.applications;
+})
 after c =
-    subst (λ (k : CatalogueValue). IsStore (record (store_value c.self.inside) { resources = k.resources; applications = k.applications })) (sym (removed c))
+    subst (λ (k : CatalogueValue).
+    IsStore (record (store_value c.self.inside) { resources = k.resources; applications = k.applications }))
+    (sym (removed c))
     (store_removed (store_value c.self.inside) (path_told c.args._body.now) c.self.invariant)
 
 pub invariant_of-self : goal.invariant_of-self
@@ -27,5 +39,8 @@ returns-clause-store c = after c
 
 pub returns-clause-removed : goal.returns-clause-removed
 returns-clause-removed c =
-    (λ i. record (store_value c.self.inside) { resources = (removed c i).resources; applications = (removed c i).applications })
+    (λ i. record (store_value c.self.inside) {
+      resources = (removed c i).resources;
+      applications = (removed c i).applications;
+    })
     ∙ ap (λ (s : StoreValue). removed_in s (path_told c.args._body.now)) c.self.view_is

@@ -11,13 +11,16 @@ returns-then-not-fill_key-clause-value c now =
 pub returns-in-Some-clause-value : goal.returns-in-Some-clause-value
 returns-in-Some-clause-value c now =
     let is = sym c.fill_key.ensures.path ∙ c.if-not-fill_key.false in
-    stored_target _ _ _ _ _ (ap Some (c.fill_key.ensures.filled c.if-not-fill_key.false) ∙ sym (own_key _ is)) c.requires (ap Some c.of.ensures ∙ c.in-Some.ensures.value)
+    stored_target _ _ _ _ _ (ap Some (c.fill_key.ensures.filled c.if-not-fill_key.false) ∙ sym (own_key _ is))
+    c.requires (ap Some c.of.ensures ∙ c.in-Some.ensures.value)
 
 pub returns-in-None-clause-value : goal.returns-in-None-clause-value
 returns-in-None-clause-value c now =
     let is = sym c.fill_key.ensures.path ∙ c.if-not-fill_key.false in
-    stored_target _ _ _ _ _ (ap Some (c.fill_key.ensures.filled c.if-not-fill_key.false) ∙ sym (own_key _ is)) c.requires c.in-None.ensures.value
+    stored_target _ _ _ _ _ (ap Some (c.fill_key.ensures.filled c.if-not-fill_key.false) ∙ sym (own_key _ is))
+    c.requires c.in-None.ensures.value
 
 pub returns-in-Some-clause-index : goal.returns-in-Some-clause-index
 returns-in-Some-clause-index c =
-    subst (λ path. IsFoundAt c.args.self.now.resources path c.in-Some.index) (c.fill_key.ensures.filled c.if-not-fill_key.false) c.in-Some.ensures.index
+    subst (λ path. IsFoundAt c.args.self.now.resources path c.in-Some.index)
+    (c.fill_key.ensures.filled c.if-not-fill_key.false) c.in-Some.ensures.index

@@ -5,4 +5,8 @@ use Rattle.coap_store.proofs.store.Store.listing.Goals as goal
 
 pub returns-clause-short : goal.returns-clause-short
 returns-clause-short c =
-    omega (arith, ap length c.listing.ensures, listing_short (store_value c.self.inside) c.self.inside.resources.applications c.self.invariant c.is_kept.ensures)
+    omega (
+      arith,
+      ap length c.listing.ensures,
+      listing_short (store_value c.self.inside) c.self.inside.resources.applications c.self.invariant c.is_kept.ensures,
+    )

@@ -4,11 +4,17 @@ use Rattle.coap_store.proofs.LinkLemmas.{entry_short}
 use Rattle.coap_store.proofs.StoreLemmas.{store_put, bare_listing_short}
 use Rattle.coap_store.proofs.store.Store.store.Goals as goal
 
-after : (c : goal.After-self-1) → IsStore (record (store_value c.self.inside) { resources = c.put.new.self.resources; applications = c.put.new.self.applications; versions = c.self.inside.versions + 1 })
+after : (c : goal.After-self-1) → IsStore (record (store_value c.self.inside) {
+  resources = c.put.new.self.resources;
+  applications = c.put.new.self.applications;
+  versions = c.self.inside.versions + 1;
+})
 after c =
     let s = store_value c.self.inside in
     let takes = subst (λ v. TakesPut v c.args.path c.args.bytes.now) (sym c.self.view_is) c.requires in
-    subst (λ (k : CatalogueValue). IsStore (record s { resources = k.resources; applications = k.applications; versions = s.versions + 1 })) (sym c.in_ok-put.ensures.ok)
+    subst (λ (k : CatalogueValue).
+    IsStore (record s { resources = k.resources; applications = k.applications; versions = s.versions + 1 }))
+    (sym c.in_ok-put.ensures.ok)
     (store_put s c.args.path c.in_range.result c.args.bytes.now c.self.invariant takes c.in_range.ensures.small)
 
 pub invariant_of-self-2 : goal.invariant_of-self-2

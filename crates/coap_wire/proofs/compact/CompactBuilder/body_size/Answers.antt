@@ -8,5 +8,16 @@ returns-clause-spelled g c =
     let inv = c.self.invariant in
     let m : Message = compact_message c.self.inside in
     let body : length (body_spelling m) ≤ greatest_length =
-    omega (arith, length-body m, c.len-options.ensures.value, c.len-options.ensures.fits, ap length inv.options.encoded, c.marker_size.ensures.size, c.marker_size.ensures.bound, inv.payload, inv.few) in
-    subst HasSpelling c.self.view_is (record { token = inv.token; ordered = inv.options.ordered; each = inv.options.each; body = body })
+    omega (
+      arith,
+      length-body m,
+      c.len-options.ensures.value,
+      c.len-options.ensures.fits,
+      ap length inv.options.encoded,
+      c.marker_size.ensures.size,
+      c.marker_size.ensures.bound,
+      inv.payload,
+      inv.few,
+    ) in
+    subst HasSpelling c.self.view_is
+    (record { token = inv.token; ordered = inv.options.ordered; each = inv.options.each; body = body })

@@ -5,8 +5,10 @@ use Rattle.coap_wire.proofs.compact.CompactBuilder.front_size.Goals as goal
 
 pub returns-clause-size : goal.returns-clause-size
 returns-clause-size g c =
-    front_size_is (compact_message c.self.inside) c.args.self.now c.body_size.result c.bytes-token.result.now c.self.view_is c.body_size.ensures.size c.bytes-token.ensures.bytes _ _ _
-    (c.head_size.ensures.size _ _ refl) (c.len.ensures.value ∙ ap length c.self.invariant.options.encoded) c.marker_size.ensures.size
+    front_size_is (compact_message c.self.inside) c.args.self.now c.body_size.result c.bytes-token.result.now
+    c.self.view_is c.body_size.ensures.size c.bytes-token.ensures.bytes _ _ _
+    (c.head_size.ensures.size _ _ refl) (c.len.ensures.value ∙ ap length c.self.invariant.options.encoded)
+    c.marker_size.ensures.size
 
 pub returns-clause-whole : goal.returns-clause-whole
 returns-clause-whole g c = omega (arith, returns-clause-size g c, length-whole c.args.self.now)

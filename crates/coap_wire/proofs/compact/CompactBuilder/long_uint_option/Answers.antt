@@ -6,5 +6,6 @@ use Rattle.coap_wire.proofs.compact.CompactBuilder.long_uint_option.Goals as goa
 pub returns-clause-added : goal.returns-clause-added
 returns-clause-added g c =
     let value : c.significant_bytes.result.now ≡ bytes_of_uint c.args.value =
-    c.significant_bytes.ensures.rest ∙ ap without_leading_zeros c.to_be_bytes.ensures ∙ sym (four_bytes_of c.args.value (search rules)) in
+    c.significant_bytes.ensures.rest ∙ ap without_leading_zeros c.to_be_bytes.ensures
+    ∙ sym (four_bytes_of c.args.value (search rules)) in
     c.option.ensures.added ∙ ap (with_option c.args.self.now c.args.number) value

@@ -14,5 +14,7 @@ invariant_of-result g c = record {
 pub returns : goal.returns
 returns g c =
     let none : options_in 0 c.new.result.items ≡ [] = ap (options_in 0) c.new.ensures ∙ nothing_read in
-    ap (λ (os : List CoapOption). let m : Message = record { code = c.args.code; token = c.copy.result; options = os; payload = [] } in m) none
-    ∙ ap (λ (t : List ℕ). let m : Message = record { code = c.args.code; token = t; options = []; payload = [] } in m) c.copy.ensures.token
+    ap (λ (os : List CoapOption). let m : Message =
+    record { code = c.args.code; token = c.copy.result; options = os; payload = [] } in m) none
+    ∙ ap (λ (t : List ℕ). let m : Message = record { code = c.args.code; token = t; options = []; payload = [] } in m)
+    c.copy.ensures.token

@@ -13,11 +13,14 @@ returns-in_err-option-clause-steps c =
 pub returns-clause-steps : goal.returns-clause-steps
 returns-clause-steps c =
     sym c.self.view_is
-    ∙ checks c.self.inside.before c.self.inside.options c.next.new.self (coap_option c.in_ok-option.option) c.recognises-is_recognised.result c.in_ok-option.ensures.steps c.self.invariant c.recognises-is_recognised.ensures
+    ∙ checks c.self.inside.before c.self.inside.options c.next.new.self (coap_option c.in_ok-option.option)
+    c.recognises-is_recognised.result c.in_ok-option.ensures.steps c.self.invariant c.recognises-is_recognised.ensures
 
 pub returns-clause-goes : goal.returns-clause-goes
 returns-clause-goes c =
     let e =
     sym c.self.view_is
-    ∙ checks c.self.inside.before c.self.inside.options c.next.new.self (coap_option c.in_ok-option.option) c.recognises-is_recognised.result c.in_ok-option.ensures.steps c.self.invariant c.recognises-is_recognised.ensures in
+    ∙ checks c.self.inside.before c.self.inside.options c.next.new.self (coap_option c.in_ok-option.option)
+    c.recognises-is_recognised.result c.in_ok-option.ensures.steps c.self.invariant
+    c.recognises-is_recognised.ensures in
     search rules

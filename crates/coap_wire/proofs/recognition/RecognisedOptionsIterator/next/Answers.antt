@@ -6,19 +6,22 @@ use Rattle.coap_wire.proofs.recognition.RecognisedOptionsIterator.next.Goals as 
 pub returns-then-is_known-clause-steps : goal.returns-then-is_known-clause-steps
 returns-then-is_known-clause-steps c =
     sym c.loop-option.invariant.1
-    ∙ knows c.loop-option.self-inside.before c.loop-option.self-inside.options c.next.new.self (coap_option c.in-Some.option) c.in-Some.ensures.steps c.loop-option.invariant.0 c.if-is_known.ensures
+    ∙ knows c.loop-option.self-inside.before c.loop-option.self-inside.options c.next.new.self
+    (coap_option c.in-Some.option) c.in-Some.ensures.steps c.loop-option.invariant.0 c.if-is_known.ensures
 
 pub returns-then-is_known-clause-goes : goal.returns-then-is_known-clause-goes
 returns-then-is_known-clause-goes c =
     let e =
     sym c.loop-option.invariant.1
-    ∙ knows c.loop-option.self-inside.before c.loop-option.self-inside.options c.next.new.self (coap_option c.in-Some.option) c.in-Some.ensures.steps c.loop-option.invariant.0 c.if-is_known.ensures in
+    ∙ knows c.loop-option.self-inside.before c.loop-option.self-inside.options c.next.new.self
+    (coap_option c.in-Some.option) c.in-Some.ensures.steps c.loop-option.invariant.0 c.if-is_known.ensures in
     search rules
 
 pub loop-option-preserved : goal.loop-option-preserved
 loop-option-preserved c = (
   stays_ordered _ _ _ (coap_option c.in-Some.option) c.in-Some.ensures.steps c.loop-option.invariant.0,
-  sym (passes_over c.loop-option.self-inside.before c.loop-option.self-inside.options c.next.new.self (coap_option c.in-Some.option) c.in-Some.ensures.steps c.loop-option.invariant.0 c.if-is_known.ensures)
+  sym (passes_over c.loop-option.self-inside.before c.loop-option.self-inside.options c.next.new.self
+      (coap_option c.in-Some.option) c.in-Some.ensures.steps c.loop-option.invariant.0 c.if-is_known.ensures)
       ∙ c.loop-option.invariant.1,
 )
 

@@ -1,5 +1,6 @@
 use Rattle.std.proofs.Common.{◌≡◌, ◌+◌, ◌≤◌, None, false, length}
-use Rattle.coap_client_engine.specs.Prelude.{RunTrace, status_in, turns_in, RunDevices, with_outlets, IsAtTrace, ExtendsTraceOn, IsReady}
+use Rattle.coap_client_engine.specs.Prelude.{RunTrace, status_in, turns_in, RunDevices, with_outlets, IsAtTrace}
+use Rattle.coap_client_engine.specs.Prelude.{ExtendsTraceOn, IsReady}
 use Rattle.coap_client_engine.specs.Prelude.{IsAsked}
 use Rattle.coap_client_engine.proofs.run.state.Run.take_all.Given as goal
 
@@ -9,6 +10,8 @@ invariant-loop g l = record {
   out : g.O.Outlet.is_failed l.out ≡ false;
   err : g.E.Outlet.is_failed l.err ≡ false;
   runs : (start now : RunDevices) (course : RunTrace)
-      → IsAtTrace l.plan start (with_outlets (g.O.Outlet.written l.fn.out) (g.E.Outlet.written l.fn.err) now) l.fn.self course → status_in course ≡ None → IsReady course
-      → ExtendsTraceOn l.plan start (with_outlets (g.O.Outlet.written l.out) (g.E.Outlet.written l.err) now) l.self (IsAsked (turns_in course)) None × (l.counter + length l.self.rest ≤ length l.fn.self.rest);
+      → IsAtTrace l.plan start (with_outlets (g.O.Outlet.written l.fn.out) (g.E.Outlet.written l.fn.err) now) l.fn.self
+      course → status_in course ≡ None → IsReady course
+      → ExtendsTraceOn l.plan start (with_outlets (g.O.Outlet.written l.out) (g.E.Outlet.written l.err) now) l.self
+      (IsAsked (turns_in course)) None × (l.counter + length l.self.rest ≤ length l.fn.self.rest);
 }

@@ -5,17 +5,28 @@ use Rattle.coap_client_engine.proofs.run.state.Run.turn.Goals as goal
 
 pub returns-in-Some-clause-runs : goal.returns-in-Some-clause-runs
 returns-in-Some-clause-runs g c = λ start now course stands goes fresh.
-    let before = with_all (g.W.Wire.given c.args.wire.now) (g.W.Wire.written c.args.wire.now) (g.W.Wire.answers c.args.wire.now) (g.O.Outlet.written c.args.out.now) (g.E.Outlet.written c.args.err.now) now in
-    heard_then (turns_in course) c.in_ok-status.field-0 c.in-Some.status c.in-Some.is (c.in_ok-status.ensures.runs c.args.plan.now start before course stands goes fresh)
+    let before = with_all (g.W.Wire.given c.args.wire.now) (g.W.Wire.written c.args.wire.now)
+    (g.W.Wire.answers c.args.wire.now) (g.O.Outlet.written c.args.out.now) (g.E.Outlet.written c.args.err.now) now in
+    heard_then (turns_in course) c.in_ok-status.field-0 c.in-Some.status c.in-Some.is
+    (c.in_ok-status.ensures.runs c.args.plan.now start before course stands goes fresh)
 
 pub returns-clause-runs : goal.returns-clause-runs
 returns-clause-runs g c = λ start now course stands goes fresh.
-    let before = with_all (g.W.Wire.given c.args.wire.now) (g.W.Wire.written c.args.wire.now) (g.W.Wire.answers c.args.wire.now) (g.O.Outlet.written c.args.out.now) (g.E.Outlet.written c.args.err.now) now in
+    let before = with_all (g.W.Wire.given c.args.wire.now) (g.W.Wire.written c.args.wire.now)
+    (g.W.Wire.answers c.args.wire.now) (g.O.Outlet.written c.args.out.now) (g.E.Outlet.written c.args.err.now) now in
     let heard = c.in_ok-status.ensures.runs c.args.plan.now start before course stands goes fresh in
     let on = heard.ends ∙ c.in_default.is in
-    let middle = with_all (g.W.Wire.given c.read_input.new.wire) (g.W.Wire.written c.read_input.new.wire) (g.W.Wire.answers c.read_input.new.wire) (g.O.Outlet.written c.args.out.now) (g.E.Outlet.written c.read_input.new.err) now in
+    let middle = with_all (g.W.Wire.given c.read_input.new.wire) (g.W.Wire.written c.read_input.new.wire)
+    (g.W.Wire.answers c.read_input.new.wire) (g.O.Outlet.written c.args.out.now)
+    (g.E.Outlet.written c.read_input.new.err) now in
     let went = c.in_ok-next.ensures.runs start middle heard.course heard.stands on (heard.holds.looked on) in
-    let behind = with_all (g.W.Wire.given c.read_input.new.wire) (g.W.Wire.written c.read_input.new.wire) (g.W.Wire.answers c.read_input.new.wire) (g.O.Outlet.written c.process_input.new.out) (g.E.Outlet.written c.process_input.new.err) now in
-    let after = with_all (g.W.Wire.given c.flush.new.wire) (g.W.Wire.written c.flush.new.wire) (g.W.Wire.answers c.flush.new.wire) (g.O.Outlet.written c.process_input.new.out) (g.E.Outlet.written c.flush.new.err) now in
-    subst (λ (n : ℕ). IfOk c.flush.result (ExtendsTraceOn c.args.plan.now start after c.flush.new.self (IsFlushed n))) (went.holds.turns ∙ heard.holds.turns)
-    (c.flush.ensures.runs c.args.plan.now start behind went.course went.stands went.ends went.holds.writes went.holds.rests)
+    let behind = with_all (g.W.Wire.given c.read_input.new.wire) (g.W.Wire.written c.read_input.new.wire)
+    (g.W.Wire.answers c.read_input.new.wire) (g.O.Outlet.written c.process_input.new.out)
+    (g.E.Outlet.written c.process_input.new.err) now in
+    let after =
+    with_all (g.W.Wire.given c.flush.new.wire) (g.W.Wire.written c.flush.new.wire) (g.W.Wire.answers c.flush.new.wire)
+    (g.O.Outlet.written c.process_input.new.out) (g.E.Outlet.written c.flush.new.err) now in
+    subst (λ (n : ℕ). IfOk c.flush.result (ExtendsTraceOn c.args.plan.now start after c.flush.new.self (IsFlushed n)))
+    (went.holds.turns ∙ heard.holds.turns)
+    (c.flush.ensures.runs c.args.plan.now start behind went.course went.stands went.ends
+    went.holds.writes went.holds.rests)

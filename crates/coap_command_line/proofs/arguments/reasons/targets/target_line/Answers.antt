@@ -15,9 +15,11 @@ returns-in-UserInfo c =
 pub returns-in-PartTooLong : goal.returns-in-PartTooLong
 unfolding target_reason
 returns-in-PartTooLong c =
-    ap Some c.line_of-in-PartTooLong.ensures ∙ ap (λ f. option_map line_of (target_reason f c.args.uri.now)) (sym c.in-PartTooLong.is)
+    ap Some c.line_of-in-PartTooLong.ensures
+    ∙ ap (λ f. option_map line_of (target_reason f c.args.uri.now)) (sym c.in-PartTooLong.is)
 
 pub returns-in-TooManyParts : goal.returns-in-TooManyParts
 unfolding target_reason
 returns-in-TooManyParts c =
-    ap Some c.line_of-in-TooManyParts.ensures ∙ ap (λ f. option_map line_of (target_reason f c.args.uri.now)) (sym c.in-TooManyParts.is)
+    ap Some c.line_of-in-TooManyParts.ensures
+    ∙ ap (λ f. option_map line_of (target_reason f c.args.uri.now)) (sym c.in-TooManyParts.is)

@@ -11,5 +11,7 @@ returns-then-can_read g c =
     let asked = an_answer far.wants.read far.readable in
     elim c.if-wants.branch [
       | then-wants w ↦ can_go_on_so far asked.0 asked.1 (or_left _ _ w.if-wants.true) c.if-can_read.true
-      | else-wants w ↦ can_go_on_so far w.can_read.result w.can_read.ensures (or_right _ _ (sym w.value-is ∙ c.if-can_read.true)) c.if-can_read.true
+      | else-wants w ↦
+          can_go_on_so far w.can_read.result w.can_read.ensures
+          (or_right _ _ (sym w.value-is ∙ c.if-can_read.true)) c.if-can_read.true
     ]

@@ -9,6 +9,7 @@ invariant_of-self-2 g c =
     let v = c.args.self.now in
     let keys = (keeps_others v.server c.args.id session_released c.release.ensures.settled).keys in
     record {
-      paired = λ ready. paired_released_on v.second c.args.id (rw c.in_ok-release.ensures.ok keys) c.release_on.ensures (v.paired ready);
+      paired = λ ready. paired_released_on v.second c.args.id (rw c.in_ok-release.ensures.ok keys)
+          c.release_on.ensures (v.paired ready);
       asleep = λ ready. none_asleep g.W.Ready.readable g.W.Ready.writable c.wake_all.ensures;
     }

@@ -6,16 +6,20 @@ use Rattle.coap_serve.proofs.door.service.Service.tick.Goals as goal
 
 pub invariant_of-self-2 : goal.invariant_of-self-2
 invariant_of-self-2 g c =
-    let kept = kept_or_not c.tick.result c.concerned_by_time.result.words (c.concerned_by_time.ensures c.args.now) c.tick.ensures.ok c.tick.ensures.err in
+    let kept = kept_or_not c.tick.result c.concerned_by_time.result.words (c.concerned_by_time.ensures c.args.now)
+    c.tick.ensures.ok c.tick.ensures.err in
     record {
       paired = λ ready. paired_on (c.args.self.now.paired ready) kept.keys;
-      asleep = λ ready. asleep_on g.W.Ready.readable g.W.Ready.writable (sleep_joined kept c.join.ensures) (c.args.self.now.paired ready) (c.args.self.now.asleep ready);
+      asleep = λ ready. asleep_on g.W.Ready.readable g.W.Ready.writable (sleep_joined kept c.join.ensures)
+          (c.args.self.now.paired ready) (c.args.self.now.asleep ready);
     }
 
 -- The time is that of the server.
 pub returns-then-now-moment-clause-moved : goal.returns-then-now-moment-clause-moved
-returns-then-now-moment-clause-moved g c = same_time c.moment.ensures.settled (c.if-now-moment.true ∙ c.moment.ensures.moment)
+returns-then-now-moment-clause-moved g c =
+    same_time c.moment.ensures.settled (c.if-now-moment.true ∙ c.moment.ensures.moment)
 
 pub returns-then-now-moment-clause-told : goal.returns-then-now-moment-clause-told
 returns-then-now-moment-clause-told g c =
-    rw (none_ticked c.args.self.now.server (c.if-now-moment.true ∙ c.moment.ensures.moment)) (followed_none (g.M.Monitor.follows c.args.monitor.now))
+    rw (none_ticked c.args.self.now.server (c.if-now-moment.true ∙ c.moment.ensures.moment))
+    (followed_none (g.M.Monitor.follows c.args.monitor.now))

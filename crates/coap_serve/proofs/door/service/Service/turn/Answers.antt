@@ -1,7 +1,8 @@
 use Rattle.std.proofs.Common.{ap, refl, sym, ◌∙◌}
 use Rattle.std.proofs.lemmas.Result.{err_from_is_err_and}
 use Rattle.coap_serve.specs.Prelude.{service_of, short_wait, wait_within}
-use Rattle.coap_serve.proofs.listener.RunLemmas.{continued_to_end, later_ran, parts_begin, ran_to_end, sweep_ran, time_called, time_ran, turn_ran}
+use Rattle.coap_serve.proofs.listener.RunLemmas.{continued_to_end, later_ran, parts_begin, ran_to_end, sweep_ran}
+use Rattle.coap_serve.proofs.listener.RunLemmas.{time_called, time_ran, turn_ran}
 use Rattle.coap_serve.proofs.listener.ServingLemmas.{both_made, continued_then, none_made}
 use Rattle.coap_serve.proofs.door.service.Service.turn.Goals as goal
 
@@ -11,17 +12,22 @@ returns-then-self-clause-ran g c = none_made _ refl
 
 pub returns-in_err-next-clause-ran : goal.returns-in_err-next-clause-ran
 returns-in_err-next-clause-ran g c =
-    both_made (sweep_ran c.args.self.now.idle c.args.self.now.second c.args.times.second c.args.self.now.peers.entries c.end_silent.ensures.swept)
+    both_made (sweep_ran c.args.self.now.idle c.args.self.now.second c.args.times.second c.args.self.now.peers.entries
+    c.end_silent.ensures.swept)
     (both_made (time_ran c.args.times.now c.tick.ensures.moved
-    (time_called g.M.Monitor.follows c.end_silent.new.monitor c.tick.new.monitor c.tick.result c.args.times.now c.tick.ensures.answer c.tick.ensures.shows c.tick.ensures.told c.tick.ensures.err))
+    (time_called g.M.Monitor.follows c.end_silent.new.monitor c.tick.new.monitor c.tick.result c.args.times.now
+    c.tick.ensures.answer c.tick.ensures.shows c.tick.ensures.told c.tick.ensures.err))
     (both_made (later_ran _ _ _ _ c.answer_later-is_full.ensures.shows) (turn_ran c.visit.ensures.shows)))
 
 pub returns-clause-ran : goal.returns-clause-ran
 returns-clause-ran g c = ran_to_end (
-    both_made (sweep_ran c.args.self.now.idle c.args.self.now.second c.args.times.second c.args.self.now.peers.entries c.end_silent.ensures.swept)
+    both_made (sweep_ran c.args.self.now.idle c.args.self.now.second c.args.times.second c.args.self.now.peers.entries
+    c.end_silent.ensures.swept)
     (both_made (time_ran c.args.times.now c.tick.ensures.moved
-    (time_called g.M.Monitor.follows c.end_silent.new.monitor c.tick.new.monitor c.tick.result c.args.times.now c.tick.ensures.answer c.tick.ensures.shows c.tick.ensures.told c.tick.ensures.err))
-    (both_made (later_ran _ _ _ _ c.answer_later-is_full.ensures.shows) (turn_ran c.visit.ensures.shows)))) c.turn_ended.ensures.follows
+    (time_called g.M.Monitor.follows c.end_silent.new.monitor c.tick.new.monitor c.tick.result c.args.times.now
+    c.tick.ensures.answer c.tick.ensures.shows c.tick.ensures.told c.tick.ensures.err))
+    (both_made (later_ran _ _ _ _ c.answer_later-is_full.ensures.shows) (turn_ran c.visit.ensures.shows))))
+    c.turn_ended.ensures.follows
 
 -- The parts of a whole turn, in order.
 pub returns-clause-turn : goal.returns-clause-turn
@@ -29,13 +35,19 @@ returns-clause-turn g c =
     let v = c.args.self.now in
     let later = c.answer_later-is_full in
     let begun =
-    parts_begin {follows = g.A.Application.follows} {rests = g.A.Application.idle} {times = c.args.times} {s = service_of v.server v.peers.entries v.second v.idle} (g.M.Monitor.follows c.args.monitor.now) (g.M.Monitor.follows c.end_silent.new.monitor) (g.M.Monitor.follows c.tick.new.monitor) (g.M.Monitor.follows later.new.monitor)
-    (g.A.Application.follows c.args.application.now) c.end_silent.new.application later.new.application c.end_silent.ensures.swept c.tick.ensures.moved
-    (time_called g.M.Monitor.follows c.end_silent.new.monitor c.tick.new.monitor c.tick.result c.args.times.now c.tick.ensures.answer c.tick.ensures.shows c.tick.ensures.told c.tick.ensures.err).follows
+    parts_begin {follows = g.A.Application.follows} {rests = g.A.Application.idle} {times = c.args.times}
+    {s = service_of v.server v.peers.entries v.second v.idle} (g.M.Monitor.follows c.args.monitor.now)
+    (g.M.Monitor.follows c.end_silent.new.monitor) (g.M.Monitor.follows c.tick.new.monitor)
+    (g.M.Monitor.follows later.new.monitor)
+    (g.A.Application.follows c.args.application.now) c.end_silent.new.application later.new.application
+    c.end_silent.ensures.swept c.tick.ensures.moved
+    (time_called g.M.Monitor.follows c.end_silent.new.monitor c.tick.new.monitor c.tick.result c.args.times.now
+    c.tick.ensures.answer c.tick.ensures.shows c.tick.ensures.told c.tick.ensures.err).follows
     later.ensures.shows later.ensures.idle in
     let second = later.ensures.times.0 ∙ c.tick.ensures.times.0 ∙ c.end_silent.ensures.second in
     let idle = c.visit.ensures.times.1 ∙ later.ensures.times.1 ∙ c.tick.ensures.times.1 ∙ c.end_silent.ensures.idle in
-    let entries = ap (λ peers. peers.entries) (later.ensures.peers ∙ c.tick.ensures.peers) ∙ c.end_silent.ensures.entries in
+    let entries =
+    ap (λ peers. peers.entries) (later.ensures.peers ∙ c.tick.ensures.peers) ∙ c.end_silent.ensures.entries in
     let turn = rw (second, entries ∙ sym (ap (λ s. s.entries) begun.begun.is_swept)) at c.in_ok-next.ensures.turn in
     record {
       start = record { server = later.new.self.server; is_full = later.result; history = begun.history };
@@ -50,9 +62,18 @@ returns-clause-turn g c =
         visits = turn.visits;
         served = turn.served;
         waits = turn.waits;
-        accepted = record { shows = turn.accepted.shows; known = continued_then begun.history _ begun.known (continued_to_end turn.accepted.known c.turn_ended.ensures.follows) };
+        accepted = record {
+          shows = turn.accepted.shows;
+          known =
+              continued_then begun.history _ begun.known
+              (continued_to_end turn.accepted.known c.turn_ended.ensures.follows);
+        };
       };
-      waits = c.at_most_a_second.ensures ∙ ap (λ i. short_wait i c.visit.new.self.server.host.now c.visit.new.self.peers.entries c.wait_within.result) idle ∙ ap (λ w. short_wait v.idle c.visit.new.self.server.host.now c.visit.new.self.peers.entries w) (c.wait_within.ensures ∙ ap (λ limit. wait_within limit c.in_ok-next.next) c.limit_for-limit.ensures);
+      waits =
+          c.at_most_a_second.ensures
+          ∙ ap (λ i. short_wait i c.visit.new.self.server.host.now c.visit.new.self.peers.entries c.wait_within.result)
+          idle ∙ ap (λ w. short_wait v.idle c.visit.new.self.server.host.now c.visit.new.self.peers.entries w)
+          (c.wait_within.ensures ∙ ap (λ limit. wait_within limit c.in_ok-next.next) c.limit_for-limit.ensures);
       second = c.visit.ensures.times.0 ∙ second;
       idle = idle;
     }
@@ -64,14 +85,24 @@ returns-in_err-next-clause-cut g c =
     let v = c.args.self.now in
     let later = c.answer_later-is_full in
     let begun =
-    parts_begin (g.M.Monitor.follows c.args.monitor.now) (g.M.Monitor.follows c.end_silent.new.monitor) (g.M.Monitor.follows c.tick.new.monitor) (g.M.Monitor.follows later.new.monitor)
-    (g.A.Application.follows c.args.application.now) c.end_silent.new.application later.new.application c.end_silent.ensures.swept c.tick.ensures.moved
-    (time_called g.M.Monitor.follows c.end_silent.new.monitor c.tick.new.monitor c.tick.result c.args.times.now c.tick.ensures.answer c.tick.ensures.shows c.tick.ensures.told c.tick.ensures.err).follows
+    parts_begin (g.M.Monitor.follows c.args.monitor.now) (g.M.Monitor.follows c.end_silent.new.monitor)
+    (g.M.Monitor.follows c.tick.new.monitor) (g.M.Monitor.follows later.new.monitor)
+    (g.A.Application.follows c.args.application.now) c.end_silent.new.application later.new.application
+    c.end_silent.ensures.swept c.tick.ensures.moved
+    (time_called g.M.Monitor.follows c.end_silent.new.monitor c.tick.new.monitor c.tick.result c.args.times.now
+    c.tick.ensures.answer c.tick.ensures.shows c.tick.ensures.told c.tick.ensures.err).follows
     later.ensures.shows later.ensures.idle in
     let cut = c.visit.ensures.shows in
     rw p.1 (λ ready. record {
       start = record { server = later.new.self.server; is_full = later.result; history = begun.history };
       begun = begun.begun;
       asked = c.visit.ensures.asks;
-      cut = record { history = cut.history; made = cut.made; accepted = record { shows = cut.accepted.shows; known = continued_then begun.history cut.history begun.known cut.accepted.known } };
+      cut = record {
+        history = cut.history;
+        made = cut.made;
+        accepted = record {
+          shows = cut.accepted.shows;
+          known = continued_then begun.history cut.history begun.known cut.accepted.known;
+        };
+      };
     })

@@ -15,8 +15,12 @@ returns-in-Some c =
     let after = c.insert-in-Some.new.self in
     let now : Concerned = record { paths = with_item old.paths c.from.result after; time = c.insert.new.self } in
     let within : c.from.result < length old.paths.items = omega (arith, c.requires, c.from.ensures) in
-    noted old now at v (length-set old.paths.items c.from.result after ∙ c.requires) (outside_inserted old.time.words c.insert.new.self.words at c.insert.ensures.set c.insert.ensures.others)
-    (noted_one old at v c.from.result before after (slice_get_read old.paths.items _ c.from.result before refl within c.index_mut.ensures.value) (sym c.in-Some.ensures ∙ ap Some (sym c.from.ensures)) (outside_inserted before.words after.words at c.insert-in-Some.ensures.set c.insert-in-Some.ensures.others))
+    noted old now at v (length-set old.paths.items c.from.result after ∙ c.requires)
+    (outside_inserted old.time.words c.insert.new.self.words at c.insert.ensures.set c.insert.ensures.others)
+    (noted_one old at v c.from.result before after
+    (slice_get_read old.paths.items _ c.from.result before refl within c.index_mut.ensures.value)
+    (sym c.in-Some.ensures ∙ ap Some (sym c.from.ensures))
+    (outside_inserted before.words after.words at c.insert-in-Some.ensures.set c.insert-in-Some.ensures.others))
 
 pub returns-in_default : goal.returns-in_default
 returns-in_default c =
@@ -24,5 +28,6 @@ returns-in_default c =
     let v = c.args.session.now.session in
     let at = c.args.at in
     let now : Concerned = record { paths = old.paths; time = c.insert.new.self } in
-    noted old now at v c.requires (outside_inserted old.time.words c.insert.new.self.words at c.insert.ensures.set c.insert.ensures.others)
+    noted old now at v c.requires
+    (outside_inserted old.time.words c.insert.new.self.words at c.insert.ensures.set c.insert.ensures.others)
     (noted_none old at v (sym c.in_default.ensures))

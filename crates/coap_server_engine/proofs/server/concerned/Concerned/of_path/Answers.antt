@@ -6,4 +6,5 @@ pub returns : goal.returns
 returns c =
     let sets = c.args.self.now.paths.items in
     let within : c.from.result < length sets = omega (arith, c.requires, c.from.ensures) in
-    subst (λ k. slice_get sets k ≡ Some c.index.result.now) c.from.ensures (slice_get_read sets _ c.from.result c.index.result.now refl within c.index.ensures)
+    subst (λ k. slice_get sets k ≡ Some c.index.result.now) c.from.ensures
+    (slice_get_read sets _ c.from.result c.index.result.now refl within c.index.ensures)
