@@ -123,6 +123,7 @@ STEPS = [
     Step(["python3", "tests/system/interop.py", SERVER, CLIENT], 17, 1),
     Step(["python3", "tests/system/haproxy.py", SERVER], 36, 2),
     Step(["python3", "tests/system/embedding.py", *EXAMPLES, SERVER, CLIENT], 5, 1),
+    Step(["python3", "tests/system/documents.py", SERVER, CLIENT, EXPLAIN], 11, 1),
     Step(["python3", "tests/system/c_library.py", SERVER, CLIENT, LIBRARY], 40, 35, (PROVED, ARCHIVE)),
     Step(["python3", "tests/system/mqtt.py", "--build"], 3, 2, (ARCHIVE,), GATEWAY),
     *parts(["python3", "tests/system/mqtt.py", MQTT], [(50, 8), (60, 12), (90, 15), (120, 30)], (GATEWAY,)),

@@ -1,4 +1,4 @@
-"""Checks the unit, the installation, and the commands of docs/DEPLOYING.md."""
+"""Checks the unit, the installation, and the commands of docs/GATEWAYS.md."""
 
 import contextlib
 import os
@@ -86,8 +86,8 @@ echo $! >>@/processes
 
 
 def commands():
-    """Returns the commands of the section on gateways."""
-    with open(f"{ROOT}/docs/DEPLOYING.md", encoding="utf-8") as file:
+    """Returns the commands of the page on gateways, to the end of their section."""
+    with open(f"{ROOT}/docs/GATEWAYS.md", encoding="utf-8") as file:
         section = file.read().partition("\nThese commands lead from nothing to two gateways")[2].partition("\n## ")[0]
     return "".join(line[4:] for line in section.splitlines(keepends=True) if line.startswith("    "))
 
@@ -136,7 +136,7 @@ def end_other(process):
 
 
 def check_documented(checks, program):
-    """Runs the commands of docs/DEPLOYING.md, with stand-ins for systemd and apt, below a temporary folder."""
+    """Runs the commands of docs/GATEWAYS.md, with stand-ins for systemd and apt, below a temporary folder."""
     with tempfile.TemporaryDirectory(prefix="coap-mqtt-") as folder:
         ports = {name: free_port() for name in ("mosquitto", "one", "two", "haproxy")}
         replaced, text = installed(folder, program, ports), commands()
