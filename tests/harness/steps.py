@@ -93,6 +93,7 @@ SOURCES = [
     Step(["python3", "tests/tools/layout.py"], 10, 16),
     Step(["python3", "tests/tools/crate_limits.py"], 1, 1),
     Step(["python3", "tests/tools/conformance.py"], 1, 1),
+    Step(["python3", "tests/tools/guarantees.py"], 2, 1),
     Step(["python3", "tests/tools/examples.py"], 1, 1),
     Step(["python3", "tests/tools/prose.py"], 5, 5),
     Step(["python3", "tests/vectors/row_list.py"], 1, 1),

@@ -128,8 +128,8 @@ def differing_names(then, now):
 
 
 def essence(text):
-    """Returns a text without comments, white space, and the marks of a bracket with line breaks. Each imported name has an
-    import of its own."""
+    """Returns a text without comments, white space, and the marks of a bracket with line breaks. Each imported name has
+    an import of its own."""
     bare = MARKS.sub("", "".join(COMMENT.sub("", text).split()))
     return IMPORT.sub(lambda it: "".join(f"{it[1]}{name};" for name in it[2].split(",")), bare)
 
