@@ -1,8 +1,8 @@
 # Proves, builds, runs, tests and measures. Requires Rattle's toolchain (`rt`) and Python 3. `make test` installs
 # Debian's dpkg-dev, g++, gcc, haproxy, libc6-dev, libcoap3-bin, libcoap3-dev, libmosquitto-dev, lintian, mandoc,
-# mosquitto, mosquitto-clients, openssl, pkg-config, prometheus, systemd, tshark and valgrind if they are missing.
-# `make bench` installs gcc, gnuplot-nox, haproxy, libc6-dev, libcoap3-bin and valgrind. `make lib` needs binutils,
-# `make gateway` gcc and libmosquitto-dev too, and `make deb` dpkg-dev too.
+# mosquitto, mosquitto-clients, openssl, pkg-config, prometheus, socat, systemd, tshark and valgrind, if they are
+# missing. `make bench` installs gcc, gnuplot-nox, haproxy, libc6-dev, libcoap3-bin and valgrind. `make lib` needs
+# binutils, `make gateway` gcc and libmosquitto-dev too, and `make deb` dpkg-dev too.
 
 # Only one build of proofs runs at a time, also with -j: each uses all processors itself.
 .NOTPARALLEL:
@@ -101,6 +101,7 @@ install:
 	install -D -m 0755 -t "$(DESTDIR)$(PREFIX)/bin" bin/coap-server bin/coap-client bin/coap-explain bin/coap-directory
 	install -D -m 0644 -t "$(DESTDIR)$(PREFIX)/share/man/man1" \
 	    man/coap-server.1 man/coap-client.1 man/coap-explain.1 man/coap-directory.1
+	install -D -m 0644 -t "$(DESTDIR)$(PREFIX)/share/man/man7" man/dachreup.7
 	install -D -m 0644 -t "$(DESTDIR)$(PREFIX)/$(COMPLETIONS)" \
 	    $(addprefix install/completions/,coap-server coap-client coap-explain coap-directory)
 	install -D -m 0644 install/coap-server.service.in "$(DESTDIR)$(PREFIX)/lib/systemd/system/coap-server.service"
@@ -134,6 +135,7 @@ uninstall:
 	rm -f "$(DESTDIR)$(PREFIX)/share/man/man1/coap-server.1" "$(DESTDIR)$(PREFIX)/share/man/man1/coap-client.1"
 	rm -f "$(DESTDIR)$(PREFIX)/share/man/man1/coap-explain.1"
 	rm -f "$(DESTDIR)$(PREFIX)/bin/coap-directory" "$(DESTDIR)$(PREFIX)/share/man/man1/coap-directory.1"
+	rm -f "$(DESTDIR)$(PREFIX)/share/man/man7/dachreup.7"
 	for name in coap-server coap-client coap-explain coap-directory coap-mqtt; do \
 	    rm -f "$(DESTDIR)$(PREFIX)/$(COMPLETIONS)/$$name"; \
 	done

@@ -27,6 +27,8 @@ UNIT = "lib/systemd/system/coap-server.service"
 
 FRONT = "share/doc/coap-server/examples/haproxy.cfg"
 
+SHARED = "share/man/man7/dachreup.7"
+
 # The files of the C library, each with its source. The pkg-config file differs from its source.
 LIBRARY = {
     "lib/libcoap_proved.a": "bin/libcoap_proved.a",
@@ -47,7 +49,7 @@ def wanted_files(has_library):
     files.update({name: 0o644 for name in LIBRARY if has_library})
     files.update({"share/man/man1/%s.1" % name: 0o644 for name in PROGRAMS})
     files.update({"share/bash-completion/completions/%s" % name: 0o644 for name in PROGRAMS})
-    files.update({UNIT: 0o644, FRONT: 0o644})
+    files.update({UNIT: 0o644, FRONT: 0o644, SHARED: 0o644})
     return files
 
 
@@ -135,8 +137,8 @@ def check_prefix(checks, tree, prefix, has_library):
             checks.same("%s: %s" % (told, name), read(place, "bin", name) == read(tree, "bin", name), True)
             checks.same("%s: %s.1" % (told, name),
                         read(place, "share/man/man1", name + ".1") == read(tree, "man", name + ".1"), True)
-        checks.same("%s: HAProxy's configuration" % told, read(place, FRONT) == read(tree, "install", "haproxy.cfg"),
-                    True)
+        for name, source in ((FRONT, "install/haproxy.cfg"), (SHARED, "man/dachreup.7")):
+            checks.same("%s: %s" % (told, name), read(place, name) == read(tree, source), True)
         if has_library:
             check_library(checks, tree, told, place)
         unit = read(place, UNIT).decode()

@@ -3,7 +3,7 @@ examples.
 
     tests/system/manuals.py bin/coap-server bin/coap-client bin/coap-explain bin/coap-directory
 
-The script needs Debian's package mandoc, and installs it if it is missing.
+The script needs Debian's packages mandoc and socat, and installs the missing ones.
 """
 
 import contextlib
@@ -16,10 +16,13 @@ import tempfile
 HERE = os.path.dirname(os.path.abspath(__file__))
 sys.path[:0] = [os.path.join(HERE, "..", "harness"), os.path.join(HERE, "manuals")]
 from checks import Checks  # noqa: E402
-from manual_examples import check_answered, check_examples, check_form, check_sentences, check_signal  # noqa: E402
+from manual_examples import (  # noqa: E402
+    SHARED, SHARED_SECTIONS, check_answered, check_examples, check_form, check_record, check_references, check_relay,
+    check_sentences, check_signal,
+)
 from manual_lines import (  # noqa: E402
-    URI, check_causes, check_faults, check_hindrances, check_lines, check_log, check_printed, check_statuses,
-    client_faults, directory_faults, explain_faults, server_faults,
+    URI, check_causes, check_faults, check_hindrances, check_lines, check_log, check_printed, check_reasons,
+    check_statuses, client_faults, directory_faults, explain_faults, server_faults,
 )
 from manual_options import (  # noqa: E402
     check_clashes, check_defaults, check_formats, check_options, check_order, check_ranges, check_targets, check_values,
@@ -28,7 +31,7 @@ from manual_pages import Manual  # noqa: E402
 from manual_sources import SOURCES, source_of  # noqa: E402
 from packages import install  # noqa: E402
 
-PACKAGES = {"mandoc": "mandoc"}
+PACKAGES = {"mandoc": "mandoc", "socat": "socat"}
 
 # An address of no machine (RFC 5737). The directory ends at once, because it cannot listen there.
 FOREIGN = "203.0.113.1"
@@ -51,8 +54,18 @@ def closed_port():
         yield taken.getsockname()[1]
 
 
+def check_shared(checks, shared, programs):
+    """Checks the manual of section 7."""
+    check_form(checks, shared, SHARED_SECTIONS)
+    check_references(checks)
+    check_log(checks, shared, "coap-server")
+    check_log(checks, shared, "coap-client")
+    check_reasons(checks, shared)
+    check_record(checks, shared, programs)
+
+
 def check(server, client, explain, directory):
-    checks = Checks()
+    checks, shared = Checks(), Manual(SHARED, 7)
     with closed_port() as port, named_programs(server=server, client=client, explain=explain,
                                                directory=directory) as programs:
         for name, program, faults, more in (
@@ -71,7 +84,7 @@ def check(server, client, explain, directory):
                            source_of(["coap_command_line/src/arguments/%s.rt" % name.removeprefix("coap-")]))
             check_statuses(checks, manual, source)
             check_lines(checks, manual, source)
-            check_printed(checks, manual)
+            check_printed(checks, manual, shared)
             check_values(checks, manual, program, more)
             check_sentences(checks, manual)
             check_faults(checks, manual, program, faults)
@@ -81,12 +94,13 @@ def check(server, client, explain, directory):
         check_clashes(checks, Manual("coap-client"), r"-\w|, only")
         check_clashes(checks, Manual("coap-server"), r"--")
         check_clashes(checks, Manual("coap-directory"), r"--record-limit")
-        check_targets(checks, Manual("coap-client"))
+        check_targets(checks, Manual("coap-client"), client)
         check_signal(checks, server)
         check_causes(checks, Manual("coap-client"))
-        check_log(checks, Manual("coap-server"))
-        check_log(checks, Manual("coap-client"))
-        check_answered(checks, Manual("coap-client"), server, programs)
+        check_answered(checks, Manual("coap-client"), server, ["-d", "100"], programs)
+        check_answered(checks, Manual("coap-directory"), directory, [], programs)
+        check_relay(checks, Manual("coap-client"), server, programs)
+        check_shared(checks, shared, programs)
     print("manuals: %d passed, %d failed" % (checks.passed, checks.failed))
     return 1 if checks.failed else 0
 

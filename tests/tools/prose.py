@@ -299,7 +299,7 @@ def checked(kind, text):
     """Returns the findings in a text, by line; the kind of the text is the suffix of its file name."""
     if kind == ".md":
         found = findings_of(numbered(text))
-    elif kind == ".1":
+    elif kind in (".1", ".3", ".7"):
         found = findings_of(manual(text))
     elif kind == ".rt":
         found = rust(text)
@@ -323,7 +323,7 @@ def groups():
     def files(*patterns):
         return sorted(it for one in patterns for it in glob.glob(f"{ROOT}/{one}", recursive=True))
     yield "README and docs", files("*.md", "docs/*.md")
-    yield "manuals", files("man/*.1")
+    yield "manuals", files("man/*.[137]")
     yield "scripts", [it for it in files("tests/**/*", "bench/**/*") if is_script(it)]
     for crate in listed():
         yield crate, files(f"crates/{crate}/src/**/*.rt",

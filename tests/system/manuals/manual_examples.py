@@ -1,5 +1,6 @@
-"""Checks the form, the sentences and the examples of a manual."""
+"""Checks the form, the sentences, the references and the examples of a manual."""
 
+import glob
 import os
 import re
 import signal
@@ -7,11 +8,17 @@ import subprocess
 import tempfile
 
 from checks import CSM
-from manual_pages import USAGE, run
-from peers import Server, read_bytes, read_to_end
+from manual_pages import USAGE, Manual, run
+from peers import LIMIT, Server, free_port, read_bytes, read_to_end
+from workspace import ROOT
 
 SECTIONS = ["NAME", "SYNOPSIS", "DESCRIPTION", "EXIT STATUS", "EXAMPLES", "DIAGNOSTICS", "SEE ALSO", "STANDARDS",
             "LIMITATIONS"]
+
+# The manual of section 7, to which the other ones refer, and its sections.
+SHARED = "dachreup"
+SHARED_SECTIONS = ["NAME", "DESCRIPTION", "LOG", "REASONS", "SILENT CONNECTIONS", "SCRIPTS", "RECORD FILES",
+                   "DIAGNOSTICS", "SEE ALSO", "STANDARDS"]
 
 # Timeouts in seconds: of an example, which may listen or wait, and of one of the client with a server that responds.
 # The longest of these observes for ten seconds.
@@ -31,13 +38,30 @@ WAYS_AROUND = [
 ]
 
 
-def check_form(checks, manual):
-    """Checks that mandoc accepts the page without a remark, and renders all its sections."""
-    done = run(["mandoc", "-T", "lint", "-W", "warning", manual.path])
-    checks.same("%s: remarks of mandoc" % manual.name, done, (0, "", ""))
+def check_form(checks, manual, sections=SECTIONS):
+    """Checks that mandoc accepts the page without a remark, and renders all its sections. Other manuals need not be
+    installed."""
+    _, remarks, _ = run(["mandoc", "-T", "lint", manual.path])
+    checks.same("%s: remarks of mandoc" % manual.name,
+                [it for it in remarks.splitlines() if "referenced manual not found" not in it], [])
     status, text = manual.rendered()
     checks.same("%s: mandoc's status" % manual.name, status, 0)
-    checks.same("%s: missing sections" % manual.name, [it for it in SECTIONS if "\n%s\n" % it not in text], [])
+    checks.same("%s: missing sections" % manual.name, [it for it in sections if "\n%s\n" % it not in text], [])
+
+
+def check_references(checks):
+    """Checks that each manual refers to that of section 7, and that one to each. Sections that a manual names in
+    another one exist there."""
+    manuals = {}
+    for path in glob.glob(os.path.join(ROOT, "man", "*.[137]")):
+        name, _, number = os.path.basename(path).rpartition(".")
+        manuals[name] = Manual(name, number)
+    for name, manual in manuals.items():
+        referred = set(re.findall(r"(?m)^\.Xr (\S+) \d", manual.text))
+        checks.same("%s: missing references" % name, sorted((manuals.keys() if name == SHARED else {SHARED})
+                                                            - referred - {name}), [])
+        for section, other in re.findall(r"([A-Z][A-Z ]+[A-Z]) in\n\.Xr (\S+) \d", manual.text):
+            checks.same("%s: the section %s of %s" % (name, section, other), section in manuals[other].sections, True)
 
 
 def check_sentences(checks, manual):
@@ -88,16 +112,77 @@ def check_examples(checks, manual, programs):
                 status, output, error = play(command, folder, programs)
                 checks.same("%s: %r is valid" % (manual.name, command), (status == USAGE, "error:" in error),
                             (False, False))
-                if shown.strip():
+                if shown.strip() and not URI.search(command):
                     checks.same("%s: output of %r" % (manual.name, command), (status, output.rstrip()),
                                 (0, shown.rstrip()))
 
 
-def check_answered(checks, manual, server, programs):
-    """Checks that the examples of the client succeed with a server that responds, with its port in their URIs."""
-    with Server(server, ["-d", "100"]) as listening, tempfile.TemporaryDirectory() as folder:
-        for command, _ in (example for block in manual.examples() for example in block):
-            there = re.sub(r"//(127\.0\.0\.1|\[::1\]:5700)/", "//127.0.0.1:%d/" % listening.port, command)
-            status, _, error = play(there, folder, programs, ANSWERED_LASTS)
-            checks.same("%s: %r is answered" % (manual.name, command), (str(listening.port) in there, status, error),
-                        (True, 0, ""))
+# The beginning of a URI in an example, whose port a check replaces.
+URI = re.compile(r"//(127\.0\.0\.1|\[::1\]:5700)/")
+
+
+def check_answered(checks, manual, server, words, programs):
+    """Checks that the examples with a URI succeed with a server that responds, and that one with output writes it."""
+    with Server(server, words) as listening, tempfile.TemporaryDirectory() as folder:
+        examples = [it for block in manual.examples() for it in block if URI.search(it[0])]
+        checks.same("%s: examples with a URI are found" % manual.name, len(examples) > 1, True)
+        for command, shown in examples:
+            there = URI.sub("//127.0.0.1:%d/" % listening.port, command)
+            status, output, error = play(there, folder, programs, ANSWERED_LASTS)
+            checks.same("%s: %r is answered" % (manual.name, command), (status, error), (0, ""))
+            if shown.strip():
+                checks.same("%s: output of %r" % (manual.name, command), output.rstrip(), shown.rstrip())
+
+
+def check_relay(checks, manual, server, programs):
+    """Checks that the client reaches a server by the relay of its manual, with another address and other ports."""
+    [command] = re.findall(r"(?m)^ +(socat .*)$", re.sub(r"\\\n +", "", manual.part("LIMITATIONS")))
+    port = free_port()
+    with Server(server, host="::1") as listening:
+        # Other tests leave the port free only for programs that use this option.
+        there = command.replace("fe80::1%eth0]:5683", "::1]:%d" % listening.port)
+        there = there.replace(":5700", ":%d,reuseaddr" % port)
+        relay = subprocess.Popen(["sh", "-c", "exec " + there], stdin=subprocess.DEVNULL, start_new_session=True)
+        try:
+            ask = "until coap-client coap+tcp://127.0.0.1:%d/; do sleep 0.1; done" % port
+            status, output, _ = play(ask, programs, programs, LIMIT)
+            checks.same("%s: the relay %r" % (manual.name, command), (status, output), (0, "coap+tcp"))
+        finally:
+            os.killpg(relay.pid, signal.SIGKILL)
+            relay.wait(LIMIT)
+
+
+def options_in(line):
+    """Returns the names of the options in a line of the header of a record."""
+    return re.findall(r" (-{1,2}[a-z][\w-]*)", line)
+
+
+def check_record(checks, shared, programs):
+    """Checks that a server and a directory write the header of the manual. Checks also that the command of the manual
+    repairs a record."""
+    header = re.findall(r"(?m)^ +(# .*)$", shared.part("RECORD FILES"))
+    [[(repair, _)]] = shared.examples("RECORD FILES")
+    starts = re.search(r"--starts \S+", header[1])[0]
+    command = "coap-server --stdio -d 100 %s --record monday" % starts
+    with tempfile.TemporaryDirectory() as folder:
+        checks.same("a record", play(command, folder, programs)[0], 0)
+        path = os.path.join(folder, "monday")
+        with open(path, encoding="utf-8") as file:
+            lines = file.read().splitlines()
+        for said, line in zip(header, lines):
+            pattern = re.escape(said).replace(re.escape("..."), ".*")
+            checks.same("the header %r is as in the manual" % line, bool(re.fullmatch(pattern, line)), True)
+        order = re.search(r"in this order:\n((?:\.Fl .*\n|and\n)+)", shared.text)[1]
+        named = ["-" + name for name in re.findall(r"\.Fl (\S+)", order)]
+        checks.same("options of the header", options_in(lines[1]), named)
+        other = os.path.join(folder, "registrations")
+        with Server(os.path.join(programs, "coap-directory"), ["--record", other]):
+            with open(other, encoding="utf-8") as file:
+                line = file.read().splitlines()[1]
+        checks.same("options of the header of a directory", options_in(line), [*named, *["--application"] * 3])
+        with open(path, "a", encoding="utf-8") as file:
+            file.write("tick 17")
+        replay = "coap-server --script monday -d 100"
+        checks.same("a record with a part of a line", play(replay, folder, programs)[0], USAGE)
+        checks.same("the repair %r" % repair, play(repair.replace("FILE", "monday"), folder, programs), (0, "", ""))
+        checks.same("a repaired record", play(replay, folder, programs)[0], 0)

@@ -95,13 +95,21 @@ def check_lines(checks, manual, source):
                 sorted({front_of(it) for it in told} - UNREACHED - listed), [])
 
 
-def check_printed(checks, manual):
-    """Checks that the manual has each text that the program prints for an error, and that its lists of second lines
-    have no other. Each entry has at least two sentences: the cause and a remedy."""
+def entries_of(manual, shared):
+    """Returns the diagnostics of a manual, each with its lines. Those of an entry that refers to the shared manual are
+    followed by the lines of the entry there."""
+    common = {plain(words): lines for words, lines in shared.items("DIAGNOSTICS")}
+    return {plain(words): lines + common.get(plain(words), []) * (".Xr %s 7 ." % shared.name in lines)
+            for words, lines in manual.items("DIAGNOSTICS")}
+
+
+def check_printed(checks, manual, shared):
+    """Checks that the manual, or the shared one, has each text that the program prints for an error. The lists of
+    second lines have no other. Each entry has at least two sentences: the cause and a remedy."""
     texts, values = printed(manual.name)
     errors = {shape(it) for it in re.findall(r'#\[error\("([^"]+)"', code_of(ERRORS[manual.name]))}
     errors -= UNPRINTED[manual.name]
-    entries = {plain(words): lines for words, lines in manual.items("DIAGNOSTICS")}
+    entries = entries_of(manual, shared)
     nested = {name: [it for it, _ in nested_items(lines)] for name, lines in entries.items()}
     checks.same("%s: texts are found" % manual.name, (len(texts) > 3, len(errors) > 1), (True, True))
     checks.same("%s: unknown values that are printed" % manual.name, sorted(values - VALUES), [])
@@ -145,14 +153,23 @@ LOGS = {
 }
 
 
-def check_log(checks, manual):
-    """Checks that the section on the log has each text of the log."""
-    section = manual.rendered()[1].partition("\nLOG\n")[2].partition("\nSEE ALSO\n")[0]
-    files, fewest, patterns = LOGS[manual.name]
+def check_log(checks, shared, name):
+    """Checks that the sections on the log in the shared manual have each text of the log of a program."""
+    said = " ".join((shared.part("LOG") + shared.part("REASONS")).split())
+    files, fewest, patterns = LOGS[name]
     texts = [text for pattern in patterns for text in re.findall(pattern, source_of(files))]
-    checks.same("%s: number of texts of the log" % manual.name, len(texts) >= fewest, True)
+    checks.same("%s: number of texts of the log" % name, len(texts) >= fewest, True)
     for words in texts:
-        checks.same("%s: log: %r" % (manual.name, words), words.strip(" :;") in " ".join(section.split()), True)
+        checks.same("%s: log: %r" % (name, words), words.strip(" :;") in said, True)
+
+
+def check_reasons(checks, shared):
+    """Checks that the shared manual has the number and the text of each reason of the source."""
+    numbers = re.findall(r"(?m)^ +Reason::(\w+)(?:\(_\))? => (\d+),", source_of(["coap_conn/src/reason.rt"]))
+    texts = dict(re.findall(r'Reason::(\w+)(?:\(_\))? => "([^"]+)"', source_of(["coap_server_common/src/reasons.rt"])))
+    items = " , ".join(" ".join(words) for words, _ in shared.items("REASONS"))
+    listed = re.findall(r"(\d+) (.+?)(?= , |$)", items)
+    checks.same("reasons", sorted(listed), sorted((number, texts[name]) for name, number in numbers))
 
 
 def check_faults(checks, manual, program, faults):

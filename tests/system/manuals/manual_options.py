@@ -130,9 +130,24 @@ def check_clashes(checks, manual, beginning):
                 wanted)
 
 
-def check_targets(checks, manual):
-    """Checks the second lines for URIs that are no targets."""
+# URIs that are no targets: at least one for each second line.
+BAD_TARGETS = ["x", "coap+tcp://a:99999/", "coap+tcp://[fe80::1%eth0]/", "coap://a/", "coaps+tcp://a/", "coap+tcp:///a",
+               "coap+tcp://a@b/", "coap+tcp://a/#b", "coap+tcp://a/" + "b" * 256, "coap+tcp://a" + "/b" * 17]
+
+
+def check_targets(checks, manual, program):
+    """Checks the second lines for URIs that are no targets, each after the number of the first line."""
     texts = re.findall(r'(?<!b)"([^"\n]+)"', code_of(["coap_command_line/src/arguments/reasons/targets.rt"]))
     lines = next(lines for words, lines in manual.items("DIAGNOSTICS") if plain(words) == "bad target {}")
-    listed = parts_of(it for it, _ in nested_items(lines) if not it.isdigit())
-    checks.same("%s: second lines of bad targets" % manual.name, listed, {it.strip() for it in texts})
+    listed = [tuple(it.split(" ", 1)) for it, _ in nested_items(lines)]
+    checks.same("%s: second lines of bad targets" % manual.name, parts_of(it for _, it in listed),
+                {it.strip() for it in texts})
+    seen = set()
+    for uri in BAD_TARGETS:
+        first, second = run([program, uri])[2].splitlines()
+        found = [it for it in listed if re.fullmatch("%s: %s" % (manual.name, re.escape(it[1]).replace(r"\{\}", ".*")),
+                                                     second)]
+        checks.same("%s: the number and the line for %r" % (manual.name, uri), [it for it, _ in found],
+                    [first.split()[-1]])
+        seen.update(found)
+    checks.same("%s: second lines of no URI" % manual.name, sorted(set(listed) - seen), [])

@@ -21,13 +21,14 @@ def run(words, stream=b""):
 
 
 class Manual:
-    """A manual: the lines of its sections."""
+    """A manual: its text, and the lines of its sections."""
 
-    def __init__(self, name):
+    def __init__(self, name, number=1):
         self.name = name
-        self.path = os.path.join(ROOT, "man", "%s.1" % name)
+        self.path = os.path.join(ROOT, "man", "%s.%s" % (name, number))
         with open(self.path, encoding="utf-8") as file:
-            parts = re.split(r"(?m)^\.Sh (.*)\n", file.read())
+            self.text = file.read()
+        parts = re.split(r"(?m)^\.Sh (.*)\n", self.text)
         self.sections = dict(zip(parts[1::2], (part.splitlines() for part in parts[2::2])))
 
     def items(self, section):
@@ -69,11 +70,15 @@ class Manual:
                 found[line[4:].replace("Ar ", "")] = status
         return found
 
-    def examples(self):
-        """Returns the blocks of examples as they are rendered: each a list of commands with the lines that they
-        write."""
+    def part(self, section):
+        """Returns a section as it is rendered."""
         shown = re.split(r"(?m)^(?=\S)", self.rendered()[1])
-        text = next(part for part in shown if part.startswith("EXAMPLES\n"))
+        return next(part for part in shown if part.startswith(section + "\n"))
+
+    def examples(self, section="EXAMPLES"):
+        """Returns the blocks of examples as they are rendered: each a list of commands with the lines that they write.
+        A line of a command that ends in a backslash continues on the next one."""
+        text = re.sub(r"\\\n +", "", self.part(section))
         blocks = [textwrap.dedent(block) for block in text.split("\n\n") if block.lstrip().startswith("$ ")]
         return [[command.partition("\n")[::2] for command in re.split(r"(?m)^\$ ", block)[1:]] for block in blocks]
 

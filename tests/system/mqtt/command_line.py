@@ -1,12 +1,14 @@
-"""Checks the options of coap-mqtt, its manual and its completions."""
+"""Checks the options of coap-mqtt, its manual with its example, and its completions."""
 
+import os
 import re
 import socket
 import tempfile
 
 from commands import completions
-from gateway_checks import run, write_file
-from peers import LOCAL
+from gateway_checks import accepts, run, write_file
+from gateways import soon
+from peers import LOCAL, free_port, started
 from workspace import ROOT
 
 BAD_OPTIONS = [
@@ -51,6 +53,30 @@ def check_manual(checks, program):
         about = plain.partition(f"Fl {name[1:]} ")[2] if f"Fl {name[1:]} " in plain else plain
         texts = (default, f"{int(default):,}" if default.isdigit() else default)
         checks.same(f"default of {name}", any(it in about for it in texts), True)
+
+
+def check_example(checks, program):
+    """Runs the example of the manual with other ports. Waits for each gateway, and for the change at the second one."""
+    text = re.sub(r".\x08", "", run(["mandoc", "-T", "ascii", f"{ROOT}/man/coap-mqtt.1"]).stdout)
+    lines = re.findall(r"(?m)^ {11,}(\S.*)$", text.partition("\nEXAMPLES\n")[2].partition("\nSEE ALSO\n")[0])
+    commands, shown = [it[2:] for it in lines if it.startswith("$ ")], [it for it in lines if not it.startswith("$ ")]
+    checks.same("the example has commands and output", (len(commands), len(shown)), (5, 2))
+    broker, one, two = free_port(), free_port(), free_port()
+    replaced = {"5701": str(one), "5702": str(two), "coap-mqtt ": f"coap-mqtt --broker-port {broker} ",
+                "mosquitto_sub ": f"mosquitto_sub -p {broker} "}
+    script = "trap 'kill $(jobs -p)' EXIT\n"
+    for command in commands:
+        for old, new in replaced.items():
+            command = command.replace(old, new)
+        if command.endswith("&"):
+            port = re.search(r" -p (\d+) ", command)[1]
+            command += f"\nuntil coap-client coap+tcp://{LOCAL}:{port}/ >&2; do sleep 0.1; done"
+        script += command + ("\nsleep 1\n" if "put" in command else "\n")
+    own = {**os.environ, "PATH": f"{os.path.dirname(program)}:{os.environ['PATH']}"}
+    with started(["mosquitto", "-p", str(broker)]):
+        checks.same("the broker listens", soon(lambda: accepts(broker), True), True)
+        done = run(["bash", "-eu", "-c", script], env=own)
+    checks.same("the example", (done.returncode, done.stdout.rstrip()), (0, "".join(shown)))
 
 
 # Words of a command line, and the completions of the last one.

@@ -15,6 +15,7 @@ from package_files import (
     NAME, OPTIONS, PROGRAMS, UNIT, files, here, options_in, version,
 )
 from peers import LOCAL, Server, free_port
+from workspace import ROOT
 
 # The text of each manual's first section.
 TITLES = {
@@ -22,6 +23,7 @@ TITLES = {
     "coap-client": "CoAP client over TCP",
     "coap-explain": "explain a record of a CoAP server",
     "coap-directory": "CoRE resource directory over TCP",
+    "dachreup": "logs, silent connections, scripts and records of the CoAP programs",
     "coap_proved": "server and client engines for CoAP over TCP (RFC 8323), as a C library",
     "coap-mqtt": "CoAP over TCP for the retained messages of an MQTT broker",
 }
@@ -97,15 +99,16 @@ def check_manuals(checks, names):
 
 
 def check_compiled(checks, client):
-    """Compiles the installed example by the paths of pkg-config, and runs it. Variables that name other folders are not
-    passed on."""
+    """Compiles the installed example by the command of the manual, with the paths of pkg-config, and runs it. Variables
+    that name other folders are not passed on."""
     environment = {name: value for name, value in os.environ.items() if not name.startswith("PKG_CONFIG")}
     for word, wanted in {"--modversion": version(), "--variable=libdir": here(LIBRARIES),
                          "--variable=includedir": "/usr/include"}.items():
         checks.same("pkg-config %s" % word, run(["pkg-config", word, "coap_proved"], env=environment),
                     (0, wanted + "\n"))
     with tempfile.TemporaryDirectory() as folder:
-        command = "cc -std=c11 -Wall -Wextra -Werror -o server %s $(pkg-config --cflags --libs coap_proved)" % EXAMPLE
+        [line] = re.findall(r"(?m)^\.Dl (cc program\.c .*)$", read(ROOT, "man/coap_proved.3"))
+        command = line.replace("program.c", "-std=c11 -Wall -Wextra -Werror -o server %s" % EXAMPLE)
         compiled = run(["sh", "-c", command], cwd=folder, env=environment)
         checks.same("the installed example is compiled", compiled, (0, ""))
         if not compiled[0]:
@@ -142,7 +145,7 @@ def check_life(checks, package, higher):
                 [path for path in libcoap if path.startswith("/usr/bin/") and not os.path.exists(path)], [])
     checks.same("the unit is disabled", os.path.lexists(ENABLED), False)
     checks.same("command of the unit without options", unit_command(), ["/usr/bin/coap-server"])
-    check_manuals(checks, PROGRAMS)
+    check_manuals(checks, [*PROGRAMS, "dachreup"])
 
     changed = read(OPTIONS) + 'COAP_SERVER_OPTIONS="-A %s -p %d %s"\n' % (LOCAL, port, " ".join(STORES))
     write(changed, OPTIONS)

@@ -48,6 +48,7 @@ FILES = {NAME: {
     "/usr/share/man/man1/coap-client.1.gz": (0o644, None),
     "/usr/share/man/man1/coap-explain.1.gz": (0o644, None),
     "/usr/share/man/man1/coap-directory.1.gz": (0o644, None),
+    "/usr/share/man/man7/dachreup.7.gz": (0o644, None),
     "/usr/share/bash-completion/completions/coap-server": (0o644, "install/completions/coap-server"),
     "/usr/share/bash-completion/completions/coap-client": (0o644, "install/completions/coap-client"),
     "/usr/share/bash-completion/completions/coap-explain": (0o644, "install/completions/coap-explain"),

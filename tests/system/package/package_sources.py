@@ -74,8 +74,8 @@ COMPLETED = [
 
 
 def check_versions(checks, programs):
-    """Checks that the programs, both changelogs, the comparison and the manual's record have the version of the file
-    VERSION."""
+    """Checks that the programs, both changelogs, the comparison and the record in the manual dachreup(7) have the
+    version of the file VERSION."""
     for name, program in zip(PROGRAMS, programs):
         checks.same("%s: version" % name, run([program, "--version"]), (0, "%s %s\n" % (name, version())))
     checks.same("version in CHANGELOG.md", re.findall(r"report version (\S+)", read(ROOT, "CHANGELOG.md")), [version()])
@@ -84,7 +84,7 @@ def check_versions(checks, programs):
     checks.same("version in docs/COMPARISON.md", re.findall(r"\| Dachreup (\S+) \|", read(ROOT, "docs/COMPARISON.md")),
                 [version()])
     checks.same("version in the record of the manual",
-                re.findall(r"(?m)^# Record of coap\\-server (\S+),", read(ROOT, "man/coap-server.1")), [version()])
+                re.findall(r"(?m)^# Record of coap\\-server (\S+),", read(ROOT, "man/dachreup.7")), [version()])
 
 
 def check_completion(checks, programs):
