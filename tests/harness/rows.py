@@ -1,7 +1,7 @@
 #!/usr/bin/env python3
 """Plays files of rows on the probe, which is a proved program, and compares the results.
 
-    tests/harness/rows.py [--by-rattle | --unproved=FOLDER] [--refuse] [FILE..]
+    tests/harness/rows.py [--by-rattle | --unproved=FOLDER] [--refuse [--write]] [FILE..]
 
 A file is tests/vectors/rows/LAYER/NAME.rows. Its lines are rows `EVENT => WANTED`. A line `= OPENING` creates the value
 that the rows after it use. A line `#` is a comment. The module tests/harness/layers/LAYER.py describes the words of the
@@ -15,8 +15,9 @@ tests/harness/unproved.py built in a folder.
 All queries (`LOOKS` of the layer) must return the same results as before. The row is then repeated, and from there on
 all results must be as in the file. A failure that no row reports must change nothing. A line `allocations: N` in the
 file is the number of allocations. If N is not a number, it is the reason why the allocations are not made to fail. Over
-all files, the failures of each call are counted, and the table in docs/TESTING.md must have these counts. (A line
-`cuts:` is the reason why tests/vectors/segmentation.py does not split the input of a file of servers.)
+all files, the failures of each call are counted. tests/vectors/allocations.md must have these counts; --write writes
+them there. (A line `cuts:` is the reason why tests/vectors/segmentation.py does not split the input of a file of
+servers.)
 
 A contract cannot forbid that a call reports an allocation failure without cause. Therefore these files run each call
 that can report one, at each of its limits and with enough memory:
@@ -41,6 +42,7 @@ from collections import Counter
 from concurrent.futures import ThreadPoolExecutor
 from dataclasses import dataclass, field
 
+import allocations
 from workspace import program_name
 
 HARNESS = pathlib.Path(__file__).resolve().parent
@@ -49,11 +51,6 @@ ROWS = ROOT / "tests" / "vectors" / "rows"
 
 # Matches a result that reports an allocation failure.
 MEMORY = re.compile(r"\bmemory\b", re.IGNORECASE)
-
-# File with the counts of failures of each call, the line before them, and the entry for failures that no call reports.
-TABLE = ROOT / "docs" / "TESTING.md"
-BEGINS = "| Call | Growths refused | What is left, until it is made again |"
-MADE_UP_FOR = ("none, since it was made up for", "what there is without a refusal")
 
 
 @dataclass
@@ -187,7 +184,7 @@ def refuse_each(file, probe, shim):
             return count, wrong, calls
         index = next((at for at, (line, before) in enumerate(zip(ran.lines, usual)) if line != before), None)
         if index is None:
-            calls[MADE_UP_FOR] += 1
+            calls[allocations.UNREPORTED] += 1
         else:
             again, found = struck_again(file, probe, steps, ran.lines, index, shim, first + count)
             calls[file.layer().refused(events[index], ran.lines[index], again)] += 1
@@ -205,17 +202,6 @@ def refuse(file, probe, shim):
     if count != int(file.allocations):
         wrong.append(f"{count} allocations, but `allocations: {file.allocations}`")
     return count, wrong, calls
-
-
-def untold(calls, is_program=False):
-    """Returns the differences between the counts and the table: for calls in the programs if `is_program`, otherwise
-    for all others."""
-    _, _, behind = TABLE.read_text(encoding="utf-8").partition(BEGINS + "\n")
-    told = [it for it in behind.split("\n\n")[0].splitlines()[1:] if (", in `coap-" in it) == is_program]
-    wanted = [f"| {call} | {count} | {left} |" for (call, left), count in sorted(calls.items())]
-    lines = ([f"missing line {it}" for it in wanted if it not in told]
-             + [f"unexpected line {it}" for it in told if it not in wanted])
-    return [f"{TABLE.name}: {it}" for it in lines]
 
 
 def compiled_shim(room):
@@ -240,7 +226,7 @@ def main(words):
             if len(wrong) > 3:
                 print(f"{file.name()}: and {len(wrong) - 3} more")
     if shim and not named:
-        wrong = untold(calls)
+        wrong = allocations.compared(calls, flags)
         failed += len(wrong)
         print("".join(f"{text}\n" for text in wrong), end="")
     print(f"{max(count - failed, 0)} passed, {failed} failed")

@@ -96,6 +96,9 @@ SOURCES = [
     Step(["python3", "tests/tools/guarantees.py"], 2, 1),
     Step(["python3", "tests/tools/examples.py"], 1, 1),
     Step(["python3", "tests/tools/prose.py"], 5, 5),
+    Step(["python3", "tests/tools/architecture.py"], 1, 1),
+    Step(["python3", "tests/tools/links.py"], 1, 1),
+    Step(["python3", "tests/tools/targets.py"], 1, 1),
     Step(["python3", "tests/vectors/row_list.py"], 1, 1),
     Step(["python3", "tests/mutants/mutants.py", "--quotes"], 1, 1),
 ]

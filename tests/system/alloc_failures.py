@@ -1,12 +1,13 @@
 #!/usr/bin/env python3
 """Makes each allocation of the programs fail in turn.
 
-    tests/system/alloc_failures.py bin/coap-server bin/coap-client [NAME..]
+    tests/system/alloc_failures.py [--write] bin/coap-server bin/coap-client [NAME..]
 
 tests/harness/fail_malloc.c is preloaded into a program and makes one allocation fail: the first, then the second, until
 a run makes fewer. Such a run ends with status 3 and `no memory`. Its output, on standard output and over its
 connection, is a prefix of the output without a failure. If the program handles the failure in another way, the run is
-as without one. The number of failures that end a program must be in the table of docs/TESTING.md.
+as without one. The number of failures that end a program must be in tests/vectors/allocations.md; --write writes it
+there.
 
 The script also makes every allocation of the server fail after its connections are open. The server must respond as
 before, over standard streams on one connection and over sockets on two. Finally, the programs run with their largest
@@ -25,6 +26,7 @@ from concurrent.futures import ThreadPoolExecutor
 from dataclasses import dataclass
 
 sys.path.insert(0, os.path.join(os.path.dirname(os.path.abspath(__file__)), "..", "harness"))
+import allocations  # noqa: E402
 import rows  # noqa: E402
 from checks import CSM, GREETING  # noqa: E402
 from peers import free_port, line_of, started  # noqa: E402
@@ -43,7 +45,7 @@ MEBIBYTE = 1 << 20
 MOST_MADE = 1 << 10
 
 # The entry of the table for the output of a program after a failed allocation.
-LEFT = "a front of what it writes with memory"
+LEFT = "a prefix of the output with memory"
 
 # The bytes that a peer sends (a CSM, a GET of the root, a PUT of `x` at `a`), and the output of the server.
 SENT = bytes.fromhex("00e1" "010101" "410302b161ff78")
@@ -303,7 +305,9 @@ def without_growth(server, shim):
     yield "sockets", wrong_without_growth(*peers, (b"", 2 * greeting + 2 * answered), shim)
 
 
-def main(server, client, *named):
+def main(words):
+    flags = [it for it in words if it.startswith("--")]
+    server, client, *named = [it for it in words if it not in flags]
     server, client = os.path.abspath(server), os.path.abspath(client)
     runs = {
         "serve_one": (over_streams(server, "--stdio", "-d", "1", stream=SENT), (ANSWERED, b"")),
@@ -326,7 +330,7 @@ def main(server, client, *named):
         for name, trouble in without_growth(server, shim):
             passed, failed = passed + (not trouble), failed + bool(trouble)
             print(f"no allocations after the connections open, over {name}: {trouble or 'the same bytes'}")
-    wrong = [] if named else rows.untold(calls, is_program=True)
+    wrong = [] if named else allocations.compared(calls, flags, in_programs=True)
     failed += len(wrong)
     print("".join(f"{text}\n" for text in wrong), end="")
     for name, wrong in (("script", wrong_at_the_greatest_script(server)), ("door", wrong_at_the_greatest_door(server)),
@@ -338,4 +342,4 @@ def main(server, client, *named):
 
 
 if __name__ == "__main__":
-    sys.exit(main(*sys.argv[1:]))
+    sys.exit(main(sys.argv[1:]))

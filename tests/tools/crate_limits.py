@@ -24,7 +24,7 @@ FILE_LINES, COLUMNS = 450, 120
 NARROW = [
     "Makefile", "bench/*", "docs/pictures/*.dot", "docs/pictures/draw", "examples/**/*", "gateway/**/*", "include/*",
     "install/**/*", "man/*", "tests/*", "tests/harness/**/*", "tests/mutants/*.py", "tests/system/**/*",
-    "tests/tools/*", "tests/vectors/*.py",
+    "tests/tools/**/*", "tests/vectors/*.py",
     # "crates/*/src/**/*.rt", "crates/*/specs/**/*.antt", "crates/*/proofs/**/*.antt",
 ]
 

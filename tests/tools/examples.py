@@ -1,5 +1,5 @@
 #!/usr/bin/env python3
-"""Compares the code in the documentation with proved and compiled sources, and checks the links of documents:
+"""Compares the code in the documentation with proved and compiled sources:
 
     tests/tools/examples.py
 
@@ -11,14 +11,12 @@
 - The blocks marked `c` of docs/EMBEDDING_C.md are together the body of a function with the parameters of C_FUNCTION. A
   C compiler must accept it without a warning, with the header. Without a compiler, this is skipped.
 - The `for` line of docs/EMBEDDING.md must list `coap_serve` and all crates below it.
-- Each link of a document must lead to a file or a folder of the repository and, after `#`, to a heading there.
 
 A last line such as `send(rt, &mut client)` means the body of the function `send` of the same file, if `rt` and
 `client` are its parameters.
 
 Indentation of a whole block does not count. The script also checks itself on SAMPLES. The last line is 'N passed, M
-failed'. Each block, each test, each sample and each document with links counts once. So do the list of crates and the
-function in C.
+failed'. Each block, each test, each sample, the list of crates and the function in C counts once.
 """
 
 import glob
@@ -45,10 +43,6 @@ FENCED = re.compile(r"^``` ?(\w*) *([^\n]*)\n(.*?)^```$", re.S | re.M)
 # The crates that a repository of its own copies.
 COPIED = re.compile(r"^ *for \w+ in ([\w ]+); do", re.M)
 
-# A link with its address, and a heading of a document.
-LINK = re.compile(r"\]\(([^()\s]+)\)")
-HEADING = re.compile(r"^#+ (.*)$", re.M)
-LINKED = ["*.md", "docs/*.md", "bench/*.md", "tests/**/*.md"]
 
 # The document with blocks in C, and the function around them.
 C_DOCUMENT = "docs/EMBEDDING_C.md"
@@ -173,25 +167,6 @@ def document_blocks():
                 yield path, source, plain(code)
 
 
-def anchors(text):
-    """Returns the anchors of the headings of a document: in small letters, with `-` for a space, and without other
-    signs."""
-    headings = HEADING.findall(FENCED.sub("", text))
-    return {re.sub(r"[^\w\- ]", "", it.strip().lower()).replace(" ", "-") for it in headings}
-
-
-def broken_links(path):
-    """Returns the links of a document that lead nowhere, or `None` if it has no links to files."""
-    links = [it for it in LINK.findall(FENCED.sub("", read(path))) if not it.startswith("http")]
-    broken = []
-    for link in links:
-        name, _, anchor = link.partition("#")
-        there = os.path.normpath(os.path.join(os.path.dirname(path), name)) if name else path
-        if not os.path.exists(f"{ROOT}/{there}") or anchor and anchor not in anchors(read(there)):
-            broken.append(link)
-    return broken if links else None
-
-
 def c_errors():
     """Returns the output of the compiler for the blocks in C, or `None` if there is no compiler."""
     if not shutil.which(COMPILER[0]):
@@ -236,11 +211,6 @@ def main():
     if not is_complete:
         print(f"docs/EMBEDDING.md: the line `for` has {' '.join(copied)}, and not {' '.join(below)}")
     passed, failed = passed + is_complete, failed + (not is_complete)
-    for path in files(*LINKED):
-        broken = broken_links(path)
-        passed, failed = passed + (broken == []), failed + bool(broken)
-        if broken:
-            print(f"{path}: links that lead nowhere: {' '.join(broken)}")
     errors = c_errors()
     passed, failed = passed + (errors == ""), failed + bool(errors)
     if errors is None:

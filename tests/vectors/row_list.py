@@ -1,28 +1,35 @@
 #!/usr/bin/env python3
-"""Checks the list of worked rows, tests/vectors/rows/README.md: each row is at the listed place, and a step of the gate
-plays it.
+"""Checks the list of worked rows, tests/vectors/rows/worked_rows.list: each row is at the listed places, and a step of
+the gate plays it.
 
     tests/vectors/row_list.py
 
-A row of the list names a file and lines of it. In a file of rows, which tests/harness/rows.py plays, these are whole
-lines in this order below one opening. A line that ends in ` ..` is the beginning of a line. A stored run must be that
-of a program in crates.txt. A Python test must be a step of the gate, or in the folder with the name of one. With
-`refused` and `cut` in the last column, tests/harness/rows.py --refuse and tests/vectors/segmentation.py must play the
-file too. The last line is 'N passed, M failed' for the places of the list, and the status is 0 if M is 0.
+A row of the list has these lines:
+
+    = NAME         the row
+    shows: TEXT    the property that it shows
+    at: FILE       a file that has it; a row may be at several places
+      LINE         with two spaces before it, a line of this file; ` ..` at its end stands for the rest of the line
+    also: WORDS    further steps that play the file: `refused` is tests/harness/rows.py --refuse, and `cut` is
+                   tests/vectors/segmentation.py
+
+In a file of rows, which tests/harness/rows.py plays, the lines are whole, in this order, and below one opening. A
+stored run must be that of a program in crates.txt. A Python test must be a step of the gate, or in the folder with the
+name of one. There the lines are parts of lines. An empty line and a line with `#` mean nothing. The last line is
+'N passed, M failed' for the places of the list, and the status is 0 if M is 0.
 """
 
 import os
 import re
 import sys
-from dataclasses import dataclass
+from dataclasses import dataclass, field
 
 sys.path.insert(0, os.path.join(os.path.dirname(os.path.abspath(__file__)), "..", "harness"))
 import rows  # noqa: E402
 from steps import STEPS  # noqa: E402
 from workspace import ROOT, is_program, listed  # noqa: E402
 
-LIST = rows.ROWS / "README.md"
-HEADER = ["Row", "Shows", "File", "Lines", "Also"]
+LIST = rows.ROWS / "worked_rows.list"
 
 
 @dataclass
@@ -31,8 +38,8 @@ class Place:
 
     name: str
     file: str
-    lines: list
-    also: list
+    lines: list = field(default_factory=list)
+    also: list = field(default_factory=list)
 
     def is_in(self, found):
         """Returns true if the lines are among these, in their order."""
@@ -50,23 +57,50 @@ def steps_of_the_gate():
     return [["rt", "ci"], *(it.words for it in STEPS)]
 
 
+def blocks(text):
+    """Returns the rows of a list, each as its lines."""
+    found = []
+    for line in text.splitlines():
+        if not line.strip() or line.startswith("#"):
+            continue
+        if line.startswith("= ") or not found:
+            found.append([])
+        found[-1].append(line)
+    return found
+
+
+def places_of(lines):
+    """Returns the places of a row with these lines, or raises `ValueError` if the lines have another form."""
+    head, shown, *others = lines
+    if not head.startswith("= ") or not shown.startswith("shows: "):
+        raise ValueError
+    found = []
+    for line in others:
+        if line.startswith("at: "):
+            found.append(Place(head[2:], line[4:]))
+        elif line.startswith("  ") and found and not found[-1].also:
+            found[-1].lines.append(line[2:])
+        elif line.startswith("also: ") and found and not found[-1].also:
+            found[-1].also = line[6:].split(", ")
+        else:
+            raise ValueError
+    if not found or not all(it.lines for it in found):
+        raise ValueError
+    return found
+
+
 def places():
     """Returns the places of the list, and the errors of the list itself."""
-    found, wrong, name = [], [], ""
-    for line in LIST.read_text(encoding="utf-8").splitlines():
-        if not line.startswith("|") or line.startswith("|---"):
+    found, wrong = [], []
+    for lines in blocks(LIST.read_text(encoding="utf-8")):
+        try:
+            of_row = places_of(lines)
+        except ValueError:
+            wrong.append(f"not understood: {lines[0][:120]}")
             continue
-        cells = [it.strip().replace("\\|", "|") for it in re.split(r"(?<!\\)\|", line)[1:-1]]
-        if cells == HEADER:
-            continue
-        lines = re.findall(r"`(.*?)`(?:<br>|$)", cells[3]) if len(cells) == len(HEADER) else []
-        if not lines or "<br>".join(f"`{it}`" for it in lines) != cells[3]:
-            wrong.append(f"not understood: {line[:120]}")
-            continue
-        if cells[0] and any(it.name == cells[0] for it in found):
-            wrong.append(f"two rows have one name: {cells[0]}")
-        name = cells[0] or name
-        found.append(Place(name, cells[2], lines, [it for it in cells[4].split(", ") if it]))
+        if any(it.name == of_row[0].name for it in found):
+            wrong.append(f"two rows have one name: {of_row[0].name}")
+        found += of_row
     return found, wrong
 
 

@@ -132,4 +132,4 @@ def struck(step, line, again, line_again):
 
 def refused(event, line, again):
     """Returns the call whose allocation failed, and the state that is left."""
-    return "`serve_door`", "a front of what it reads and writes with memory"
+    return "`serve_door`", "a prefix of the input and output with memory"

@@ -211,7 +211,7 @@ def struck(step, line, again, line_again):
 
 
 AS_BEFORE = "the server as before"
-BUT_THE_LAST = "the bytes before the message's last, and nothing of it handled"
+BUT_THE_LAST = "all bytes of the message but the last are accepted; it is not handled"
 
 
 def refused(event, line, again):
@@ -222,10 +222,10 @@ def refused(event, line, again):
         return "`script`", "nothing"
     word = event.split(" ")[0]
     if "|" in event:
-        return "`Server::replay` of several events", "what the events before it did, and their lines"
+        return "`Server::replay` of several events", "the effects of the events before it, and their lines"
     if word == "in" and (again.startswith("status ") or is_after_message(event, again)):
         return ("`Server::replay` of an `in`, for the line of a request",
-                "the bytes up to the end of the request, which is pending")
+                "the bytes up to the end of the request are accepted; it is pending")
     if word == "in" and again != event:
         return "`Server::replay` of an `in` that stores", BUT_THE_LAST
     return f"`Server::replay` of {f'`{word}`' if word in ('open', 'put') else 'another event, for its line'}", AS_BEFORE
