@@ -1,10 +1,10 @@
 -- Defined by this project: the lines that are printed for an event. The server and the messages are those before it.
-use Rattle.std.specs.Prelude.{◌≡◌, ℕ, ◌+◌, ◌-◌, ◌==◌, Bool, false, cond, List, [], ◌∷◌, ◌++◌, length, take, drop}
+use Rattle.std.specs.Prelude.{◌≡◌, ℕ, ◌+◌, ◌-◌, ◌==◌, Bool, true, false, cond, List, [], ◌∷◌, ◌++◌, length, take, drop}
 use Rattle.std.specs.Prelude.{Option, Some, None, option_map, get_or, nat_eq, nat_lt, codes, if◌then◌else◌}
-use Rattle.indexmap.specs.IndexMap.{get}
+use Rattle.indexmap.specs.IndexMap.{IndexMap, get}
 use Rattle.coap_conn.specs.Phases.{stop_of}
 use Rattle.coap_conn.specs.declared.reason.Reason.{Reason}
-use Rattle.coap_log.specs.Taps.{new_tap}
+use Rattle.coap_log.specs.Taps.{TapValue, new_tap}
 use Rattle.coap_log.specs.declared.tap.TheConstants.{DESCRIBED}
 use Rattle.coap_path.specs.Paths.{Path}
 use Rattle.coap_script.specs.script.Events.{ScriptEventValue, Open, In, Drain, Tick, Put, Remove, End, Release, Respond}
@@ -18,9 +18,10 @@ use Rattle.coap_server_engine.specs.values.ServerAnswers.{open_refusal, released
 use Rattle.coap_server_engine.specs.values.Servers.{ServerValue, session_of}
 use Rattle.coap_store.specs.Refusals.{put_refusal, remove_refusal}
 use Rattle.coap_explain.specs.Layout as line
-use Rattle.coap_explain.specs.Messages.{Passed, passed, is_within, rest_after}
-use Rattle.coap_explain.specs.Printed.{OutputLine, Text, Time, Prints}
+use Rattle.coap_explain.specs.Messages.{Passed, passed_parts, is_within}
+use Rattle.coap_explain.specs.Printed.{OutputLine, Text, Time, Prints, listed}
 use Rattle.coap_explain.specs.declared.explainer.Explainer.{Explainer}
+use Rattle.coap_explain.specs.declared.layout.Way.{Way}
 use Rattle.coap_explain.specs.declared.layout.Way.TheVariants as way
 use Rattle.coap_explain.specs.declared.messages.Followed.{Followed}
 
@@ -28,9 +29,13 @@ use Rattle.coap_explain.specs.declared.messages.Followed.{Followed}
 abbrev pub Messages : Type 0
 Messages = ℕ → Option Followed
 
+-- The messages in the map of an explainer.
+abbrev pub messages_in : {S : Type 0} → IndexMap ℕ Followed S → Messages
+messages_in connections = get nat_eq connections
+
 -- The messages of an explainer.
 abbrev pub messages_of : {O : Type 0} → Explainer O → Messages
-messages_of explainer = get nat_eq explainer.connections
+messages_of explainer = messages_in explainer.connections
 
 -- The messages after those of a connection have changed, or are followed no longer.
 abbrev pub with_messages : Messages → ℕ → Option Followed → Messages
@@ -42,12 +47,12 @@ pub record Explanation : Type 0 where
   pub messages : Messages
 
 -- An explanation that passes no message.
-abbrev pub says : Messages → List OutputLine → Explanation
-says messages lines = record { lines = lines; messages = messages }
+abbrev pub says : Messages → OutputLine → Explanation
+says messages shown = record { lines = shown ∷ []; messages = messages }
 
--- An explanation, followed by more lines.
-abbrev pub and_lines : Explanation → List OutputLine → Explanation
-and_lines e lines = record { lines = e.lines ++ lines; messages = e.messages }
+-- An explanation, followed by a line if there is one.
+abbrev pub and_line : Explanation → Option OutputLine → Explanation
+and_line e shown = record { lines = e.lines ++ listed shown; messages = e.messages }
 
 -- ---- lines
 
@@ -63,53 +68,46 @@ server_line id text = Text id (line.output_line id (take (length text - 1) text)
 abbrev pub refusal_line : List ℕ → Option ℕ → ℕ → OutputLine
 refusal_line word id number = server_line id (fault_line word id number)
 
--- ---- events that fail
+-- The line of an event, unless it fails with a number.
+abbrev pub unless_refused : List ℕ → Option ℕ → OutputLine → Option ℕ → OutputLine
+unless_refused word id done None = done
+unless_refused word id done (Some number) = refusal_line word id number
 
--- The explanation of an event, unless it fails with a number.
-abbrev pub unless_refused : Messages → List ℕ → Option ℕ → Explanation → Option ℕ → Explanation
-unless_refused messages word id does None = does
-unless_refused messages word id does (Some number) = says messages (refusal_line word id number ∷ [])
+-- ---- `tick`, and the resources
 
--- The explanation of an event on a connection. It fails with 1 if there is no connection.
-abbrev pub on_connection :
-    Messages → List ℕ → ℕ → (SessionValue → Explanation) → Option SessionValue → Explanation
-on_connection messages word id does None = says messages (refusal_line word (Some id) 1 ∷ [])
-on_connection messages word id does (Some s) = does s
+-- The line of a `tick`.
+abbrev pub ticked : ServerValue → ℕ → OutputLine
+ticked v now = unless_refused (codes "tick") None (Time now) (replay.tick_refusal v now)
 
--- ---- `open`, `tick`, and the resources
+-- The line of a `put`, with its path as it is in the script.
+abbrev pub stored : ServerValue → Path → List ℕ → Option ℕ → List ℕ → OutputLine
+stored v path text format bytes =
+    unless_refused (codes "put") None (Text None (line.stored_line text format bytes))
+    (option_map replay.store_number (put_refusal v.host.store path bytes))
+
+-- The line of a `remove`, with its path as it is in the script.
+abbrev pub removed : ServerValue → Path → List ℕ → OutputLine
+removed v path text =
+    unless_refused (codes "remove") None (Text None (line.removed_line text))
+    (option_map replay.store_number (remove_refusal v.host.store path))
+
+-- ---- events of one connection that pass no bytes
 
 -- The messages of a connection before its first one.
 abbrev pub no_messages : Followed
 no_messages = record { incoming = new_tap DESCRIBED; outgoing = new_tap DESCRIBED }
 
+-- The explanation of an `open`, unless it fails with a number.
+abbrev pub opened_unless : ServerValue → Messages → Option ℕ → Explanation
+opened_unless v messages None = record {
+  lines = words_line (v.ids + 1) (codes "opened") ∷ [];
+  messages = with_messages messages (v.ids + 1) (Some no_messages);
+}
+opened_unless v messages (Some number) = says messages (refusal_line (codes "open") None number)
+
 -- The explanation of an `open`.
 abbrev pub opened : ServerValue → Messages → Explanation
-opened v messages =
-    unless_refused messages (codes "open") None
-    (record {
-      lines = words_line (v.ids + 1) (codes "opened") ∷ [];
-      messages = with_messages messages (v.ids + 1) (Some no_messages);
-    })
-    (option_map replay.open_number (open_refusal v))
-
--- The explanation of a `tick`.
-abbrev pub ticked : ServerValue → Messages → ℕ → Explanation
-ticked v messages now =
-    unless_refused messages (codes "tick") None (says messages (Time now ∷ [])) (replay.tick_refusal v now)
-
--- The explanation of a `put`, with its path as it is in the script.
-abbrev pub stored : ServerValue → Messages → Path → List ℕ → Option ℕ → List ℕ → Explanation
-stored v messages path text format bytes =
-    unless_refused messages (codes "put") None (says messages (Text None (line.stored_line text format bytes) ∷ []))
-    (option_map replay.store_number (put_refusal v.host.store path bytes))
-
--- The explanation of a `remove`, with its path as it is in the script.
-abbrev pub removed : ServerValue → Messages → Path → List ℕ → Explanation
-removed v messages path text =
-    unless_refused messages (codes "remove") None (says messages (Text None (line.removed_line text) ∷ []))
-    (option_map replay.store_number (remove_refusal v.host.store path))
-
--- ---- `end`, `release`, `respond`, `drop`, `status`
+opened v messages = opened_unless v messages (option_map replay.open_number (open_refusal v))
 
 -- True if the last byte of a message of the client is missing.
 abbrev pub is_cut : Option Followed → Bool
@@ -120,67 +118,69 @@ is_cut (Some followed) = is_within followed.incoming
 abbrev pub end_words : Bool → List ℕ
 end_words cut = if cut then codes "input ended within a message" else codes "input ended"
 
--- The explanation of an `end`.
-abbrev pub input_ended : ServerValue → Messages → ℕ → Explanation
-input_ended v messages id =
-    on_connection messages (codes "end") id
-    (λ s. says messages (words_line id (end_words (is_cut (messages id))) ∷ [])) (session_of id v.sessions)
+-- The line of an `end`.
+abbrev pub input_ended : Messages → ℕ → Option SessionValue → OutputLine
+input_ended messages id None = refusal_line (codes "end") (Some id) 1
+input_ended messages id (Some s) = words_line id (end_words (is_cut (messages id)))
 
--- The explanation of a `release`.
-abbrev pub released : ServerValue → Messages → ℕ → Explanation
-released v messages id =
-    unless_refused messages (codes "release") (Some id) (says messages (words_line id (codes "released") ∷ []))
+-- The line of a `release`.
+abbrev pub released : ServerValue → ℕ → OutputLine
+released v id =
+    unless_refused (codes "release") (Some id) (words_line id (codes "released"))
     (option_map replay.release_number (released_refusal v id))
 
--- The explanation of a `respond`.
-abbrev pub responded : ServerValue → Messages → ℕ → List ℕ → Explanation
-responded v messages id bytes =
-    unless_refused messages (codes "respond") (Some id)
-    (says messages (words_line id (codes "response of the application") ∷ []))
+-- The line of a `respond`.
+abbrev pub responded : ServerValue → ℕ → List ℕ → OutputLine
+responded v id bytes =
+    unless_refused (codes "respond") (Some id) (words_line id (codes "response of the application"))
     (option_map replay.response_number (responded_refusal v id bytes))
 
 -- The counts of a connection that is dropped.
-abbrev pub counts_of : Messages → ℕ → Option Followed → Explanation
-counts_of messages id None = says messages []
-counts_of messages id (Some followed) = record {
-  lines = Text (Some id) (line.dropped_line id followed.incoming followed.outgoing) ∷ [];
-  messages = with_messages messages id None;
-}
+abbrev pub counts_of : ℕ → Option Followed → Option OutputLine
+counts_of id None = None
+counts_of id (Some followed) = Some (Text (Some id) (line.dropped_line id followed.incoming followed.outgoing))
 
 -- The explanation of a `drop`.
-abbrev pub dropped : ServerValue → Messages → ℕ → Explanation
-dropped v messages id =
-    on_connection messages (codes "drop") id (λ s. counts_of messages id (messages id)) (session_of id v.sessions)
+abbrev pub dropped : Messages → ℕ → Option SessionValue → Explanation
+dropped messages id None = says messages (refusal_line (codes "drop") (Some id) 1)
+dropped messages id (Some s) =
+    record { lines = listed (counts_of id (messages id)); messages = with_messages messages id None }
 
 -- The line of a `status`.
-abbrev pub status_of : ℕ → SessionValue → List ℕ
-status_of id s =
-    status_line id s.link.phase (length s.frame) (length s.link.waiting) (length s.link.held) (length s.observers)
+abbrev pub status_shown : ℕ → Option SessionValue → OutputLine
+status_shown id None = refusal_line (codes "status") (Some id) 1
+status_shown id (Some s) =
+    server_line (Some id)
+    (status_line id s.link.phase (length s.frame) (length s.link.waiting) (length s.link.held) (length s.observers))
 
--- The explanation of a `status`.
-abbrev pub status_shown : ServerValue → Messages → ℕ → Explanation
-status_shown v messages id =
-    on_connection messages (codes "status") id (λ s. says messages (server_line (Some id) (status_of id s) ∷ []))
-    (session_of id v.sessions)
+-- ---- messages
+
+-- The tap of a direction.
+abbrev pub tap_of : Way → Followed → TapValue
+tap_of way.In followed = followed.incoming
+tap_of way.Out followed = followed.outgoing
+
+-- The messages of a connection with another tap of a direction.
+abbrev pub with_tap : Way → Followed → TapValue → Followed
+with_tap way.In followed tap = record followed { incoming = tap }
+with_tap way.Out followed tap = record followed { outgoing = tap }
+
+-- The explanation of bytes of a connection, by the tap after them and its lines.
+abbrev pub with_passed : Messages → ℕ → Way → Followed → Passed → Explanation
+with_passed messages id way followed p =
+    record { lines = p.lines; messages = with_messages messages id (Some (with_tap way followed p.tap)) }
+
+-- The explanation of bytes of a connection, which pass in two parts.
+abbrev pub passing : Messages → ℕ → Way → List ℕ → List ℕ → Option Followed → Explanation
+passing messages id way first second None = record { lines = []; messages = messages }
+passing messages id way first second (Some followed) =
+    with_passed messages id way followed (passed_parts id way (tap_of way followed) first second)
 
 -- ---- `in`
 
--- Messages that end with bytes from the client, and the first bytes of the next one.
-abbrev pub input_of : Messages → ℕ → List ℕ → Followed → Passed → Explanation
-input_of messages id bytes followed p = record {
-  lines = p.lines ++ rest_after (length bytes) id way.In p.tap;
-  messages = with_messages messages id (Some (record followed { incoming = p.tap }));
-}
-
--- The explanation of bytes that a connection accepted.
-abbrev pub accepted : Messages → ℕ → List ℕ → Option Followed → Explanation
-accepted messages id bytes None = says messages []
-accepted messages id bytes (Some followed) =
-    input_of messages id bytes followed (passed (length bytes) id way.In followed.incoming bytes)
-
 -- The line about bytes that were not accepted.
-abbrev pub rejected_lines : ℕ → ℕ → ℕ → List OutputLine
-rejected_lines id count all = if nat_lt count all then Text (Some id) (line.accepted_line id count all) ∷ [] else []
+abbrev pub rejected_line : ℕ → ℕ → ℕ → Option OutputLine
+rejected_line id count all = if nat_lt count all then Some (Text (Some id) (line.accepted_line id count all)) else None
 
 -- The reason for which a connection accepts no message, if there is one.
 abbrev pub stop_in : Option SessionValue → Option Reason
@@ -188,95 +188,78 @@ stop_in None = None
 stop_in (Some s) = stop_of s.link.phase
 
 -- The line of a connection that has stopped with an event.
-abbrev pub stop_lines : ℕ → Option Reason → Option Reason → List OutputLine
-stop_lines id (Some before) after = []
-stop_lines id None None = []
-stop_lines id None (Some reason) = Text (Some id) (line.stopped_line id reason) ∷ []
+abbrev pub stop_line : ℕ → Option Reason → Option Reason → Option OutputLine
+stop_line id (Some before) after = None
+stop_line id None None = None
+stop_line id None (Some reason) = Some (Text (Some id) (line.stopped_line id reason))
 
--- The explanation of the bytes of an `in`, of which `count` are accepted.
-abbrev pub arrived : Messages → ℕ → List ℕ → ℕ → Explanation
-arrived messages id bytes count =
-    and_lines (accepted messages id (take count bytes) (messages id)) (rejected_lines id count (length bytes))
-
--- The same, and the end of the connection. `before` is the reason for which it had stopped, if any. `v` is the server
--- after the event.
-abbrev pub received_so : Messages → ℕ → List ℕ → Option Reason → ℕ → ServerValue → Explanation
-received_so messages id bytes before count v =
-    and_lines (arrived messages id bytes count) (stop_lines id before (stop_in (session_of id v.sessions)))
-
--- The explanation of an `in`, by the result of the calls that accept its bytes.
+-- The explanation of the bytes of an `in`, by the result of the calls that accept them.
 abbrev pub received_by : Messages → ℕ → List ℕ → InResult → SessionValue → Explanation
 received_by messages id bytes result s =
-    received_so messages id bytes (stop_of s.link.phase) result.count result.server
+    and_line
+    (and_line (passing messages id way.In (take result.count bytes) [] (messages id))
+    (rejected_line id result.count (length bytes)))
+    (stop_line id (stop_of s.link.phase) (stop_in (session_of id result.server.sessions)))
 
 -- The explanation of an `in`.
-abbrev pub received : ServerValue → Messages → ℕ → List ℕ → Explanation
-received v messages id bytes =
-    on_connection messages (codes "in") id (received_by messages id bytes (in_result v id bytes))
-    (session_of id v.sessions)
+abbrev pub received : Messages → ℕ → List ℕ → InResult → Option SessionValue → Explanation
+received messages id bytes result None = says messages (refusal_line (codes "in") (Some id) 1)
+received messages id bytes result (Some s) = received_by messages id bytes result s
 
 -- ---- `drain`
 
--- Messages that end with bytes to the client, and the first bytes of the next one.
-abbrev pub output_of : Messages → ℕ → ℕ → Followed → List OutputLine → Passed → Explanation
-output_of messages id count followed lines p = record {
-  lines = lines ++ p.lines ++ rest_after count id way.Out p.tap;
-  messages = with_messages messages id (Some (record followed { outgoing = p.tap }));
-}
-
--- The same for two parts of the bytes, of which the first has passed.
-abbrev pub output_after : Messages → ℕ → ℕ → List ℕ → Followed → Passed → Explanation
-output_after messages id count second followed p =
-    output_of messages id count followed p.lines (passed (length second) id way.Out p.tap second)
-
--- The explanation of queued bytes, which pass in two parts.
-abbrev pub sent : Messages → ℕ → List ℕ → List ℕ → Option Followed → Explanation
-sent messages id first second None = says messages []
-sent messages id first second (Some followed) =
-    output_after messages id (length first + length second) second followed
-    (passed (length first) id way.Out followed.outgoing first)
-
 -- The line of a `drain` of no byte.
-abbrev pub no_byte_lines : ℕ → ℕ → List OutputLine
-no_byte_lines id count = if count == 0 then words_line id (codes "->  no bytes") ∷ [] else []
+abbrev pub no_byte_line : ℕ → ℕ → Option OutputLine
+no_byte_line id count = if count == 0 then Some (words_line id (codes "->  no bytes")) else None
 
 -- The line of a `drain` that wrote fewer bytes than it names, or none.
-abbrev pub queued_lines : ℕ → ℕ → Option ℕ → List OutputLine
-queued_lines id count None = no_byte_lines id count
-queued_lines id count (Some most) =
-    if nat_lt count most then Text (Some id) (line.queued_line id count most) ∷ [] else no_byte_lines id count
+abbrev pub queued_line : ℕ → ℕ → Option ℕ → Option OutputLine
+queued_line id count None = no_byte_line id count
+queued_line id count (Some most) =
+    if nat_lt count most then Some (Text (Some id) (line.queued_line id count most)) else no_byte_line id count
 
 -- The explanation of a `drain` of these bytes. The queue holds them in two parts, of which the first has `cut` bytes.
 abbrev pub drained_so : ℕ → Messages → ℕ → Option ℕ → List ℕ → Explanation
 drained_so cut messages id most bytes =
-    and_lines (sent messages id (take cut bytes) (drop cut bytes) (messages id)) (queued_lines id (length bytes) most)
-
--- The explanation of a `drain` of a connection.
-abbrev pub drained_from : ℕ → Messages → ℕ → Option ℕ → Option SessionValue → Explanation
-drained_from cut messages id most s =
-    on_connection messages (codes "drain") id
-    (λ (s : SessionValue). drained_so cut messages id most (replay.drained most s.link.waiting)) s
+    and_line (passing messages id way.Out (take cut bytes) (drop cut bytes) (messages id))
+    (queued_line id (length bytes) most)
 
 -- The explanation of a `drain`.
-abbrev pub drained : ℕ → ServerValue → Messages → ℕ → Option ℕ → Explanation
-drained cut v messages id most = drained_from cut messages id most (session_of id v.sessions)
+abbrev pub drained : ℕ → Messages → ℕ → Option ℕ → Option SessionValue → Explanation
+drained cut messages id most None = says messages (refusal_line (codes "drain") (Some id) 1)
+drained cut messages id most (Some s) = drained_so cut messages id most (replay.drained most s.link.waiting)
 
 -- ---- all events
 
 -- The explanation of the event in a line of the script. `cut` counts for a `drain`.
 unfoldable pub explained : ℕ → ServerValue → Messages → List ℕ → ScriptEventValue → Explanation
 explained cut v messages script Open = opened v messages
-explained cut v messages script (In id bytes) = received v messages id bytes
-explained cut v messages script (Drain id most) = drained cut v messages id most
-explained cut v messages script (Tick now) = ticked v messages now
+explained cut v messages script (In id bytes) =
+    received messages id bytes (in_result v id bytes) (session_of id v.sessions)
+explained cut v messages script (Drain id most) = drained cut messages id most (session_of id v.sessions)
+explained cut v messages script (Tick now) = says messages (ticked v now)
 explained cut v messages script (Put path format bytes) =
-    stored v messages path (get_or (words_of script) 1 []) format bytes
-explained cut v messages script (Remove path text) = removed v messages path text
-explained cut v messages script (End id) = input_ended v messages id
-explained cut v messages script (Release id) = released v messages id
-explained cut v messages script (Respond id bytes) = responded v messages id bytes
-explained cut v messages script (Drop id) = dropped v messages id
-explained cut v messages script (Status id) = status_shown v messages id
+    says messages (stored v path (get_or (words_of script) 1 []) format bytes)
+explained cut v messages script (Remove path text) = says messages (removed v path text)
+explained cut v messages script (End id) = says messages (input_ended messages id (session_of id v.sessions))
+explained cut v messages script (Release id) = says messages (released v id)
+explained cut v messages script (Respond id bytes) = says messages (responded v id bytes)
+explained cut v messages script (Drop id) = dropped messages id (session_of id v.sessions)
+explained cut v messages script (Status id) = says messages (status_shown id (session_of id v.sessions))
+
+-- True if an event passes bytes of a connection.
+abbrev pub passes_bytes : ScriptEventValue → Bool
+passes_bytes Open = false
+passes_bytes (In id bytes) = true
+passes_bytes (Drain id most) = true
+passes_bytes (Tick now) = false
+passes_bytes (Put path format bytes) = false
+passes_bytes (Remove path text) = false
+passes_bytes (End id) = false
+passes_bytes (Release id) = false
+passes_bytes (Respond id bytes) = false
+passes_bytes (Drop id) = false
+passes_bytes (Status id) = false
 
 -- The lines of the events in a line of the script, one after the other, and the messages after them. Each server is the
 -- one that the event before it left.
@@ -307,13 +290,6 @@ module _ {O : Type 0} (written : O → Option (List ℕ)) where
   abbrev pub ExplainsEvent : Explainer O → Explainer O → List ℕ → ScriptEventValue → Type 0
   ExplainsEvent before after script event =
       (cut : ℕ) × Explains before after (explained cut before.server (messages_of before) script event)
-
-  -- An explainer has printed the lines of queued bytes, if there is a connection.
-  abbrev pub ExplainsSent : Explainer O → Explainer O → ℕ → Option ℕ → Option SessionValue → Type 0
-  ExplainsSent before after id most None = after ≡ before
-  ExplainsSent before after id most (Some s) =
-      (first second : List ℕ) × (first ++ second ≡ replay.drained most s.link.waiting)
-      × Explains before after (sent (messages_of before) id first second (messages_of before id))
 
   -- An explainer has printed the lines of the events in a line of the script, after these lines.
   abbrev pub ExplainsEvents :

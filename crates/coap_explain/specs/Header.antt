@@ -1,5 +1,6 @@
 -- Defined by this project: the options in the header of a record, and the server that they mean.
-use Rattle.std.specs.Prelude.{◌≡◌, ℕ, true, List, [], ◌∷◌, ◌++◌, take, drop, nat_eq, Option, Some, None, is_some, IfSome, Result, Ok, Err, codes, if◌then◌else◌}
+use Rattle.std.specs.Prelude.{◌≡◌, ℕ, true, List, [], ◌∷◌, ◌++◌, take, drop, nat_eq, Option, Some, None, is_some}
+use Rattle.std.specs.Prelude.{IfSome, Result, Ok, Err, codes, if◌then◌else◌}
 use Rattle.std.specs.List.{AllByRecursion}
 use Rattle.std.specs.Str.{IsUtf8}
 use lib.Pointwise.{pointwise}
@@ -52,8 +53,8 @@ config_said words = config_in_plan (server_plan_of words)
 abbrev pub HasNoConfig : List (List ℕ) → Type 0
 HasNoConfig words = IfSome (config_said words) (λ config. is_some (config_refusal config) ≡ true)
 
--- The configuration of `coap-server` with these words, or the error that there is none. Nothing is known if an allocation
--- failed.
+-- The configuration of `coap-server` with these words, or the error that there is none. Nothing is known if an
+-- allocation failed.
 abbrev pub IsConfigured : {C : Type 0} → (C → ConfigValues) → List (List ℕ) → Result C OptionsFault → Type 0
 IsConfigured values words (Ok config) = config_said words ≡ Some (values config)
 IsConfigured values words (Err Refused) = AreUtf8 words → HasNoConfig words

@@ -1,5 +1,6 @@
 -- Defined by this project: the lines of an explanation.
-use Rattle.std.specs.Prelude.{◌≡◌, ℕ, ◌*◌, Bool, true, false, List, [], ◌++◌, nat_le, nat_lt, pos, Option, Some, None, codes, decimal, if◌then◌else◌}
+use Rattle.std.specs.Prelude.{◌≡◌, ℕ, ◌*◌, Bool, true, false, List, [], ◌++◌, nat_le, nat_lt, pos, Option, Some, None}
+use Rattle.std.specs.Prelude.{codes, decimal, if◌then◌else◌}
 use Rattle.jiff_core.specs.DateTime.{civil_nanos}
 use Rattle.jiff_core.specs.declared.civil.datetime.DateTime.{DateTime}
 use Rattle.jiff_fmt.specs.Text.{datetime_text}
@@ -68,11 +69,13 @@ unfinished_line id way bytes = line_of (way_text id way ++ codes "unfinished mes
 
 -- A number of bytes was accepted, and more arrived.
 abbrev pub accepted_line : ℕ → ℕ → ℕ → List ℕ
-accepted_line id count all = line_of (way_text id In ++ codes "bytes accepted: " ++ decimal count ++ codes " of " ++ decimal all)
+accepted_line id count all =
+    line_of (way_text id In ++ codes "bytes accepted: " ++ decimal count ++ codes " of " ++ decimal all)
 
 -- A number of bytes was queued, and more were to be written.
 abbrev pub queued_line : ℕ → ℕ → ℕ → List ℕ
-queued_line id count most = line_of (way_text id Out ++ codes "bytes queued: " ++ decimal count ++ codes " of " ++ decimal most)
+queued_line id count most =
+    line_of (way_text id Out ++ codes "bytes queued: " ++ decimal count ++ codes " of " ++ decimal most)
 
 -- A connection stopped for this reason.
 abbrev pub stopped_line : ℕ → Reason → List ℕ

@@ -5,6 +5,5 @@ pub mod Messages
 pub mod Explanations
 pub mod Header
 pub mod Stated
-pub mod Counts
 pub mod Records
 pub mod Statuses

@@ -4,12 +4,9 @@ use Rattle.std.specs.Option.{option_eq}
 use Rattle.coap_io.specs.Prelude.{AddsBytes}
 use Rattle.coap_explain.specs.Layout.{IsTimeLine}
 use Rattle.coap_explain.specs.Shown.{ended}
+pub use Rattle.coap_explain.specs.declared.printer.OutputLine.{OutputLine}
+pub use Rattle.coap_explain.specs.declared.printer.OutputLine.TheVariants.{Text, Time}
 use Rattle.coap_explain.specs.declared.printer.Printer.{Printer}
-
--- A line of an explanation: one about a connection or about none, or the line of a time in seconds.
-pub data OutputLine : Type 0 where
-  Text : (connection : Option ℕ) (line : List ℕ) → OutputLine
-  Time : (seconds : ℕ) → OutputLine
 
 -- Lines, and the time that was not printed yet.
 pub record Filtered : Type 0 where
@@ -19,6 +16,11 @@ pub record Filtered : Type 0 where
 -- Lines before others.
 abbrev pub lines_then : List OutputLine → Filtered → Filtered
 lines_then lines others = record { lines = lines ++ others.lines; time = others.time }
+
+-- A line, if there is one.
+abbrev pub listed : Option OutputLine → List OutputLine
+listed None = []
+listed (Some line) = line ∷ []
 
 -- The line of a time, if there is one.
 abbrev pub time_lines : Option ℕ → List OutputLine
@@ -30,7 +32,8 @@ unfoldable pub of_connection : ℕ → Option ℕ → List OutputLine → Filter
 of_connection id time [] = record { lines = []; time = time }
 of_connection id time (Time seconds ∷ lines) = of_connection id (Some seconds) lines
 of_connection id time (Text about line ∷ lines) =
-    if option_eq nat_eq about (Some id) then lines_then (time_lines time ++ Text about line ∷ []) (of_connection id None lines)
+    if option_eq nat_eq about (Some id)
+    then lines_then (time_lines time ++ Text about line ∷ []) (of_connection id None lines)
     else of_connection id time lines
 
 -- The lines that a printer prints: all, or those about one connection.
@@ -49,9 +52,10 @@ AreLineTexts [] text = text ≡ []
 AreLineTexts (line ∷ lines) text =
     (first others : List ℕ) × IsLineText line first × AreLineTexts lines others × (text ≡ ended first ++ others)
 
--- A printer has printed these lines. It has written the text of those that are not left out, and keeps the time that was
--- not printed yet. Nothing is claimed of an outlet that does not record its bytes.
-pub record PrintsTo (only held : Option ℕ) (lines : List OutputLine) (x y : Option (List ℕ)) (later : Option ℕ) : Type 0 where
+-- A printer has printed these lines. It has written the text of those that are not left out, and keeps the time that
+-- was not printed yet. Nothing is claimed of an outlet that does not record its bytes.
+pub record PrintsTo (only held : Option ℕ) (lines : List OutputLine) (x y : Option (List ℕ))
+    (later : Option ℕ) : Type 0 where
   pub text : List ℕ
   pub texts : AreLineTexts (filtered only held lines).lines text
   pub adds : AddsBytes x y text

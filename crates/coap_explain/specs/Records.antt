@@ -1,5 +1,6 @@
 -- Defined by this project: the effect of the lines of a record.
-use Rattle.std.specs.Prelude.{◌≡◌, ℕ, ◌+◌, ◌-◌, ◌^◌, Bool, true, false, min, List, [], ◌∷◌, ◌++◌, Option, Some, None, Ok, Err}
+use Rattle.std.specs.Prelude.{◌≡◌, ℕ, ◌+◌, ◌-◌, ◌^◌, Bool, true, false, min, List, [], ◌∷◌, ◌++◌, Option, Some, None}
+use Rattle.std.specs.Prelude.{Ok, Err}
 use Rattle.coap_model.specs.Configs.{ConfigValues}
 use Rattle.coap_script.specs.script.Events.{ScriptEventValue}
 use Rattle.coap_script.specs.script.Script.{script_of}
@@ -10,7 +11,8 @@ use Rattle.coap_explain.specs.Header.{AreUtf8, HasNoConfig, config_said, options
 use Rattle.coap_explain.specs.Printed.{OutputLine}
 use Rattle.coap_explain.specs.declared.explainer.Explainer.{Explainer}
 use Rattle.coap_explain.specs.declared.trouble.Trouble.{Trouble}
-use Rattle.coap_explain.specs.declared.trouble.Trouble.TheVariants.{Read, Write, Memory, NoEvent, TooLong, Torn, Options}
+use Rattle.coap_explain.specs.declared.trouble.Trouble.TheVariants.{Read, Write, Memory, NoEvent, TooLong, Torn}
+use Rattle.coap_explain.specs.declared.trouble.Trouble.TheVariants.{Options}
 
 -- The number of the line after this number of lines. It fits in 64 bits.
 abbrev pub next_number : ℕ → ℕ
@@ -23,7 +25,8 @@ whole_line line = line ++ 10 ∷ []
 -- The server after the events of a line. They are those of a script with this line alone.
 abbrev pub RunsEvents : List ℕ → ServerValue → ServerValue → Type 0
 RunsEvents line before after =
-    (events : List ScriptEventValue) × (script_of (whole_line line) ≡ Ok events) × (after ≡ (replayed before events).server)
+    (events : List ScriptEventValue) × (script_of (whole_line line) ≡ Ok events)
+    × (after ≡ (replayed before events).server)
 
 -- The lines before those of the first event, and before those of any other one.
 abbrev pub lines_at_start : Bool → ServerValue → List OutputLine
@@ -49,7 +52,9 @@ IsConfiguredBy false (Some options) before after =
 
 -- The line has options that `coap-server` does not have.
 abbrev pub HasBadOptions : List ℕ → Type 0
-HasBadOptions line = (options : List ℕ) × (options_in line ≡ Some options) × (AreUtf8 (words_of options) → HasNoConfig (words_of options))
+HasBadOptions line =
+    (options : List ℕ) × (options_in line ≡ Some options)
+    × (AreUtf8 (words_of options) → HasNoConfig (words_of options))
 
 -- The error is a failed write or allocation.
 abbrev pub IsOfDevice : Trouble → Type 0
@@ -61,7 +66,8 @@ IsOfDevice (TooLong number) = ⊥
 IsOfDevice (Torn number) = ⊥
 IsOfDevice (Options number) = ⊥
 
--- The reason for which a line ended an explanation is true of the line. A failed write or allocation can come at any line.
+-- The reason for which a line ended an explanation is true of the line. A failed write or allocation can
+-- come at any line.
 abbrev pub IsTrueOf : List ℕ → Trouble → Type 0
 IsTrueOf line Write = Unit {0}
 IsTrueOf line Memory = Unit {0}

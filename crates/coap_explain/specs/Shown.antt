@@ -1,9 +1,11 @@
 -- Defined by this project: what a printer has written.
-use Rattle.std.specs.Prelude.{◌≡◌, ℕ, Bool, true, false, ◌==◌, ◌||◌, List, [], ◌∷◌, ◌++◌, Option, Some, None, Result, Ok, Err}
+use Rattle.std.specs.Prelude.{◌≡◌, ℕ, Bool, true, false, ◌==◌, ◌||◌, List, [], ◌∷◌, ◌++◌, Option, Some, None, Result}
+use Rattle.std.specs.Prelude.{Ok, Err}
 use Rattle.std.specs.List.{list_all}
 use Rattle.coap_print.specs.Texts.{is_printable}
 use Rattle.coap_explain.specs.declared.trouble.Trouble.{Trouble}
-use Rattle.coap_explain.specs.declared.trouble.Trouble.TheVariants.{Read, Write, Memory, NoEvent, TooLong, Torn, Options}
+use Rattle.coap_explain.specs.declared.trouble.Trouble.TheVariants.{Read, Write, Memory, NoEvent, TooLong, Torn}
+use Rattle.coap_explain.specs.declared.trouble.Trouble.TheVariants.{Options}
 
 -- True if a byte is printable ASCII or a newline.
 abbrev pub is_shown : ℕ → Bool

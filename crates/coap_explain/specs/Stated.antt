@@ -15,9 +15,9 @@ pub record IsStartable (c : ConfigValues) : Type 0 where
   pub versions : c.starts.versions < 2 ^ 64
   pub ids : c.starts.ids + 1 < 2 ^ 64
 
--- The configuration of a replay. It has all values on which the events of a script depend. The others are those of every
--- `coap-server`: the number of outstanding entries, the size of the largest representation, and the default number of
--- turns.
+-- The configuration of a replay. It has all values on which the events of a script depend. The others are those of
+-- every `coap-server`: the number of outstanding entries, the size of the largest representation, and the default
+-- number of turns.
 abbrev pub replay_config : ConfigValues → ConfigValues
 replay_config c =
     config_of (limits_of c.limits.max_message c.limits.max_sent c.limits.queue c.limits.pending c.limits.observers 16)

@@ -1,7 +1,8 @@
 -- Defined by this project: the exit status after an error.
 use Rattle.std.specs.Prelude.{ℕ}
 use Rattle.coap_explain.specs.declared.trouble.Trouble.{Trouble}
-use Rattle.coap_explain.specs.declared.trouble.Trouble.TheVariants.{Read, Write, Memory, NoEvent, TooLong, Torn, Options}
+use Rattle.coap_explain.specs.declared.trouble.Trouble.TheVariants.{Read, Write, Memory, NoEvent, TooLong, Torn}
+use Rattle.coap_explain.specs.declared.trouble.Trouble.TheVariants.{Options}
 
 -- The exit status after an error: 3 if a file, a stream or an allocation failed, else 1.
 abbrev pub trouble_status : Trouble → ℕ

@@ -65,8 +65,8 @@ pub(crate) fn options_in(line: &[u8]) -> Option<&[u8]>
     line.strip_prefix(OPTIONS)
 }
 
-/// Returns the words of the command line of a server that runs a script with these options, or `None` if the options are
-/// not UTF-8. Exactly one space separates two options.
+/// Returns the words of the command line of a server that runs a script with these options, or `None` if the options
+/// are not UTF-8. Exactly one space separates two options.
 ///
 /// # Errors
 ///

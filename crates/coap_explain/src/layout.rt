@@ -1,7 +1,7 @@
 //! The lines of an explanation.
 //!
-//! A line about a connection begins with the number of the connection, right-aligned in six columns. Other lines begin with
-//! blanks, except for comments.
+//! A line about a connection begins with the number of the connection, right-aligned in six columns. Other lines begin
+//! with blanks, except for comments.
 #![tactic(auto, using(coap_print::proofs::LineLaws::pieces))]
 
 ghost use Rattle.std.specs.Prelude.{◌≡◌, ◌≤◌, [], true, nat_le, ℕ, List};
@@ -194,8 +194,8 @@ pub(crate) fn comment_line(text: &[u8]) -> Line
     line
 }
 
-/// Returns the line about the time of the server, in seconds. The date and the time of day follow, in UTC. They are left
-/// out if the number, counted from the start of 1970, is a time after the year 9999.
+/// Returns the line about the time of the server, in seconds. The date and the time of day follow, in UTC. They are
+/// left out if the number, counted from the start of 1970, is a time after the year 9999.
 pub(crate) fn time_line(seconds: u64) -> Line
     ensures { spec.IsTimeLine seconds result }
 {

@@ -1,7 +1,8 @@
 //! The program `coap-explain`: prints a record of `coap-server` or `coap-directory` with the meaning of each line.
 //!
-//! The function `coap_command_line::explain_words` defines its arguments. The program reads the record line by line, and
-//! runs each event on a `Server` with the options of the record. It prints the event and the messages that it passes.
+//! The function `coap_command_line::explain_words` defines its arguments. The program reads the record line by
+//! line, and runs each event on a `Server` with the options of the record. It prints the event and the messages
+//! that it passes.
 #![tactic(auto)]
 
 ghost use Rattle.std.specs.Prelude.{◌≡◌, ◌≤◌, false};

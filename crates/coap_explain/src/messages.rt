@@ -8,7 +8,7 @@ ghost use Rattle.coap_explain.specs.Printed.{Prints};
 ghost use Rattle.coap_explain.specs.Messages as spec;
 
 use crate::layout::{Way, message_line, unfinished_line};
-use crate::printer::Printer;
+use crate::printer::{OutputLine, Printer};
 use coap_io::{Outlet, WriteFailed};
 use coap_log::{DESCRIBED, Tap};
 use coap_model::ConnId;
@@ -51,7 +51,7 @@ pub(crate) fn is_within(tap: &Tap) -> bool
 /// # Errors
 ///
 /// - `WriteFailed`: a write failed.
-pub(crate) fn show_messages<O: Outlet>(
+fn show_messages<O: Outlet>(
     printer: &mut Printer<O>,
     id: ConnId,
     way: Way,
@@ -63,7 +63,6 @@ pub(crate) fn show_messages<O: Outlet>(
     ensures prints { OnOk result (Prints O.written printer.old printer.new
         (spec.passed (length bytes.now) id way tap.old bytes.now).lines) }
     ensures shown { IsShown (O.written printer.old.out) → IsShown (O.written printer.new.out) }
-    ensures only { printer.new.only ≡ printer.old.only }
     ensures failure { O.is_failed printer.new.out ≡ is_err result }
 {
     let mut left = bytes;
@@ -73,57 +72,55 @@ pub(crate) fn show_messages<O: Outlet>(
             return Ok(());
         }
         left = &left[taken..];
-        show_whole(printer, id, way, tap)?;
+        printer.show_line(&whole_line(id, way, tap))?;
     }
     Ok(())
 }
 
-/// Prints the line of the present message of a tap, if it is whole.
-///
-/// # Errors
-///
-/// - `WriteFailed`: a write failed.
-fn show_whole<O: Outlet>(
-    printer: &mut Printer<O>,
-    id: ConnId,
-    way: Way,
-    tap: &Tap,
-) -> Result<(), WriteFailed>
-    requires { O.is_failed printer.old.out ≡ false }
-    ensures prints { OnOk result (Prints O.written printer.old printer.new (spec.whole_lines id way tap.now)) }
-    ensures shown { IsShown (O.written printer.old.out) → IsShown (O.written printer.new.out) }
-    ensures only { printer.new.only ≡ printer.old.only }
-    ensures failure { O.is_failed printer.new.out ≡ is_err result }
+/// Returns the line of the present message of a tap, if it is whole.
+fn whole_line(id: ConnId, way: Way, tap: &Tap) -> Option<OutputLine>
+    ensures { result ≡ spec.whole_line id way tap.now }
 {
-    if !tap.is_whole() {
-        return Ok(());
+    if tap.is_whole() {
+        Some(OutputLine::Text(Some(id), message_line(id, way, tap)))
+    } else {
+        None
     }
-    printer.show(Some(id), &message_line(id, way, tap))
 }
 
-/// Prints a line about the message whose last byte is missing, if there is one and `count` bytes passed with the event.
+/// Returns the line about the message whose last byte is missing, if there is one and `count` bytes passed
+/// with the event.
+fn rest_line(id: ConnId, way: Way, tap: &Tap, count: usize) -> Option<OutputLine>
+    ensures { result ≡ spec.rest_line id way tap.now count }
+{
+    if count > 0 && is_within(tap) {
+        Some(OutputLine::Text(Some(id), unfinished_line(id, way, tap.size())))
+    } else {
+        None
+    }
+}
+
+/// Passes the bytes of an event, in two parts, to the tap of their direction. Prints the lines of the messages.
 ///
 /// # Errors
 ///
 /// - `WriteFailed`: a write failed.
-pub(crate) fn show_rest<O: Outlet>(
+pub(crate) fn show_parts<O: Outlet>(
     printer: &mut Printer<O>,
     id: ConnId,
     way: Way,
-    tap: &Tap,
-    count: usize,
+    tap: &mut Tap,
+    first: &[u8],
+    second: &[u8],
 ) -> Result<(), WriteFailed>
     requires { O.is_failed printer.old.out ≡ false }
-    ensures prints { OnOk result (Prints O.written printer.old printer.new (spec.rest_after count id way tap.now)) }
+    ensures tap { OnOk result (tap.new ≡ (spec.passed_parts id way tap.old first.now second.now).tap) }
+    ensures prints { OnOk result (Prints O.written printer.old printer.new
+        (spec.passed_parts id way tap.old first.now second.now).lines) }
     ensures shown { IsShown (O.written printer.old.out) → IsShown (O.written printer.new.out) }
-    ensures only { printer.new.only ≡ printer.old.only }
     ensures failure { O.is_failed printer.new.out ≡ is_err result }
 {
-    if count == 0 {
-        return Ok(());
-    }
-    if !is_within(tap) {
-        return Ok(());
-    }
-    printer.show(Some(id), &unfinished_line(id, way, tap.size()))
+    show_messages(printer, id, way, tap, first)?;
+    show_messages(printer, id, way, tap, second)?;
+    printer.show_line(&rest_line(id, way, tap, first.len() + second.len()))
 }

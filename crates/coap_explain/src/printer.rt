@@ -4,13 +4,22 @@ ghost use Rattle.std.specs.Prelude.{◌≡◌, ◌≢◌, false, [], ◌∷◌, 
 ghost use Rattle.coap_io.specs.Prelude.{AddsBytes};
 ghost use Rattle.coap_record.specs.Prelude.{WritesText};
 ghost use Rattle.coap_explain.specs.Shown.{IsShown, ended};
-ghost use Rattle.coap_explain.specs.Printed.{Prints, PrintsTo, Text, Time, time_lines};
+ghost use Rattle.coap_explain.specs.Printed.{Prints, PrintsTo, Text, Time, listed, time_lines};
 
 use crate::layout::time_line;
 use coap_io::{Outlet, WriteFailed, write_parts};
 use coap_model::ConnId;
 use coap_print::Line;
 use coap_record::BufferedOutlet;
+
+/// Line of an explanation.
+#[derive(Drop)]
+pub(crate) enum OutputLine {
+    /// Line about a connection, or about none.
+    Text(Option<ConnId>, Line),
+    /// Line of a time in seconds.
+    Time(u64),
+}
 
 /// Printer of the lines of all connections, or of one.
 ///
@@ -33,6 +42,24 @@ impl<O: Outlet> Printer<O> {
             out,
             only,
             time: None,
+        }
+    }
+
+    /// Prints a line, if there is one.
+    ///
+    /// # Errors
+    ///
+    /// - `WriteFailed`: a write failed.
+    pub(crate) fn show_line(&mut self, line: &Option<OutputLine>) -> Result<(), WriteFailed>
+        requires { O.is_failed self.old.out ≡ false }
+        ensures prints { OnOk result (Prints O.written self.old self.new (listed line.now)) }
+        ensures shown { IsShown (O.written self.old.out) → IsShown (O.written self.new.out) }
+        ensures failure { O.is_failed self.new.out ≡ is_err result }
+    {
+        match line {
+            Some(OutputLine::Text(id, text)) => self.show(*id, text),
+            Some(OutputLine::Time(seconds)) => self.show_time(*seconds),
+            None => Ok(()),
         }
     }
 

@@ -332,7 +332,8 @@ impl<O: Outlet + Drop> Record<O> {
     }
 }
 
-/// Explains all lines of a source. Lines that were explained are written before each read, and also if an error follows.
+/// Explains all lines of a source. Lines that were explained are written before each read, and also if an
+/// error follows.
 ///
 /// # Errors
 ///

@@ -3,8 +3,8 @@
 use coap_io::WriteFailed;
 use std::alloc::AllocError;
 
-/// Maximum number of bytes of a line, without its newline: 2 MiB and 4 KiB. The longest line that a recorder writes is an
-/// `in` with a message of 1,048,576 bytes and at most 12 bytes of its header. It has less than 2,097,300 bytes.
+/// Maximum number of bytes of a line, without its newline: 2 MiB and 4 KiB. The longest line that a recorder writes is
+/// an `in` with a message of 1,048,576 bytes and at most 12 bytes of its header. It has less than 2,097,300 bytes.
 pub(crate) const LONGEST_LINE: usize = 2_101_248;
 
 /// Error that ends an explanation. The number of a line counts from 1.

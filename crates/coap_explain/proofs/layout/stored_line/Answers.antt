@@ -8,6 +8,8 @@ use Rattle.coap_explain.proofs.layout.stored_line.Goals as goal
 
 pub returns : goal.returns
 returns c =
-    joined LINE_LENGTH [] c.escaped.new.self c.describe_representation.new.line (codes "        put " ++ escaped_text c.args.path.now) (representation_text c.args.format c.args.bytes.now)
-    (joined LINE_LENGTH [] c.text.new.self c.escaped.new.self (codes "        put ") (escaped_text c.args.path.now) (begun _ _ _ c.new-line.ensures c.text.ensures) c.escaped.ensures)
+    joined LINE_LENGTH [] c.escaped.new.self c.describe_representation.new.line
+    (codes "        put " ++ escaped_text c.args.path.now) (representation_text c.args.format c.args.bytes.now)
+    (joined LINE_LENGTH [] c.text.new.self c.escaped.new.self (codes "        put ") (escaped_text c.args.path.now)
+    (begun _ _ _ c.new-line.ensures c.text.ensures) c.escaped.ensures)
     c.describe_representation.ensures

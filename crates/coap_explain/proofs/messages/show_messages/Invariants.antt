@@ -6,7 +6,8 @@ use Rattle.coap_explain.proofs.messages.show_messages.Given as goal
 abbrev pub invariant-loop-left : goal.invariant-loop-left
 invariant-loop-left g l =
     record {
-      passes : Passes l.fn.id l.fn.way l.fn.printer.only l.fn.printer.time l.fn.bytes l.fn.tap (g.O.Outlet.written l.fn.printer.out) (g.O.Outlet.written l.printer.out)
+      passes : Passes l.fn.id l.fn.way l.fn.printer.only l.fn.printer.time l.fn.bytes l.fn.tap
+          (g.O.Outlet.written l.fn.printer.out) (g.O.Outlet.written l.printer.out)
           l.printer.time l.left l.tap;
       shown : IsShown (g.O.Outlet.written l.fn.printer.out) → IsShown (g.O.Outlet.written l.printer.out);
       only : l.printer.only ≡ l.fn.printer.only;

@@ -8,6 +8,8 @@ invariant-loop g l =
     record {
       source : g.S.Source.is_failed l.source ≡ false;
       works : g.O.Outlet.is_failed l.explained.explainer.printer.out.outlet ≡ false;
-      shown : IsShown (append_known (g.O.Outlet.written l.fn.explained.explainer.printer.out.outlet) l.fn.explained.explainer.printer.out.queue.waiting)
-          → IsShown (append_known (g.O.Outlet.written l.explained.explainer.printer.out.outlet) l.explained.explainer.printer.out.queue.waiting);
+      shown : IsShown (append_known (g.O.Outlet.written l.fn.explained.explainer.printer.out.outlet)
+          l.fn.explained.explainer.printer.out.queue.waiting)
+          → IsShown (append_known (g.O.Outlet.written l.explained.explainer.printer.out.outlet)
+          l.explained.explainer.printer.out.queue.waiting);
     }

@@ -6,5 +6,7 @@ use Rattle.coap_explain.proofs.printer.Printer.print.Goals as goal
 
 pub returns-clause-shown : goal.returns-clause-shown
 returns-clause-shown g c =
-    line_shown _ _ c.as_bytes.result.now c.write_parts.result (subst (λ l. is_text l ≡ true) (sym c.as_bytes.ensures.bytes) c.as_bytes.ensures.line.printable)
-    (text_of_all _ _ (c.as_bytes.result.now ++ 10 ∷ []) c.write_parts.result c.write_parts.ensures.ok c.write_parts.ensures.part)
+    line_shown _ _ c.as_bytes.result.now c.write_parts.result
+    (subst (λ l. is_text l ≡ true) (sym c.as_bytes.ensures.bytes) c.as_bytes.ensures.line.printable)
+    (text_of_all _ _ (c.as_bytes.result.now ++ 10 ∷ []) c.write_parts.result c.write_parts.ensures.ok
+    c.write_parts.ensures.part)

@@ -1,5 +1,6 @@
 use Rattle.std.proofs.Common.{refl, ◌∙◌, sym}
-use Rattle.coap_explain.proofs.PrintedLemmas.{prints_one_of, keeps_time, adds_of}
+use Rattle.coap_explain.specs.Printed.{Time}
+use Rattle.coap_explain.proofs.PrintedLemmas.{one_printed, keeps_time, adds_of, so_on}
 use Rattle.coap_explain.proofs.printer.Printer.show_time.Goals as goal
 
 pub returns-then-is_some-clause-prints : goal.returns-then-is_some-clause-prints
@@ -7,5 +8,10 @@ returns-then-is_some-clause-prints g c = (keeps_time _ _ _ _ (sym c.is_some.ensu
 
 pub returns-clause-prints : goal.returns-clause-prints
 returns-clause-prints g c =
-    prints_one_of c.print.result _ _ _ _ _ c.time_line.result _ _ (sym c.is_some.ensures ∙ c.if-is_some.false) c.print.ensures.time c.time_line.ensures
-    (adds_of _ _ _ c.print.result c.print.ensures.text) c.print.ensures.only
+    so_on c.print.result
+    (λ adds. (
+      one_printed _ _ _ (Time c.args.seconds) c.time_line.result _ _ (sym c.is_some.ensures ∙ c.if-is_some.false)
+          c.print.ensures.time c.time_line.ensures adds,
+      c.print.ensures.only,
+    ))
+    (adds_of _ _ _ c.print.result c.print.ensures.text)

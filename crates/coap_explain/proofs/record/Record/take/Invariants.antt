@@ -5,7 +5,8 @@ use Rattle.coap_explain.proofs.record.Record.take.Given as goal
 abbrev pub invariant-loop-front : goal.invariant-loop-front
 invariant-loop-front g l =
     record {
-      shown : IsShown (g.O.Outlet.written l.fn.self.explainer.printer.out) → IsShown (g.O.Outlet.written l.self.explainer.printer.out);
+      shown : IsShown (g.O.Outlet.written l.fn.self.explainer.printer.out)
+          → IsShown (g.O.Outlet.written l.self.explainer.printer.out);
       works : g.O.Outlet.is_failed l.self.explainer.printer.out ≡ false;
     }
 
