@@ -3,11 +3,11 @@
 
     tests/tools/crate_limits.py          a line for each limit that is exceeded; the last line is 'N passed, M failed'
     tests/tools/crate_limits.py --all    and a table of all crates
-    tests/tools/crate_limits.py --split  first splits each ghost import that is too long into several of the same module
 
-A source file may have 450 lines, and a line of a ghost import or of a file of NARROW 120 columns. Modules of a crate
-that import each other, directly or through others, form a circle. The size of a crate is limited by the time of its
-proof after an edit (bench/edits).
+A source file of a crate may have 450 lines, and a line of a file of NARROW 120 columns. A long import is several
+imports of the same module. The attribute `#[tactic(..)]` may be longer, since `rt fmt` keeps it on one line. Modules of
+a crate that import each other, directly or through others, form a circle. The size of a crate is limited by the time of
+its proof after an edit (bench/edits).
 """
 
 import os
@@ -25,14 +25,15 @@ NARROW = [
     "Makefile", "bench/*", "docs/pictures/*.dot", "docs/pictures/draw", "examples/**/*", "gateway/**/*", "include/*",
     "install/**/*", "man/*", "tests/*", "tests/harness/**/*", "tests/mutants/*.py", "tests/system/**/*",
     "tests/tools/**/*", "tests/vectors/*.py",
-    # "crates/*/src/**/*.rt", "crates/*/specs/**/*.antt", "crates/*/proofs/**/*.antt",
+    "crates/*/src/**/*.rt", "crates/*/specs/**/*.antt", "crates/*/proofs/**/*.antt",
 ]
 
 # Endings of files that are left out of these, and folders without sources.
 LEFT_OUT, MADE = {".md", ".svg"}, {"__pycache__", "out"}
 
 FUNCTION = re.compile(r"^ *(?:pub(?:\([a-z ]+\))? )?(?:const )?(?:extern \S+ )?fn \w+", re.M)
-GHOST = re.compile(r"^( *)(ghost use [\w.]+)\.\{(.*)\};$")
+# A line that may be longer.
+ATTRIBUTE = re.compile(r"^ *#\[tactic\(")
 IMPORT = re.compile(r"^ *(?:pub(?:\([a-z ]+\))? )?use crate::([\w:]+)", re.M)
 
 
@@ -75,10 +76,6 @@ def exceeded(crate, modules):
     for name, text in modules.items():
         if text.count("\n") > FILE_LINES:
             yield f"{name or 'the root'}: {text.count(chr(10))} lines, at most {FILE_LINES}"
-        long = [len(it) for it in text.splitlines() if "ghost use" in it and len(it) > COLUMNS]
-        if long:
-            yield (f"{name or 'the root'}: {len(long)} ghost imports of more than {COLUMNS} columns, the longest "
-                   f"{max(long):,}")
     for group in sorted(circles(imports(modules))):
         yield f"modules that import each other: {', '.join(group)}"
 
@@ -91,47 +88,11 @@ def wide(pattern):
         yield f"{pattern}: no such file"
     for path in paths:
         lines = pathlib.Path(ROOT, path).read_text(encoding="utf-8").split("\n")
-        numbers = [str(number) for number, line in enumerate(lines, 1) if len(line) > COLUMNS]
+        numbers = [str(number) for number, line in enumerate(lines, 1)
+                   if len(line) > COLUMNS and not ATTRIBUTE.match(line)]
         if numbers:
             more = " .." * (len(numbers) > 10)
             yield f"{path}: lines of more than {COLUMNS} columns: {', '.join(numbers[:10])}{more}"
-
-
-def split(indent, module, names):
-    """Returns a ghost import as lines of at most `COLUMNS` columns, each of the same module."""
-    lines, some = [], []
-    for name in names:
-        if some and len(f"{indent}{module}.{{{', '.join([*some, name])}}};") > COLUMNS:
-            lines.append(some)
-            some = []
-        some.append(name)
-    return [f"{indent}{module}.{{{', '.join(it)}}};" for it in [*lines, some]]
-
-
-def shorter(text):
-    """Returns the text with successive ghost imports of one module joined, and split if they are too long."""
-    out, parts = [], []
-    for line in [*text.split("\n"), None]:
-        found = GHOST.match(line) if line is not None else None
-        if parts and (not found or parts[0][:2] != found.groups()[:2]):
-            out += split(*parts[0][:2], [name for it in parts for name in it[2].split(", ")])
-            parts = []
-        if found:
-            parts.append(found.groups())
-        elif line is not None:
-            out.append(line)
-    return "\n".join(out)
-
-
-def split_all(crate):
-    """Splits the ghost imports of a crate that are too long."""
-    for at, _, files in os.walk(f"{ROOT}/crates/{crate}/src"):
-        for name in files:
-            with open(f"{at}/{name}", encoding="utf-8") as it:
-                text = it.read()
-            if any(len(line) > COLUMNS and GHOST.match(line) for line in text.split("\n")):
-                with open(f"{at}/{name}", "w", encoding="utf-8") as it:
-                    it.write(shorter(text))
 
 
 def main(words):
@@ -139,8 +100,6 @@ def main(words):
     if "--all" in words:
         print(f"{'crate':<20} functions  lines  longest file")
     for crate in listed():
-        if "--split" in words:
-            split_all(crate)
         modules = sources(crate)
         if "--all" in words:
             print(f"{crate:<20} {sum(len(FUNCTION.findall(it)) for it in modules.values()):>9} "
