@@ -122,7 +122,8 @@ def differences(found, steps):
     for line, step in zip(found, steps):
         try:
             text = step.told(line)
-        except (ValueError, IndexError, KeyError):
+        except (AttributeError, ValueError, IndexError, KeyError):
+            # A line of another form, such as `memory`.
             text = line
         if text != step.wanted:
             wrong.append(f"{step.event[:120]}\n    wanted {step.wanted[:300]}\n    found  {text[:300]}")
