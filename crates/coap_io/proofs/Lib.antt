@@ -1,1 +1,2 @@
 pub mod streams
+mod Worked
