@@ -20,7 +20,9 @@ pub use coap_client_engine::{
     run_to_end,
 };
 pub use coap_command_line::{WordsFault, client_reason, client_words, server_reason, server_words};
-pub use coap_conn::{LimitFault, Limits, LimitsBuilder, Phase, Reason, RequestFault};
+pub use coap_conn::{
+    LimitFault, Limits, LimitsBuilder, NotOutstanding, Phase, Reason, RequestFault, SendFault,
+};
 pub use coap_io::{Clock, Got, Outlet, Wire, WriteFailed, WriteOutlet};
 pub use coap_print::Line;
 pub use coap_request::{
@@ -31,7 +33,7 @@ pub use coap_wire::{Code, MessageRef, OptionRef, Token, TokenRef};
 /// Theorems over all clients.
 pub mod laws {
     pub use coap_client_engine::laws::{
-        limits_are_kept, messages_are_those_spelled, queued_messages_fit_limit,
-        segmentation_is_irrelevant, tokens_are_given_once,
+        forgotten_tokens_stay_forgotten, limits_are_kept, messages_are_those_spelled,
+        queued_messages_fit_limit, segmentation_is_irrelevant, tokens_are_given_once,
     };
 }

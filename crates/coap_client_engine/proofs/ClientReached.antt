@@ -1,6 +1,6 @@
 -- Properties of a client after accepted calls, and the state of the client after one more call.
 use Rattle.std.proofs.Common.{◌≡◌, ℕ, ◌≤◌, Bool, true, false, cond, List, [], ◌∷◌, ◌++◌, length, map, take, Some, None}
-use Rattle.std.proofs.Common.{Result, Ok, Err, refl, sym, ap, subst, ◌∙◌, arith}
+use Rattle.std.proofs.Common.{Option, Result, Ok, Err, refl, sym, ap, subst, ◌∙◌, arith}
 use Rattle.coap_client_engine.specs.Prelude.{nat_le, Message, message_of, StreamFault, OfFrame, Format, Stream}
 use Rattle.coap_client_engine.specs.Prelude.{frame_then}
 use Rattle.coap_client_engine.specs.Prelude.{fault_bytes, FormatFault, Framing, FrameEventValue, Nothing, AFrame}
@@ -11,15 +11,18 @@ use Rattle.coap_client_engine.specs.Prelude.{link_of, LinkValue, free_in, link_a
 use Rattle.coap_client_engine.specs.Prelude.{request_of, cancel_of, ClientValue, ClientTakeOutcome, taking_rejected}
 use Rattle.coap_client_engine.specs.Prelude.{taking_read}
 use Rattle.coap_client_engine.specs.Prelude.{taking_found, taking, is_cut, client_written, client_ended, client_sent}
-use Rattle.coap_client_engine.specs.Prelude.{client_cancelled, client_pinged, ClientCall, Took, Sent, Cancelled, Pinged}
-use Rattle.coap_client_engine.specs.Prelude.{Wrote, Ended, ClientStep, Handles, Faults, Requests, Cancels, Pings}
-use Rattle.coap_client_engine.specs.Prelude.{Writes}
+use Rattle.coap_client_engine.specs.Prelude.{client_cancelled, client_pinged, client_forgotten, client_released}
+use Rattle.coap_client_engine.specs.Prelude.{ClientCall, Took, Sent, Cancelled, Pinged, Forgot, Released, Wrote, Ended}
+use Rattle.coap_client_engine.specs.Prelude.{ClientStep, Handles, Faults, Requests, Cancels, Pings, Forgets, Releases}
+use Rattle.coap_client_engine.specs.Prelude.{Writes, is_none, is_open, may_forget, release, release_refusal, SendFault}
+use Rattle.coap_client_engine.specs.Prelude.{standing_now, stop, with_effect, ReleasedHere}
 use Rattle.coap_client_engine.specs.Prelude.{Ends, taken_by, stream_in, new_fault, steps_by, after_steps, client_after}
 use Rattle.coap_client_engine.specs.Prelude.{handles, takes, event_by, event_of, IsAccepted, AreAccepted, kept_after}
 use Rattle.coap_client_engine.specs.Prelude.{client_of}
-use Rattle.std.proofs.lemmas.Bool.{and_parts}
+use Rattle.std.proofs.lemmas.Bool.{and_parts, cond_both}
 use Rattle.std.proofs.lemmas.List.{nil_from_length, take_all}
 use Rattle.coap_conn.specs.Calls as call
+use Rattle.coap_conn.specs.declared.phase.SendFault.TheVariants.{NotOpen}
 use Rattle.coap_conn.proofs.LinkLemmas.{new_shown, shows, shown_after}
 use Rattle.coap_client_engine.specs.ClientWorld as client
 use Rattle.coap_frame.proofs.FrontLaws.{front, front_whole, added_by, added_front, front_kept}
@@ -41,6 +44,9 @@ step_limits h (Faults fault) = limits_if (takes_messages h.phase) h _ refl
 step_limits h (Requests m observe) = limits_if _ h _ refl
 step_limits h (Cancels token m) = limits_if _ h _ refl
 step_limits h (Pings custody) = limits_if _ h _ refl
+step_limits h (Forgets token) = limits_if (may_forget (link_of h) token) h _ refl
+step_limits h Releases =
+    limits_if (is_none (release_refusal (link_of h))) h (after h call.Release) (limits_if (is_open h.phase) h _ refl)
 step_limits h (Writes n) = refl
 step_limits h (Ends cut) = limits_if (takes_messages h.phase) h _ refl
 
@@ -67,6 +73,10 @@ asking_phase h m e = phase_if _ h _ refl
 pub cancel_phase : (h : History) (token : List ℕ) (m : Message) → (after h (call.Cancel token m)).phase ≡ h.phase
 cancel_phase h token m = phase_if _ h _ refl
 
+-- Forgetting a token keeps the phase.
+pub forget_phase : (h : History) (token : List ℕ) → (after h (call.Forget token)).phase ≡ h.phase
+forget_phase h token = phase_if (may_forget (link_of h) token) h _ refl
+
 over_if : (h k : History) (takes : Bool) → takes_messages h.phase ≡ takes → takes_messages k.phase ≡ false
     → takes_messages (cond takes k h).phase ≡ false
 over_if h k true e over = over
@@ -78,6 +88,21 @@ reject_over h fault = over_if h _ (takes_messages h.phase) refl refl
 
 pub end_over : (h : History) (cut : Bool) → takes_messages (after h (call.End cut)).phase ≡ false
 end_over h cut = over_if h _ (takes_messages h.phase) refl refl
+
+-- A Release that is not refused is sent, on an open connection, and no message is accepted after it.
+pub release_open : (h : History) → release_refusal (link_of h) ≡ None → is_open h.phase ≡ true
+release_open h =
+    cond_both (is_open h.phase) _ (Some NotOpen) (λ r. r ≡ None → is_open h.phase ≡ true) (λ opened is. opened)
+    (λ closed is. absurd cc)
+
+pub release_over : (h : History) → is_open h.phase ≡ true → takes_messages (after h call.Release).phase ≡ false
+release_over h opened =
+    ap (λ (b : Bool).
+    takes_messages (cond b (with_effect h (stop (standing_now h) ReleasedHere (release ∷ []))) h).phase) opened
+
+pub release_step : (h : History) → release_refusal (link_of h) ≡ None → client.step h Releases ≡ after h call.Release
+unfolding client.step
+release_step h none = ap (λ (r : Option SendFault). cond (is_none r) (after h call.Release) h) none
 
 -- If no message is accepted, no bytes are buffered.
 kept_none : (h : History) (rest : List ℕ) → takes_messages h.phase ≡ false → kept_after h rest ≡ []
@@ -436,6 +461,13 @@ module _ (limits : LimitValues) (tokens : ℕ) (calls : List ClientCall) where
   call_reached (Pinged custody) before none =
       let now = shown_after h (call.Ping custody) tt before.is_history in
       same_reached (Pinged custody) (Pings custody) _ refl refl refl before now.is_history (asking_phase h _ _)
+  call_reached (Forgot token) before may =
+      let now = shown_after h (call.Forget token) tt before.is_history in
+      same_reached (Forgot token) (Forgets token) _ refl refl refl before now.is_history (forget_phase h token)
+  call_reached Released before none =
+      let now = shown_after h call.Release tt before.is_history in
+      bare_call_reached Released Releases (after h call.Release) refl refl (release_step h none) before now.is_history
+      (λ takes. absurd (true_false _ (release_over h (release_open h none)) takes))
   call_reached (Wrote n) before few =
       let now = shown_after h (call.Written n) few before.is_history in
       same_reached (Wrote n) (Writes n) _ refl refl refl before now.is_history refl
@@ -509,6 +541,27 @@ module _ (limits : LimitValues) (tokens : ℕ) (calls : List ClientCall) (before
       same_left (Pinged custody) (Pings custody) _ _ refl refl refl (asking_phase now _ _)
       (shows (client_of limits tokens calls).link _ (call.Ping custody) tt refl now
       (record { is_history = before.is_history; same = client_link })).same
+
+  pub forgotten_left : (token : List ℕ)
+      → client_forgotten (client_of limits tokens calls) token ≡ client_of limits tokens (calls ++ Forgot token ∷ [])
+  unfolding steps_by client.step
+  forgotten_left token =
+      same_left (Forgot token) (Forgets token) _ _ refl refl refl (forget_phase now token)
+      (shows (client_of limits tokens calls).link _ (call.Forget token) tt refl now
+      (record { is_history = before.is_history; same = client_link })).same
+
+  pub released_left : release_refusal (link_of now) ≡ None
+      → client_released (client_of limits tokens calls) ≡ client_of limits tokens (calls ++ Released ∷ [])
+  unfolding steps_by
+  released_left none =
+      let k : History = after now call.Release in
+      ap client_released (after_of limits tokens calls)
+      ∙ ap (λ (l : LinkValue). record { frame = []; link = l })
+      (shown_after now call.Release tt before.is_history).same
+      ∙ ap (λ (f : List ℕ). record { frame = f; link = link_of k })
+      (sym (kept_none k rest_so_far (release_over now (release_open now none))))
+      ∙ ap (λ (g : History). left g rest_so_far) (sym (release_step now none))
+      ∙ sym (step_left limits tokens calls Released Releases refl refl)
 
   pub wrote_left : (n : ℕ) → n ≤ length (client_of limits tokens calls).link.waiting
       → client_written (client_of limits tokens calls) n ≡ client_of limits tokens (calls ++ Wrote n ∷ [])

@@ -9,8 +9,10 @@ use Rattle.coap_client_engine.specs.Prelude.{Method, TargetValue, ExtrasValue, r
 use Rattle.coap_client_engine.specs.Prelude.{has_long_extra, ClientValue, ClientEventValue, taking, new_client}
 use Rattle.coap_client_engine.specs.Prelude.{client_written}
 use Rattle.coap_client_engine.specs.Prelude.{client_ended, client_sent, client_cancelled, client_pinged, send_refusal}
+use Rattle.coap_client_engine.specs.Prelude.{client_forgotten, client_released, may_forget, release_refusal}
 use Rattle.coap_client_engine.specs.Prelude.{cancelling_refusal, ping_refusal, ClientCall, Took, Sent, Cancelled}
-use Rattle.coap_client_engine.specs.Prelude.{Pinged}
+use Rattle.coap_client_engine.specs.Prelude.{Pinged, Forgot, Released}
+use Rattle.std.specs.Prelude.{is_ok}
 use Rattle.coap_client_engine.specs.Prelude.{Wrote, Ended, client_after, takes, event_of, IsAccepted, AreAccepted}
 use Rattle.coap_client_engine.specs.Prelude.{kept_after, client_of, ClientShows}
 use Rattle.coap_conn.specs.Calls as call
@@ -18,7 +20,7 @@ use Rattle.coap_conn.proofs.LinkLemmas.{new_shown}
 use Rattle.coap_client_engine.proofs.ClientSteps.{stream_first, client_first, accepted_no_call, accepted_with_call}
 use Rattle.coap_client_engine.proofs.ClientReached.{limits_same, CallsReach, accepted_reach, after_of, client_link}
 use Rattle.coap_client_engine.proofs.ClientReached.{IsTakenAndTold, takes_and_tells, sent_left, cancelled_left}
-use Rattle.coap_client_engine.proofs.ClientReached.{pinged_left, wrote_left, ended_left}
+use Rattle.coap_client_engine.proofs.ClientReached.{pinged_left, forgotten_left, released_left, wrote_left, ended_left}
 
 -- `ClientShows` holds for the client after accepted calls.
 shows_client_of : (limits : LimitValues) (tokens : ℕ) (calls : List ClientCall) (v : ClientValue)
@@ -97,6 +99,22 @@ module _ (v : ClientValue) (tokens : ℕ) (calls : List ClientCall) (shows : Cli
       (ap (λ (l : LinkValue). ping_refusal l custody) (sym link_is) ∙ none)
       (pinged_left v.link.limits tokens calls before custody) new is
 
+  forgotten_on : (token : List ℕ) → may_forget v.link token ≡ true → (new : ClientValue)
+      → new ≡ client_forgotten v token → ClientShows new tokens (calls ++ Forgot token ∷ [])
+  unfolding IsAccepted
+  forgotten_on token may new is =
+      call_is_shown (Forgot token) (λ u. client_forgotten u token)
+      (ap (λ (l : LinkValue). may_forget l token) (sym link_is) ∙ may)
+      (forgotten_left v.link.limits tokens calls before token) new is
+
+  released_on : release_refusal v.link ≡ None → (new : ClientValue) → new ≡ client_released v
+      → ClientShows new tokens (calls ++ Released ∷ [])
+  unfolding IsAccepted
+  released_on none new is =
+      let unrefused = ap release_refusal (sym link_is) ∙ none in
+      call_is_shown Released client_released unrefused
+      (released_left v.link.limits tokens calls before unrefused) new is
+
   wrote_on : (n : ℕ) → n ≤ length v.link.waiting → (new : ClientValue) → new ≡ client_written v n
       → ClientShows new tokens (calls ++ Wrote n ∷ [])
   unfolding IsAccepted
@@ -132,7 +150,7 @@ module _ (v : ClientValue) (tokens : ℕ) (calls : List ClientCall) (shows : Cli
       (call_is_shown (Took (take (takes v.link.limits tokens calls piece) piece)) (λ u. (taking u piece).client)
       (piece_is_told piece).accepted (piece_is_told piece).client (taking v piece).client refl)
 
--- ---- send, cancel, ping
+-- ---- send, cancel, ping, forget, release
 
 pub sent_shown : {T : Type 0} (r : Result T RequestFault) (v new : ClientValue) (method : Method) (target : TargetValue)
     (extras : ExtrasValue) → RefusedBy r (send_refusal v.link method target extras)
@@ -158,6 +176,18 @@ pub pinged_shown : {T : Type 0} (r : Result T RequestFault) (v new : ClientValue
     → ClientShows new tokens (calls ++ Pinged custody ∷ []))
 pinged_shown (Ok x) v new custody none is = λ tokens calls shows. pinged_on v tokens calls shows custody none new is
 pinged_shown (Err e) v new custody none is = tt
+
+pub forgotten_shown : {T F : Type 0} (r : Result T F) (v new : ClientValue) (token : List ℕ)
+    → is_ok r ≡ may_forget v.link token → OnOk r (new ≡ client_forgotten v token)
+    → OnOk r ((tokens : ℕ) (calls : List ClientCall) → ClientShows v tokens calls
+    → ClientShows new tokens (calls ++ Forgot token ∷ []))
+forgotten_shown (Ok x) v new token may is =
+    λ tokens calls shows. forgotten_on v tokens calls shows token (sym may) new is
+forgotten_shown (Err e) v new token may is = tt
+
+pub released_shown : (v new : ClientValue) → release_refusal v.link ≡ None → new ≡ client_released v → (tokens : ℕ)
+    (calls : List ClientCall) → ClientShows v tokens calls → ClientShows new tokens (calls ++ Released ∷ [])
+released_shown v new none is tokens calls shows = released_on v tokens calls shows none new is
 
 -- The same for the parts of a client: the bytes that it buffers, and its link before and after the call.
 abbrev client_of_parts : List ℕ → LinkValue → ClientValue
@@ -201,6 +231,16 @@ pinged_here (Ok x) v frame link new custody view none is =
     (ap (λ (u : ClientValue). ping_refusal u.link custody) (sym view) ∙ none)
     (on_parts (λ u. client_pinged u custody) v frame link new view (ap (client_of_parts frame) is))
 pinged_here (Err e) v frame link new custody view none is = tt
+
+pub forgotten_here : {T F : Type 0} (r : Result T F) (v : ClientValue) (frame : List ℕ) (link new : LinkValue)
+    (token : List ℕ) → client_of_parts frame link ≡ v → is_ok r ≡ may_forget link token
+    → OnOk r (new ≡ link_after link (call.Forget token)) → OnOk r ((tokens : ℕ) (calls : List ClientCall)
+    → ClientShows v tokens calls → ClientShows (client_of_parts frame new) tokens (calls ++ Forgot token ∷ []))
+forgotten_here {T} {F} (Ok x) v frame link new token view may is =
+    forgotten_shown {F = F} (Ok x) v (client_of_parts frame new) token
+    (may ∙ ap (λ (u : ClientValue). may_forget u.link token) view)
+    (on_parts (λ u. client_forgotten u token) v frame link new view (ap (client_of_parts frame) is))
+forgotten_here {T} {F} (Err e) v frame link new token view may is = tt
 
 -- A message that was built is the one of the definition, and nothing in it is too long.
 made_is_meant : (long : Bool) (m meant : Message)

@@ -3,7 +3,8 @@ use Rattle.std.proofs.Common.{◌≡◌, ℕ, List, [], ◌∷◌, ◌++◌, map
 use Rattle.std.proofs.Common.{append_assoc}
 use Rattle.coap_client_engine.specs.Prelude.{flat_map, Message, StreamFault, Stream, split, behind, continued, split_on}
 use Rattle.coap_client_engine.specs.Prelude.{Client, LimitValues, History, new_history, link_of, ClientValue, is_cut}
-use Rattle.coap_client_engine.specs.Prelude.{ClientCall, Took, Sent, Cancelled, Pinged, Wrote, Ended, ClientStep}
+use Rattle.coap_client_engine.specs.Prelude.{ClientCall, Took, Sent, Cancelled, Pinged, Forgot, Released, Wrote, Ended}
+use Rattle.coap_client_engine.specs.Prelude.{ClientStep}
 use Rattle.coap_client_engine.specs.Prelude.{Handles}
 use Rattle.coap_client_engine.specs.Prelude.{Ends, taken_by, stream_in, new_fault, beyond, steps_by, steps_behind}
 use Rattle.coap_client_engine.specs.Prelude.{steps_of}
@@ -33,6 +34,8 @@ call_steps_alike M calls others (Took bytes) alike =
 call_steps_alike M calls others (Sent method target extras) alike = refl
 call_steps_alike M calls others (Cancelled token target extras) alike = refl
 call_steps_alike M calls others (Pinged custody) alike = refl
+call_steps_alike M calls others (Forgot token) alike = refl
+call_steps_alike M calls others Released alike = refl
 call_steps_alike M calls others (Wrote n) alike = refl
 call_steps_alike M calls others Ended alike = ap (λ (t : List ℕ). Ends (is_cut (split M t).rest) ∷ []) alike
 

@@ -7,11 +7,15 @@ use Rattle.coap_client_engine.specs.Prelude.{react}
 use Rattle.coap_client_engine.specs.Prelude.{History, limit_now, standing_now, asking_now, with_effect, after_asking}
 use Rattle.coap_client_engine.specs.Prelude.{after}
 use Rattle.coap_client_engine.specs.Prelude.{end_reason, ClientStep, Handles, Faults, Requests, Cancels, Pings, Writes}
-use Rattle.coap_client_engine.specs.Prelude.{Ends, step}
+use Rattle.coap_client_engine.specs.Prelude.{Ends, step, Forgets, Releases, is_open, may_forget, release, link_of}
+use Rattle.coap_client_engine.specs.Prelude.{release_refusal, ReleasedHere, LinkValue, stay, without_entry_of, limit_in}
+use Rattle.coap_client_engine.specs.Prelude.{◌≤◌}
 use Rattle.std.proofs.lemmas.List.{append-nil}
 use Rattle.coap_conn.specs.Calls as call
 use Rattle.coap_conn.proofs.AskingLaws.{none_where}
-use Rattle.coap_conn.proofs.HistoryLaws.{reaction_fits, stopped_fits, asked_fits, cancelled_fits}
+use Rattle.coap_conn.proofs.HistoryLaws.{reaction_fits, stopped_fits, asked_fits, cancelled_fits, released_fits}
+use Rattle.std.proofs.Common.{arith}
+use Rattle.std.proofs.lemmas.Bool.Decides.{nat_tests}
 
 -- More messages are queued, and they fit.
 abbrev GrowsFit : History → History → Type 0
@@ -50,6 +54,20 @@ cancelled_grows h token m =
     sent_grows h sent (with_cancelled token h.outstanding) h.tokens (is_none (cancel_refusal (asking_now h) token sent))
     (λ may. cancelled_fits h token sent (none_where (cancel_refusal (asking_now h) token sent) may))
 
+grows_where : (h k : History) (does : Bool) → (does ≡ true → GrowsFit h k) → GrowsFit h (cond does k h)
+grows_where h k true grows = grows refl
+grows_where h k false grows = grows_none h h refl
+
+release_limit : (v : LinkValue) → is_none (release_refusal v) ≡ true → 2 ≤ limit_in v
+release_limit v none = grind (arith, nat_tests)
+
+release_grows : (h : History) → GrowsFit h (step h Releases)
+unfolding step
+release_grows h =
+    grows_where h (after h call.Release) (is_none (release_refusal (link_of h)))
+    (λ none. effect_grows_fit h (stop (standing_now h) ReleasedHere (release ∷ [])) (is_open h.phase)
+    (released_fits h (release_limit (link_of h) none)))
+
 -- Each step only appends to the queued messages, and the added messages fit.
 pub step_grows : (h : History) (s : ClientStep)
     → (more : List Message) × ((step h s).queued ≡ h.queued ++ more) × AllFit (limit_now h) more
@@ -62,5 +80,9 @@ step_grows h (Requests m observe) =
     asked_grows h (with_token m (next_token h.tokens)) (entry_of observe (next_token h.tokens))
 step_grows h (Cancels token m) = cancelled_grows h token m
 step_grows h (Pings custody) = asked_grows h (ping_with custody (next_token h.tokens)) (Ping (next_token h.tokens))
+step_grows h (Forgets token) =
+    effect_grows_fit h (record (stay (standing_now h)) { outstanding = without_entry_of token h.outstanding })
+    (may_forget (link_of h) token) tt
+step_grows h Releases = release_grows h
 step_grows h (Writes n) = grows_none h (step h (Writes n)) refl
 step_grows h (Ends cut) = effect_grows_fit h (stop (standing_now h) (end_reason cut) []) (takes_messages h.phase) tt

@@ -10,8 +10,9 @@ use Rattle.coap_client_engine.specs.Prelude.{OutstandingValue, Ping, asking_refu
 use Rattle.coap_client_engine.specs.Prelude.{with_token}
 use Rattle.coap_client_engine.specs.Prelude.{entry_of, ping_with, stop, abort, react, History, standing_now, asking_now}
 use Rattle.coap_client_engine.specs.Prelude.{with_effect, after, after_asking, link_of, end_reason, free_in, is_cut}
-use Rattle.coap_client_engine.specs.Prelude.{ClientCall, ClientStep, Took, Sent, Cancelled, Pinged, Wrote, Ended}
-use Rattle.coap_client_engine.specs.Prelude.{Handles}
+use Rattle.coap_client_engine.specs.Prelude.{ClientCall, ClientStep, Took, Sent, Cancelled, Pinged, Forgot, Released}
+use Rattle.coap_client_engine.specs.Prelude.{Wrote, Ended, Handles, Forgets, Releases, is_open, may_forget, release}
+use Rattle.coap_client_engine.specs.Prelude.{release_refusal, ReleasedHere}
 use Rattle.coap_client_engine.specs.Prelude.{Faults, Requests, Cancels, Pings, Writes, Ends, taken_by, stream_in}
 use Rattle.coap_client_engine.specs.Prelude.{steps_by}
 use Rattle.coap_client_engine.specs.Prelude.{step, client_after, handles, takes, IsAccepted, AreAccepted, request_of}
@@ -118,6 +119,26 @@ asked_rests h m e = rests_if h _ (is_none (asking_refusal (asking_now h) m)) ref
 cancel_rests : (h : History) (token : List ℕ) (m : Message) → Rests h (after h (call.Cancel token m))
 cancel_rests h token m = rests_if h _ (is_none (cancel_refusal (asking_now h) token (with_token m token))) refl refl
 
+forget_rests : (h : History) (token : List ℕ) → Rests h (after h (call.Forget token))
+forget_rests h token = rests_if h _ (may_forget (link_of h) token) refl refl
+
+-- A connection that is open has not stopped.
+open_stop_rests : (h : History) (farewell : List Message) (opened : Bool) → is_open h.phase ≡ opened
+    → Rests h (cond opened (with_effect h (stop (standing_now h) ReleasedHere farewell)) h)
+open_stop_rests h farewell true is =
+    record { handled = refl; stopped = λ other at. absurd (both_ways _ (ap is_open at) is) }
+open_stop_rests h farewell false is = rests_by_itself h
+
+rests_where : (h k : History) (does : Bool) → Rests h k → Rests h (cond does k h)
+rests_where h k true rests = rests
+rests_where h k false rests = rests_by_itself h
+
+release_rests : (h : History) → Rests h (step h Releases)
+unfolding step
+release_rests h =
+    rests_where h (after h call.Release) (is_none (release_refusal (link_of h)))
+    (open_stop_rests h (release ∷ []) (is_open h.phase) refl)
+
 -- ---- the processed messages are those that the bytes encode
 
 record AgreesWith (u : Stream) (h : History) : Type 0 where
@@ -219,6 +240,9 @@ module _ (limits : LimitValues) (tokens : ℕ) where
     call_agrees (Pinged custody) accepted =
         bare_call_agrees (Pinged custody) (Pings custody) refl refl (asked_rests history_now
         (ping_with custody (next_token history_now.tokens)) (Ping (next_token history_now.tokens)))
+    call_agrees (Forgot token) accepted =
+        bare_call_agrees (Forgot token) (Forgets token) refl refl (forget_rests history_now token)
+    call_agrees Released accepted = bare_call_agrees Released Releases refl refl (release_rests history_now)
     call_agrees (Wrote n) accepted =
         bare_call_agrees (Wrote n) (Writes n) refl refl (record { handled = refl; stopped = λ why is. is })
     call_agrees Ended accepted =

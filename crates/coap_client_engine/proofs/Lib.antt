@@ -6,6 +6,7 @@ pub mod TakeLemmas
 pub mod LimitLaws
 pub mod CutLaws
 pub mod TokenLaws
+pub mod ForgetLaws
 pub mod HandledLaws
 pub mod FitLaws
 pub mod StandLemmas

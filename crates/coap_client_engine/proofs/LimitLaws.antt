@@ -1,7 +1,7 @@
 -- The limits of a client hold: for pending and outstanding entries after any calls, for queued and buffered bytes after
 -- accepted calls.
 use Rattle.std.proofs.Common.{◌≡◌, ℕ, ◌+◌, ◌<◌, ◌≤◌, Bool, true, false, cond, List, [], ◌∷◌, ◌++◌, length, drop, refl}
-use Rattle.std.proofs.Common.{sym, ap, subst, ◌∙◌, arith}
+use Rattle.std.proofs.Common.{sym, ap, subst, ◌∙◌, arith, not}
 use Rattle.coap_client_engine.specs.Prelude.{is_none, Message, spelling, Client, Reason, LimitValues, AreInRange}
 use Rattle.coap_client_engine.specs.Prelude.{takes_messages, abort_of, reject_of, reject_reason, AllFit, fit}
 use Rattle.coap_client_engine.specs.Prelude.{OutstandingValue, Ping, cancelled_by, asking_refusal, cancel_refusal}
@@ -13,15 +13,19 @@ use Rattle.coap_client_engine.specs.Prelude.{waiting_of, with_effect, after, aft
 use Rattle.coap_client_engine.specs.Prelude.{PendingEntryValue}
 use Rattle.coap_client_engine.specs.Prelude.{request_of, cancel_of, is_cut, ClientCall, ClientStep, Took, Sent}
 use Rattle.coap_client_engine.specs.Prelude.{Cancelled}
-use Rattle.coap_client_engine.specs.Prelude.{Pinged, Wrote, Ended, Handles, Faults, Requests, Cancels, Pings, Writes}
+use Rattle.coap_client_engine.specs.Prelude.{Pinged, Forgot, Released, Wrote, Ended, Handles, Faults, Requests, Cancels}
+use Rattle.coap_client_engine.specs.Prelude.{Pings, Forgets, Releases, Writes, is_open, may_forget, release, link_of}
+use Rattle.coap_client_engine.specs.Prelude.{release_refusal, ReleasedHere, is_entry_of, LinkValue, free_in}
 use Rattle.coap_client_engine.specs.Prelude.{Ends}
 use Rattle.coap_client_engine.specs.Prelude.{stream_in, steps_by, steps_of, step, after_steps, client_after, handles}
 use Rattle.coap_client_engine.specs.Prelude.{IsAccepted, AreAccepted, client_of}
 use Rattle.std.proofs.lemmas.Bool.{cond_both}
+use Rattle.std.proofs.lemmas.Bool.Decides.{nat_tests}
 use Rattle.std.proofs.lemmas.List.{length-append, length-drop, length-map}
 use Rattle.coap_wire.proofs.StreamSteps.{unfinished_below}
 use Rattle.coap_conn.specs.Calls as call
-use Rattle.coap_conn.proofs.SmallLemmas.{first_csm_bytes_small}
+use Rattle.coap_conn.proofs.SmallLemmas.{first_csm_bytes_small, release_bytes_small}
+use Rattle.coap_conn.proofs.OutstandingLemmas.{count_left}
 use Rattle.coap_conn.proofs.AskingLaws.{none_where, asked_size, cancel_size}
 use Rattle.coap_conn.proofs.OutstandingLaws.{asked_no_more, asked_few}
 use Rattle.coap_conn.proofs.HistoryLaws.{reaction_fits, stopped_fits}
@@ -107,6 +111,17 @@ step_keeps_limits limits h (Cancels token m) is =
     })
 step_keeps_limits limits h (Pings custody) is =
     asked_keeps limits h (ping_with custody (next_token h.tokens)) (Ping (next_token h.tokens)) is
+step_keeps_limits limits h (Forgets token) is =
+    keeps_if limits h _ (may_forget (link_of h) token) is
+    (record {
+      same = is.same;
+      none = is.none;
+      few = omega (arith, is.few, count_left (λ e. not (is_entry_of token e)) h.outstanding);
+    })
+step_keeps_limits limits h Releases is =
+    keeps_if limits h (after h call.Release) (is_none (release_refusal (link_of h))) is
+    (keeps_if limits h (with_effect h (stop (standing_now h) ReleasedHere (release ∷ []))) (is_open h.phase) is
+    (record { same = is.same; none = refl; few = omega arith }))
 step_keeps_limits limits h (Writes n) is = record { same = is.same; none = is.none; few = is.few }
 step_keeps_limits limits h (Ends cut) is =
     keeps_if limits h (with_effect h (stop (standing_now h) (end_reason cut) [])) (takes_messages h.phase) is
@@ -145,6 +160,9 @@ wait_if : (most : ℕ) (h k : History) (does : Bool) → bytes_wait h ≤ most �
 wait_if most h k true few then = then refl
 wait_if most h k false few then = few
 
+release_room : (v : LinkValue) → is_none (release_refusal v) ≡ true → 2 ≤ free_in v
+release_room v none = grind (arith, nat_tests)
+
 -- A history in which the queue limit holds.
 module _ (limits : LimitValues) (h : History) (same : h.limits ≡ limits) (is : IsHistory h)
     (few : length (waiting_of h) ≤ limits.queue) where
@@ -172,6 +190,26 @@ module _ (limits : LimitValues) (h : History) (same : h.limits ≡ limits) (is :
       wait_if limits.queue h _ (is_none (cancel_refusal (asking_now h) token sent)) few
       (λ may. room_by_size sent
       (cancel_size (asking_now h) token sent (none_where (cancel_refusal (asking_now h) token sent) may)).room)
+
+  forget_waits : (token : List ℕ) → bytes_wait (after h (call.Forget token)) ≤ limits.queue
+  forget_waits token =
+      wait_if limits.queue h _ (may_forget (link_of h) token) few (λ may. omega (arith, few, queued_waits h [] is))
+
+  -- A Release that is sent has room.
+  release_waits : bytes_wait (step h Releases) ≤ limits.queue
+  unfolding step
+  release_waits =
+      wait_if limits.queue h (after h call.Release) (is_none (release_refusal (link_of h))) few
+      (λ none. wait_if limits.queue h (with_effect h (stop (standing_now h) ReleasedHere (release ∷ [])))
+      (is_open h.phase) few
+      (λ opened. omega (
+        arith,
+        few,
+        release_room (link_of h) none,
+        queued_waits h (release ∷ []) is,
+        release_bytes_small,
+        ap (λ (l : LimitValues). l.queue) same,
+      )))
 
   written_waits : (n : ℕ) → bytes_wait (after h (call.Written n)) ≤ limits.queue
   written_waits n =
@@ -272,6 +310,11 @@ module _ (limits : LimitValues) (tokens : ℕ) where
         step_waits (Pinged custody) (Pings custody) refl
         (asking_waits limits after_calls same_limits written_within few
         (ping_with custody (next_token after_calls.tokens)) (Ping (next_token after_calls.tokens)))
+    call_waits (Forgot token) last =
+        step_waits (Forgot token) (Forgets token) refl
+        (forget_waits limits after_calls same_limits written_within few token)
+    call_waits Released last =
+        step_waits Released Releases refl (release_waits limits after_calls same_limits written_within few)
     call_waits (Wrote n) last =
         step_waits (Wrote n) (Writes n) refl (written_waits limits after_calls same_limits written_within few n)
     call_waits Ended last =

@@ -5,8 +5,10 @@ use Rattle.std.proofs.Common.{Option, Some, None, refl, sym, ap, subst, ◌∙�
 use Rattle.coap_client_engine.specs.Prelude.{flat_map, Message, spelling, StreamFault, Stream, LimitValues}
 use Rattle.coap_client_engine.specs.Prelude.{takes_messages}
 use Rattle.coap_client_engine.specs.Prelude.{History, IsHistory, bytes_of, Got, Bytes, Later, End, Failed, bytes_passed}
-use Rattle.coap_client_engine.specs.Prelude.{ClientPlan, ClientCall, Took, Sent, Cancelled, Pinged, Wrote, Ended}
-use Rattle.coap_client_engine.specs.Prelude.{ClientStep, Handles, Faults, Requests, Cancels, Pings, Writes, Ends}
+use Rattle.coap_client_engine.specs.Prelude.{ClientPlan, ClientCall, Took, Sent, Cancelled, Pinged, Forgot, Released}
+use Rattle.coap_client_engine.specs.Prelude.{Wrote, Ended, ClientStep, Handles, Faults, Requests, Cancels, Pings}
+use Rattle.coap_client_engine.specs.Prelude.{Forgets, Releases, Writes, Ends, after, is_none, is_open, link_of}
+use Rattle.coap_client_engine.specs.Prelude.{release_refusal}
 use Rattle.coap_client_engine.specs.Prelude.{taken_by}
 use Rattle.coap_client_engine.specs.Prelude.{stream_in, new_fault, steps_by, step, after_steps, client_after, client_of}
 use Rattle.coap_client_engine.specs.Prelude.{AreAcceptedBehind, AreAccepted, calls_read, calls_written, RunTrace}
@@ -18,6 +20,7 @@ use Rattle.std.proofs.lemmas.List.{append-nil, take-append-drop, take-append-le}
 use Rattle.std.proofs.Math.Seq.{drop-append_seam, take-append-add}
 use Rattle.std.proofs.lemmas.List.Concat.{flat_map-append}
 use Rattle.coap_client_engine.specs.RunTrace as course
+use Rattle.coap_conn.specs.Calls as call
 use Rattle.coap_client_engine.proofs.ClientSteps.{taken_with_call, client_first, client_more}
 use Rattle.coap_client_engine.proofs.ClientReached.{accepted_reach}
 use Rattle.coap_client_engine.proofs.FitLaws.{step_grows}
@@ -89,6 +92,8 @@ course_taken plan (Calls before (Cancelled token target extras)) is =
     given_same (calls_in before) (calls_in before ++ Cancelled token target extras ∷ []) (given_in before)
     (rest_in before) (course_taken plan before is.0) (taken_none (calls_in before) (Cancelled token target extras) refl)
 course_taken plan (Calls before (Pinged custody)) is = absurd is.2
+course_taken plan (Calls before (Forgot token)) is = absurd is.2
+course_taken plan (Calls before Released) is = absurd is.2
 course_taken plan (Calls before (Wrote n)) is = absurd is.2
 course_taken plan (Calls before Ended) is = absurd is.2
 course_taken plan (Refuses before fault) is = course_taken plan before is.0
@@ -112,6 +117,8 @@ IsQuietStep (Faults fault) = Unit {0}
 IsQuietStep (Requests m observe) = Unit {0}
 IsQuietStep (Cancels token m) = Unit {0}
 IsQuietStep (Pings custody) = Unit {0}
+IsQuietStep (Forgets token) = Unit {0}
+IsQuietStep Releases = Unit {0}
 IsQuietStep (Writes n) = ⊥
 IsQuietStep (Ends cut) = Unit {0}
 
@@ -122,6 +129,9 @@ step_written h (Faults fault) quiet = written_if (takes_messages h.phase) h _ re
 step_written h (Requests m observe) quiet = written_if _ h _ refl
 step_written h (Cancels token m) quiet = written_if _ h _ refl
 step_written h (Pings custody) quiet = written_if _ h _ refl
+step_written h (Forgets token) quiet = written_if _ h _ refl
+step_written h Releases quiet =
+    written_if (is_none (release_refusal (link_of h))) h (after h call.Release) (written_if (is_open h.phase) h _ refl)
 step_written h (Writes n) quiet = absurd quiet
 step_written h (Ends cut) quiet = written_if (takes_messages h.phase) h _ refl
 
@@ -149,6 +159,8 @@ IsQuietCall (Took bytes) = Unit {0}
 IsQuietCall (Sent method target extras) = Unit {0}
 IsQuietCall (Cancelled token target extras) = Unit {0}
 IsQuietCall (Pinged custody) = Unit {0}
+IsQuietCall (Forgot token) = Unit {0}
+IsQuietCall Released = Unit {0}
 IsQuietCall (Wrote n) = ⊥
 IsQuietCall Ended = Unit {0}
 
@@ -162,6 +174,8 @@ call_steps h calls (Took bytes) quiet =
 call_steps h calls (Sent method target extras) quiet = step_quiet h _ tt
 call_steps h calls (Cancelled token target extras) quiet = step_quiet h _ tt
 call_steps h calls (Pinged custody) quiet = step_quiet h _ tt
+call_steps h calls (Forgot token) quiet = step_quiet h _ tt
+call_steps h calls Released quiet = step_quiet h _ tt
 call_steps h calls (Wrote n) quiet = absurd quiet
 call_steps h calls Ended quiet = step_quiet h _ tt
 
@@ -261,6 +275,8 @@ planned_quiet plan before (Took bytes) is = tt
 planned_quiet plan before (Sent method target extras) is = tt
 planned_quiet plan before (Cancelled token target extras) is = tt
 planned_quiet plan before (Pinged custody) is = tt
+planned_quiet plan before (Forgot token) is = tt
+planned_quiet plan before Released is = tt
 planned_quiet plan before (Wrote n) is = is
 planned_quiet plan before Ended is = tt
 

@@ -11,11 +11,14 @@ use Rattle.coap_client_engine.specs.Prelude.{ping_with, stop, abort, react, Hist
 use Rattle.coap_client_engine.specs.Prelude.{with_effect}
 use Rattle.coap_client_engine.specs.Prelude.{after_asking, link_of, end_reason, Method, TargetValue, ExtrasValue}
 use Rattle.coap_client_engine.specs.Prelude.{request_of, is_too_long, send_refusal, ClientCall, ClientStep, Took, Sent}
-use Rattle.coap_client_engine.specs.Prelude.{Cancelled, Pinged, Wrote, Ended, Handles, Faults, Requests, Cancels, Pings}
+use Rattle.coap_client_engine.specs.Prelude.{Cancelled, Pinged, Forgot, Released, Wrote, Ended, Handles, Faults}
+use Rattle.coap_client_engine.specs.Prelude.{Requests, Cancels, Pings, Forgets, Releases, after, is_open, may_forget}
+use Rattle.coap_client_engine.specs.Prelude.{release, release_refusal, ReleasedHere}
 use Rattle.coap_client_engine.specs.Prelude.{Writes, Ends, step, steps_by, after_steps, client_after, IsAccepted}
 use Rattle.coap_client_engine.specs.Prelude.{AreAcceptedBehind, AreAccepted, token_given, tokens_behind, tokens_given}
 use Rattle.coap_client_engine.specs.Prelude.{AreDifferent}
 use Rattle.std.proofs.lemmas.Bool.{cond_both}
+use Rattle.coap_conn.specs.Calls as call
 use Rattle.coap_conn.proofs.OutstandingLaws.{tokens_differ, token_left}
 use Rattle.coap_client_engine.proofs.ClientSteps.{client_more, client_step}
 
@@ -42,6 +45,10 @@ step_tokens h (Requests m observe) =
 step_tokens h (Cancels token m) =
     if_more h _ (is_none (cancel_refusal (asking_now h) token (with_token m token))) (omega arith)
 step_tokens h (Pings custody) = asked_more h (ping_with custody (next_token h.tokens)) (Ping (next_token h.tokens))
+step_tokens h (Forgets token) = if_more h _ (may_forget (link_of h) token) (omega arith)
+step_tokens h Releases =
+    if_more h (after h call.Release) (is_none (release_refusal (link_of h)))
+    (if_more h (with_effect h (stop (standing_now h) ReleasedHere (release ∷ []))) (is_open h.phase) (omega arith))
 step_tokens h (Writes n) = omega arith
 step_tokens h (Ends cut) =
     if_more h (with_effect h (stop (standing_now h) (end_reason cut) [])) (takes_messages h.phase) (omega arith)
@@ -180,6 +187,12 @@ module _ (limits : LimitValues) (tokens : ℕ) (earlier : List ClientCall) where
   given_new (Pinged custody) ts accepted are =
       one_new (client_after limits tokens earlier) (after_one (Pinged custody)) ts
       (pinged_gives limits tokens earlier custody accepted) are
+  given_new (Forgot token) ts accepted are =
+      none_new (client_after limits tokens earlier) (after_one (Forgot token)) ts
+      (call_tokens limits tokens earlier (Forgot token)) are
+  given_new Released ts accepted are =
+      none_new (client_after limits tokens earlier) (after_one Released) ts (call_tokens limits tokens earlier Released)
+      are
   given_new (Wrote n) ts accepted are =
       none_new (client_after limits tokens earlier) (after_one (Wrote n)) ts
       (call_tokens limits tokens earlier (Wrote n)) are

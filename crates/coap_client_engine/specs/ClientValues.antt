@@ -140,6 +140,14 @@ client_cancelled v token target extras =
 abbrev pub client_pinged : ClientValue → Bool → ClientValue
 client_pinged v custody = record v { link = link_after v.link (call.Ping custody) }
 
+-- The client after it forgot the request, observation or Ping with this token. No byte is queued.
+abbrev pub client_forgotten : ClientValue → List ℕ → ClientValue
+client_forgotten v token = record v { link = link_after v.link (call.Forget token) }
+
+-- The client after it released the connection (RFC 8323 section 5.5).
+abbrev pub client_released : ClientValue → ClientValue
+client_released v = record { frame = []; link = link_after v.link call.Release }
+
 -- ---- refusals
 
 -- The error of a refused request. If no earlier check fails, extras that are too long give `TooBig`, whatever size the

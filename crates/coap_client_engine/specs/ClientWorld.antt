@@ -1,6 +1,6 @@
 -- Defined by this project: the client model. Accepted calls give steps, and steps give the history of the connection.
 use Rattle.std.specs.Prelude.{◌≡◌, ℕ, ◌≤◌, Bool, ◌&&◌, List, [], ◌∷◌, ◌++◌, length, map, drop, Option, Some, None}
-use Rattle.std.specs.Prelude.{nat_le, if◌then◌else◌}
+use Rattle.std.specs.Prelude.{true, is_none, nat_le, if◌then◌else◌}
 use Rattle.std.specs.List.{flat_map}
 use Rattle.coap_wire.specs.Message.{Message}
 use Rattle.coap_wire.specs.Stream.{StreamFault, Stream, split}
@@ -11,8 +11,10 @@ use Rattle.coap_conn.specs.Phases.{takes_messages}
 use Rattle.coap_conn.specs.Rejects.{reject_of, reject_reason}
 use Rattle.coap_conn.specs.Reaction.{react}
 use Rattle.coap_conn.specs.History.{History, new_history, standing_now, waiting_of, after, link_of}
+use Rattle.coap_conn.specs.Calls.{may_forget}
 use Rattle.coap_conn.specs.Calls as call
 use Rattle.coap_conn.specs.LinkValue.{free_in}
+use Rattle.coap_conn.specs.Release.{release_refusal}
 use Rattle.coap_request.specs.declared.request.Method.{Method}
 use Rattle.coap_request.specs.Targets.{TargetValue}
 use Rattle.coap_request.specs.Requests.{ExtrasValue, request_of, cancel_of}
@@ -25,6 +27,8 @@ pub data ClientCall : Type 0 where
   Sent : (method : Method) (target : TargetValue) (extras : ExtrasValue) → ClientCall
   Cancelled : (token : List ℕ) (target : TargetValue) (extras : ExtrasValue) → ClientCall
   Pinged : (custody : Bool) → ClientCall
+  Forgot : (token : List ℕ) → ClientCall
+  Released : ClientCall
   Wrote : (n : ℕ) → ClientCall
   Ended : ClientCall
 
@@ -36,6 +40,8 @@ pub data ClientStep : Type 0 where
   Requests : (m : Message) (observe : Bool) → ClientStep
   Cancels : (token : List ℕ) (m : Message) → ClientStep
   Pings : (custody : Bool) → ClientStep
+  Forgets : (token : List ℕ) → ClientStep
+  Releases : ClientStep
   Writes : (n : ℕ) → ClientStep
   Ends : (cut : Bool) → ClientStep
 
@@ -47,6 +53,8 @@ taken_by (Took bytes) = bytes
 taken_by (Sent method target extras) = []
 taken_by (Cancelled token target extras) = []
 taken_by (Pinged custody) = []
+taken_by (Forgot token) = []
+taken_by Released = []
 taken_by (Wrote n) = []
 taken_by Ended = []
 
@@ -71,6 +79,8 @@ steps_by M earlier (Took bytes) = beyond (stream_in M earlier) (stream_in M (ear
 steps_by M earlier (Sent method target extras) = Requests (request_of method target extras) extras.observe ∷ []
 steps_by M earlier (Cancelled token target extras) = Cancels token (cancel_of target extras) ∷ []
 steps_by M earlier (Pinged custody) = Pings custody ∷ []
+steps_by M earlier (Forgot token) = Forgets token ∷ []
+steps_by M earlier Released = Releases ∷ []
 steps_by M earlier (Wrote n) = Writes n ∷ []
 steps_by M earlier Ended = Ends (is_cut (stream_in M earlier).rest) ∷ []
 
@@ -85,13 +95,15 @@ steps_of M calls = steps_behind M [] calls
 
 -- ---- the connection
 
--- The history of the connection after one more step.
+-- The history of the connection after one more step. A Release is sent only if it has room and fits the peer's limit.
 unfoldable pub step : History → ClientStep → History
 step h (Handles m) = after h (call.Handle m)
 step h (Faults fault) = after h (call.Reject (reject_of fault))
 step h (Requests m observe) = after h (call.Request m observe)
 step h (Cancels token m) = after h (call.Cancel token m)
 step h (Pings custody) = after h (call.Ping custody)
+step h (Forgets token) = after h (call.Forget token)
+step h Releases = if is_none (release_refusal (link_of h)) then after h call.Release else h
 step h (Writes n) = after h (call.Written n)
 step h (Ends cut) = after h (call.End cut)
 
@@ -128,6 +140,8 @@ event_by h (Faults fault ∷ more) = Some (Stopped (reject_reason (reject_of fau
 event_by h (Requests m observe ∷ more) = None
 event_by h (Cancels token m ∷ more) = None
 event_by h (Pings custody ∷ more) = None
+event_by h (Forgets token ∷ more) = None
+event_by h (Releases ∷ more) = None
 event_by h (Writes n ∷ more) = None
 event_by h (Ends cut ∷ more) = None
 
@@ -139,7 +153,8 @@ event_of limits tokens earlier call =
 -- ---- accepted calls
 
 -- Says that a client accepts a call after the calls `earlier`. A `take` accepts all bytes that the call records. A
--- request, cancellation or Ping is not refused. No more bytes are written than are queued.
+-- request, cancellation, Ping or Release is not refused. A token that is forgotten is outstanding. No more bytes are
+-- written than are queued.
 unfoldable pub IsAccepted : LimitValues → ℕ → List ClientCall → ClientCall → Type 0
 IsAccepted limits tokens earlier (Took bytes) = takes limits tokens earlier bytes ≡ length bytes
 IsAccepted limits tokens earlier (Sent method target extras) =
@@ -148,6 +163,8 @@ IsAccepted limits tokens earlier (Cancelled token target extras) =
     cancelling_refusal (link_of (client_after limits tokens earlier)) token target extras ≡ None
 IsAccepted limits tokens earlier (Pinged custody) =
     ping_refusal (link_of (client_after limits tokens earlier)) custody ≡ None
+IsAccepted limits tokens earlier (Forgot token) = may_forget (link_of (client_after limits tokens earlier)) token ≡ true
+IsAccepted limits tokens earlier Released = release_refusal (link_of (client_after limits tokens earlier)) ≡ None
 IsAccepted limits tokens earlier (Wrote n) = n ≤ length (waiting_of (client_after limits tokens earlier))
 IsAccepted limits tokens earlier Ended = Unit {0}
 

@@ -30,28 +30,31 @@ unfoldable pub use Rattle.coap_conn.specs.Announced.{announced}
 pub use Rattle.coap_conn.specs.RequestState.{next_token, else_refusal, entry_of, ping_with, with_token}
 unfoldable pub use Rattle.coap_conn.specs.RequestState.{asking_refusal, cancel_refusal, new_refusal}
 unfoldable pub use Rattle.coap_conn.specs.RequestState.{observation_refusal}
-pub use Rattle.coap_conn.specs.Calls.{link_after, end_reason}
+pub use Rattle.coap_conn.specs.Calls.{link_after, end_reason, may_forget, release}
 pub use Rattle.coap_conn.specs.Fit.{AllFit, bare_response, fit, without_options}
 pub use Rattle.coap_conn.specs.PendingEntries.{PendingEntryValue, Pong}
 pub use Rattle.coap_conn.specs.History.{History, limit_now, waiting_of, IsHistory, after, after_asking, asking_now}
 pub use Rattle.coap_conn.specs.History.{link_of, new_history, standing_now, with_effect}
 pub use Rattle.coap_conn.specs.Limits.{LimitValues, AreInRange, default_limits}
-pub use Rattle.coap_conn.specs.LinkValue.{standing_in, LinkValue, asking_in, bytes_of, free_in}
+pub use Rattle.coap_conn.specs.LinkValue.{standing_in, LinkValue, asking_in, bytes_of, free_in, limit_in}
 pub use Rattle.coap_conn.specs.Outstanding.{Observation, OutstandingValue, Ping, Request, cancelled_by}
 pub use Rattle.coap_conn.specs.Outstanding.{matches_response}
 pub use Rattle.coap_conn.specs.Outstanding.{is_last, matches_pong, with_cancelled, without_asked, without_pinged}
+pub use Rattle.coap_conn.specs.Outstanding.{is_entry_of, without_entry_of}
 unfoldable pub use Rattle.coap_conn.specs.Outstanding.{is_notification}
-pub use Rattle.coap_conn.specs.Phases.{IsLive, is_waiting, stop_of, takes_messages}
+pub use Rattle.coap_conn.specs.Phases.{IsLive, is_open, is_waiting, stop_of, takes_messages}
 pub use Rattle.coap_conn.specs.Reaction.{ReactionResult, Reaction, ConnectionState, abort, aborts, answered}
 pub use Rattle.coap_conn.specs.Reaction.{asks_custody}
 pub use Rattle.coap_conn.specs.Reaction.{csm_reaction, holds, is_method, is_reserved, is_signal, late_pong, leaves}
 pub use Rattle.coap_conn.specs.Reaction.{checks_critical_options, not_implemented, open_reaction, ping_reaction}
 pub use Rattle.coap_conn.specs.Reaction.{pong_of}
 pub use Rattle.coap_conn.specs.Reaction.{pong_reaction, pong_with, reaction_unless, release_reaction, request_reaction}
+pub use Rattle.coap_conn.specs.Reaction.{stay}
 pub use Rattle.coap_conn.specs.Reaction.{response_reaction, sends, stop, tells, told_of}
 unfoldable pub use Rattle.coap_conn.specs.Reaction.{react, live_reaction}
 pub use Rattle.coap_conn.specs.Reasons.{abort_of}
 pub use Rattle.coap_conn.specs.Rejects.{reject_reason, reject_of, reject_of_frame}
+pub use Rattle.coap_conn.specs.Release.{release_refusal}
 pub use Rattle.coap_conn.specs.Verdicts.{VerdictValue}
 pub use Rattle.coap_conn.specs.declared.phase.Phase.{Phase}
 pub use Rattle.coap_conn.specs.declared.phase.Phase.TheVariants.{Open, Releasing, Stopped, Waiting}
@@ -61,11 +64,12 @@ pub use Rattle.coap_conn.specs.declared.phase.Reply.TheVariants.{Bare}
 pub use Rattle.coap_conn.specs.declared.phase.RequestFault.{RequestFault}
 pub use Rattle.coap_conn.specs.declared.phase.RequestFault.TheVariants.{NoRoom, NoSuchToken, NotOpen, TokensSpent}
 pub use Rattle.coap_conn.specs.declared.phase.RequestFault.TheVariants.{TooBig, TooMany}
+pub use Rattle.coap_conn.specs.declared.phase.SendFault.{SendFault}
 pub use Rattle.coap_conn.specs.declared.phase.Role.{Role}
 pub use Rattle.coap_conn.specs.declared.phase.Role.TheVariants.{Client, Server}
 pub use Rattle.coap_conn.specs.declared.reason.Reason.{Reason}
 pub use Rattle.coap_conn.specs.declared.reason.Reason.TheVariants.{BadSignalOption, CsmExpected, PeerAbort}
-pub use Rattle.coap_conn.specs.declared.reason.Reason.TheVariants.{ReservedCode, TokenLength}
+pub use Rattle.coap_conn.specs.declared.reason.Reason.TheVariants.{ReleasedHere, ReservedCode, TokenLength}
 -- ---- coap_io
 pub use Rattle.coap_io.specs.declared.output.WriteFailed.{WriteFailed}
 pub use Rattle.coap_io.specs.declared.wire.Got.{Got}
@@ -94,6 +98,7 @@ pub use Rattle.coap_client_engine.specs.ClientRun.{IsAtTrace, most_turns, token_
 pub use Rattle.coap_client_engine.specs.ClientValues.{answer_told, event_told, ClientValue, client_takes, new_client}
 pub use Rattle.coap_client_engine.specs.ClientValues.{client_written, client_ended, client_sent, client_cancelled}
 pub use Rattle.coap_client_engine.specs.ClientValues.{client_pinged, send_refusal, cancelling_refusal, ping_refusal}
+pub use Rattle.coap_client_engine.specs.ClientValues.{client_forgotten, client_released}
 pub use Rattle.coap_client_engine.specs.ClientValues.{request_size, cancellation_size}
 pub use Rattle.coap_client_engine.specs.ClientValues.{ClientEventValue, ClientTakeOutcome, is_cut, taking_found}
 pub use Rattle.coap_client_engine.specs.ClientValues.{taking_read}
@@ -101,6 +106,7 @@ pub use Rattle.coap_client_engine.specs.ClientValues.{taking_rejected}
 unfoldable pub use Rattle.coap_client_engine.specs.ClientValues.{taking}
 pub use Rattle.coap_client_engine.specs.ClientWorld.{ClientCall, ClientShows, Took, Sent, Cancelled, Pinged, Wrote}
 pub use Rattle.coap_client_engine.specs.ClientWorld.{Ended, ClientStep, AreAccepted, stream_in, Cancels, Ends, Faults}
+pub use Rattle.coap_client_engine.specs.ClientWorld.{Forgot, Released, Forgets, Releases}
 pub use Rattle.coap_client_engine.specs.ClientWorld.{Handles, Pings, Requests, Writes, beyond, event_by, handles}
 pub use Rattle.coap_client_engine.specs.ClientWorld.{kept_after, new_fault, taken_by}
 unfoldable pub use Rattle.coap_client_engine.specs.ClientWorld.{takes, event_of, client_after, client_of, steps_by}

@@ -12,7 +12,8 @@ use Rattle.coap_conn.specs.declared.reason.Reason.{Reason}
 use Rattle.coap_io.specs.declared.wire.Got.{Got}
 use Rattle.coap_io.specs.streams.Wires.{bytes_passed, count_passed}
 use Rattle.coap_client_engine.specs.ClientValues.{ClientValue, client_takes, ClientEventValue}
-use Rattle.coap_client_engine.specs.ClientWorld.{ClientCall, Took, Sent, Cancelled, Pinged, Wrote, Ended, taken_by}
+use Rattle.coap_client_engine.specs.ClientWorld.{ClientCall, Took, Sent, Cancelled, Pinged, Forgot, Released, Wrote}
+use Rattle.coap_client_engine.specs.ClientWorld.{Ended, taken_by}
 use Rattle.coap_client_engine.specs.ClientWorld.{client_after, client_of, takes, event_of}
 use Rattle.coap_client_engine.specs.RunTexts.{stop_line}
 use Rattle.coap_client_engine.specs.RunSteps.{has_passed, must_send_request, is_to_cancel, planned_extras}
@@ -79,6 +80,8 @@ token_by (Took bytes) client before = before
 token_by (Sent method target extras) client before = Some (next_token client.link.tokens)
 token_by (Cancelled token target extras) client before = before
 token_by (Pinged custody) client before = before
+token_by (Forgot token) client before = before
+token_by Released client before = before
 token_by (Wrote n) client before = before
 token_by Ended client before = before
 
@@ -156,6 +159,8 @@ cancelled_by (Took bytes) moment before = before
 cancelled_by (Sent method target extras) moment before = before
 cancelled_by (Cancelled token target extras) moment before = Some moment
 cancelled_by (Pinged custody) moment before = before
+cancelled_by (Forgot token) moment before = before
+cancelled_by Released moment before = before
 cancelled_by (Wrote n) moment before = before
 cancelled_by Ended moment before = before
 
@@ -237,6 +242,8 @@ rest_by (Took bytes) rest = drop (length bytes) rest
 rest_by (Sent method target extras) rest = rest
 rest_by (Cancelled token target extras) rest = rest
 rest_by (Pinged custody) rest = rest
+rest_by (Forgot token) rest = rest
+rest_by Released rest = rest
 rest_by (Wrote n) rest = rest
 rest_by Ended rest = rest
 
@@ -366,6 +373,8 @@ IsPlanned plan before (Cancelled token target extras) =
     (is_cancel_due plan before ≡ true) × (token_in before ≡ Some token) × (target ≡ plan.target)
     × (extras ≡ planned_extras plan)
 IsPlanned plan before (Pinged custody) = ⊥
+IsPlanned plan before (Forgot token) = ⊥
+IsPlanned plan before Released = ⊥
 IsPlanned plan before (Wrote n) = ⊥
 IsPlanned plan before Ended = ⊥
 

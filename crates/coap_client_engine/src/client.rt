@@ -15,6 +15,7 @@ ghost use Rattle.coap_client_engine.specs.declared.client.Received.TheVariants a
 ghost use Rattle.coap_client_engine.specs.contracts.client.Client.{the_row};
 
 mod requests;
+mod signals;
 mod state;
 
 use coap_conn::{Limits, Link, Reason, Reject, Role, Verdict};

@@ -1,10 +1,11 @@
 //! Theorems over all clients, each as the contract of a function that does nothing.
 
-ghost use Rattle.std.specs.Prelude.{◌≡◌, ℕ, ◌≤◌, ◌<◌, List, [], ◌∷◌, ◌++◌, length, None, Some};
+ghost use Rattle.std.specs.Prelude.{◌≡◌, ℕ, ◌≤◌, ◌<◌, List, [], ◌∷◌, ◌++◌, length, None, Some, true, false};
 ghost use Rattle.coap_client_engine.specs.Prelude.{AllFit, History, limit_now, waiting_of, LimitValues, AreInRange};
 ghost use Rattle.coap_client_engine.specs.Prelude.{reject_of, reject_reason, Message, StreamFault, ClientCall};
 ghost use Rattle.coap_client_engine.specs.Prelude.{ClientStep, AreAccepted, Took, client_after, client_of, steps_by};
-ghost use Rattle.coap_client_engine.specs.Prelude.{steps_of, step, stream_in, AreDifferent, tokens_given};
+ghost use Rattle.coap_client_engine.specs.Prelude.{steps_of, step, stream_in, AreDifferent, tokens_given, list_any};
+ghost use Rattle.coap_client_engine.specs.Prelude.{may_forget, is_entry_of, link_of, Forgot};
 ghost use Rattle.coap_conn.specs.declared.phase.Phase.TheVariants.{Stopped};
 
 /// States that no limit is exceeded after any calls that a client accepts.
@@ -38,6 +39,14 @@ pub fn messages_are_those_spelled()
 pub fn tokens_are_given_once()
     ensures { (limits : LimitValues) (tokens : ℕ) (calls : List ClientCall) → AreAccepted limits tokens calls →
         AreDifferent (tokens_given limits tokens calls) }
+{}
+
+/// States that a forgotten token is never outstanding again, whatever calls follow. A response or a Pong with it is a
+/// stranger (`forgotten_entries_are_gone` of `coap_conn`).
+pub fn forgotten_tokens_stay_forgotten()
+    ensures { (limits : LimitValues) (tokens : ℕ) (earlier later : List ClientCall) (token : List ℕ) →
+        may_forget (link_of (client_after limits tokens earlier)) token ≡ true → list_any (is_entry_of token)
+        (client_after limits tokens (earlier ++ Forgot token ∷ later)).outstanding ≡ false }
 {}
 
 /// States that every message that a step queues fits the limit of the peer and the local limit at that time.

@@ -1,9 +1,9 @@
 -- Requests that wait for a response of the application, and its responses.
-use Rattle.std.proofs.Common.{◌≡◌, ℕ, suc, ◌<◌, ◌≤◌, Bool, true, false, ◌&&◌, ◌||◌, cond, List, [], ◌∷◌, ◌++◌, length}
-use Rattle.std.proofs.Common.{get_or, take, drop, Option, Some, None, refl, sym, ap, subst, ◌∙◌}
-use Rattle.coap_conn.specs.Prelude.{slice_get, list_any, AllByRecursion, is_none, position, remove, Message, spelling}
+use Rattle.std.proofs.Common.{◌≡◌, ℕ, suc, Bool, true, false, ◌&&◌, ◌||◌, cond, List, [], ◌∷◌, ◌++◌}
+use Rattle.std.proofs.Common.{get_or, take, drop, Option, Some, None, refl, sym, ap, ◌∙◌}
+use Rattle.coap_conn.specs.Prelude.{list_any, AllByRecursion, is_none, position, remove, Message}
 use Rattle.coap_conn.specs.Prelude.{Phase, Reason, Reply, Whole, Bare, Stopped, AllFit, fit, fitted, bare_response}
-use Rattle.coap_conn.specs.Prelude.{answers, PendingEntryValue, Responder, Engine, Application, Answer, Pong}
+use Rattle.coap_conn.specs.Prelude.{answers, PendingEntryValue, Engine, Application, Answer, Pong}
 use Rattle.coap_conn.specs.Prelude.{is_request_for, has_request, without_request, IsFirstRequest, ConnectionState}
 use Rattle.coap_conn.specs.Prelude.{send, send_as, response_refusal, History, link_of, limit_now, standing_now}
 use Rattle.coap_conn.specs.Prelude.{standing_without, after, without_at, with_effect, RespondFault}

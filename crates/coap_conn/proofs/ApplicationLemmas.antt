@@ -1,17 +1,16 @@
 -- The steps of `Link::respond`, on the value of a link.
-use Rattle.std.proofs.Common.{◌≡◌, ℕ, ◌<◌, ◌≤◌, Bool, true, false, ◌&&◌, cond, List, [], ◌∷◌, ◌++◌, length, Option}
-use Rattle.std.proofs.Common.{Some, None, Result, Ok, Err, refl, sym, ap, subst, ◌∙◌, inl, inr, arith}
+use Rattle.std.proofs.Common.{◌≡◌, ℕ, ◌≤◌, Bool, true, false, ◌&&◌, cond, List, ◌++◌, length, Option}
+use Rattle.std.proofs.Common.{Some, None, Result, Ok, Err, refl, sym, ap, ◌∙◌, inl, inr, arith}
 use Rattle.std.specs.Prelude.{OnOk}
 use Rattle.coap_conn.specs.Prelude.{is_none, nat_lt, position, remove, Message, spelling, RefusedBy}
 use Rattle.coap_conn.specs.Prelude.{Reply, Whole, Bare, Stopped, fit, fits, fitted, bare_response, answers}
-use Rattle.coap_conn.specs.Prelude.{PendingEntryValue, is_request_for, has_request, without_request, without_at}
+use Rattle.coap_conn.specs.Prelude.{PendingEntryValue, is_request_for, without_request, without_at}
 use Rattle.coap_conn.specs.Prelude.{send, send_as, is_plain_response, sent_length, room_refusal, response_refusal}
 use Rattle.coap_conn.specs.Prelude.{RespondFault, LinkValue, IsLink, bytes_of, free_in, limit_in, standing_in}
 use Rattle.coap_conn.specs.Prelude.{link_with}
-use Rattle.coap_conn.specs.Prelude.{link_after, standing_without, ReactionResult}
+use Rattle.coap_conn.specs.Prelude.{link_after, standing_without}
 use Rattle.coap_conn.specs.declared.phase.RespondFault.TheVariants as fault
 use Rattle.coap_conn.specs.Calls as call
-use Rattle.std.proofs.lemmas.Bool.{cond_both, leb-true, ltb-false}
 use Rattle.std.proofs.lemmas.List.{append-nil}
 use Rattle.coap_conn.proofs.ApplicationLaws.{absent_request, there_request}
 

@@ -13,6 +13,7 @@ pub mod PendingLaws
 pub mod ApplicationLaws
 pub mod ApplicationLemmas
 pub mod OutstandingLaws
+pub mod ForgetLaws
 pub mod ReactionLaws
 pub mod WaitingLaws
 pub mod GrowLaws

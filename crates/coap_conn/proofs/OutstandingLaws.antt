@@ -6,7 +6,7 @@ use Rattle.coap_conn.specs.Prelude.{Server, Client, Reply, Whole, Bare, Stopped,
 use Rattle.coap_conn.specs.Prelude.{has_critical_option, bad_csm_option, fit, bare_response, without_options}
 use Rattle.coap_conn.specs.Prelude.{VerdictValue, PendingEntryValue, first_due, OutstandingValue, Observation, Ping}
 use Rattle.coap_conn.specs.Prelude.{matches_response, is_last, is_notification, matches_pong, is_request_entry}
-use Rattle.coap_conn.specs.Prelude.{cancelled_by}
+use Rattle.coap_conn.specs.Prelude.{cancelled_by, is_entry_of}
 use Rattle.coap_conn.specs.Prelude.{without_asked, without_pinged, asking_refusal, next_token, with_token, entry_of}
 use Rattle.coap_conn.specs.Prelude.{ping_with, ConnectionState, ReactionResult, Reaction, stay, tells, leaves, told_of}
 use Rattle.coap_conn.specs.Prelude.{ping_reaction, pong_reaction, csm_reaction, request_reaction, answered}
@@ -29,6 +29,7 @@ use Rattle.coap_conn.specs.Calls as call
 use Rattle.coap_conn.proofs.AskingLaws.{none_where, asked_new}
 use Rattle.coap_conn.proofs.RequestLemmas.{react_live}
 use Rattle.coap_conn.proofs.PendingLaws.{react_does}
+use Rattle.coap_conn.proofs.OutstandingLemmas.{count_left}
 
 -- ---- the limit of outstanding entries
 
@@ -41,8 +42,22 @@ asked_no_more s = react_does s (λ e. length e.outstanding ≤ length s.outstand
   stops = λ why farewell other. omega arith;
   queues = λ m may. omega arith;
   keeps = λ token room. omega arith;
-  ends = λ rest fewer. fewer;
+  ends = λ test. count_left test s.outstanding;
 })
+
+-- A message keeps what holds of a list of entries, if that holds of the empty list and of what a filter leaves.
+pub asked_kept : (Q : List OutstandingValue → Type 0) → Q []
+    → ((test : OutstandingValue → Bool) (entries : List OutstandingValue) → Q entries → Q (filter test entries))
+    → (s : ConnectionState) (m : Message) → Q s.outstanding → Q (react s m).effect.outstanding
+asked_kept Q none left s m holds = react_does s (λ e. Q e.outstanding) (record {
+  stays = holds;
+  opens = holds;
+  releases = none;
+  stops = λ why farewell other. none;
+  queues = λ n may. holds;
+  keeps = λ token room. holds;
+  ends = λ test. left test s.outstanding holds;
+}) m
 
 -- A request adds an entry only if there is room.
 pub asked_few : (h : History) (m : Message) (e : OutstandingValue) → length h.outstanding ≤ h.limits.outstanding
@@ -105,6 +120,8 @@ call_few h (call.Cancel token m) few =
     few_by h (call.Cancel token m) few (omega (arith, length-map h.outstanding (cancelled_by token)))
 call_few h (call.Ping custody) few =
     asked_few h (ping_with custody (next_token h.tokens)) (Ping (next_token h.tokens)) few
+call_few h (call.Forget token) few =
+    few_by h (call.Forget token) few (count_left (λ e. not (is_entry_of token e)) h.outstanding)
 call_few h (call.Announce size) few = few_by h (call.Announce size) few (omega arith)
 call_few h (call.Written n) few = few
 
@@ -121,7 +138,7 @@ asked_given_up s m why live = react_does s (λ e. stop_of e.phase ≡ Some why �
   stops = λ because farewell other over. refl;
   queues = λ m may over. absurd (live_no_stop s.phase why live over);
   keeps = λ token room over. absurd (live_no_stop s.phase why live over);
-  ends = λ rest fewer over. absurd (live_no_stop s.phase why live over);
+  ends = λ test over. absurd (live_no_stop s.phase why live over);
 }) m
 
 -- ---- verdicts on messages
@@ -357,7 +374,7 @@ minds_none n other =
 
 -- On an open connection, a message is a response if its code is neither reserved nor that of a Signalling Message or a
 -- method.
-response_taken : (s : ConnectionState) (m : Message) → s.phase ≡ phase.Open → is_reserved m.code ≡ false
+pub response_taken : (s : ConnectionState) (m : Message) → s.phase ≡ phase.Open → is_reserved m.code ≡ false
     → is_signal m.code ≡ false → is_method m.code ≡ false → live_reaction s m ≡ response_reaction s m
 unfolding live_reaction
 response_taken s m opened reserved signal method =
@@ -374,7 +391,7 @@ response_taken s m opened reserved signal method =
     ∙ cond-false (is_signal m.code) _ _ signal
     ∙ cond-false (is_method m.code) _ _ method
 
-live_reaction_to_pong : (s : ConnectionState) (m : Message) → s.phase ≡ phase.Open → m.code ≡ code.pong
+pub live_reaction_to_pong : (s : ConnectionState) (m : Message) → s.phase ≡ phase.Open → m.code ≡ code.pong
     → has_critical_option m ≡ false → live_reaction s m ≡ pong_reaction s m
 unfolding live_reaction
 live_reaction_to_pong s m opened is plain =

@@ -2,14 +2,14 @@
 use Rattle.std.proofs.Common.{◌≡◌, ℕ, zero, suc, ◌+◌, ◌<◌, ◌≤◌, Bool, true, false, cond, ◌&&◌, ◌==◌, List, [], ◌∷◌}
 use Rattle.std.proofs.Common.{◌++◌, length, get_or, take, drop, min, Option, Some, None, refl, sym, ap, subst, ◌∙◌}
 use Rattle.std.proofs.Common.{arith, inl, inr}
-use Rattle.coap_conn.specs.Prelude.{Responder, slice_get, nat_le, nat_lt, option_map, not, find, AllByRecursion}
+use Rattle.coap_conn.specs.Prelude.{filter, Responder, slice_get, nat_le, nat_lt, option_map, not, find, AllByRecursion}
 use Rattle.coap_conn.specs.Prelude.{list_any}
 use Rattle.coap_conn.specs.Prelude.{filter_map, cons_option, fold, reduce, position, position_from, remove}
 use Rattle.coap_conn.specs.Prelude.{CoapOption, Message, Reason, Phase, Role, Server, Client, Reply, Whole, Bare}
 use Rattle.coap_conn.specs.Prelude.{Stopped, stop_of, is_waiting, abort_text, number_told, abort_options, abort_with}
 use Rattle.coap_conn.specs.Prelude.{abort_of, has_critical_option, bad_csm_option, fit, fitted, abort_fitted}
 use Rattle.coap_conn.specs.Prelude.{bare_response, without_options, without_payload, OutstandingValue, matches_response}
-use Rattle.coap_conn.specs.Prelude.{is_last, matches_pong, without_asked, without_pinged, ConnectionState}
+use Rattle.coap_conn.specs.Prelude.{is_last, matches_pong, ConnectionState}
 use Rattle.coap_conn.specs.Prelude.{ReactionResult, Reaction}
 use Rattle.coap_conn.specs.Prelude.{stay, stop, abort, send_as, holds, ping_reaction, pong_reaction, csm_reaction}
 use Rattle.coap_conn.specs.Prelude.{request_reaction, answered, open_reaction, live_reaction, reaction_unless, react}
@@ -28,7 +28,6 @@ use Rattle.std.proofs.lemmas.Option.{slice_get_within, slice_get-get_or}
 use Rattle.coap_wire.specs.Codes as code
 use Rattle.coap_conn.specs.declared.reason.Reason.TheVariants as reason
 use Rattle.coap_conn.specs.declared.phase.Phase.TheVariants as phase
-use Rattle.coap_conn.proofs.OutstandingLemmas.{count_left}
 
 -- ---- the least number of a list
 
@@ -307,8 +306,7 @@ pub record EffectCases (s : ConnectionState) (P : ReactionResult → Type 0) : T
       → P (stop s why farewell)
   pub queues : (m : Message) → MayQueue s m → P (record (stay s) { queued = m ∷ [] })
   pub keeps : (token : List ℕ) → length s.held < s.most → P (holds s (Pong token)).effect
-  pub ends : (rest : List OutstandingValue) → length rest ≤ length s.outstanding
-      → P (record (stay s) { outstanding = rest })
+  pub ends : (test : OutstandingValue → Bool) → P (record (stay s) { outstanding = filter test s.outstanding })
 
 -- P holds for the effect of a reaction.
 abbrev Does : (ReactionResult → Type 0) → Reaction → Type 0
@@ -380,15 +378,13 @@ answered_does : (s : ConnectionState) (P : ReactionResult → Type 0) → Effect
     → (m : Message) (e : Option OutstandingValue) → Does P (answered s m e)
 answered_does s P cases m None = cases.stays
 answered_does s P cases m (Some e) =
-    cond_both (is_last m e) _ _ (Does P) (λ f. cases.ends (without_asked m.token s.outstanding)
-    (count_left (λ e. not (matches_response m.token e)) s.outstanding)) (λ f. cases.stays)
+    cond_both (is_last m e) _ _ (Does P) (λ f. cases.ends (λ e. not (matches_response m.token e))) (λ f. cases.stays)
 
 pong_does : (s : ConnectionState) (P : ReactionResult → Type 0) → EffectCases s P → (m : Message)
     → Does P (pong_reaction s m)
 pong_does s P cases m =
     cond_both (list_any (matches_pong m.token) s.outstanding) _ _ (Does P)
-    (λ f. cases.ends (without_pinged m.token s.outstanding)
-    (count_left (λ e. not (matches_pong m.token e)) s.outstanding)) (λ f. cases.stays)
+    (λ f. cases.ends (λ e. not (matches_pong m.token e))) (λ f. cases.stays)
 
 open_does : (s : ConnectionState) (P : ReactionResult → Type 0) → EffectCases s P → (m : Message)
     → Does P (open_reaction s m)
@@ -438,7 +434,7 @@ custody_at_once s = react_does s (λ e. list_any is_custody_pong e.queued ≡ tr
   stops = λ why farewell other is. absurd cc;
   queues = λ m may is. may (custody_only m is);
   keeps = λ token room is. absurd cc;
-  ends = λ rest fewer is. absurd cc;
+  ends = λ test is. absurd cc;
 })
 
 pub held_few : (s : ConnectionState) (m : Message) → length s.held ≤ s.most → length (react s m).effect.held ≤ s.most
@@ -449,7 +445,7 @@ held_few s m few = react_does s (λ e. length e.held ≤ s.most) (record {
   stops = λ why farewell other. omega arith;
   queues = λ m may. few;
   keeps = λ token room. omega (arith, room, length-append s.held (Pong token ∷ []));
-  ends = λ rest fewer. few;
+  ends = λ test. few;
 }) m
 
 -- Pending entries stay in the list, and others may be appended.
@@ -465,7 +461,7 @@ held_more s m = react_does s (λ e. stop_of e.phase ≡ None → HoldsMore s e) 
   stops = λ why farewell other live. absurd cc;
   queues = λ m may live. ([], sym (append-nil s.held));
   keeps = λ token room live. (Pong token ∷ [], refl);
-  ends = λ rest fewer live. ([], sym (append-nil s.held));
+  ends = λ test live. ([], sym (append-nil s.held));
 }) m
 
 open_not_released : (p : Phase) (why : Reason) → p ≡ phase.Open → p ≡ phase.Releasing why → ⊥
@@ -483,7 +479,7 @@ held_released s m why opened = react_does s (λ e. e.phase ≡ phase.Releasing w
   stops = λ because farewell other is. absurd cc;
   queues = λ m may is. refl;
   keeps = λ token room is. absurd (open_not_released s.phase why opened is);
-  ends = λ rest fewer is. refl;
+  ends = λ test is. refl;
 }) m
 
 live_not_stopped : (p : Phase) (why : Reason) → stop_of p ≡ None → p ≡ phase.Stopped why → ⊥
@@ -501,5 +497,5 @@ held_given_up s m why live = react_does s (λ e. e.phase ≡ phase.Stopped why �
   stops = λ because farewell other is. refl;
   queues = λ m may is. absurd (live_not_stopped s.phase why live is);
   keeps = λ token room is. absurd (live_not_stopped s.phase why live is);
-  ends = λ rest fewer is. absurd (live_not_stopped s.phase why live is);
+  ends = λ test is. absurd (live_not_stopped s.phase why live is);
 }) m

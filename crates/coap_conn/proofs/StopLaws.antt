@@ -1,6 +1,7 @@
 -- Nothing follows a stop.
 use Rattle.std.proofs.Common.{◌≡◌, ℕ, Bool, true, false, List, ◌&&◌, cond, Option, Some, refl, ap}
-use Rattle.coap_conn.specs.Prelude.{is_none, Message, Reason, Phase, stop_of, answers, is_open, ConnectionState}
+use Rattle.coap_conn.specs.Prelude.{is_none, list_any, Message, Reason, Phase, stop_of, answers, is_open}
+use Rattle.coap_conn.specs.Prelude.{ConnectionState, is_entry_of}
 use Rattle.coap_conn.specs.Prelude.{reaction_unless, react, asking_refusal, cancel_refusal, next_token, with_token}
 use Rattle.coap_conn.specs.Prelude.{ping_with, fits, own_csm, Call, needs_live, History, limit_now, asking_now}
 use Rattle.coap_conn.specs.Prelude.{may_hold, after}
@@ -63,5 +64,7 @@ call_over h call.Release why needs over = stays_released h _ why over
 call_over h (call.Request m observe) why needs over = stays_unasked h _ (with_token m (next_token h.tokens)) why over
 call_over h (call.Cancel token m) why needs over = stays_uncancelled h _ token (with_token m token) why over
 call_over h (call.Ping custody) why needs over = stays_unasked h _ (ping_with custody (next_token h.tokens)) why over
+call_over h (call.Forget token) why needs over =
+    stays_unheld h _ (list_any (is_entry_of token) h.outstanding) why over
 call_over h (call.Announce size) why needs over = stays_unheld h _ (fits (limit_now h) (own_csm size)) why over
 call_over h (call.Written n) why needs over = absurd cc

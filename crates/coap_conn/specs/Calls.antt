@@ -1,6 +1,7 @@
 -- RFC 8323 sections 3.3 and 5: the calls on a connection, the effect of each, and the link after it.
 use Rattle.std.specs.Prelude.{ℕ, ◌+◌, ◌≤◌, Bool, true, false, ◌&&◌, List, [], ◌∷◌, ◌++◌, length, drop, is_none}
 use Rattle.std.specs.Prelude.{if◌then◌else◌}
+use Rattle.std.specs.List.{list_any}
 use Rattle.coap_wire.specs.Message.{Message}
 use Rattle.coap_wire.specs.Codes as code
 use Rattle.coap_conn.specs.declared.reason.Reason.{Reason}
@@ -12,10 +13,10 @@ use Rattle.coap_conn.specs.Fit.{fits, bare_response}
 use Rattle.coap_conn.specs.PendingEntries.{PendingEntryValue, Answer, first_due, without_due, without_request}
 use Rattle.coap_conn.specs.declared.pending.Responder.TheVariants.{Engine, Application}
 use Rattle.coap_conn.specs.Responses.{response_refusal}
-use Rattle.coap_conn.specs.Outstanding.{OutstandingValue, with_cancelled}
+use Rattle.coap_conn.specs.Outstanding.{OutstandingValue, is_entry_of, without_entry_of, with_cancelled}
 use Rattle.coap_conn.specs.Outstanding as outstanding
 use Rattle.coap_conn.specs.RequestState.{asking_refusal, cancel_refusal, next_token, with_token, entry_of, ping_with}
-use Rattle.coap_conn.specs.Reaction.{ConnectionState, ReactionResult, stop, abort, send, react, due_effect}
+use Rattle.coap_conn.specs.Reaction.{ConnectionState, ReactionResult, stay, stop, abort, send, react, due_effect}
 use Rattle.coap_conn.specs.LinkValue.{LinkValue, can_hold, standing_in, asking_in, bytes_of, own_csm, limit_in}
 use Rattle.coap_conn.specs.LinkValue.{link_with, link_heard}
 
@@ -32,6 +33,7 @@ use Rattle.coap_conn.specs.LinkValue.{link_with, link_heard}
 -- - `Request`: a request is sent, for an observation if `observe`.
 -- - `Cancel`: an observation is cancelled by the message `m`.
 -- - `Ping`: a Ping is sent, with Custody if `custody`.
+-- - `Forget`: the outstanding entry with this token is removed.
 -- - `Announce`: the local endpoint announces another Max-Message-Size.
 -- - `Written`: the first `n` queued bytes were written.
 pub data Call : Type 0 where
@@ -47,6 +49,7 @@ pub data Call : Type 0 where
   Request : (m : Message) (observe : Bool) → Call
   Cancel : (token : List ℕ) (m : Message) → Call
   Ping : (custody : Bool) → Call
+  Forget : (token : List ℕ) → Call
   Announce : (size : ℕ) → Call
   Written : (n : ℕ) → Call
 
@@ -103,6 +106,10 @@ sends_one v m less = where_so (answers v.phase) (Does (send (standing_in v) m le
 abbrev pub asks_one : LinkValue → Message → OutstandingValue → Doing
 asks_one v m e = where_so (is_none (asking_refusal (asking_in v) m)) (Asks m (v.outstanding ++ e ∷ []) (v.tokens + 1))
 
+-- True if an entry with this token can be removed: the connection is open, and an entry has the token.
+abbrev pub may_forget : LinkValue → List ℕ → Bool
+may_forget v token = is_open v.phase && list_any (is_entry_of token) v.outstanding
+
 -- True if a CSM with this size may be sent: the connection is open, and the CSM fits the peer's limit.
 abbrev pub may_announce : LinkValue → ℕ → Bool
 may_announce v size = is_open v.phase && fits (limit_in v) (own_csm size)
@@ -131,6 +138,9 @@ call_effect v (Cancel token m) =
     (Asks (with_token m token) (with_cancelled token v.outstanding) v.tokens)
 call_effect v (Ping custody) =
     asks_one v (ping_with custody (next_token v.tokens)) (outstanding.Ping (next_token v.tokens))
+call_effect v (Forget token) =
+    where_so (may_forget v token)
+    (Does (record (stay (standing_in v)) { outstanding = without_entry_of token v.outstanding }))
 call_effect v (Announce size) = where_so (may_announce v size) (Announces size)
 call_effect v (Written n) = where_so true (Writes n)
 

@@ -71,6 +71,12 @@ cancelled_by token (Request asked) = Request asked
 cancelled_by token (Observation asked cancelled) = Observation asked (same_token asked token || cancelled)
 cancelled_by token (Ping pinged) = Ping pinged
 
+-- ---- both
+
+-- True if a response or a Pong with this token matches the entry.
+abbrev pub is_entry_of : List ℕ → OutstandingValue → Bool
+is_entry_of token e = matches_response token e || matches_pong token e
+
 -- ---- lists
 
 -- The entries without the requests and observations with this token.
@@ -80,6 +86,10 @@ without_asked token entries = filter (λ e. not (matches_response token e)) entr
 -- The entries without the Pings with this token.
 abbrev pub without_pinged : List ℕ → List OutstandingValue → List OutstandingValue
 without_pinged token entries = filter (λ e. not (matches_pong token e)) entries
+
+-- The entries without those with this token.
+abbrev pub without_entry_of : List ℕ → List OutstandingValue → List OutstandingValue
+without_entry_of token entries = filter (λ e. not (is_entry_of token e)) entries
 
 -- The entries after the cancellation of the observation with this token.
 abbrev pub with_cancelled : List ℕ → List OutstandingValue → List OutstandingValue

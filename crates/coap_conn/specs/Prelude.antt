@@ -35,6 +35,7 @@ pub use Rattle.coap_conn.specs.RequestState.{else_refusal, entry_of, has_observa
 unfoldable pub use Rattle.coap_conn.specs.RequestState.{asking_refusal, cancel_refusal, new_refusal}
 pub use Rattle.coap_conn.specs.CallKinds.{needs_live, gives_token, announces}
 pub use Rattle.coap_conn.specs.Calls.{Call, release, may_announce, link_after, Announces, Asks, CallEffect, Does, Doing}
+pub use Rattle.coap_conn.specs.Calls.{may_forget}
 pub use Rattle.coap_conn.specs.Calls.{Handles, Holds, IsWithin, Writes, asks_one, call_effect, link_done}
 pub use Rattle.coap_conn.specs.Calls.{link_with_deed}
 pub use Rattle.coap_conn.specs.Calls.{standing_due, standing_without}
@@ -60,7 +61,7 @@ pub use Rattle.coap_conn.specs.LinkViews.{verdict_value, link_value}
 pub use Rattle.coap_conn.specs.Outstanding.{matches_response, matches_pong, may_cancel, is_last, has_observe}
 pub use Rattle.coap_conn.specs.Outstanding.{without_asked}
 pub use Rattle.coap_conn.specs.Outstanding.{without_pinged, with_cancelled, cancelled_by, OutstandingValue}
-pub use Rattle.coap_conn.specs.Outstanding.{is_request_entry, Observation, Ping}
+pub use Rattle.coap_conn.specs.Outstanding.{is_request_entry, Observation, Ping, is_entry_of, without_entry_of}
 unfoldable pub use Rattle.coap_conn.specs.Outstanding.{is_notification}
 pub use Rattle.coap_conn.specs.OutstandingViews.{outstanding_value}
 pub use Rattle.coap_conn.specs.Phases.{stop_of, IsLive, IsAnswering, is_waiting, is_open, answers, takes_messages}

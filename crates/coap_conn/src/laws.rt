@@ -16,7 +16,7 @@ ghost use Rattle.coap_conn.specs.Prelude.{first_due, without_due, ConnectionStat
 ghost use Rattle.coap_conn.specs.Prelude.{due_effect, is_custody_pong, asks_custody, is_reserved, is_signal, is_method};
 ghost use Rattle.coap_conn.specs.Prelude.{Request, Reject, Role, Reason, Whole, fit, fitted, bare_response, answers};
 ghost use Rattle.coap_conn.specs.Prelude.{has_request, without_request, IsFirstRequest, response_refusal};
-ghost use Rattle.coap_conn.specs.Prelude.{standing_without};
+ghost use Rattle.coap_conn.specs.Prelude.{standing_without, filter, may_forget, is_entry_of, without_entry_of};
 ghost use Rattle.coap_conn.specs.Calls as call;
 ghost use Rattle.coap_wire.specs.Codes as code;
 ghost use Rattle.coap_conn.specs.Verdicts as verdict;
@@ -190,6 +190,25 @@ pub fn responses_end_requests()
     ensures pong_told { (s : ConnectionState) (m : Message) → s.phase ≡ Open → m.code ≡ code.pong →
         has_critical_option m ≡ false → list_any (matches_pong m.token) s.outstanding ≡ true →
         (react s m).verdict ≡ verdict.Pong m.token (asks_custody m) }
+{}
+
+/// States that `Forget` removes the entries with its token, and changes nothing else. A response or a Pong with a token
+/// that no entry has is a stranger (RFC 7252 section 5.3.2).
+pub fn forgotten_entries_are_gone()
+    ensures forgotten { (h : History) (token : List ℕ) → may_forget (link_of h) token ≡ true →
+        after h (call.Forget token) ≡ record h { outstanding = without_entry_of token h.outstanding } }
+    ensures absent { (h : History) (token : List ℕ) → may_forget (link_of h) token ≡ false →
+        after h (call.Forget token) ≡ h }
+    ensures gone { (token : List ℕ) (outstanding : List OutstandingValue) →
+        list_any (is_entry_of token) (without_entry_of token outstanding) ≡ false }
+    ensures others { (token other : List ℕ) (outstanding : List OutstandingValue) → (token ≡ other → ⊥) →
+        filter (is_entry_of other) (without_entry_of token outstanding) ≡ filter (is_entry_of other) outstanding }
+    ensures response { (s : ConnectionState) (m : Message) → s.phase ≡ Open → is_reserved m.code ≡ false →
+        is_signal m.code ≡ false → is_method m.code ≡ false → list_any (is_entry_of m.token) s.outstanding ≡ false →
+        (react s m).verdict ≡ verdict.Stranger }
+    ensures pong { (s : ConnectionState) (m : Message) → s.phase ≡ Open → m.code ≡ code.pong →
+        has_critical_option m ≡ false → list_any (is_entry_of m.token) s.outstanding ≡ false →
+        (react s m).verdict ≡ verdict.Stranger }
 {}
 
 /// States that tokens do not repeat (RFC 7252 section 5.3.1). The number of a token is one more than that of the last

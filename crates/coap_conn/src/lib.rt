@@ -28,7 +28,8 @@ mod ring;
 pub use limits::{LimitFault, Limits, LimitsBuilder};
 pub use link::Link;
 pub use phase::{
-    Due, Full, Phase, Reject, Reply, RequestFault, RespondFault, Role, SendFault, Verdict,
+    Due, Full, NotOutstanding, Phase, Reject, Reply, RequestFault, RespondFault, Role, SendFault,
+    Verdict,
 };
 pub use queue::{OutQueue, first_part};
 pub use reason::Reason;

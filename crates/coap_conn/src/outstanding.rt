@@ -7,6 +7,7 @@ ghost use Rattle.coap_conn.specs.Prelude.{list_any, matches_response as asks, ma
 ghost use Rattle.coap_conn.specs.Prelude.{may_cancel as cancellable, is_last as is_last_of};
 ghost use Rattle.coap_conn.specs.Prelude.{is_notification as notifies, has_observe as observe_in, without_asked};
 ghost use Rattle.coap_conn.specs.Prelude.{without_pinged, with_cancelled, outstanding_value, cancelled_by};
+ghost use Rattle.coap_conn.specs.Prelude.{is_entry_of, without_entry_of};
 
 use coap_wire::option_numbers::OBSERVE;
 use coap_wire::{MessageRef, Token, TokenRef};
@@ -48,6 +49,13 @@ impl Outstanding {
             Outstanding::Observation { .. } => false,
             Outstanding::Ping(pinged) => token.equals(pinged),
         }
+    }
+
+    /// Returns `true` if a response or a Pong with this token matches the entry.
+    fn has_token(&self, token: &TokenRef) -> bool
+        ensures { result ≡ is_entry_of token.now (outstanding_value self.now) }
+    {
+        self.matches_response(token) || self.matches_pong(token)
     }
 
     /// Returns `true` if the entry is an observation with this token that was not cancelled.
@@ -112,6 +120,13 @@ pub(crate) fn has_ping_in(entries: &[Outstanding], token: &TokenRef) -> bool
     entries.iter().any(|entry| entry.matches_pong(token))
 }
 
+/// Returns `true` if an entry has this token.
+pub(crate) fn has_entry_in(entries: &[Outstanding], token: &TokenRef) -> bool
+    ensures { result ≡ list_any (is_entry_of token.now) (map outstanding_value entries.now) }
+{
+    entries.iter().any(|entry| entry.has_token(token))
+}
+
 /// Returns `true` if an entry is an observation with this token that was not cancelled.
 pub(crate) fn may_cancel_in(entries: &[Outstanding], token: &TokenRef) -> bool
     ensures { result ≡ list_any (cancellable token.now) (map outstanding_value entries.now) }
@@ -149,6 +164,16 @@ pub(crate) fn remove_ping_in(entries: &mut Vec<Outstanding>, token: &TokenRef)
     ensures capacity { vec_capacity entries.new ≡ vec_capacity entries.old }
 {
     entries.retain(|entry| !entry.matches_pong(token));
+}
+
+/// Removes the entries with this token.
+pub(crate) fn remove_entry_in(entries: &mut Vec<Outstanding>, token: &TokenRef)
+    ensures others { map outstanding_value entries.new.items
+        ≡ without_entry_of token.now (map outstanding_value entries.old.items) }
+    ensures fewer { length entries.new.items ≤ length entries.old.items }
+    ensures capacity { vec_capacity entries.new ≡ vec_capacity entries.old }
+{
+    entries.retain(|entry| !entry.has_token(token));
 }
 
 /// Returns `true` if a response is a notification, so that others may follow. Its code is 2.xx, it has Observe, and all

@@ -92,6 +92,11 @@ pub enum Due {
 #[error("pending list is full")]
 pub struct Full;
 
+/// Error of `Link::forget`: no request, observation or Ping with the token is outstanding.
+#[derive(Clone, Copy, Debug, PartialEq, Eq, Error)]
+#[error("nothing with this token is outstanding")]
+pub struct NotOutstanding;
+
 /// Result of sending a message that may exceed the peer's limit.
 #[derive(Clone, Copy, Debug, PartialEq, Eq)]
 pub enum Reply {

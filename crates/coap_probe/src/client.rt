@@ -2,8 +2,8 @@
 //! after this one.
 //!
 //! The events are `take HEX`, `send METHOD TARGET` with the fields of a request (`asked`), `ping custody` (or `plain`),
-//! `written COUNT`, `end`, `part` and `look`. The method `cancel` cancels an observation. After each event all queued
-//! bytes are removed, as written, unless the row begins with `keep`.
+//! `forget TOKEN`, `release`, `written COUNT`, `end`, `part` and `look`. The method `cancel` cancels an observation.
+//! After each event all queued bytes are removed, as written, unless the row begins with `keep`.
 
 use crate::asked::{method, read_asked};
 use crate::layer::Layer;
@@ -87,6 +87,25 @@ fn send(alloc: Global, client: &mut Client, text: &str, bytes: &mut Vec<u8>, tol
     }
 }
 
+/// Forgets the request, observation or Ping with a token, and writes the result.
+fn forget(client: &mut Client, token: &[u8], told: &mut RowLine) {
+    let Ok(token) = Token::try_from(token) else {
+        return told.word("strange");
+    };
+    match client.forget(&token) {
+        Ok(()) => told.word("Ok"),
+        Err(fault) => told.debug(&fault),
+    }
+}
+
+/// Releases the connection, and writes the result.
+fn release(client: &mut Client, told: &mut RowLine) {
+    match client.release() {
+        Ok(()) => told.word("Ok"),
+        Err(fault) => told.fault(&fault, fault as u8),
+    }
+}
+
 /// Removes bytes from the front of the queue, as written.
 fn written(client: &mut Client, count: usize, told: &mut RowLine) {
     if count > client.waiting() {
@@ -112,6 +131,11 @@ pub(crate) fn act(
         }
         "send" => send(alloc, client, rest, bytes, told),
         "ping" => tell_token(client.ping(rest == "custody"), told),
+        "forget" => {
+            read_hex(rest, bytes);
+            forget(client, bytes, told);
+        }
+        "release" => release(client, told),
         "written" => written(client, number(rest), told),
         "end" => {
             client.ended();

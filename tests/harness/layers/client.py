@@ -7,6 +7,7 @@ The events are:
 - `send METHOD TARGET` and `cancel TOKEN TARGET`, followed by fields of the request: `observe`, `plain`, `format:N`,
   `accept:N`, `option:N:BYTES`, `payload:BYTES`,
 - `ping custody` and `ping plain`,
+- `forget TOKEN` and `release`,
 - `written COUNT` and `end`,
 - `part`, whose result is a prefix of the queued bytes,
 - `look`, which does nothing,

@@ -1,20 +1,21 @@
-//! The requests, cancellations and Pings of a client.
+//! The requests, cancellations and Pings of a client, and how it forgets them.
 
 ghost use Rattle.std.specs.Prelude.{◌≡◌};
 ghost use Rattle.coap_client_engine.specs.ClientValues as value;
 
 use super::Client;
 use crate::run_end::Refusal;
-use coap_conn::RequestFault;
+use coap_conn::{NotOutstanding, RequestFault};
 use coap_request::{Extras, Method, Target, cancellation_message, formats_of, request_message};
 use coap_wire::{Token, uint_bytes};
 
 impl Client {
-    ghost use Rattle.std.specs.Prelude.{◌≡◌, ◌++◌, ◌∷◌, ℕ, List, [], None, Some, IfOk, IfErr, OnOk, OnErr};
+    ghost use Rattle.std.specs.Prelude.{◌≡◌, ◌++◌, ◌∷◌, ℕ, List, [], None, Some, is_ok, IfOk, IfErr, OnOk, OnErr};
     ghost use Rattle.coap_client_engine.specs.Prelude.{RefusedBy, next_token, extras_value, client_sent};
     ghost use Rattle.coap_client_engine.specs.Prelude.{client_pinged, send_refusal, cancelling_refusal, ping_refusal};
     ghost use Rattle.coap_client_engine.specs.Prelude.{request_size, cancellation_size, ClientCall, ClientShows, Sent};
-    ghost use Rattle.coap_client_engine.specs.Prelude.{client_cancelled, Cancelled, Pinged};
+    ghost use Rattle.coap_client_engine.specs.Prelude.{client_cancelled, client_forgotten, Cancelled, Pinged, Forgot};
+    ghost use Rattle.coap_client_engine.specs.Prelude.{may_forget};
 
     /// Queues a request to a target under a new token, and returns the token.
     ///
@@ -210,6 +211,31 @@ impl Client {
         ensures err { OnErr result (self.new ≡ self.old) }
     {
         self.link.ping(custody)
+    }
+
+    /// Ends an outstanding request, observation or Ping at this end of the connection. Nothing is queued, and the place
+    /// is free for another request.
+    ///
+    /// A later response or Pong with the token is an `Event::Stranger`, and no later request or Ping has the token (RFC
+    /// 7252 section 5.3.1).
+    ///
+    /// The server does not learn of the call. A forgotten observation goes on at the server, and each notification is a
+    /// stranger. RFC 7641 section 3.6 lets a client reject a notification by a Reset, but over TCP there is no Reset
+    /// (RFC 8323 section 7). To end an observation at the server too, the caller calls `cancel` and waits for the last
+    /// response. `cancel` fails for a forgotten observation.
+    ///
+    /// # Errors
+    ///
+    /// - `NotOutstanding`: nothing with this token is outstanding, as always if the connection is not open. Nothing
+    ///   changes.
+    pub fn forget(&mut self, token: &Token) -> Result<(), NotOutstanding>
+        ensures answer { is_ok result ≡ may_forget self.old.link token.now.items }
+        ensures after { OnOk result (self.new ≡ client_forgotten self.old token.now.items) }
+        ensures shows { OnOk result ((tokens : ℕ) (calls : List ClientCall) → ClientShows self.old tokens calls →
+            ClientShows self.new tokens (calls ++ Forgot token.now.items ∷ [])) }
+        ensures err { OnErr result (self.new ≡ self.old) }
+    {
+        self.link.forget(token)
     }
 }
 

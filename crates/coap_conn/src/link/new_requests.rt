@@ -1,16 +1,16 @@
-//! Outgoing requests, observation cancellations and Pings.
+//! Outgoing requests, observation cancellations and Pings, and how their entries are forgotten.
 
-ghost use Rattle.std.specs.Prelude.{◌≡◌, ◌<◌, ◌+◌, ◌++◌, ◌∷◌, [], length, IfOk, OnOk, OnErr};
+ghost use Rattle.std.specs.Prelude.{◌≡◌, ◌<◌, ◌+◌, ◌++◌, ◌∷◌, [], length, is_ok, IfOk, OnOk, OnErr};
 ghost use Rattle.coap_conn.specs.Prelude.{bytes_of_uint, spelling, RefusedBy, History, after, LinkShows, bytes_of};
 ghost use Rattle.coap_conn.specs.Prelude.{asking_in, asking_refusal, cancel_refusal, observation_refusal, new_refusal};
 ghost use Rattle.coap_conn.specs.Prelude.{size_refusal, next_token, with_token, ping_with, outstanding_value};
-ghost use Rattle.coap_conn.specs.Prelude.{link_after};
+ghost use Rattle.coap_conn.specs.Prelude.{link_after, may_forget};
 ghost use Rattle.coap_conn.specs.Calls as call;
 
 use super::Link;
 use crate::messages::ping_to;
-use crate::outstanding::{Outstanding, cancel_in, may_cancel_in};
-use crate::phase::{Phase, RequestFault};
+use crate::outstanding::{Outstanding, cancel_in, has_entry_in, may_cancel_in, remove_entry_in};
+use crate::phase::{NotOutstanding, Phase, RequestFault};
 use coap_wire::{Builder, MessageBuilder, Token, TokenRef, copy_of, uint_bytes};
 
 impl Link {
@@ -101,6 +101,33 @@ impl Link {
         self.queue_asked(&ping_to(&token, custody))?;
         self.enter(Outstanding::Ping(copy_of(&token)));
         Ok(token)
+    }
+
+    /// Removes the outstanding request, observation or Ping with this token, and queues nothing.
+    ///
+    /// A later response or Pong with the token is a stranger, because it matches nothing outstanding. No later request
+    /// or Ping has the token (RFC 7252 section 5.3.1).
+    ///
+    /// # Errors
+    ///
+    /// `NotOutstanding`: nothing with this token is outstanding, as always if the phase is not `Open`. The link is
+    /// unchanged.
+    pub fn forget(&mut self, token: &Token) -> Result<(), NotOutstanding>
+        ensures answer { is_ok result ≡ may_forget self.old token.now.items }
+        ensures after { OnOk result (self.new ≡ link_after self.old (call.Forget token.now.items)) }
+        ensures shows { OnOk result ((h : History) → LinkShows self.old h →
+            LinkShows self.new (after h (call.Forget token.now.items))) }
+        ensures err { OnErr result (self.new ≡ self.old) }
+    {
+        let Phase::Open = self.phase else {
+            return Err(NotOutstanding);
+        };
+        let lies = TokenRef::of(token);
+        if !has_entry_in(&self.asked, &lies) {
+            return Err(NotOutstanding);
+        }
+        remove_entry_in(&mut self.asked, &lies);
+        Ok(())
     }
 
     /// Checks that a request or a Ping may be sent now, whatever its size.

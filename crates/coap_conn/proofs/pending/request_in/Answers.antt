@@ -1,4 +1,4 @@
-use Rattle.std.proofs.Common.{◌<◌, length, sym, subst, ◌∙◌, map, rules, tests}
+use Rattle.std.proofs.Common.{◌<◌, length, sym, subst, ◌∙◌, rules, tests}
 use Rattle.std.proofs.lemmas.Iterator.{YieldsList-from_slice}
 use Rattle.std.proofs.lemmas.Iterator.Search.{position_from_yields_List}
 use Rattle.coap_conn.specs.Prelude.{IfSome, is_request_for, held_value}

@@ -1,7 +1,7 @@
-use Rattle.std.proofs.Common.{ℕ, not, length, map, ◌≤◌, ap, sym, subst, ◌∙◌, arith}
+use Rattle.std.proofs.Common.{ℕ, length, map, ◌≤◌, sym, subst, arith}
 use Rattle.std.proofs.lemmas.List.{length-map}
-use Rattle.coap_conn.specs.Prelude.{matches_pong, link_value, outstanding_value}
-use Rattle.coap_conn.proofs.OutstandingLemmas.{count_left, link_left}
+use Rattle.coap_conn.specs.Prelude.{link_value, outstanding_value}
+use Rattle.coap_conn.proofs.OutstandingLemmas.{link_left}
 use Rattle.coap_conn.proofs.link.Link.on_pong.Goals as goal
 
 pub invariant_of-self : goal.invariant_of-self

@@ -1,7 +1,6 @@
-use Rattle.std.proofs.Common.{◌≡◌, ℕ, true, List, map, remove, sym, ap, ◌∙◌, ◌++◌, rules, tests}
+use Rattle.std.proofs.Common.{◌≡◌, ℕ, true, List, map, remove, ap, ◌∙◌, ◌++◌, rules, tests}
 use Rattle.coap_conn.specs.Prelude.{Message, spelling, fits, bare_response, PendingEntryValue, held_value, LinkValue}
 use Rattle.coap_conn.specs.Prelude.{limit_in, link_value}
-use Rattle.coap_conn.specs.Prelude.{link_with, send, standing_in}
 use Rattle.coap_conn.proofs.PendingLemmas.{held_without}
 use Rattle.coap_conn.proofs.ApplicationLemmas.{bare_link}
 use Rattle.coap_conn.proofs.link.Link.respond_bare.Goals as goal

@@ -1,10 +1,9 @@
 use Rattle.std.proofs.Common.{◌≡◌, ℕ, ◌≤◌, true, false, List, length, map, remove, Option, Some, None, sym, ap, subst}
 use Rattle.std.proofs.Common.{◌∙◌, ◌++◌, rules, tests}
-use Rattle.coap_conn.specs.Prelude.{position, Message, spelling, RefusedBy, PendingEntry, PendingEntryValue}
+use Rattle.coap_conn.specs.Prelude.{position, spelling, RefusedBy, PendingEntry, PendingEntryValue}
 use Rattle.coap_conn.specs.Prelude.{is_request_for, held_value}
 use Rattle.coap_conn.specs.Prelude.{is_plain_response, room_refusal, response_refusal, RespondFault, LinkValue}
-use Rattle.coap_conn.specs.Prelude.{limit_in, link_value, link_after}
-use Rattle.coap_conn.specs.Calls as call
+use Rattle.coap_conn.specs.Prelude.{limit_in, link_value}
 use Rattle.coap_conn.proofs.PendingLemmas.{held_without}
 use Rattle.coap_conn.proofs.ApplicationLemmas.{refused_absent, refused_kind, room_decides, whole_room, respond_ok}
 use Rattle.coap_conn.proofs.ApplicationLemmas.{whole_link}
