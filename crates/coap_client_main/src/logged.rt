@@ -1,19 +1,19 @@
 //! A run with a log of its connection and messages.
 
-ghost use Rattle.std.specs.Prelude.{◌≡◌, ◌≤◌, []};
+ghost use Rattle.std.specs.Prelude.{◌≡◌, ◌≤◌, [], false};
 ghost use Rattle.coap_print.specs.Lines.{appended};
 ghost use Rattle.coap_print.specs.declared.line.TheConstants.{LINE_LENGTH};
 ghost use Rattle.coap_client_main.specs.Ends as spec;
 
-use crate::{PROGRAM, print_end, run_over};
-use coap_client_engine::{Cause, ClientFault, RunEnd, explain};
+use crate::{PROGRAM, print_end};
+use coap_client_engine::{Cause, ClientFault, RunEnd, explain, run_to_end};
 use coap_conn::{Reason, RequestFault};
+use coap_io::{Clock, Outlet, Wire};
 use coap_log::{LineWriter, Log, LoggedWire, Stderr};
 use coap_print::Line;
 use coap_program::FAULT;
 use coap_request::ClientPlan;
-use coap_sockets::{ClientWire, RunClock};
-use std::io::Write;
+use coap_sockets::ClientWire;
 use std::net::Net;
 use std::time;
 
@@ -24,7 +24,10 @@ const NUMBER: u64 = 1;
 const RESPONDED: u8 = 2;
 
 /// Returns the address of the peer, if the system reports it.
-fn peer_of<R: Net + time::Clock + AllocGlobal>(rt: &R, wire: &ClientWire<'_, R>) -> Line {
+pub(crate) fn peer_of<R: Net + time::Clock + AllocGlobal>(
+    rt: &R,
+    wire: &ClientWire<'_, R>,
+) -> Line {
     let mut line = Line::new();
     let text = match wire.peer() {
         Ok(peer) => format!(in rt.alloc(); "{peer}").ok(),
@@ -117,25 +120,27 @@ fn is_limit_stop(reason: Reason) -> bool
     }
 }
 
-/// Runs a client over a connection with the log that the plan asks for, and returns the exit status.
-pub(crate) fn run_logged<R: Eprint + Net + time::Clock + AllocGlobal>(
-    rt: &R,
-    wire: ClientWire<'_, R>,
-    clock: RunClock<'_, R>,
-    out: impl Write + Drop,
-    err: impl Write + Drop,
+/// Runs a client over a connection to this peer with the log that the plan asks for, and returns the exit status.
+pub(crate) fn run_logged<O: Outlet, E: Outlet>(
+    rt: &(impl Eprint + time::Clock + AllocGlobal),
+    wire: impl Wire + Drop,
+    peer: &Line,
+    clock: &mut impl Clock,
+    out: &mut O,
+    err: &mut E,
     plan: &ClientPlan,
 ) -> u8
+    requires out_works { O.is_failed out.old ≡ false }
+    requires err_works { E.is_failed err.old ≡ false }
     ensures { result ≤ 4 }
 {
     let mut program = Line::new();
     program.text("coap-client");
     let log = Log::new(plan.log, program, LineWriter::new(Stderr::new()));
-    let peer = peer_of(rt, &wire);
-    let Ok(mut logged) = LoggedWire::new(rt.alloc(), wire, log, rt, NUMBER, &peer) else {
+    let Ok(mut logged) = LoggedWire::new(rt.alloc(), wire, log, rt, NUMBER, peer) else {
         return PROGRAM.print_fault(rt, "no memory", FAULT);
     };
-    let end = run_over(rt, &mut logged, clock, out, err, plan);
+    let end = run_to_end(rt.alloc(), &mut logged, clock, out, err, plan);
     let reason = reason_of(&end);
     if is_warning(&end) {
         logged.warn(&reason);

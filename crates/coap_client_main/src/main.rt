@@ -13,13 +13,13 @@ mod logged;
 
 use coap_client_engine::{ClientFault, RunEnd, explain, run_to_end};
 use coap_command_line::{client_reason, client_words};
-use coap_io::{Wire, WriteOutlet};
+use coap_io::WriteOutlet;
 use coap_print::{Line, LogLevel};
 use coap_program::{FAULT, FileError, Program, USAGE, occupy_standard_descriptors, read_whole};
 use coap_request::{ClientPlan, Target};
-use coap_sockets::{ClientWire, ConnectError, ConnectFault, RunClock};
+use coap_sockets::{ClientWire, ConnectError, ConnectFault};
 use coap_wire::LARGEST_MESSAGE;
-use logged::run_logged;
+use logged::{peer_of, run_logged};
 use std::io::Write;
 use std::net::Net;
 use std::process::ExitCode;
@@ -110,22 +110,6 @@ pub(crate) fn print_end(rt: &impl Eprint, end: &Result<RunEnd, ClientFault>) -> 
     }
 }
 
-/// Runs a client over a wire, with writers for payloads and for reports, and returns the end of the run.
-pub(crate) fn run_over<R: Eprint + time::Clock + AllocGlobal>(
-    rt: &R,
-    wire: &mut impl Wire,
-    mut clock: RunClock<'_, R>,
-    out: impl Write + Drop,
-    err: impl Write + Drop,
-    plan: &ClientPlan,
-) -> Result<RunEnd, ClientFault>
-    ensures { IfOk result (λ end. IsStatus end.status) }
-{
-    let mut out = WriteOutlet::new(out);
-    let mut err = WriteOutlet::new(err);
-    run_to_end(rt.alloc(), wire, &mut clock, &mut out, &mut err, plan)
-}
-
 /// Runs a client over a connection, with or without a log, and returns the exit status.
 fn run_on_connection<R: Eprint + Net + time::Clock + AllocGlobal>(
     rt: &R,
@@ -136,12 +120,15 @@ fn run_on_connection<R: Eprint + Net + time::Clock + AllocGlobal>(
 ) -> u8
     ensures { result ≤ 4 }
 {
-    let clock = wire.clock();
+    let mut clock = wire.clock();
+    let mut out = WriteOutlet::new(out);
+    let mut err = WriteOutlet::new(err);
     if plan.log == LogLevel::Nothing {
-        let end = run_over(rt, &mut wire, clock, out, err, plan);
+        let end = run_to_end(rt.alloc(), &mut wire, &mut clock, &mut out, &mut err, plan);
         return print_end(rt, &end);
     }
-    run_logged(rt, wire, clock, out, err, plan)
+    let peer = peer_of(rt, &wire);
+    run_logged(rt, wire, &peer, &mut clock, &mut out, &mut err, plan)
 }
 
 /// Runs a plan, with a writer for reports, and returns the exit status.
@@ -151,7 +138,7 @@ fn run_on_connection<R: Eprint + Net + time::Clock + AllocGlobal>(
 fn run(
     rt: &(impl Input + Print + Eprint + Files + Net + time::Clock + AllocGlobal),
     err: impl Write + Drop,
-    mut plan: ClientPlan,
+    plan: &mut ClientPlan,
 ) -> u8
     ensures { result ≤ 4 }
 {
@@ -161,16 +148,16 @@ fn run(
             Err(trouble) => return print_file_error(rt, trouble, name.as_str()),
         }
     }
-    let line = match connect(rt, &plan) {
+    let line = match connect(rt, plan) {
         Ok(line) => line,
         Err(fault) => return tell_unconnected(rt, fault),
     };
     match &plan.output {
         Some(name) if name.as_str() != "-" => match create(rt, name.as_str()) {
-            Ok(file) => run_on_connection(rt, line, file, err, &plan),
+            Ok(file) => run_on_connection(rt, line, file, err, plan),
             Err(trouble) => print_file_error(rt, trouble, name.as_str()),
         },
-        _ => run_on_connection(rt, line, io::writer(rt), err, &plan),
+        _ => run_on_connection(rt, line, io::writer(rt), err, plan),
     }
 }
 
@@ -186,7 +173,7 @@ fn start(
         Err(status) => return status,
     };
     match client_words(rt.alloc(), &words) {
-        Ok(plan) => run(rt, err, plan),
+        Ok(mut plan) => run(rt, err, &mut plan),
         Err(fault) => {
             let reason = client_reason(rt.alloc(), &words, &fault).unwrap_or(None);
             PROGRAM.refuse(rt, &fault, reason.as_ref())

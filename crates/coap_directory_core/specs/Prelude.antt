@@ -32,7 +32,7 @@ pub use Rattle.coap_directory_core.specs.Refusals.{code_of_refusal, text_of_refu
 pub use Rattle.coap_registry.specs.RegistrationViews.{registration_of}
 pub use Rattle.coap_directory_core.specs.Changes.{◌>>=◌, or_refused, refused, only_if, key_with, base_with}
 unfoldable pub use Rattle.coap_directory_core.specs.Changes.{identified, attributes_in, links_in, prepared, registering}
-pub use Rattle.coap_directory_core.specs.ChangeViews.{Gives, Changes}
+pub use Rattle.coap_directory_core.specs.ChangeViews.{Gives, GivesUnlessMemory, Changes, Updates}
 pub use Rattle.coap_directory_core.specs.Changes.{renewed_lifetime, renewed_base, at_location, updating_with, listed}
 pub use Rattle.coap_directory_core.specs.Changes.{fits_text}
 pub use Rattle.coap_directory_core.specs.Changes.{limited, registered_attributes, update_parts, attributes_after}

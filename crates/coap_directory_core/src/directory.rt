@@ -41,8 +41,8 @@ impl Directory {
     {
         Ok(Directory {
             alloc,
-            registry: Registry::new(alloc, limit),
             listing: Listing::new(alloc, capacity)?,
+            registry: Registry::new(alloc, limit),
         })
     }
 
@@ -87,9 +87,8 @@ impl Directory {
             return Reply::Refused(Refusal::Condition);
         }
         match register(&mut self.registry, self.alloc, now, request) {
-            Ok(Ok(number)) => Reply::Created(number),
-            Ok(Err(refusal)) => Reply::Refused(refusal),
-            Err(_) => Reply::OutOfMemory,
+            Ok(number) => Reply::Created(number),
+            Err(error) => error.reply(),
         }
     }
 
@@ -108,9 +107,8 @@ impl Directory {
         }
         if code == 2 {
             return match update(&mut self.registry, self.alloc, now, number, request) {
-                Ok(Ok(())) => Reply::Changed,
-                Ok(Err(refusal)) => Reply::Refused(refusal),
-                Err(_) => Reply::OutOfMemory,
+                Ok(()) => Reply::Changed,
+                Err(error) => error.reply(),
             };
         }
         if self.registry.remove(number) {

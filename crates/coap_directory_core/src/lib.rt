@@ -19,6 +19,7 @@ mod parameters;
 mod query;
 mod refusal;
 mod reply;
+mod request_error;
 mod requests;
 mod response;
 mod route;

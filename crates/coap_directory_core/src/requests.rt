@@ -1,7 +1,8 @@
 //! The changes that requests make.
 
-ghost use Rattle.std.specs.Prelude.{◌≡◌, ◌<◌, ◌^◌, ◌&&◌, true, option_map, is_none, IfOk, OnOk, OnErr, codes};
-ghost use Rattle.coap_directory_core.specs.Prelude.{Gives, key_with, base_with, identified, attributes_in, links_in};
+ghost use Rattle.std.specs.Prelude.{◌≡◌, ◌<◌, ◌^◌, ◌&&◌, true, option_map, is_none, IfOk, codes};
+ghost use Rattle.coap_directory_core.specs.Prelude.{Gives, GivesUnlessMemory, Updates};
+ghost use Rattle.coap_directory_core.specs.Prelude.{key_with, base_with, identified, attributes_in, links_in};
 ghost use Rattle.coap_directory_core.specs.Prelude.{prepared, Changes, registering, named, registration_of, updating};
 ghost use Rattle.coap_directory_core.specs.Prelude.{renewed_lifetime, renewed_base, renewing, looking_up};
 ghost use Rattle.coap_directory_core.specs.Prelude.{registered_attributes};
@@ -18,6 +19,7 @@ use crate::query::{
     value_named,
 };
 use crate::refusal::Refusal;
+use crate::request_error::RequestError;
 use coap_links::{AttributeText, LinkText};
 use coap_registry::{EndpointKey, Listing, Registration, Registry};
 use coap_wire::MessageRef;
@@ -78,19 +80,20 @@ fn identify<'a>(request: &MessageRef<'a>) -> Result<(EndpointKey, u32, &'a [u8])
 ///
 /// # Errors
 ///
-/// - `AllocError` if allocation fails.
+/// - `RequestError::Refused` if the payload is not in link format, or a target is not allowed.
+/// - `RequestError::Memory` if allocation fails.
 #[tactic(auto, unfolding(crate::specs::Changes::links_in))]
-fn requested_links(alloc: Global, payload: &[u8]) -> Result<Result<LinkText, Refusal>, AllocError>
-    ensures { IfOk result (λ r. Gives (λ x. x) r (links_in payload.now)) }
+fn requested_links(alloc: Global, payload: &[u8]) -> Result<LinkText, RequestError>
+    ensures { GivesUnlessMemory (λ x. x) result (links_in payload.now) }
 {
     let bytes = Vec::from_slice(alloc, payload)?;
     let Ok(links) = LinkText::check(bytes) else {
-        return Ok(Err(Refusal::Links));
+        return Err(RequestError::Refused(Refusal::Links));
     };
     if !are_limited(links.links()) {
-        return Ok(Err(Refusal::Target));
+        return Err(RequestError::Refused(Refusal::Target));
     }
-    Ok(Ok(links))
+    Ok(links)
 }
 
 /// Returns the attributes of the endpoint that a request registers.
@@ -105,29 +108,21 @@ fn requested_attributes<'a>(request: &MessageRef<'a>) -> Result<AttributeList<'a
 ///
 /// # Errors
 ///
-/// - `AllocError` if allocation fails.
+/// - `RequestError::Refused` if a part of the request is not allowed.
+/// - `RequestError::Memory` if allocation fails.
 #[tactic(auto, unfolding(crate::specs::Changes::prepared))]
 fn prepare(
     alloc: Global,
     now: u64,
     request: &MessageRef,
-) -> Result<Result<(EndpointKey, Registration), Refusal>, AllocError>
+) -> Result<(EndpointKey, Registration), RequestError>
     requires { now < 2 ^ 63 }
-    ensures { IfOk result (λ r. Gives (λ x. (x.0.items, registration_of x.1)) r (prepared now request.now)) }
+    ensures { GivesUnlessMemory (λ x. (x.0.items, registration_of x.1)) result (prepared now request.now) }
 {
-    let (key, lifetime, base) = match identify(request) {
-        Ok(parts) => parts,
-        Err(refusal) => return Ok(Err(refusal)),
-    };
-    let attributes = match requested_attributes(request) {
-        Ok(attributes) => attributes,
-        Err(refusal) => return Ok(Err(refusal)),
-    };
-    let links = match requested_links(alloc, request.payload())? {
-        Ok(links) => links,
-        Err(refusal) => return Ok(Err(refusal)),
-    };
-    Ok(Ok((
+    let (key, lifetime, base) = identify(request)?;
+    let attributes = requested_attributes(request)?;
+    let links = requested_links(alloc, request.payload())?;
+    Ok((
         key,
         Registration {
             number: 0,
@@ -137,34 +132,32 @@ fn prepare(
             attributes: text_of(alloc, &attributes)?,
             links,
         },
-    )))
+    ))
 }
 
 /// Registers the endpoint of a request, and returns the number of its location.
 ///
 /// # Errors
 ///
-/// - `AllocError` if allocation fails. The registrations are unchanged.
+/// - `RequestError::Refused` if a part of the request is not allowed, or there is no place for its result.
+/// - `RequestError::Memory` if allocation fails.
+///
+/// After an error the registrations are unchanged.
 #[tactic(auto, unfolding(crate::specs::Changes::registering))]
 pub(crate) fn register(
     registry: &mut Registry,
     alloc: Global,
     now: u64,
     request: &MessageRef,
-) -> Result<Result<u64, Refusal>, AllocError>
+) -> Result<u64, RequestError>
     requires { now < 2 ^ 63 }
-    ensures ok { IfOk result
-        (λ r. Changes (λ n. n) r registry.old registry.new (registering registry.old now request.now)) }
-    ensures err { OnErr result (registry.new ≡ registry.old) }
+    ensures { Changes (λ n. n) result registry.old registry.new (registering registry.old now request.now) }
 {
-    let (key, registration) = match prepare(alloc, now, request)? {
-        Ok(parts) => parts,
-        Err(refusal) => return Ok(Err(refusal)),
-    };
+    let (key, registration) = prepare(alloc, now, request)?;
     let Some(number) = registry.register(key, registration)? else {
-        return Ok(Err(Refusal::Full));
+        return Err(RequestError::Refused(Refusal::Full));
     };
-    Ok(Ok(number))
+    Ok(number)
 }
 
 /// Returns the new lifetime of a registration, if the request gives one.
@@ -233,21 +226,19 @@ fn new_attributes(
     alloc: Global,
     number: u64,
     given: &AttributeList,
-) -> Result<Result<Option<AttributeText>, Refusal>, AllocError>
+) -> Result<Option<AttributeText>, RequestError>
     requires { list_all is_attribute (attributes_of given.now.items) ≡ true }
-    ensures { IfOk result (λ r. Gives (λ x. x) r
-        (attributes_after (attributes_at_location registry.now number) (attributes_of given.now.items))) }
+    ensures { GivesUnlessMemory (λ x. x) result
+        (attributes_after (attributes_at_location registry.now number) (attributes_of given.now.items)) }
 {
     if given.is_empty() {
-        return Ok(Ok(None));
+        return Ok(None);
     }
     let Some(old) = registry.attributes(number) else {
-        return Ok(Ok(None));
+        return Ok(None);
     };
-    match merged_attributes(old, given) {
-        Ok(list) => Ok(Ok(Some(text_of(alloc, &list)?))),
-        Err(refusal) => Ok(Err(refusal)),
-    }
+    let list = merged_attributes(old, given)?;
+    Ok(Some(text_of(alloc, &list)?))
 }
 
 /// Returns the lifetime, the base URI and the attributes that an update gives.
@@ -266,7 +257,10 @@ fn update_parts<'a>(
 ///
 /// # Errors
 ///
-/// - `AllocError` if allocation fails. The registrations are unchanged.
+/// - `RequestError::Refused` if a part of the request is not allowed, or there is no place for its result.
+/// - `RequestError::Memory` if allocation fails.
+///
+/// After an error the registrations are unchanged.
 #[tactic(auto, unfolding(crate::specs::Changes::updating))]
 pub(crate) fn update(
     registry: &mut Registry,
@@ -274,31 +268,23 @@ pub(crate) fn update(
     now: u64,
     number: u64,
     request: &MessageRef,
-) -> Result<Result<(), Refusal>, AllocError>
+) -> Result<(), RequestError>
     requires { now < 2 ^ 63 }
-    ensures answer { IfOk result (λ r. r ≡ (updating registry.old now number request.now).0) }
-    ensures after { OnOk result (registry.new ≡ (updating registry.old now number request.now).1) }
-    ensures err { OnErr result (registry.new ≡ registry.old) }
+    ensures { Updates result registry.old registry.new (updating registry.old now number request.now) }
 {
     if !request.payload().is_empty() {
-        return Ok(Err(Refusal::Payload));
+        return Err(RequestError::Refused(Refusal::Payload));
     }
-    let (lifetime, base, given) = match update_parts(request) {
-        Ok(parts) => parts,
-        Err(refusal) => return Ok(Err(refusal)),
-    };
-    let attributes = match new_attributes(registry, alloc, number, &given)? {
-        Ok(attributes) => attributes,
-        Err(refusal) => return Ok(Err(refusal)),
-    };
+    let (lifetime, base, given) = update_parts(request)?;
+    let attributes = new_attributes(registry, alloc, number, &given)?;
     let base = copy_of(alloc, base)?;
     if let Some(attributes) = attributes {
         registry.set_attributes(number, attributes)?;
     }
     if registry.update(number, now, lifetime, base) {
-        Ok(Ok(()))
+        Ok(())
     } else {
-        Ok(Err(Refusal::Path))
+        Err(RequestError::Refused(Refusal::Path))
     }
 }
 

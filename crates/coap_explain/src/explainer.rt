@@ -56,12 +56,11 @@ impl<O: Outlet + Drop> Explainer<O> {
         ensures printer { IfOk result (λ e. e.printer ≡ printer) }
         ensures messages { IfOk result (λ e. (id : ℕ) → messages_of e id ≡ None) }
     {
-        let connections = config.config.connections();
         Ok(Explainer {
             alloc,
             printer,
+            connections: IndexMap::with_capacity(alloc, config.config.connections())?,
             server: server_of(alloc, config)?,
-            connections: IndexMap::with_capacity(alloc, connections)?,
         })
     }
 

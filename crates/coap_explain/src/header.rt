@@ -22,7 +22,7 @@ const SCRIPT: [&str; 2] = ["--script", "-"];
 const OPTIONS: &[u8; 11] = b"# options: ";
 
 /// Error of `config_of_options`.
-#[derive(Clone, Copy, Debug, PartialEq, Eq)]
+#[derive(Clone, Copy)]
 pub(crate) enum OptionsFault {
     /// The server does not have these options.
     Refused,

@@ -19,7 +19,7 @@ use jiff_core::civil::DateTime;
 use jiff_fmt::temporal::DateTimePrinter;
 
 /// Direction of a message.
-#[derive(Clone, Copy, Debug, PartialEq, Eq)]
+#[derive(Clone, Copy)]
 pub(crate) enum Way {
     /// From the client to the server.
     In,

@@ -59,11 +59,10 @@ impl<O: Outlet + Drop> Record<O> {
         ensures lines { IfOk result (λ r. r.lines ≡ 0) }
         ensures options { IfOk result (λ r. r.is_configured ≡ false) }
     {
-        let config = default_config(alloc)?;
         Ok(Record {
             alloc,
-            explainer: Explainer::new(alloc, printer, config)?,
             line: Vec::with_capacity(alloc, LONGEST_LINE + 1)?,
+            explainer: Explainer::new(alloc, printer, default_config(alloc)?)?,
             lines: 0,
             is_configured: false,
             has_begun: false,

@@ -8,7 +8,7 @@ use std::alloc::AllocError;
 pub(crate) const LONGEST_LINE: usize = 2_101_248;
 
 /// Error that ends an explanation. The number of a line counts from 1.
-#[derive(Clone, Copy, Debug, PartialEq, Eq)]
+#[derive(Clone, Copy, PartialEq, Eq)]
 pub(crate) enum Trouble {
     /// Failed read of the record.
     Read,

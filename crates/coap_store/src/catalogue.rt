@@ -56,29 +56,15 @@ impl Catalogue {
         })
     }
 
-    /// Returns the same catalogue with these entries of the application. Their text follows that of the built-in
-    /// resources in the listing.
-    pub(crate) fn with_applications(
-        self,
-        applications: Applications,
-    ) -> Result<Catalogue, AllocError>
-        requires { length (listing_of None self.resources) ≤ LARGEST_MESSAGE }
-        ensures { IfOk result (λ c. c ≡ record self { applications = Some applications }) }
+    /// Sets the entries of the application. Their text follows that of the built-in resources in the listing.
+    pub(crate) fn set_applications(&mut self, applications: Applications) -> Result<(), AllocError>
+        requires { length (listing_of None self.old.resources) ≤ LARGEST_MESSAGE }
+        ensures { OnOk result (self.new ≡ record self.old { applications = Some applications }) }
     {
-        let Catalogue {
-            alloc,
-            resources,
-            applications: _,
-            mut listing,
-        } = self;
-        let text = first_text(alloc, &applications)?;
-        listing.replace(0, &text)?;
-        Ok(Catalogue {
-            alloc,
-            resources,
-            applications: Some(applications),
-            listing,
-        })
+        let text = first_text(self.alloc, &applications)?;
+        self.listing.replace(0, &text)?;
+        self.applications = Some(applications);
+        Ok(())
     }
 
     /// Returns the entries of the application, if there is one.

@@ -106,20 +106,9 @@ impl Store {
         ensures value { IfOk result (λ s. s ≡ record self { applications = Some applications }) }
         ensures store { IfOk result IsStore }
     {
-        let Store {
-            dynamic_max,
-            rep_max,
-            resources,
-            versions,
-            moment,
-        } = self;
-        Ok(Store {
-            dynamic_max,
-            rep_max,
-            resources: resources.with_applications(applications)?,
-            versions,
-            moment,
-        })
+        let mut store = self;
+        store.resources.set_applications(applications)?;
+        Ok(store)
     }
 
     /// Returns the seconds that the application has for a response to a request, or `None` if it does not answer it. It

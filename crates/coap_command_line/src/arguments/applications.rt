@@ -4,7 +4,7 @@ ghost use Rattle.std.specs.Prelude.{◌≡◌, IfOk, map, option_map};
 ghost use Rattle.coap_command_line.specs.Prelude.{found_of, rows_of, AddsText, TellsEntries};
 ghost use Rattle.coap_command_line.specs.ApplicationWords as spec;
 
-use crate::arguments::option_values::{after, before, texts_of};
+use crate::arguments::option_values::{after, before, named_value, texts_of};
 use clap::ArgMatches;
 use coap_path::{ApplicationFault, Applications};
 use coap_script::path_in;
@@ -42,27 +42,25 @@ fn code_in(text: &[u8]) -> Option<Code>
     Some(Code::new(number as u8))
 }
 
+/// Bytes of the codes of methods, by their names.
+const METHODS: &[(&str, u8)] = &[
+    ("get", 1),
+    ("post", 2),
+    ("put", 3),
+    ("delete", 4),
+    ("fetch", 5),
+    ("patch", 6),
+    ("ipatch", 7),
+];
+
 /// Returns the code of a method: of the one with this name, or the code in the text.
-#[tactic(auto, unfolding(crate::specs::ApplicationWords::method_in))]
+#[tactic(auto, unfolding(crate::specs::ApplicationWords::method_in, crate::specs::CommandLines::named_value))]
 fn method_in(text: &[u8]) -> Option<Code>
     ensures { result ≡ spec.method_in text.now }
 {
-    if text == b"get".as_slice() {
-        Some(Code::GET)
-    } else if text == b"post".as_slice() {
-        Some(Code::POST)
-    } else if text == b"put".as_slice() {
-        Some(Code::PUT)
-    } else if text == b"delete".as_slice() {
-        Some(Code::DELETE)
-    } else if text == b"fetch".as_slice() {
-        Some(Code::new(5))
-    } else if text == b"patch".as_slice() {
-        Some(Code::new(6))
-    } else if text == b"ipatch".as_slice() {
-        Some(Code::new(7))
-    } else {
-        code_in(text)
+    match named_value(METHODS, text) {
+        Some(byte) => Some(Code::new(byte)),
+        None => code_in(text),
     }
 }
 

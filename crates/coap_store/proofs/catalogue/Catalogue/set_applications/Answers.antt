@@ -1,7 +1,7 @@
 use Rattle.std.proofs.Common.{List, ℕ, ◌∙◌, None, length, set, ap, arith}
 use Rattle.coap_store.specs.Prelude.{CatalogueValue, first_bytes, joined, listing, resources_in, texts_of}
 use Rattle.coap_store.proofs.ListingLemmas.{texts_count, texts_first, texts_length}
-use Rattle.coap_store.proofs.catalogue.Catalogue.with_applications.Goals as goal
+use Rattle.coap_store.proofs.catalogue.Catalogue.set_applications.Goals as goal
 
 pub replace-requires-clause-exists : goal.replace-requires-clause-exists
 replace-requires-clause-exists c =
@@ -24,8 +24,8 @@ replace-requires-clause-short c =
       c.in_ok-text.ensures.short,
     )
 
-pub invariant_of-result : goal.invariant_of-result
-invariant_of-result c =
+pub invariant_of-self-2 : goal.invariant_of-self-2
+invariant_of-self-2 c =
     let resources = resources_in c.self.inside.resources.entries in
     let first = first_bytes c.self.inside.applications in
     record {
