@@ -29,13 +29,13 @@ bin/coap-explain bin/coap-directory &: $(SOURCES)
 	tests/build coap_explain coap_directory
 
 # Proves the C library and builds its archive and its pkg-config file.
-lib: bin/libcoap_proved.a bin/coap_proved.pc
+lib: bin/libdachreup.a bin/dachreup.pc
 
-bin/libcoap_proved.a: $(SOURCES) install/library/build
+bin/libdachreup.a: $(SOURCES) install/library/build install/library/allocator.c
 	tests/build coap_c
 	install/library/build crates/coap_c/out/libcoap_c.a bin
 
-bin/coap_proved.pc: install/library/coap_proved.pc.in VERSION
+bin/dachreup.pc: install/library/dachreup.pc.in VERSION
 	@mkdir -p bin
 	sed -e 's|@PREFIX@|$(PREFIX)|g' -e 's|@LIBDIR@|lib|g' -e "s|@VERSION@|$$(cat VERSION)|g" $< > $@
 
@@ -48,9 +48,9 @@ FORTIFY = $(if $(findstring _FORTIFY_SOURCE,$(CPPFLAGS) $(CFLAGS)),,-D_FORTIFY_S
 GATEWAY_FLAGS = -std=c11 -D_GNU_SOURCE -O2 -Wall -Wextra -fPIE -fstack-protector-strong -fstack-clash-protection \
     $(FORTIFY)
 
-bin/coap-mqtt: $(wildcard gateway/mqtt/*.c gateway/mqtt/*.h) include/coap_proved.h VERSION bin/libcoap_proved.a
+bin/coap-mqtt: $(wildcard gateway/mqtt/*.c gateway/mqtt/*.h) include/dachreup.h VERSION bin/libdachreup.a
 	$(CC) $(GATEWAY_FLAGS) $(CPPFLAGS) $(CFLAGS) -DCOAP_MQTT_VERSION='"'$$(cat VERSION)'"' -Iinclude gateway/mqtt/*.c \
-	    bin/libcoap_proved.a -pie -Wl,-z,relro,-z,now,-z,noexecstack $(LDFLAGS) -lmosquitto -o $@
+	    bin/libdachreup.a -pie -Wl,-z,relro,-z,now,-z,noexecstack $(LDFLAGS) -lmosquitto -o $@
 
 # Runs the server on short recorded streams, and prints the meaning of each message. If the program is not built yet,
 # the same source runs unproved while the proofs begin. At the end, the program that they build runs.
@@ -84,7 +84,7 @@ faults: bin/coap-server bin/coap-mqtt
 # Measures the server and libcoap's, then the server with a record, behind HAProxy, and with observers that do not read.
 # Then counts instructions, copies and memory, and the instructions of the resource directory. Measures changes through
 # two gateways to MQTT, beside mosquitto. Draws the new figures in docs/pictures. Fails if a target is missed.
-bench: bin/coap-server bin/coap-directory bin/libcoap_proved.a bin/coap-mqtt
+bench: bin/coap-server bin/coap-directory bin/libdachreup.a bin/coap-mqtt
 	tests/build coap_probe
 	bench/throughput; missed=$$?; bench/record || missed=1; bench/front || missed=1; bench/gateway || missed=1; \
 	tests/system/flood.py bin/coap-server observers || missed=1; \
@@ -107,17 +107,17 @@ install:
 	install -D -m 0644 install/coap-server.service.in "$(DESTDIR)$(PREFIX)/lib/systemd/system/coap-server.service"
 	sed -i 's|@PREFIX@|$(PREFIX)|g' "$(DESTDIR)$(PREFIX)/lib/systemd/system/coap-server.service"
 	install -D -m 0644 -t "$(DESTDIR)$(PREFIX)/share/doc/coap-server/examples" install/haproxy.cfg
-	@if [ -e bin/libcoap_proved.a ]; then $(MAKE) --silent --no-print-directory install-lib; fi
+	@if [ -e bin/libdachreup.a ]; then $(MAKE) --silent --no-print-directory install-lib; fi
 	@if [ -e bin/coap-mqtt ]; then $(MAKE) --silent --no-print-directory install-gateway; fi
 
 # Installs the output of `make lib`. `make install` does so too, if it exists.
 install-lib:
-	install -D -m 0644 -t "$(DESTDIR)$(PREFIX)/lib" bin/libcoap_proved.a
-	install -D -m 0644 -t "$(DESTDIR)$(PREFIX)/include" include/coap_proved.h
-	install -D -m 0644 -t "$(DESTDIR)$(PREFIX)/share/man/man3" man/coap_proved.3
-	install -D -m 0644 install/library/coap_proved.pc.in "$(DESTDIR)$(PREFIX)/lib/pkgconfig/coap_proved.pc"
+	install -D -m 0644 -t "$(DESTDIR)$(PREFIX)/lib" bin/libdachreup.a
+	install -D -m 0644 -t "$(DESTDIR)$(PREFIX)/include" include/dachreup.h
+	install -D -m 0644 -t "$(DESTDIR)$(PREFIX)/share/man/man3" man/dachreup.3
+	install -D -m 0644 install/library/dachreup.pc.in "$(DESTDIR)$(PREFIX)/lib/pkgconfig/dachreup.pc"
 	sed -i -e 's|@PREFIX@|$(PREFIX)|g' -e 's|@LIBDIR@|lib|g' -e "s|@VERSION@|$$(cat VERSION)|g" \
-	    "$(DESTDIR)$(PREFIX)/lib/pkgconfig/coap_proved.pc"
+	    "$(DESTDIR)$(PREFIX)/lib/pkgconfig/dachreup.pc"
 
 # Installs the output of `make gateway`. `make install` does so too, if it exists.
 install-gateway:
@@ -141,8 +141,8 @@ uninstall:
 	done
 	rm -f "$(DESTDIR)$(PREFIX)/lib/systemd/system/coap-server.service"
 	rm -f "$(DESTDIR)$(PREFIX)/share/doc/coap-server/examples/haproxy.cfg"
-	rm -f "$(DESTDIR)$(PREFIX)/lib/libcoap_proved.a" "$(DESTDIR)$(PREFIX)/lib/pkgconfig/coap_proved.pc"
-	rm -f "$(DESTDIR)$(PREFIX)/include/coap_proved.h" "$(DESTDIR)$(PREFIX)/share/man/man3/coap_proved.3"
+	rm -f "$(DESTDIR)$(PREFIX)/lib/libdachreup.a" "$(DESTDIR)$(PREFIX)/lib/pkgconfig/dachreup.pc"
+	rm -f "$(DESTDIR)$(PREFIX)/include/dachreup.h" "$(DESTDIR)$(PREFIX)/share/man/man3/dachreup.3"
 	rm -f "$(DESTDIR)$(PREFIX)/bin/coap-mqtt" "$(DESTDIR)$(PREFIX)/share/man/man1/coap-mqtt.1"
 	rm -f "$(DESTDIR)$(PREFIX)/lib/systemd/system/coap-mqtt@.service"
 	rm -f "$(DESTDIR)$(PREFIX)/share/doc/coap-mqtt/examples/mosquitto.conf"
@@ -151,7 +151,7 @@ uninstall:
 # bin/NAME_VERSION_ARCHITECTURE.deb for the names dachreup, libdachreup-dev and dachreup-mqtt.
 deb: all lib gateway
 	install/debian/build bin/coap-server bin/coap-client bin/coap-explain bin/coap-directory \
-	    bin/libcoap_proved.a bin/coap-mqtt bin
+	    bin/libdachreup.a bin/coap-mqtt bin
 
 clean:
 	rm -rf bin crates/*/out

@@ -1,6 +1,6 @@
 /* A server of the C library over standard input and output, as `coap-server --stdio`: library < INPUT. Run by
    bench/instructions. */
-#include <coap_proved.h>
+#include <dachreup.h>
 #include <string.h>
 #include <unistd.h>
 

@@ -24,10 +24,10 @@ static uint32_t room_of(const struct gateway *gateway, const struct request *req
 /* Responds at once. The take before it left room for the largest message sent, so this is never refused for room. */
 static void respond(struct gateway *gateway, uint64_t peer, const struct request *request, uint32_t code) {
     uint8_t response[RESPONSE_ROOM] = {0};
-    uint32_t reply = 0, room = code == CODE_TOO_LARGE ? room_of(gateway, request) : 0;
+    uint32_t room = code == CODE_TOO_LARGE ? room_of(gateway, request) : 0;
     const struct dachreup_span *token = &request->message.token;
     size_t size = response_write(response, code, token->at, token->count, NULL, code == CODE_TOO_LARGE ? &room : NULL);
-    dachreup_server_respond(&gateway->server, peer, response, size, &reply);
+    dachreup_ignore(dachreup_server_respond(&gateway->server, peer, response, size, NULL));
     metrics_count(&gateway->metrics, request->message.code, code);
 }
 
@@ -162,7 +162,6 @@ static bool is_over(const struct gateway *gateway, const struct write *write) {
 /* Sends the response to a request. If the queue of the peer has no room, it is sent later. */
 static void deliver(struct gateway *gateway, struct write *write, uint32_t code) {
     uint8_t response[RESPONSE_ROOM] = {0};
-    uint32_t reply = 0;
     if (is_over(gateway, write)) {
         metrics_count(&gateway->metrics, write->method, CODE_TIMEOUT);
         writes_remove(&gateway->writes, write);
@@ -170,12 +169,11 @@ static void deliver(struct gateway *gateway, struct write *write, uint32_t code)
     }
     const struct path *location = code == CODE_CREATED && write->method == METHOD_POST ? &write->lane->path : NULL;
     size_t size = response_write(response, code, write->token, write->token_length, location, NULL);
-    uint32_t result = dachreup_server_respond(&gateway->server, write->peer, response, size, &reply);
-    if (result != DACHREUP_RESPOND_NO_ROOM) {
+    dachreup_result result = dachreup_server_respond(&gateway->server, write->peer, response, size, NULL);
+    if (result != DACHREUP_QUEUE_FULL) {
         /* Without a request, the server has sent 5.04. A peer that is gone gets no response. */
         if (result == DACHREUP_OK || result == DACHREUP_NO_SUCH_REQUEST)
             metrics_count(&gateway->metrics, write->method, result ? CODE_TIMEOUT : code);
-        gateway->has_output = true;
         writes_remove(&gateway->writes, write);
         return;
     }
@@ -239,7 +237,6 @@ void exchange_message(void *owner, const struct broker_message *message) {
     bool has_path = path_of_topic(&path, message->topic);
     enum mirror_change change = mirror_apply(&gateway->mirror, has_path ? &path : NULL, message);
     struct write *write = echo_of(gateway, has_path ? &path : NULL, message);
-    gateway->has_output = gateway->has_output || (change != MIRROR_UNCHANGED && change != MIRROR_IGNORED);
     note_creation(gateway, &path, change);
     if (log_is_on(LOG_MESSAGES)) {
         char printed[PRINTED_ROOM];

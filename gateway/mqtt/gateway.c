@@ -66,7 +66,6 @@ static void on_complete(void *owner) {
     mirror_end(mirror);
     exchange_complete(gateway);
     gateway->is_complete = true;
-    gateway->has_output = true;
     gateway->reading = gateway->now;
     gateway->read = gateway->broker.losses;
     log_line(is_again ? LOG_WARNINGS : LOG_CONNECTIONS,
@@ -94,8 +93,7 @@ static bool tick(struct gateway *gateway) {
     if (second == gateway->second)
         return false;
     gateway->second = second;
-    gateway->has_output = true;
-    dachreup_server_tick(&gateway->server, second);
+    dachreup_ignore(dachreup_server_tick(&gateway->server, second));
     return true;
 }
 
@@ -216,12 +214,9 @@ static bool turn(struct gateway *gateway, const sigset_t *signals) {
         return false;
     gateway->peers.refuses_reads = gateway->options->refuses_stale && !gateway->broker.is_usable;
     notify_state(gateway, is_new_second);
-    /* Requests in the kept bytes of a peer may cause publications, but no change of the store. */
-    while (gateway->has_output) {
-        gateway->has_output = false;
-        peers_serve(&gateway->peers);
+    /* Responses that had no room may have some after bytes were written. */
+    while (peers_serve(&gateway->peers))
         exchange_check(gateway, false);
-    }
     watch_broker(gateway);
     int found = epoll_pwait(gateway->poll, ready, EVENTS_A_TURN, wait_of(gateway), signals);
     for (int at = 0; at < found; at++)
@@ -230,17 +225,16 @@ static bool turn(struct gateway *gateway, const sigset_t *signals) {
 }
 
 /* Adds the entry of a path, whose requests with these methods the gateway answers. */
-static uint32_t add_entry(struct dachreup_applications *entries, const char *path, uint32_t methods,
-                          const char *attributes) {
-    return dachreup_applications_add(entries, (const uint8_t *)path, strlen(path), methods, (const uint8_t *)attributes,
-                                     strlen(attributes));
+static dachreup_result add_entry(struct dachreup_applications *entries, const char *path, uint32_t methods,
+                                 const char *attributes) {
+    return dachreup_applications_add(entries, path, strlen(path), methods, attributes, strlen(attributes));
 }
 
 static bool open_server(struct gateway *gateway) {
     const struct options *options = gateway->options;
-    struct dachreup_settings settings = DACHREUP_SETTINGS(options->resources);
     uint32_t methods = 1u << METHOD_POST | 1u << METHOD_PUT | 1u << METHOD_DELETE | 1u << METHOD_REFUSED;
     gateway->started = server_time(gateway) / 1000;
+    struct dachreup_settings settings = dachreup_settings_at(options->resources, gateway->started);
     settings.max_message = options->max_message;
     settings.max_sent = options->max_sent;
     settings.queue = options->queue;
@@ -248,11 +242,10 @@ static bool open_server(struct gateway *gateway) {
     settings.observers = options->observers;
     settings.connections = options->connections;
     settings.rep_max = REPRESENTATION_BYTES;
-    settings.moment = gateway->started;
     /* Gateways with different ids never give one ETag to two states, nor does one in two of its runs. */
     settings.versions = (uint64_t)options->id << 48 | gateway->started << 16;
     struct dachreup_applications entries = {0};
-    uint32_t result = dachreup_applications_new(&entries, DEADLINE);
+    dachreup_result result = dachreup_applications_new(&entries, DEADLINE);
     if (!result)
         result = add_entry(&entries, options->prefix_text, methods, "");
     if (!result && options->health_text)
@@ -260,7 +253,7 @@ static bool open_server(struct gateway *gateway) {
     if (!result)
         result = dachreup_server_new_for(&gateway->server, &settings, &entries);
     if (result)
-        log_always("cannot make the server: %u", (unsigned)result);
+        log_always("cannot make the server: %s", dachreup_error_text(result));
     dachreup_applications_free(&entries);
     return result == DACHREUP_OK;
 }

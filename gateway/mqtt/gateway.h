@@ -2,7 +2,7 @@
 #ifndef COAP_MQTT_GATEWAY_H
 #define COAP_MQTT_GATEWAY_H
 
-#include <coap_proved.h>
+#include <dachreup.h>
 #include <stdbool.h>
 #include <stddef.h>
 #include <stdint.h>
@@ -50,7 +50,6 @@ struct gateway {
     bool is_ending;         /* a signal has come: writes are refused */
     bool was_good;          /* the health that systemd was notified of */
     bool is_complete;       /* the mirror was complete once */
-    bool has_output;        /* the store changed, so any peer can have output */
 };
 
 /* Runs until SIGTERM or SIGINT, or until a failure. Returns the exit status. */

@@ -69,7 +69,7 @@ static enum mirror_change take_away(struct mirror *mirror, const struct path *pa
     struct mirrored *entry = place_of(mirror, path);
     if (!entry->reading)
         return MIRROR_UNCHANGED;
-    dachreup_server_remove_at(mirror->server, path->bytes, path->size);
+    dachreup_ignore(dachreup_server_remove_at(mirror->server, path->bytes, path->size));
     forget(mirror, entry);
     mirror->has_room_again = true;
     return MIRROR_REMOVED;
@@ -96,14 +96,13 @@ static enum mirror_change leave_out(struct mirror *mirror, const struct path *pa
 /* Stores a message. One that equals the stored state changes nothing, so that nobody is notified twice. */
 static enum mirror_change store(struct mirror *mirror, const struct path *path, const struct broker_message *message) {
     struct dachreup_state state = {{0}, 0, 0};
-    uint64_t version = 0;
     bool is_stored = dachreup_server_state_at(mirror->server, path->bytes, path->size, &state) == DACHREUP_OK;
     if (is_stored && is_equal(&state, message)) {
         note(mirror, path);
         return MIRROR_UNCHANGED;
     }
     switch (dachreup_server_put_at(mirror->server, path->bytes, path->size, message->format, message->bytes,
-                                   message->length, &version)) {
+                                   message->length, NULL)) {
     case DACHREUP_OK: note(mirror, path); return is_stored ? MIRROR_CHANGED : MIRROR_CREATED;
     case DACHREUP_TOO_LARGE: return leave_out(mirror, path, message, "payload above the size limit");
     case DACHREUP_LIMIT:
@@ -150,7 +149,7 @@ void mirror_end(struct mirror *mirror) {
             at++;
             continue;
         }
-        dachreup_server_remove_at(mirror->server, entry->path.bytes, entry->path.size);
+        dachreup_ignore(dachreup_server_remove_at(mirror->server, entry->path.bytes, entry->path.size));
         forget(mirror, entry);
         mirror->has_room_again = true;
     }

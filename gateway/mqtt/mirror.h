@@ -6,7 +6,7 @@
 #ifndef COAP_MQTT_MIRROR_H
 #define COAP_MQTT_MIRROR_H
 
-#include <coap_proved.h>
+#include <dachreup.h>
 #include <stdbool.h>
 #include <stddef.h>
 #include <stdint.h>

@@ -64,10 +64,11 @@ bool peers_open(struct peers *peers, struct dachreup_server *server, const struc
                             .room = options->max_message + HEADER_ROOM};
     peers->listener = -1;
     peers->all = calloc(peers->count, sizeof *peers->all);
-    if (!peers->all)
-        return log_always("no memory"), false;
-    for (size_t at = 0; at < peers->count; at++)
+    peers->by_id = calloc(peers->count, sizeof *peers->by_id);
+    for (size_t at = 0; peers->all && at < peers->count; at++)
         peers->all[at].socket = -1;
+    if (!peers->all || !peers->by_id)
+        return log_always("no memory"), false;
     peers->listener = socket(address.bytes.ss_family, SOCK_STREAM | SOCK_NONBLOCK | SOCK_CLOEXEC, 0);
     if (peers->listener >= 0) {
         setsockopt(peers->listener, SOL_SOCKET, SO_REUSEADDR, &yes, sizeof yes);
@@ -85,6 +86,7 @@ void peers_close(struct peers *peers) {
         if (peers->all[at].socket >= 0)
             end(peers, &peers->all[at]);
     free(peers->all);
+    free(peers->by_id);
     peers_refuse(peers);
 }
 
@@ -116,15 +118,42 @@ bool peers_listen(struct peers *peers) {
     return true;
 }
 
+/* ---- peers by their ids ---- */
+
+/* Returns the number of peers whose ids are lower. */
+static size_t rank_of(const struct peers *peers, uint64_t id) {
+    size_t low = 0, high = peers->open;
+    while (low < high) {
+        size_t middle = (low + high) / 2;
+        if (peers->all[peers->by_id[middle]].id < id)
+            low = middle + 1;
+        else
+            high = middle;
+    }
+    return low;
+}
+
+/* Adds a peer, whose id is above those of the others. */
+static void add(struct peers *peers, struct peer *peer) {
+    peers->by_id[peers->open++] = (uint16_t)(peer - peers->all);
+}
+
+static void take_out(struct peers *peers, const struct peer *peer) {
+    size_t rank = rank_of(peers, peer->id);
+    uint16_t *place = peers->by_id + rank;
+    peers->open--;
+    memmove(place, place + 1, (peers->open - rank) * sizeof *place);
+}
+
 /* ---- one peer ---- */
 
 static void end(struct peers *peers, struct peer *peer) {
-    dachreup_server_drop(peers->server, peer->id);
+    dachreup_ignore(dachreup_server_drop(peers->server, peer->id));
     close(peer->socket);
     free(peer->bytes);
     log_line(LOG_CONNECTIONS, "connection %llu ended", (unsigned long long)peer->id);
+    take_out(peers, peer);
     *peer = (struct peer){.socket = -1};
-    peers->open--;
     watch_listener(peers);
 }
 
@@ -163,7 +192,7 @@ static size_t offer(struct peers *peers, struct peer *peer, bool *failed) {
     memcpy(first, frame, head);
     if (!peer->is_raw)
         screen(frame, size, &peers->options->prefix, peers->refuses_reads);
-    *failed = dachreup_server_take(peers->server, peer->id, frame, size, &took) != DACHREUP_OK;
+    *failed = dachreup_server_take(peers->server, peer->id, frame, size, &took) != DACHREUP_OK || took.memory;
     /* A request is the whole frame, which stays valid longer than the span that the server lends. */
     if (took.request.count) {
         struct dachreup_span request = {frame, size};
@@ -177,10 +206,16 @@ static size_t offer(struct peers *peers, struct peer *peer, bool *failed) {
     return took.bytes;
 }
 
+/* Returns the status of an open connection. */
+static struct dachreup_status status_of(struct peers *peers, const struct peer *peer) {
+    struct dachreup_status status = {0};
+    dachreup_ignore(dachreup_server_status(peers->server, peer->id, &status));
+    return status;
+}
+
 /* Watches the socket for input if there is room, and for output if bytes are queued. */
 static void watch(struct peers *peers, struct peer *peer) {
-    struct dachreup_status status = {0};
-    dachreup_server_status(peers->server, peer->id, &status);
+    struct dachreup_status status = status_of(peers, peer);
     uint32_t interest = (!peer->has_ended && peer->kept < peers->room ? (uint32_t)EPOLLIN : 0) |
                         (status.waiting ? (uint32_t)EPOLLOUT : 0);
     struct epoll_event event = {.events = interest, .data.u64 = (uint64_t)(peer - peers->all)};
@@ -194,22 +229,14 @@ static void finish(struct peers *peers, struct peer *peer) {
     if (!peer->has_ended || peer->is_finished || next_frame(peers, peer))
         return;
     peer->is_finished = true;
-    dachreup_server_ended(peers->server, peer->id);
+    dachreup_ignore(dachreup_server_ended(peers->server, peer->id));
     flush(peers, peer);
 }
 
-/*
- * Offers the kept bytes, and writes what they cause, until nothing moves. All messages that the queue has room for are
- * offered before a write: a call of the system for each of many small messages would hold up the other peers.
- */
-static void serve(struct peers *peers, struct peer *peer) {
-    struct dachreup_status status = {0};
-    bool failed = false;
-    for (size_t moved = 1; moved && !failed; moved = flush(peers, peer))
-        while (!failed && offer(peers, peer, &failed)) {
-        }
-    finish(peers, peer);
-    if (failed || (!dachreup_server_status(peers->server, peer->id, &status) && status.finished)) {
+/* Ends a connection that has failed or finished. Watches another one. */
+static void settle(struct peers *peers, struct peer *peer, bool has_failed) {
+    struct dachreup_status status = status_of(peers, peer);
+    if (has_failed || status.finished) {
         end(peers, peer);
         return;
     }
@@ -217,6 +244,19 @@ static void serve(struct peers *peers, struct peer *peer) {
     if (status.phase == DACHREUP_PHASE_STOPPED)
         peer->kept = 0;
     watch(peers, peer);
+}
+
+/*
+ * Offers the kept bytes, and writes what they cause, until nothing moves. All messages that the queue has room for are
+ * offered before a write: a call of the system for each of many small messages would hold up the other peers.
+ */
+static void serve(struct peers *peers, struct peer *peer) {
+    bool failed = false;
+    for (size_t moved = 1; moved && !failed; moved = flush(peers, peer))
+        while (!failed && offer(peers, peer, &failed)) {
+        }
+    finish(peers, peer);
+    settle(peers, peer, failed);
 }
 
 /* Moves the kept bytes to the start of the buffer, if it has no room after them. */
@@ -246,7 +286,8 @@ static bool receive(struct peers *peers, struct peer *peer) {
 static void discard(struct peers *peers, struct peer *peer) {
     struct dachreup_parts parts = {{0}, {0}};
     if (!dachreup_server_parts(peers->server, peer->id, &parts))
-        dachreup_server_written(peers->server, peer->id, parts.first.count + parts.second.count);
+        dachreup_ignore(
+            dachreup_server_written(peers->server, peer->id, parts.first.count + parts.second.count));
 }
 
 /*
@@ -277,10 +318,17 @@ void peers_ready(struct peers *peers, size_t place, uint32_t events) {
         serve(peers, peer);
 }
 
-void peers_serve(struct peers *peers) {
-    for (size_t at = 0; at < peers->count; at++)
-        if (peers->all[at].socket >= 0)
-            serve(peers, &peers->all[at]);
+bool peers_serve(struct peers *peers) {
+    bool has_served = false;
+    for (uint64_t id; !dachreup_server_next_output(peers->server, &id); has_served = true) {
+        struct peer *peer = &peers->all[peers->by_id[rank_of(peers, id)]];
+        /* Written bytes leave room, so that kept ones may be accepted. An offer yields the connection again. */
+        if (flush(peers, peer))
+            serve(peers, peer);
+        else
+            settle(peers, peer, false);
+    }
+    return has_served;
 }
 
 /* ---- silent peers, and the end ---- */
@@ -297,13 +345,11 @@ static void release(struct peers *peers, struct peer *peer) {
 
 /* Sends a Release at the end of the program. Queued bytes are written also if the connection cannot have one. */
 static void release_at_end(struct peers *peers, struct peer *peer) {
-    struct dachreup_status status = {0};
-    dachreup_server_status(peers->server, peer->id, &status);
-    if (!status.waiting) {
+    if (!status_of(peers, peer).waiting) {
         release(peers, peer);
         return;
     }
-    dachreup_server_release(peers->server, peer->id);
+    dachreup_ignore(dachreup_server_release(peers->server, peer->id));
     peer->released = peers->now;
     serve(peers, peer);
 }
@@ -316,9 +362,8 @@ void peers_release(struct peers *peers) {
 
 /* Ends a connection that has been silent for too long. The rule is that of coap-server. */
 static void check_silence(struct peers *peers, struct peer *peer) {
-    struct dachreup_status status = {0};
-    dachreup_server_status(peers->server, peer->id, &status);
-    bool is_mute = status.phase == DACHREUP_WAITING && peers->now - peer->opened > CSM_PATIENCE;
+    struct dachreup_status status = status_of(peers, peer);
+    bool is_mute = status.phase == DACHREUP_PHASE_WAITING && peers->now - peer->opened > CSM_PATIENCE;
     bool is_unread = peer->released && peers->now - peer->released >= RELEASE_PATIENCE;
     bool is_silent = !status.observers && !status.pending && peers->now - peer->moved > peers->options->idle;
     if (is_unread || (is_mute && !peer->released))
@@ -328,9 +373,14 @@ static void check_silence(struct peers *peers, struct peer *peer) {
 }
 
 void peers_tick(struct peers *peers) {
-    for (size_t at = 0; peers->options->idle && at < peers->count; at++)
-        if (peers->all[at].socket >= 0)
-            check_silence(peers, &peers->all[at]);
+    for (size_t at = 0; at < peers->count; at++) {
+        struct peer *peer = &peers->all[at];
+        /* A connection can finish without output: if the peer accepts not even the smallest response. */
+        if (peer->socket >= 0 && status_of(peers, peer).finished)
+            end(peers, peer);
+        else if (peer->socket >= 0 && peers->options->idle)
+            check_silence(peers, peer);
+    }
     peers->is_short = false;
     watch_listener(peers);
 }
@@ -370,13 +420,13 @@ static const char *admit(struct peers *peers, int client, const char *address) {
         return reject(peer, "no memory");
     if (epoll_ctl(peers->poll, EPOLL_CTL_ADD, client, &event) < 0) {
         const char *reason = strerror(errno);
-        dachreup_server_drop(peers->server, peer->id);
+        dachreup_ignore(dachreup_server_drop(peers->server, peer->id));
         return reject(peer, reason);
     }
     peer->socket = client;
     peer->interest = EPOLLIN;
     peer->opened = peer->moved = peers->now;
-    peers->open++;
+    add(peers, peer);
     log_line(LOG_CONNECTIONS, "connection %llu opened by %s", (unsigned long long)peer->id, address);
     serve(peers, peer);
     return NULL;

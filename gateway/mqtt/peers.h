@@ -2,7 +2,7 @@
 #ifndef COAP_MQTT_PEERS_H
 #define COAP_MQTT_PEERS_H
 
-#include <coap_proved.h>
+#include <dachreup.h>
 #include <stdbool.h>
 #include <stddef.h>
 #include <stdint.h>
@@ -37,6 +37,7 @@ struct peers {
     /* A request that the gateway answers. */
     void (*request)(void *owner, uint64_t id, const struct dachreup_span *request);
     struct peer *all;
+    uint16_t *by_id;    /* places of the open peers, by ascending ids */
     size_t count, open;
     size_t room;        /* bytes of a peer's buffer: more than the largest message */
     uint64_t now;       /* milliseconds of the monotonic clock, set by the gateway before each event */
@@ -60,10 +61,10 @@ void peers_accept(struct peers *peers);
 /* Serves a peer whose socket is ready. */
 void peers_ready(struct peers *peers, size_t place, uint32_t events);
 
-/* Serves all peers: after a change of the store, any connection can have output. */
-void peers_serve(struct peers *peers);
+/* Serves the peers that have new output. Returns true if there were some. */
+bool peers_serve(struct peers *peers);
 
-/* Accepts again after a failure, and ends silent connections: `--idle`. Called once a second. */
+/* Accepts again after a failure, and ends finished and silent connections: `--idle`. Called once a second. */
 void peers_tick(struct peers *peers);
 
 /* Stops listening for good. */

@@ -67,8 +67,8 @@ bool request_conditions_hold(const struct request *request, const struct dachreu
 /* Appends the segments of a path. */
 static void write_location(uint8_t *options, size_t *length, uint32_t *last, const struct path *path) {
     for (size_t at = 0; at < path->size; at += 1u + path->bytes[at])
-        dachreup_option_write(options, RESPONSE_ROOM, length, last, LOCATION_PATH, path->bytes + at + 1,
-                              path->bytes[at]);
+        dachreup_ignore(dachreup_option_write(options, RESPONSE_ROOM, length, last, LOCATION_PATH, path->bytes + at + 1,
+                                              path->bytes[at]));
 }
 
 static void write_limit(uint8_t *options, size_t *length, uint32_t *last, uint32_t limit) {
@@ -77,11 +77,12 @@ static void write_limit(uint8_t *options, size_t *length, uint32_t *last, uint32
     for (int shift = 24; shift >= 0; shift -= 8)
         if (count || limit >> shift)
             bytes[count++] = (uint8_t)(limit >> shift);
-    dachreup_option_write(options, RESPONSE_ROOM, length, last, SIZE1, bytes, count);
+    dachreup_ignore(dachreup_option_write(options, RESPONSE_ROOM, length, last, SIZE1, bytes, count));
 }
 
 size_t response_write(uint8_t *response, uint32_t code, const uint8_t *token, size_t token_length,
                       const struct path *location, const uint32_t *limit) {
+    struct dachreup_message message = dachreup_message_of(code, dachreup_span_of(token, token_length));
     uint8_t options[RESPONSE_ROOM] = {0};
     size_t options_length = 0, length = 0;
     uint32_t last = 0;
@@ -89,8 +90,8 @@ size_t response_write(uint8_t *response, uint32_t code, const uint8_t *token, si
         write_location(options, &options_length, &last, location);
     if (limit)
         write_limit(options, &options_length, &last, *limit);
+    message.options = dachreup_span_of(options, options_length);
     /* A path has at most 255 bytes, so the room is always enough. */
-    dachreup_message_write(code, token, token_length, options, options_length, (const uint8_t *)"", 0, response,
-                           RESPONSE_ROOM, &length);
+    dachreup_ignore(dachreup_message_write(&message, response, RESPONSE_ROOM, &length));
     return length;
 }

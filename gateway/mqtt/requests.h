@@ -2,7 +2,7 @@
 #ifndef COAP_MQTT_REQUESTS_H
 #define COAP_MQTT_REQUESTS_H
 
-#include <coap_proved.h>
+#include <dachreup.h>
 #include <stdbool.h>
 #include <stddef.h>
 #include <stdint.h>

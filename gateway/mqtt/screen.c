@@ -1,6 +1,6 @@
 #include "screen.h"
 
-#include <coap_proved.h>
+#include <dachreup.h>
 #include <string.h>
 
 enum { URI_PATH = 11 };

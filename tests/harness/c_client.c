@@ -1,14 +1,14 @@
 /* The client of the C library with its server in one program, its messages, and wrong uses of their calls. Run by
    tests/system/c_library.py.
 
-       c_client pair        prints the events of requests, an observation and a Ping; a call that reports 2 is made
+       c_client pair        prints the events of requests, an observation and a Ping; a call that lacks memory is made
                             once more
        c_client messages    reads records of two bytes of length and a frame; prints the numbers of the errors, and
                             each frame that is written otherwise than it was read
        c_client wraps       sends PUTs of 3,000 bytes, and writes the bytes that the client queued
        c_client wrong       prints each check that fails */
 #include "c_checks.h"
-#include <coap_proved.h>
+#include <dachreup.h>
 #include <stdio.h>
 #include <stdlib.h>
 #include <string.h>
@@ -20,7 +20,7 @@ static uint64_t id;
 /* Calls that allocate are made again once if an allocation failed. */
 #define AGAIN(call) ((number = (call)) == DACHREUP_MEMORY ? (number = (call)) : number)
 
-#define TEXT(text) (const uint8_t *)(text), sizeof(text) - 1
+#define TEXT(text) (text), sizeof(text) - 1
 
 static void print(const struct dachreup_event *event) {
     printf("kind %u token %llu reason %u option %u custody %u", (unsigned)event->kind, (unsigned long long)event->token,
@@ -41,13 +41,13 @@ static void print(const struct dachreup_event *event) {
 static int to_server(void) {
     struct dachreup_parts parts;
     struct dachreup_took took;
-    uint32_t number;
     while (!dachreup_client_parts(&client, &parts) && parts.first.count + parts.second.count) {
         uint8_t byte = parts.first.count ? *parts.first.at : *parts.second.at;
         do
-            number = dachreup_server_take(&server, id, &byte, 1, &took);
-        while (number == DACHREUP_MEMORY && took.bytes == 0);
-        if (number || took.bytes != 1 || dachreup_client_written(&client, 1))
+            if (dachreup_server_take(&server, id, &byte, 1, &took))
+                return 1;
+        while (took.memory && took.bytes == 0);
+        if (took.bytes != 1 || dachreup_client_written(&client, 1))
             return 1;
     }
     return 0;
@@ -80,14 +80,14 @@ static int pair(size_t size) {
     struct dachreup_settings settings = DACHREUP_SETTINGS(4);
     struct dachreup_limits limits = DACHREUP_LIMITS;
     struct dachreup_request get = DACHREUP_REQUEST_GET, observe = DACHREUP_REQUEST_OBSERVE,
-                            put = {DACHREUP_PUT, 0, 0, 40, DACHREUP_NO_FORMAT};
+                            put = {DACHREUP_PUT, 0, 40, DACHREUP_NO_FORMAT};
     struct dachreup_place place = {0, 0, 0};
     uint64_t token = 0, version = 0;
     uint32_t number;
-    uint8_t host[16] = {0};
+    char host[16] = {0};
     if (AGAIN(dachreup_target(TEXT("coap+tcp://[::1]:70/a"), host, sizeof host, &place)))
         return 1;
-    printf("%s %zu %u %u\n", (char *)host, place.host, (unsigned)place.is_address, (unsigned)place.port);
+    printf("%s %zu %u %u\n", host, place.host, (unsigned)place.is_address, (unsigned)place.port);
     if (AGAIN(dachreup_server_new(&server, &settings)) || AGAIN(dachreup_server_open(&server, &id)) ||
         AGAIN(dachreup_client_new(&client, &limits, 299)))
         return 2;
@@ -106,7 +106,7 @@ static int pair(size_t size) {
         return 7;
     if (AGAIN(dachreup_client_send(&client, &get, TEXT("coap+tcp://h/none"), TEXT(""), &token)) || exchange(size))
         return 8;
-    struct dachreup_client_status status = {0};
+    struct dachreup_client_snapshot status = {0};
     if (dachreup_server_release(&server, id) || exchange(size) || dachreup_client_ended(&client) ||
         dachreup_client_status(&client, &status))
         return 9;
@@ -128,12 +128,11 @@ static int differs(const uint8_t *frame, size_t length, const struct dachreup_me
             return 1;
     if (result != DACHREUP_NO_MORE || used != message->options.count)
         return 1;
-    if (dachreup_message_write(message->code, message->token.at, message->token.count, options, used,
-                               message->payload.at, message->payload.count, written, sizeof written, &count))
+    struct dachreup_message again = *message;
+    again.options = dachreup_span_of(options, used);
+    if (dachreup_message_write(&again, written, sizeof written, &count))
         return 1;
-    if (count && dachreup_message_write(message->code, message->token.at, message->token.count, options, used,
-                                        message->payload.at, message->payload.count, written, count - 1,
-                                        &count) != DACHREUP_NO_ROOM)
+    if (count && dachreup_message_write(&again, written, count - 1, &count) != DACHREUP_NO_ROOM)
         return 1;
     return count != length || memcmp(frame, written, count);
 }
@@ -167,7 +166,7 @@ static int messages(void) {
 static int wraps(void) {
     static uint8_t payload[3000];
     struct dachreup_limits limits = DACHREUP_LIMITS;
-    struct dachreup_request put = {DACHREUP_PUT, 0, 0, DACHREUP_NO_FORMAT, DACHREUP_NO_FORMAT};
+    struct dachreup_request put = DACHREUP_REQUEST(DACHREUP_PUT);
     struct dachreup_event event;
     struct dachreup_parts parts;
     uint64_t token = 0;
@@ -199,7 +198,7 @@ static void empty(void) {
     struct dachreup_request get = DACHREUP_REQUEST_GET;
     struct dachreup_event event;
     struct dachreup_parts parts;
-    struct dachreup_client_status status;
+    struct dachreup_client_snapshot status;
     uint64_t token = 7;
     memset(&event, 9, sizeof event);
     check("empty send", dachreup_client_send(&client, &get, TEXT("coap+tcp://a"), TEXT(""), &token), DACHREUP_EMPTY);
@@ -228,14 +227,14 @@ static void ranges(void) {
     for (uint32_t at = 0; at < 6; at++) {
         size_t before = *values[at];
         *values[at] = (size_t)1 << 40;
-        check("range", dachreup_client_new(&client, &limits, 0), 16 + at);
+        check("range", dachreup_client_new(&client, &limits, 0), DACHREUP_MAX_MESSAGE + at);
         *values[at] = before;
     }
 }
 
 static void targets(void) {
     struct dachreup_place place = {1, 2, 3};
-    uint8_t host[8];
+    char host[8];
     static const struct {
         const char *uri;
         uint32_t wanted;
@@ -244,10 +243,10 @@ static void targets(void) {
         {"coap+tcp:a", DACHREUP_URI_NO_HOST}, {"coap+tcp://u@a", DACHREUP_URI_USER_INFO},
         {"coap+tcp://a#f", DACHREUP_URI_FRAGMENT},
         {"coap+tcp://a/1/2/3/4/5/6/7/8/9/a/b/c/d/e/f/g/h", DACHREUP_URI_TOO_MANY_PARTS},
-        {"coap+tcp://12345678", DACHREUP_URI_NO_ROOM}, {"coap+tcp://1234567", 0}};
+        {"coap+tcp://12345678", DACHREUP_NO_ROOM}, {"coap+tcp://1234567", 0}};
     for (size_t at = 0; at < sizeof uris / sizeof *uris; at++)
         check(uris[at].uri,
-              dachreup_target((const uint8_t *)uris[at].uri, strlen(uris[at].uri), host, sizeof host, &place),
+              dachreup_target(uris[at].uri, strlen(uris[at].uri), host, sizeof host, &place),
               uris[at].wanted);
     check("host", (uint32_t)memcmp(host, "1234567", 8) + (uint32_t)place.host * 10 + place.is_address, 70);
     check("port", place.port, 5683);
@@ -263,9 +262,9 @@ static void requests(void) {
     check("new", dachreup_client_new(&client, &limits, 0), 0);
     check("new again", dachreup_client_new(&client, &limits, 0), DACHREUP_OCCUPIED);
     check("not open", dachreup_client_send(&client, &get, TEXT("coap+tcp://a"), TEXT(""), &token),
-          DACHREUP_REQUEST_NOT_OPEN);
-    check("ping not open", dachreup_client_ping(&client, 0, &token), DACHREUP_REQUEST_NOT_OPEN);
-    check("cancel not open", dachreup_client_cancel(&client, &get, TEXT("coap+tcp://a"), 1), DACHREUP_REQUEST_NOT_OPEN);
+          DACHREUP_NOT_OPEN);
+    check("ping not open", dachreup_client_ping(&client, 0, &token), DACHREUP_NOT_OPEN);
+    check("cancel not open", dachreup_client_cancel(&client, &get, TEXT("coap+tcp://a"), 1), DACHREUP_NOT_OPEN);
     check("take", dachreup_client_take(&client, TEXT("\x00\xe1"), &event), 0);
     check("ready", event.kind * 10 + (uint32_t)event.bytes, 12);
     other.method = 5;
@@ -273,12 +272,10 @@ static void requests(void) {
           DACHREUP_NOT_A_CHOICE);
     other.method = 0;
     check("no method", dachreup_client_cancel(&client, &other, TEXT("coap+tcp://a"), 1), DACHREUP_NOT_A_CHOICE);
-    other = get, other.observe = 2;
-    check("observe", dachreup_client_send(&client, &other, TEXT("coap+tcp://a"), TEXT(""), &token),
-          DACHREUP_NOT_A_CHOICE);
-    other = get, other.plain = 2;
-    check("plain", dachreup_client_send(&client, &other, TEXT("coap+tcp://a"), TEXT(""), &token),
-          DACHREUP_NOT_A_CHOICE);
+    other = get;
+    for (other.flags = 4; other.flags; other.flags <<= 1)
+        check("another flag", dachreup_client_send(&client, &other, TEXT("coap+tcp://a"), TEXT(""), &token),
+              DACHREUP_NOT_A_CHOICE);
     check("custody", dachreup_client_ping(&client, 2, &token), DACHREUP_NOT_A_CHOICE);
     check("uri", dachreup_client_send(&client, &get, TEXT("coap://a"), TEXT(""), &token), DACHREUP_URI_SCHEME);
     check("token unchanged", (uint32_t)token, 7);
@@ -308,7 +305,7 @@ static void loans(size_t split) {
     static const uint8_t response[5] = {0x21, 0x45, 0x01, 0xff, 'x'};
     struct dachreup_limits limits = DACHREUP_LIMITS;
     struct dachreup_request get = DACHREUP_REQUEST_GET;
-    struct dachreup_client_status status;
+    struct dachreup_client_snapshot status;
     struct dachreup_parts parts;
     struct dachreup_event event;
     uint64_t token = 0;
@@ -340,11 +337,21 @@ static void reading(void) {
     check("an empty value", dachreup_option_next(options, 3, &at, &number, &value), 0);
     check("where", (uint32_t)at * 100 + number * 10 + (uint32_t)value.count, 100);
     check("in the options", value.at == options + 1, 1);
-    check("truncated", dachreup_option_next(options, 2, &at, &number, &value), DACHREUP_MALFORMED);
+    check("truncated", dachreup_option_next(options, 2, &at, &number, &value), DACHREUP_OPTION_MALFORMED);
     check("unchanged", (uint32_t)at * 100 + number * 10 + (uint32_t)value.count, 100);
     check("option", dachreup_option_next(options, 3, &at, &number, &value), 0);
     check("end", dachreup_option_next(options, 3, &at, &number, &value), DACHREUP_NO_MORE);
     check("last", (uint32_t)at * 1000 + number * 10 + (uint32_t)value.count, 3111);
+}
+
+#define SPAN(text) dachreup_span_of((text), sizeof(text) - 1)
+
+static dachreup_result write_message(uint32_t code, struct dachreup_span token, struct dachreup_span options,
+                                     struct dachreup_span payload, uint8_t *buffer, size_t room, size_t *length) {
+    struct dachreup_message message = dachreup_message_of(code, token);
+    message.options = options;
+    message.payload = payload;
+    return dachreup_message_write(&message, buffer, room, length);
 }
 
 static void writing(void) {
@@ -360,20 +367,132 @@ static void writing(void) {
     check("order", dachreup_option_write(bytes, 8, &used, &last, 10, TEXT("ab")), DACHREUP_OPTION_ORDER);
     used = 9;
     check("past the end", dachreup_option_write(bytes, 8, &used, &last, 12, TEXT("")), DACHREUP_NO_ROOM);
-    check("code", dachreup_message_write(256, TEXT(""), TEXT(""), TEXT(""), bytes, 8, &used), DACHREUP_WRITE_CODE);
-    check("token length", dachreup_message_write(1, large, 65, TEXT(""), TEXT(""), bytes, 8, &used),
+    check("code", write_message(256, SPAN(""), SPAN(""), SPAN(""), bytes, 8, &used), DACHREUP_WRITE_CODE);
+    check("token length", write_message(1, dachreup_span_of(large, 65), SPAN(""), SPAN(""), bytes, 8, &used),
           DACHREUP_WRITE_TOKEN);
-    check("options", dachreup_message_write(1, TEXT(""), TEXT("\xb1"), TEXT(""), bytes, 8, &used),
-          DACHREUP_WRITE_OPTIONS);
-    check("marker", dachreup_message_write(1, TEXT(""), TEXT("\xff\x01"), TEXT(""), bytes, 8, &used),
-          DACHREUP_WRITE_OPTIONS);
-    check("size", dachreup_message_write(1, TEXT(""), TEXT(""), large, 1048576, large, sizeof large, &used),
+    check("options", write_message(1, SPAN(""), SPAN("\xb1"), SPAN(""), bytes, 8, &used), DACHREUP_WRITE_OPTIONS);
+    check("marker", write_message(1, SPAN(""), SPAN("\xff\x01"), SPAN(""), bytes, 8, &used), DACHREUP_WRITE_OPTIONS);
+    check("size", write_message(1, SPAN(""), SPAN(""), dachreup_span_of(large, 1048576), bytes, 8, &used),
           DACHREUP_WRITE_TOO_LARGE);
-    check("no room", dachreup_message_write(1, TEXT(""), TEXT("\xb2\x61\x62"), TEXT("x"), bytes, 6, &used),
-          DACHREUP_NO_ROOM);
+    check("no room", write_message(1, SPAN(""), SPAN("\xb2\x61\x62"), SPAN("x"), bytes, 6, &used), DACHREUP_NO_ROOM);
     check("length unchanged", (uint32_t)used, 9);
-    check("message", dachreup_message_write(1, TEXT("t"), TEXT("\xb1\x61"), TEXT("x"), bytes, 8, &used), 0);
+    check("message", write_message(1, SPAN("t"), SPAN("\xb1\x61"), SPAN("x"), bytes, 8, &used), 0);
     check("bytes", (uint32_t)memcmp(bytes, "\x41\x01t\xb1\x61\xffx\x00", 8) + (uint32_t)used, 7);
+}
+
+/* Takes the bytes of the peer, and returns the kind of the event. */
+static uint32_t kind_of(const char *bytes, size_t length, uint64_t *token) {
+    struct dachreup_event event;
+    check("take", dachreup_client_take(&client, bytes, length, &event), 0);
+    check("all bytes", (uint32_t)event.bytes, (uint32_t)length);
+    *token = event.token;
+    return event.kind;
+}
+
+static size_t waiting(void) {
+    struct dachreup_client_snapshot status = {0};
+    check("status", dachreup_client_status(&client, &status), 0);
+    return status.waiting;
+}
+
+/* Writes all queued bytes. Checks the last ones. */
+static void drained(const char *what, const char *bytes, size_t length) {
+    static uint8_t all[1024];
+    struct dachreup_parts parts;
+    check("parts", dachreup_client_parts(&client, &parts), 0);
+    size_t count = parts.first.count + parts.second.count;
+    if (count < length || count > sizeof all) {
+        check(what, (uint32_t)count, (uint32_t)length);
+        return;
+    }
+    memcpy(all, parts.first.at, parts.first.count);
+    memcpy(all + parts.first.count, parts.second.at, parts.second.count);
+    check(what, (uint32_t)memcmp(all + count - length, bytes, length), 0);
+    check("written", dachreup_client_written(&client, count), 0);
+}
+
+/* A program that gives up requests, an observation and a Ping. Responses that come later are a stranger's. */
+static void forgets(void) {
+    struct dachreup_limits limits = DACHREUP_LIMITS;
+    struct dachreup_request get = DACHREUP_REQUEST_GET, observe = DACHREUP_REQUEST_OBSERVE;
+    struct dachreup_client_snapshot status;
+    uint64_t tokens[4] = {0}, token = 0;
+    limits.outstanding = 4;
+    check("empty forget", dachreup_client_forget(&client, 1), DACHREUP_EMPTY);
+    check("new", dachreup_client_new(&client, &limits, 0), 0);
+    check("nothing to forget", dachreup_client_forget(&client, 1), DACHREUP_REQUEST_NO_SUCH_TOKEN);
+    check("ready", kind_of(TEXT("\x00\xe1"), &token), DACHREUP_EVENT_READY);
+    check("first", dachreup_client_send(&client, &get, TEXT("coap+tcp://a/1"), NULL, 0, &tokens[0]), 0);
+    check("second", dachreup_client_send(&client, &get, TEXT("coap+tcp://a/2"), NULL, 0, &tokens[1]), 0);
+    check("observation", dachreup_client_send(&client, &observe, TEXT("coap+tcp://a/3"), NULL, 0, &tokens[2]), 0);
+    check("Ping", dachreup_client_ping(&client, 0, &tokens[3]), 0);
+    check("a fifth one", dachreup_client_send(&client, &get, TEXT("coap+tcp://a"), NULL, 0, NULL),
+          DACHREUP_REQUEST_TOO_MANY);
+    size_t queued = waiting();
+    check("forget the first one", dachreup_client_forget(&client, tokens[0]), 0);
+    check("twice", dachreup_client_forget(&client, tokens[0]), DACHREUP_REQUEST_NO_SUCH_TOKEN);
+    check("none of these", dachreup_client_forget(&client, 99), DACHREUP_REQUEST_NO_SUCH_TOKEN);
+    check("no message", (uint32_t)waiting(), (uint32_t)queued);
+    check("late", kind_of(TEXT("\x01\x45\x01"), &token), DACHREUP_EVENT_STRANGER);
+    check("another one", dachreup_client_send(&client, &get, TEXT("coap+tcp://a"), NULL, 0, &token), 0);
+    check("its token", (uint32_t)token, 5);
+    check("the second one", kind_of(TEXT("\x01\x45\x02"), &token), DACHREUP_EVENT_RESPONSE);
+    check("notification", kind_of(TEXT("\x21\x45\x03\x61\x01"), &token), DACHREUP_EVENT_NOTIFICATION);
+    check("forget the observation", dachreup_client_forget(&client, tokens[2]), 0);
+    check("late notification", kind_of(TEXT("\x21\x45\x03\x61\x02"), &token), DACHREUP_EVENT_STRANGER);
+    check("cancel it", dachreup_client_cancel(&client, &observe, TEXT("coap+tcp://a/3"), tokens[2]),
+          DACHREUP_REQUEST_NO_SUCH_TOKEN);
+    check("forget the Ping", dachreup_client_forget(&client, tokens[3]), 0);
+    check("late Pong", kind_of(TEXT("\x01\xe3\x04"), &token), DACHREUP_EVENT_STRANGER);
+    check("status", dachreup_client_status(&client, &status), 0);
+    check("outstanding", (uint32_t)status.outstanding, 1);
+    check("the last one", kind_of(TEXT("\x01\x45\x05"), &token), DACHREUP_EVENT_RESPONSE);
+    check("its number", (uint32_t)token, 5);
+    dachreup_client_free(&client);
+}
+
+/* A client releases the connection. */
+static void releases(void) {
+    struct dachreup_limits limits = DACHREUP_LIMITS;
+    struct dachreup_request get = DACHREUP_REQUEST_GET;
+    struct dachreup_client_snapshot status;
+    uint64_t token = 0;
+    check("empty release", dachreup_client_release(&client), DACHREUP_EMPTY);
+    check("new", dachreup_client_new(&client, &limits, 0), 0);
+    check("release before the CSM", dachreup_client_release(&client), DACHREUP_NOT_OPEN);
+    check("ready", kind_of(TEXT("\x00\xe1"), &token), DACHREUP_EVENT_READY);
+    check("release", dachreup_client_release(&client), 0);
+    drained("released", "\x00\xe4", 2);
+    check("status", dachreup_client_status(&client, &status), 0);
+    check("phase", status.phase * 100 + status.reason, DACHREUP_PHASE_STOPPED * 100 + DACHREUP_REASON_RELEASED_HERE);
+    check("release again", dachreup_client_release(&client), DACHREUP_NOT_OPEN);
+    check("send", dachreup_client_send(&client, &get, TEXT("coap+tcp://a"), NULL, 0, NULL), DACHREUP_NOT_OPEN);
+    dachreup_client_free(&client);
+}
+
+/* A peer that accepts one byte, and a queue without room. */
+static void has_no_room(void) {
+    /* Messages of these sizes leave less than the two bytes of a Release. */
+    static uint8_t payload[60001];
+    struct dachreup_limits limits = DACHREUP_LIMITS;
+    struct dachreup_request put = DACHREUP_REQUEST(DACHREUP_PUT);
+    dachreup_result result = DACHREUP_OK;
+    uint64_t token = 0;
+    limits.outstanding = 256;
+    check("new", dachreup_client_new(&client, &limits, 0), 0);
+    check("ready", kind_of(TEXT("\x20\xe1\x21\x01"), &token), DACHREUP_EVENT_READY);
+    check("release", dachreup_client_release(&client), DACHREUP_PEER_TOO_SMALL);
+    dachreup_client_free(&client);
+    check("new", dachreup_client_new(&client, &limits, 0), 0);
+    check("ready", kind_of(TEXT("\x40\xe1\x23\x01\x00\x00"), &token), DACHREUP_EVENT_READY);
+    for (size_t size = sizeof payload; size; size = result ? size / 2 : size)
+        result = dachreup_client_send(&client, &put, TEXT("coap+tcp://a"), payload, size, NULL);
+    check("full", result, DACHREUP_QUEUE_FULL);
+    while ((result = dachreup_client_ping(&client, 0, NULL)) == DACHREUP_OK)
+        continue;
+    check("Ping", result, DACHREUP_QUEUE_FULL);
+    check("release", dachreup_client_release(&client), DACHREUP_QUEUE_FULL);
+    dachreup_client_free(&client);
 }
 
 int main(int count, char **words) {
@@ -391,6 +510,9 @@ int main(int count, char **words) {
         loans(split);
     reading();
     writing();
+    forgets();
+    releases();
+    has_no_room();
     empty();
     return failed;
 }

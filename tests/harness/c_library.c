@@ -2,14 +2,14 @@
    tests/system/c_library.py.
 
        c_library stdio MAX_MESSAGE MAX_SENT QUEUE DYNAMIC PIECE
-                                reads pieces of this size; a call that reports 2 is made once more
+                                reads pieces of this size; a call that lacks memory is made once more
        c_library application    entries, requests of the application and its responses; prints each check that fails
        c_library changes        requests that change resources or do not, each split at each place, and how long they
                                 are lent; prints each check that fails
        c_library lists          paths as lists of segments, beside texts; prints each check that fails
        c_library wrong          prints each check that fails */
 #include "c_checks.h"
-#include <coap_proved.h>
+#include <dachreup.h>
 #include <stdio.h>
 #include <stdlib.h>
 #include <string.h>
@@ -46,10 +46,9 @@ static int serve(struct dachreup_settings *settings, size_t size) {
     ssize_t count;
     if (AGAIN(dachreup_server_new(&server, settings)) || AGAIN(dachreup_server_open(&server, &id)) || flush(id))
         return 2;
-    while (took.handled != DACHREUP_STOPPED && (count = read(0, piece, size)) > 0)
-        for (size_t at = 0; at < (size_t)count && took.handled != DACHREUP_STOPPED;) {
-            number = dachreup_server_take(&server, id, piece + at, (size_t)count - at, &took);
-            if (number && number != DACHREUP_MEMORY)
+    while (took.handled != DACHREUP_HANDLED_STOPPED && (count = read(0, piece, size)) > 0)
+        for (size_t at = 0; at < (size_t)count && took.handled != DACHREUP_HANDLED_STOPPED;) {
+            if (dachreup_server_take(&server, id, piece + at, (size_t)count - at, &took))
                 return 3;
             at += took.bytes;
             if (flush(id))
@@ -65,16 +64,17 @@ static int serve(struct dachreup_settings *settings, size_t size) {
 }
 
 static void empty(uint64_t id) {
-    struct dachreup_took took = {9, 9, 9, {0}, {0}};
+    struct dachreup_took took = {9, 9, 9, 9, {0}, {0}};
     struct dachreup_parts parts = {{0}, {0}};
     struct dachreup_status status = {0};
     struct dachreup_state state = {{0}, 7, 0};
-    const uint8_t text[3] = "a/b";
+    static const char text[] = "a/b";
     uint64_t number = 7;
     uint32_t reply = 9;
     check("empty open", dachreup_server_open(&server, &number), DACHREUP_EMPTY);
     check("empty take", dachreup_server_take(&server, id, text, 3, &took), DACHREUP_EMPTY);
     check("took", (uint32_t)(took.bytes + took.request.count + took.changed.count) + took.handled + took.reason, 0);
+    check("took memory", took.memory, 0);
     check("addresses", took.request.at && took.changed.at, 1);
     check("empty parts", dachreup_server_parts(&server, id, &parts), DACHREUP_EMPTY);
     check("empty written", dachreup_server_written(&server, id, 0), DACHREUP_EMPTY);
@@ -101,15 +101,15 @@ static void ranges(void) {
     size_t *values[9] = {&settings.max_message, &settings.max_sent,    &settings.queue,
                          &settings.pending,     &settings.observers,   &settings.outstanding,
                          &settings.connections, &settings.dynamic_max, &settings.rep_max};
-    const uint32_t numbers[9] = {16, 17, 18, 19, 20, 21, 32, 33, 34};
+    const uint32_t numbers[9] = {DACHREUP_MAX_MESSAGE, DACHREUP_MAX_SENT,    DACHREUP_QUEUE,
+                                 DACHREUP_PENDING,     DACHREUP_OBSERVERS,   DACHREUP_OUTSTANDING,
+                                 DACHREUP_CONNECTIONS, DACHREUP_DYNAMIC_MAX, DACHREUP_REP_MAX};
     for (int at = 0; at < 9; at++) {
         size_t before = *values[at];
         *values[at] = (size_t)1 << 40;
         check("range", dachreup_server_new(&server, &settings), numbers[at]);
         *values[at] = before;
     }
-    settings.turns = 0;
-    check("turns", dachreup_server_new(&server, &settings), DACHREUP_TURNS);
 }
 
 static void numbers(void) {
@@ -146,34 +146,33 @@ static void numbers(void) {
     check("too large", dachreup_server_announce(&server, id, UINT32_MAX), DACHREUP_ANNOUNCE_TOO_LARGE);
     check("tick", dachreup_server_tick(&server, 5), 0);
     check("backwards", dachreup_server_tick(&server, 4), DACHREUP_BACKWARDS);
-    check("no path", dachreup_server_put(&server, (const uint8_t *)"a/..", 4, 0, csm, 2, &version),
+    check("no path", dachreup_server_put(&server, "a/..", 4, 0, csm, 2, &version),
           DACHREUP_NOT_A_PATH);
-    check("bad path", dachreup_server_put(&server, (const uint8_t *)"time", 4, 0, csm, 2, &version), DACHREUP_BAD_PATH);
-    check("large", dachreup_server_put(&server, (const uint8_t *)"a", 1, 0, (const uint8_t *)"12345", 5, &version),
+    check("bad path", dachreup_server_put(&server, "time", 4, 0, csm, 2, &version), DACHREUP_BAD_PATH);
+    check("large", dachreup_server_put(&server, "a", 1, 0, "12345", 5, &version),
           DACHREUP_TOO_LARGE);
-    check("put", dachreup_server_put(&server, (const uint8_t *)"a", 1, DACHREUP_NO_FORMAT, csm, 2, &version), 0);
+    check("put", dachreup_server_put(&server, "a", 1, DACHREUP_NO_FORMAT, csm, 2, &version), 0);
     check("version", (uint32_t)version, 1);
-    check("limit", dachreup_server_put(&server, (const uint8_t *)"b", 1, 0, csm, 2, &version), DACHREUP_LIMIT);
-    check("state", dachreup_server_state(&server, (const uint8_t *)"a", 1, &state), 0);
+    check("limit", dachreup_server_put(&server, "b", 1, 0, csm, 2, &version), DACHREUP_LIMIT);
+    check("state", dachreup_server_state(&server, "a", 1, &state), 0);
     check("state of a", (uint32_t)(state.version * 10 + state.bytes.count) + state.format, 12 + DACHREUP_NO_FORMAT);
     check("bytes of a", (uint32_t)memcmp(state.bytes.at, csm, 2), 0);
     const char *const built_in[4] = {"", "time", "async", ".well-known/core"};
     for (int at = 0; at < 4; at++)
-        check(built_in[at], dachreup_server_state(&server, (const uint8_t *)built_in[at], strlen(built_in[at]), &state),
+        check(built_in[at], dachreup_server_state(&server, built_in[at], strlen(built_in[at]), &state),
               DACHREUP_NO_SUCH);
-    check("absent state", dachreup_server_state(&server, (const uint8_t *)"b", 1, &state), DACHREUP_NO_SUCH);
-    check("state of no path", dachreup_server_state(&server, (const uint8_t *)"a/..", 4, &state), DACHREUP_NOT_A_PATH);
+    check("absent state", dachreup_server_state(&server, "b", 1, &state), DACHREUP_NO_SUCH);
+    check("state of no path", dachreup_server_state(&server, "a/..", 4, &state), DACHREUP_NOT_A_PATH);
     check("kept state", (uint32_t)(state.version * 10 + state.bytes.count), 12);
-    check("no such resource", dachreup_server_remove(&server, (const uint8_t *)"b", 1), DACHREUP_NO_SUCH);
-    check("remove", dachreup_server_remove(&server, (const uint8_t *)"a", 1), 0);
+    check("no such resource", dachreup_server_remove(&server, "b", 1), DACHREUP_NO_SUCH);
+    check("remove", dachreup_server_remove(&server, "a", 1), 0);
     check("release", dachreup_server_release(&server, id), 0);
     check("drop", dachreup_server_drop(&server, id), 0);
     dachreup_server_free(&server);
 }
 
 static uint32_t add(const char *path, uint32_t methods, const char *attributes) {
-    return dachreup_applications_add(&applications, (const uint8_t *)path, strlen(path), methods,
-                                     (const uint8_t *)attributes, strlen(attributes));
+    return dachreup_applications_add(&applications, path, strlen(path), methods, attributes, strlen(attributes));
 }
 
 /* Wrong uses of entries. */
@@ -197,9 +196,9 @@ static void entries(void) {
     for (path[0] = 'b'; path[0] <= 'p'; path[0]++)
         check("next", add(path, 1 << 1, ""), 0);
     check("full", add("q", 1 << 1, ""), DACHREUP_APPLICATION_FULL);
-    settings.turns = 0;
-    check("settings", dachreup_server_new_for(&server, &settings, &applications), DACHREUP_TURNS);
-    settings.turns = 1;
+    settings.max_sent = 1;
+    check("settings", dachreup_server_new_for(&server, &settings, &applications), DACHREUP_MAX_SENT);
+    settings.max_sent = 0;
     check("server", dachreup_server_new_for(&server, &settings, &applications), 0);
     check("taken", add("q", 1 << 1, ""), DACHREUP_EMPTY);
     check("more entries", dachreup_applications_new(&applications, 1), 0);
@@ -216,12 +215,10 @@ static void take(const char *what, uint64_t id, const uint8_t *bytes, size_t len
     size_t at = 0;
     /* Two pieces, and again after each failed allocation. */
     for (int turn = 0; turn < 8 && at < length; turn++) {
-        uint32_t number = dachreup_server_take(&server, id, bytes + at, at + 1 < length ? length - 1 - at : 1, &took);
-        if (number != DACHREUP_MEMORY)
-            check(what, number, 0);
+        check(what, dachreup_server_take(&server, id, bytes + at, at + 1 < length ? length - 1 - at : 1, &took), 0);
         at += took.bytes;
     }
-    check("handled", took.handled, DACHREUP_MESSAGE);
+    check("handled", took.handled, DACHREUP_HANDLED_MESSAGE);
     check("request", (uint32_t)took.request.count, (uint32_t)request);
     if (took.request.count && memcmp(took.request.at, bytes, length))
         check("bytes of the request", 1, 0);
@@ -260,7 +257,7 @@ static int application(void) {
             dachreup_server_new_for(&server, &settings, &applications))
             return 3;
     }
-    if (AGAIN(dachreup_server_open(&server, &id)) || AGAIN(dachreup_server_take(&server, id, csm, 2, &took)) ||
+    if (AGAIN(dachreup_server_open(&server, &id)) || dachreup_server_take(&server, id, csm, 2, &took) ||
         AGAIN(dachreup_server_announce(&server, id, 131072)))
         return 4;
     queued("announced", id, "\x40\xe1\x23\x02\x00\x00", 6);
@@ -323,7 +320,8 @@ static size_t request_of(const struct change *step, uint8_t *to) {
 
 /* Takes a request in two pieces, and checks what is reported, and the resource. */
 static void report(const struct change *step, uint64_t id, const uint8_t *bytes, size_t length, size_t split) {
-    uint8_t first[32], second[32], path[DACHREUP_PATH_ROOM] = {0};
+    uint8_t first[32], second[32];
+    char path[DACHREUP_PATH_ROOM] = {0};
     struct dachreup_took took = {0};
     struct dachreup_state state = {{0}, 0, 0};
     size_t count = 99, left = split < length ? length - split : length;
@@ -351,11 +349,11 @@ static void report(const struct change *step, uint64_t id, const uint8_t *bytes,
 static void named(void) {
     static const uint8_t put[8] = {0x51, 0x03, 0x07, 0xb1, 'a', 0x02, 'b', 'c'}, root[3] = {0x01, 0x01, 0x07},
                          dots[6] = {0x31, 0x01, 0x07, 0xb2, '.', '.'};
-    uint8_t path[4] = "????";
+    char path[4] = {'?', '?', '?', '?'};
     size_t count = 9;
     check("no message", dachreup_message_path(put, 7, path, sizeof path, &count), DACHREUP_FRAME_NOT_ONE);
     check("dots", dachreup_message_path(dots, sizeof dots, path, sizeof path, &count), DACHREUP_NOT_A_PATH);
-    check("no room", dachreup_message_path(put, sizeof put, path, 3, &count), DACHREUP_PATH_NO_ROOM);
+    check("no room", dachreup_message_path(put, sizeof put, path, 3, &count), DACHREUP_NO_ROOM);
     check("nothing written", count == 9 && !memcmp(path, "????", 4), 1);
     check("room", dachreup_message_path(put, sizeof put, path, 4, &count), 0);
     check("a/bc", count == 4 && !memcmp(path, "a/bc", 4), 1);
@@ -365,7 +363,8 @@ static void named(void) {
 
 /* Makes each call of a server but take, announce, drop and free, on this connection. */
 static void other_calls(uint64_t id, uint64_t now) {
-    static const uint8_t response[3] = {0x01, 0x44, 0x0b}, list[2] = {1, 'z'};
+    static const uint8_t response[3] = {0x01, 0x44, 0x0b};
+    static const char list[2] = {1, 'z'};
     struct dachreup_settings settings = DACHREUP_SETTINGS(1);
     struct dachreup_parts parts = {{0}, {0}};
     struct dachreup_status status = {0};
@@ -490,7 +489,7 @@ static size_t list_of(const char *text, uint8_t *to) {
 
 /* Compares the calls with a list with those with a text, in both orders. The list is exactly as long as its memory. */
 static void compare(const char *text) {
-    const uint8_t *bytes = (const uint8_t *)text, one[1] = {'x'};
+    const char one[1] = {'x'};
     size_t count = strlen(text);
     uint8_t *list = malloc(count + 2);
     size_t length = list_of(text, list);
@@ -498,25 +497,25 @@ static void compare(const char *text) {
     uint64_t version = 0, after = 0;
     list = realloc(list, length ? length : 1);
     check("state before", dachreup_server_state_at(&server, list, length, &first),
-          dachreup_server_state(&server, bytes, count, &first));
-    uint32_t put = dachreup_server_put(&server, bytes, count, 40, one, 1, &version);
+          dachreup_server_state(&server, text, count, &first));
+    uint32_t put = dachreup_server_put(&server, text, count, 40, one, 1, &version);
     check("put at", dachreup_server_put_at(&server, list, length, 50, one, 0, &after), put);
     check("one version more", (uint32_t)(after - version), put ? 0 : 1);
     check("state at", dachreup_server_state_at(&server, list, length, &first),
-          dachreup_server_state(&server, bytes, count, &second));
+          dachreup_server_state(&server, text, count, &second));
     check("the same state",
           first.version == second.version && first.bytes.count == second.bytes.count && first.format == second.format,
           1);
     check("that of the second put", put || (first.version == after && first.bytes.count == 0 && first.format == 50), 1);
     uint32_t removed = dachreup_server_remove_at(&server, list, length);
     check("remove at", removed == 0, put == 0);
-    check("remove again", dachreup_server_remove(&server, bytes, count), put ? removed : DACHREUP_NO_SUCH);
+    check("remove again", dachreup_server_remove(&server, text, count), put ? removed : DACHREUP_NO_SUCH);
     check("remove at again", dachreup_server_remove_at(&server, list, length), put ? removed : DACHREUP_NO_SUCH);
     free(list);
 }
 
 /* A list that is no path: nothing changes. */
-static void no_list(const char *what, const uint8_t *list, size_t length) {
+static void no_list(const char *what, const void *list, size_t length) {
     struct dachreup_state state = {{0}, 7, 7};
     uint64_t version = 7;
     uint8_t *exact = malloc(length ? length : 1);
@@ -533,15 +532,15 @@ static void refused_lists(void) {
     memset(large, 'a', sizeof large);
     for (size_t at = 0; at < sizeof many; at++)
         many[at] = at % 2 ? 'a' : 1;
-    no_list("no byte of the segment", (const uint8_t *)"\1", 1);
-    no_list("a truncated segment", (const uint8_t *)"\3ab", 3);
-    no_list("a truncated second segment", (const uint8_t *)"\1a\2b", 4);
+    no_list("no byte of the segment", "\1", 1);
+    no_list("a truncated segment", "\3ab", 3);
+    no_list("a truncated second segment", "\1a\2b", 4);
     no_list("17 segments", many, 34);
     no_list("17 segments, the last one truncated", many, 33);
     no_list("17 empty segments", (const uint8_t[17]){0}, 17);
-    no_list("an empty segment alone", (const uint8_t *)"", 1);
-    no_list("a dot", (const uint8_t *)"\1.", 2);
-    no_list("two dots", (const uint8_t *)"\1a\2..", 5);
+    no_list("an empty segment alone", "", 1);
+    no_list("a dot", "\1.", 2);
+    no_list("two dots", "\1a\2..", 5);
     large[0] = 255;
     no_list("256 bytes", large, 256);
     no_list("255 bytes, truncated", large, 255);
@@ -561,14 +560,14 @@ static void longest_lists(void) {
     check("16 segments", dachreup_server_put_at(&server, many, 32, 0, large, 1, &version), 0);
     check("16 segments again", dachreup_server_remove_at(&server, many, 32), 0);
     check("255 bytes", dachreup_server_put_at(&server, large, 255, 0, large, 1, &version), 0);
-    check("255 bytes as a text", dachreup_server_remove(&server, large + 1, 254), 0);
+    check("255 bytes as a text", dachreup_server_remove(&server, (const char *)large + 1, 254), 0);
 }
 
 /* The path whose only segment is "a/b" is not the path of the text "a/b". */
 static void slashes(uint64_t id) {
-    static const uint8_t list[4] = {3, 'a', '/', 'b'}, two[4] = {1, 'a', 1, 'b'},
-                         get[7] = {0x41, 0x01, 0x07, 0xb3, 'a', '/', 'b'};
-    const uint8_t *text = list + 1;
+    static const char list[4] = {3, 'a', '/', 'b'}, two[4] = {1, 'a', 1, 'b'};
+    static const uint8_t get[7] = {0x41, 0x01, 0x07, 0xb3, 'a', '/', 'b'};
+    const char *text = list + 1;
     struct dachreup_state state = {{0}, 0, 0};
     struct dachreup_parts parts = {{0}, {0}};
     struct dachreup_took took = {0};

@@ -5,7 +5,7 @@
 
    It also follows the resources: only the resource at the path that a take reports may differ from before the take. */
 #include "c_checks.h"
-#include <coap_proved.h>
+#include <dachreup.h>
 #include <inttypes.h>
 #include <stdlib.h>
 #include <string.h>
@@ -17,7 +17,7 @@ static uint8_t bytes[LINE];
 
 /* The paths that were seen, with the version of the resource at each, or 0. */
 static struct {
-    uint8_t text[PATH_ROOM];
+    char text[PATH_ROOM];
     size_t length;
     uint64_t version;
 } seen[PATHS];
@@ -29,7 +29,7 @@ static uint64_t version_at(int at) {
 }
 
 /* Checks that the resource at this path differs from before, and no other one does. Without a path, none does. */
-static void follow(const uint8_t *text, size_t length, int changes) {
+static void follow(const char *text, size_t length, int changes) {
     int place = 0;
     while (place < paths && (seen[place].length != length || memcmp(seen[place].text, text, length)))
         place++;
@@ -47,7 +47,7 @@ static void follow(const uint8_t *text, size_t length, int changes) {
 
 /* Follows the resource of a request that was reported. */
 static void follow_request(struct dachreup_span changed) {
-    uint8_t text[PATH_ROOM];
+    char text[PATH_ROOM];
     size_t length = 0;
     uint32_t number = changed.count ? dachreup_message_path(changed.at, changed.count, text, sizeof text, &length) : 0;
     if (number != DACHREUP_NOT_A_PATH) {
@@ -68,11 +68,11 @@ static size_t hex(const char *text, size_t length) {
 
 /* Writes the segments of a path without escapes, and returns the number of bytes. No text of the library has an escaped
    slash. */
-static size_t plain_path(const char *text, uint8_t *to) {
+static size_t plain_path(const char *text, char *to) {
     size_t count = 0;
     for (text++; *text; count++) {
         int escaped = *text == '%';
-        to[count] = (uint8_t)(escaped ? digit(text[1]) * 16 + digit(text[2]) : *text);
+        to[count] = (char)(escaped ? digit(text[1]) * 16 + digit(text[2]) : *text);
         if (escaped && to[count] == '/')
             exit(7);
         text += escaped ? 3 : 1;
@@ -80,14 +80,32 @@ static size_t plain_path(const char *text, uint8_t *to) {
     return count;
 }
 
-/* Writes the line of an event that fails, by the number of the call, and returns whether it failed. */
-static int fails(const char *word, uint64_t id, uint32_t number) {
-    if (number == 0)
+/* The results of each event that the lines of a script number from 1 on. */
+static const struct {
+    const char *word;
+    dachreup_result results[6];
+} faults[] = {
+    {"open", {DACHREUP_FULL, DACHREUP_IDS_SPENT}},
+    {"put", {DACHREUP_NO_SUCH, DACHREUP_TOO_LARGE, DACHREUP_LIMIT, DACHREUP_BAD_PATH, DACHREUP_VERSIONS_SPENT}},
+    {"tick", {DACHREUP_BACKWARDS}},
+    {"release", {DACHREUP_NO_SUCH, DACHREUP_NOT_OPEN, DACHREUP_QUEUE_FULL, DACHREUP_PEER_TOO_SMALL}},
+    {"respond", {DACHREUP_NO_SUCH, DACHREUP_NO_SUCH_REQUEST, DACHREUP_NOT_A_RESPONSE, DACHREUP_QUEUE_FULL}},
+    {"", {DACHREUP_NO_SUCH, DACHREUP_TOO_MANY}},
+};
+
+/* Writes the line of an event that fails, and returns whether it failed. */
+static int fails(const char *word, uint64_t id, dachreup_result result) {
+    unsigned place = 0, number = 1;
+    if (result == DACHREUP_OK)
         return 0;
+    while (*faults[place].word && strcmp(faults[place].word, word))
+        place++;
+    while (number <= 6 && faults[place].results[number - 1] != result)
+        number++;
     printf("%s ", word);
     if (id)
         printf("%" PRIu64 " ", id);
-    printf("fault %u\n", (unsigned)number - 15);
+    printf("fault %u\n", number);
     return 1;
 }
 
@@ -102,9 +120,9 @@ static void take(uint64_t id, size_t count) {
         follow_request(took.changed);
         at += took.bytes;
     } while (took.bytes && at < count);
-    dachreup_server_status(&server, id, &status);
+    check("status", dachreup_server_status(&server, id, &status), 0);
     printf("in %" PRIu64 " %zu", id, at);
-    if (status.phase >= DACHREUP_RELEASING)
+    if (status.phase >= DACHREUP_PHASE_RELEASING)
         printf(" stop %u", (unsigned)status.reason);
     puts("");
 }
@@ -129,14 +147,14 @@ static void status_of(uint64_t id) {
     if (fails("status", id, dachreup_server_status(&server, id, &it)))
         return;
     printf("status %" PRIu64 " %s", id, phases[it.phase]);
-    if (it.phase >= DACHREUP_RELEASING)
+    if (it.phase >= DACHREUP_PHASE_RELEASING)
         printf(" %u", (unsigned)it.reason);
     printf(" kept %zu waiting %zu pending %zu observers %zu\n", it.kept, it.waiting, it.pending, it.observers);
 }
 
 /* Stores or removes a resource, and returns the number of the call. */
 static uint32_t store(char **words, int count, uint64_t *version) {
-    uint8_t path[PATH_ROOM * 4];
+    char path[PATH_ROOM * 4];
     size_t length = plain_path(words[1], path);
     uint32_t format = count == 4 && strcmp(words[2], "-") ? (uint32_t)atol(words[2]) : DACHREUP_NO_FORMAT;
     size_t size = count == 4 ? hex(words[3], strlen(words[3])) : 0;
@@ -152,7 +170,6 @@ static int is(const char *word, const char *other) { return !strcmp(word, other)
 /* Runs one event, of these words. */
 static void event(char **words, int count) {
     uint64_t id = count > 1 ? strtoull(words[1], NULL, 10) : 0, number = 0;
-    uint32_t reply;
     const char *word = words[0];
     if (is(word, "open")) {
         if (!fails(word, 0, dachreup_server_open(&server, &number)))
@@ -177,7 +194,7 @@ static void event(char **words, int count) {
                            : is(word, "drop") ? dachreup_server_drop(&server, id)
                            : is(word, "release")
                                ? dachreup_server_release(&server, id)
-                               : dachreup_server_respond(&server, id, bytes, hex(words[2], strlen(words[2])), &reply);
+                               : dachreup_server_respond(&server, id, bytes, hex(words[2], strlen(words[2])), NULL);
         if (!fails(word, id, failure))
             printf("%s %" PRIu64 "\n", word, id);
     }

@@ -93,7 +93,7 @@ def main(listed, words):
         print("the packages %s cannot be installed\n0 passed, 1 failed" % ", ".join(PACKAGES.values()))
         return 1
     # The archive is not built again, since that would prove all libraries anew after `rt ci`.
-    make = ["make", "-C", ROOT, "--silent", "-o", "bin/libcoap_proved.a", "bin/coap-mqtt"]
+    make = ["make", "-C", ROOT, "--silent", "-o", "bin/libdachreup.a", "bin/coap-mqtt"]
     if words in ([], ["--build"]) and subprocess.run(make).returncode:
         print("coap-mqtt is not built\n0 passed, 1 failed")
         return 1

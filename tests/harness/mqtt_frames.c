@@ -7,7 +7,7 @@
  * server all later bytes, as a program without frame_size does, and compares the message that the server takes with
  * frame_size. The header of each message is also compared, byte by byte, with dachreup_message_read.
  */
-#include <coap_proved.h>
+#include <dachreup.h>
 #include <stdio.h>
 #include <stdlib.h>
 #include <string.h>
@@ -129,31 +129,31 @@ static void check_stream(struct dachreup_server *server, size_t count) {
     struct dachreup_parts parts = {{0}, {0}};
     uint64_t id = 0;
     expect(dachreup_server_open(server, &id) == DACHREUP_OK, "no connection", stream, 0);
-    for (size_t at = 0; at < count && took.handled != DACHREUP_STOPPED; at += took.bytes) {
+    for (size_t at = 0; at < count && took.handled != DACHREUP_HANDLED_STOPPED; at += took.bytes) {
         const uint8_t *bytes = stream + at;
         size_t left = count - at, size = frame_size(bytes, left);
         check_starts(bytes, left);
         expect(dachreup_server_take(server, id, bytes, left, &took) == DACHREUP_OK, "the take fails", bytes, left);
-        messages += took.handled == DACHREUP_MESSAGE;
-        if (took.handled == DACHREUP_MESSAGE)
+        messages += took.handled == DACHREUP_HANDLED_MESSAGE;
+        if (took.handled == DACHREUP_HANDLED_MESSAGE)
             expect(took.bytes == size, "another size than that of the message", bytes, left);
-        if (took.handled == DACHREUP_NOTHING)
+        if (took.handled == DACHREUP_HANDLED_NOTHING)
             expect(size == 0 || (size > left && size != FRAME_BAD), "a message that is not whole", bytes, left);
         if (size == FRAME_BAD)
-            expect(took.handled == DACHREUP_STOPPED, "a bad message is taken", bytes, left);
+            expect(took.handled == DACHREUP_HANDLED_STOPPED, "a bad message is taken", bytes, left);
         /* The gateway offers whole messages, and bytes that begin none or too large a one. It waits for the rest of a
            header, and with a token above 64 bytes, which the server refuses at its header, for the whole message. */
-        if (took.handled == DACHREUP_STOPPED && left >= HEADER && !has_long_token(bytes, left))
+        if (took.handled == DACHREUP_HANDLED_STOPPED && left >= HEADER && !has_long_token(bytes, left))
             expect((size > 0 && size <= left) || size > MAX_MESSAGE, "refused at its start", bytes, left);
-        if (took.bytes == 0 && took.handled != DACHREUP_STOPPED) {
+        if (took.bytes == 0 && took.handled != DACHREUP_HANDLED_STOPPED) {
             expect(0, "no byte is taken", bytes, left);
             break;
         }
         /* A full queue would make the server take nothing. */
-        dachreup_server_parts(server, id, &parts);
-        dachreup_server_written(server, id, parts.first.count + parts.second.count);
+        dachreup_ignore(dachreup_server_parts(server, id, &parts));
+        dachreup_ignore(dachreup_server_written(server, id, parts.first.count + parts.second.count));
     }
-    dachreup_server_drop(server, id);
+    dachreup_ignore(dachreup_server_drop(server, id));
 }
 
 int main(int count, char **words) {

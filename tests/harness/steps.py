@@ -31,7 +31,7 @@ PROVED = "proved programs"
 # The probes that play rows, by LLVM and by Rattle's own compiler.
 PROBES, BY_RATTLE = "probes", "probes by Rattle"
 
-# bin/libcoap_proved.a, and bin/coap-mqtt.
+# bin/libdachreup.a, and bin/coap-mqtt.
 ARCHIVE, GATEWAY = "archive", "gateway"
 
 # The rights of root, to install packages.
@@ -83,7 +83,7 @@ def bin_of(*names):
 PROGRAMS = SERVER, CLIENT, EXPLAIN, DIRECTORY = bin_of("coap-server", "coap-client", "coap-explain", "coap-directory")
 EXAMPLES = bin_of("example-gateway", "example-observer", "example-actuator")
 EXAMPLE_GATEWAY, EXAMPLE_OBSERVER, EXAMPLE_ACTUATOR = EXAMPLES
-LIBRARY, MQTT = bin_of("libcoap_proved.a", "coap-mqtt")
+LIBRARY, MQTT = bin_of("libdachreup.a", "coap-mqtt")
 
 # The proof of the C library, over what `rt ci` keeps.
 BUILD_ARCHIVE = Step(["python3", "tests/system/c_library.py", "--archive"], 180, 450, (PROVED,), ARCHIVE)
@@ -128,6 +128,7 @@ STEPS = [
     Step(["python3", "tests/system/haproxy.py", SERVER], 36, 2),
     Step(["python3", "tests/system/embedding.py", *EXAMPLES, SERVER, CLIENT], 5, 1),
     Step(["python3", "tests/system/documents.py", SERVER, CLIENT, EXPLAIN], 11, 1),
+    Step(["python3", "tests/system/tutorial.py"], 110, 107, (PROVED,)),
     Step(["python3", "tests/system/c_library.py", SERVER, CLIENT, LIBRARY], 40, 35, (PROVED, ARCHIVE)),
     Step(["python3", "tests/system/mqtt.py", "--build"], 3, 2, (ARCHIVE,), GATEWAY),
     *parts(["python3", "tests/system/mqtt.py", MQTT], [(50, 8), (60, 12), (90, 15), (120, 30)], (GATEWAY,)),

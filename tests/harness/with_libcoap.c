@@ -2,7 +2,7 @@
 
    It starts libcoap, serves the standard input by the C library, writes the output of the server, and ends libcoap. */
 #include <coap3/coap.h>
-#include <coap_proved.h>
+#include <dachreup.h>
 #include <stdio.h>
 #include <string.h>
 #include <unistd.h>

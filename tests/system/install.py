@@ -1,7 +1,7 @@
 """Installs the programs, their manuals, the systemd unit, the configuration of HAProxy and the C library into temporary
 folders, and uninstalls them.
 
-    tests/system/install.py bin/coap-server bin/coap-client bin/coap-explain bin/coap-directory [bin/libcoap_proved.a]
+    tests/system/install.py bin/coap-server bin/coap-client bin/coap-explain bin/coap-directory [bin/libdachreup.a]
 
 `make` runs on a copy of the installed files, with sources that are newer than the programs and a build script that
 fails. A build would therefore be noticed. Without the archive of the C library, only the programs are installed. The
@@ -31,10 +31,10 @@ SHARED = "share/man/man7/dachreup.7"
 
 # The files of the C library, each with its source. The pkg-config file differs from its source.
 LIBRARY = {
-    "lib/libcoap_proved.a": "bin/libcoap_proved.a",
-    "include/coap_proved.h": "include/coap_proved.h",
-    "share/man/man3/coap_proved.3": "man/coap_proved.3",
-    "lib/pkgconfig/coap_proved.pc": None,
+    "lib/libdachreup.a": "bin/libdachreup.a",
+    "include/dachreup.h": "include/dachreup.h",
+    "share/man/man3/dachreup.3": "man/dachreup.3",
+    "lib/pkgconfig/dachreup.pc": None,
 }
 
 # Maximum exposure of the unit, of 10, as systemd-analyze reports it. The rest is the access to all networks.
@@ -73,8 +73,8 @@ def copy_tree(folder, programs, archive):
     for name, program in zip(PROGRAMS, programs):
         shutil.copy(program, os.path.join(folder, "bin", name))
         os.utime(os.path.join(folder, "bin", name), (0, 0))
-    shutil.copy(archive, os.path.join(folder, "bin/libcoap_proved.a"))
-    os.utime(os.path.join(folder, "bin/libcoap_proved.a"), (0, 0))
+    shutil.copy(archive, os.path.join(folder, "bin/libdachreup.a"))
+    os.utime(os.path.join(folder, "bin/libdachreup.a"), (0, 0))
     for name in ("include", "install", "man"):
         shutil.copytree(os.path.join(ROOT, name), os.path.join(folder, name))
     for name in ("Makefile", "VERSION", "crates.txt"):
@@ -112,15 +112,15 @@ def check_library(checks, tree, told, place):
     for name, source in LIBRARY.items():
         if source:
             checks.same("%s: %s" % (told, name), read(place, name) == read(tree, source), True)
-    written = read(place, "lib/pkgconfig/coap_proved.pc").decode()
-    checks.same("%s: placeholders in coap_proved.pc" % told, re.findall(r"@\w+@", written), [])
+    written = read(place, "lib/pkgconfig/dachreup.pc").decode()
+    checks.same("%s: placeholders in dachreup.pc" % told, re.findall(r"@\w+@", written), [])
     environment = dict(os.environ, PKG_CONFIG_PATH=os.path.join(place, "lib/pkgconfig"))
     for words, wanted in (
         (["--modversion"], read(tree, "VERSION").decode().strip()),
         (["--variable=prefix"], told),
-        (["--cflags", "--libs"], "-I%s/include -L%s/lib -lcoap_proved" % (told, told)),
+        (["--cflags", "--libs"], "-I%s/include -L%s/lib -ldachreup" % (told, told)),
     ):
-        status, said = run(["pkg-config", *words, "coap_proved"], tree, env=environment)
+        status, said = run(["pkg-config", *words, "dachreup"], tree, env=environment)
         checks.same("%s: pkg-config %s" % (told, words[0]), (status, said.strip()), (0, wanted))
 
 
@@ -229,7 +229,7 @@ def check_numbered_unit(checks, tree):
 
 def check_without_library(checks, tree):
     """Checks that nothing of the C library is installed if its archive is missing."""
-    archive = os.path.join(tree, "bin/libcoap_proved.a")
+    archive = os.path.join(tree, "bin/libdachreup.a")
     os.rename(archive, archive + ".away")
     check_prefix(checks, tree, "", False)
     os.rename(archive + ".away", archive)
@@ -256,7 +256,7 @@ def main(words):
     try:
         *programs, archive = map(os.path.abspath,
                                  words if len(words) > len(PROGRAMS)
-                                 else [*words, os.path.join(ROOT, "bin/libcoap_proved.a")])
+                                 else [*words, os.path.join(ROOT, "bin/libdachreup.a")])
         return check(programs, archive)
     except (OSError, subprocess.SubprocessError) as trouble:
         print("FAILED install: %s" % trouble)

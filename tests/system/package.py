@@ -1,6 +1,6 @@
 """Builds the Debian packages, checks them with lintian, and installs, upgrades, removes and purges them.
 
-    tests/system/package.py bin/coap-server bin/coap-client bin/coap-explain bin/coap-directory [bin/libcoap_proved.a]
+    tests/system/package.py bin/coap-server bin/coap-client bin/coap-explain bin/coap-directory [bin/libdachreup.a]
 
 The script needs Debian's packages dpkg-dev, gcc, libc6-dev, libcoap3-bin, libmosquitto-dev, lintian and pkg-config, and
 installs the missing ones. `make deb` runs on a copy of its inputs, and builds the gateway to MQTT there.
@@ -63,7 +63,7 @@ def main(words):
             return 1
         *programs, archive = map(os.path.abspath,
                                  words if len(words) > len(PROGRAMS)
-                                 else [*words, os.path.join(ROOT, "bin/libcoap_proved.a")])
+                                 else [*words, os.path.join(ROOT, "bin/libdachreup.a")])
         return check(programs, archive)
     except (OSError, subprocess.SubprocessError) as trouble:
         print("FAILED package: %s" % trouble)

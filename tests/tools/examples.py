@@ -7,7 +7,8 @@
   last line `Ok(())`. Each of these tests must have such a block.
 - Each block marked `rust` in README.md and docs/*.md names a file after this word, one of SOURCES. It must consist of
   whole items of this file, in their order, with their comments and attributes: functions, `impl` blocks to their end,
-  types, imports. A block of TESTS can also be the body of a test, as in a comment.
+  types, imports. A block of TESTS can also be the body of a test, as in a comment. Those of TUTORIAL are whole files of
+  a crate, which tests/system/tutorial.py proves.
 - The blocks marked `c` of docs/EMBEDDING_C.md are together the body of a function with the parameters of C_FUNCTION. A
   C compiler must accept it without a warning, with the header. Without a compiler, this is skipped.
 - The `for` line of docs/EMBEDDING.md must list `coap_serve` and all crates below it.
@@ -40,15 +41,18 @@ FUNCTION = re.compile(r"^fn (\w+)(?:<[^>]*>)?\(([^{}]*?)\n?\)(?: -> [^\n]*)? \{\
 # A call that is the last line of a function.
 CALL = re.compile(r"^    (\w+)\(([^()]*)\)\n(?=\})", re.M)
 FENCED = re.compile(r"^``` ?(\w*) *([^\n]*)\n(.*?)^```$", re.S | re.M)
+# The document whose blocks are files.
+TUTORIAL = "docs/TUTORIAL.md"
 # The crates that a repository of its own copies.
 COPIED = re.compile(r"^ *for \w+ in ([\w ]+); do", re.M)
 
 
 # The document with blocks in C, and the function around them.
 C_DOCUMENT = "docs/EMBEDDING_C.md"
-C_FUNCTION = """#include <coap_proved.h>
+C_FUNCTION = """#include <dachreup.h>
 #include <stdio.h>
-int listed(const uint8_t *input, size_t length, const uint8_t *response, size_t response_length) {
+#include <time.h>
+int listed(const uint8_t *input, size_t length) {
 %s
     return 0;
 }
@@ -160,10 +164,11 @@ def comment_blocks():
 
 
 def document_blocks():
-    """Yields each block of code marked `rust` in the documents, with its file and the source that it names."""
+    """Yields each block of code marked `rust` in the documents except TUTORIAL, with its file and the source that it
+    names."""
     for path in files("README.md", "docs/*.md"):
         for language, source, code in FENCED.findall(read(path)):
-            if language == "rust":
+            if language == "rust" and path != TUTORIAL:
                 yield path, source, plain(code)
 
 

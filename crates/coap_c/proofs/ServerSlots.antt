@@ -12,19 +12,19 @@ use denote.Struct.Owning.{shape}
 use denote.Struct.Struct.{within}
 use Rattle.std.specs.declared.option.Option.{Option}
 use Rattle.coap_handle.proofs.Slots.{handle_val}
-use Rattle.coap_server_engine.specs.values.Servers.{ServerValue}
+use Rattle.coap_server_output.specs.declared.polled_server.PolledServer.{PolledServer}
 use Rattle.coap_c.specs.Slots.{server_slot}
 use Rattle.coap_c.specs.contracts.server_handle.ServerHandle as handle
 
 abbrev pub Handle : RattleType
 Handle = handle.the_row
 
-abbrev pub handle_of : Ptr → Option ServerValue → Handle.Denot
+abbrev pub handle_of : Ptr → Option PolledServer → Handle.Denot
 handle_of at value = record { at = at; value = value }
 
 module _ {M : Type 1} {𝓤 : Ura M} {𝓛 : Logic 𝓤} {K : Type 0} {Γ : List (Item 𝓤)} {G : Goal 𝓤 𝓛.H} where
   -- A handle is made of its address and of what it owns.
-  pub handle_in : K → (at : Ptr) (x : Option ServerValue)
+  pub handle_in : K → (at : Ptr) (x : Option PolledServer)
       → Step K 𝓛 (‵ (Handle.own_val (handle_of at x) (handle_val at ∷ [])) ∷ Γ) G (‵ (server_slot at x) ∷ Γ) G
   handle_in t at x = step (λ s. let v : Val = handle_val at in
       nothing t $ feq_i t (List Val) (ptr_val at ∷ []) (ptr_val at ∷ []) refl $ fjoin t

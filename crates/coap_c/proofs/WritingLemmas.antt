@@ -42,7 +42,7 @@ append_none room count last number value fits order short space = grind (arith, 
 
 pub append_full : (room count last number : ℕ) (value : List ℕ) → number < 65536 → last ≤ number
     → length value ≤ MAX_EXTENDED_LENGTH
-    → room < count + length (option_bytes last number value) → append_refusal room count last number value ≡ Some 16
+    → room < count + length (option_bytes last number value) → append_refusal room count last number value ≡ Some 7
 append_full room count last number value fits order short space = grind (arith, nat_tests)
 
 -- A head and a value that are copied after `count` bytes.
@@ -127,13 +127,13 @@ length-spelling m head options is front =
 
 pub write_large : (m : Message) (coded : Option (List CoapOption)) (room : ℕ) → m.code < 256
     → length m.token ≤ greatest_token → is_some coded ≡ true
-    → LARGEST_MESSAGE < length (body_spelling m) → write_refusal m coded room ≡ Some 20
+    → LARGEST_MESSAGE < length (body_spelling m) → write_refusal m coded room ≡ Some 135
 write_large m None room code token is large = absurd cc
 write_large m (Some os) room code token is large = grind (arith, nat_tests)
 
 pub write_full : (m : Message) (coded : Option (List CoapOption)) (room : ℕ) → m.code < 256
     → length m.token ≤ greatest_token → is_some coded ≡ true
-    → length (body_spelling m) ≤ LARGEST_MESSAGE → room < length (spelling m) → write_refusal m coded room ≡ Some 16
+    → length (body_spelling m) ≤ LARGEST_MESSAGE → room < length (spelling m) → write_refusal m coded room ≡ Some 7
 write_full m None room code token is large full = absurd cc
 write_full m (Some os) room code token is large full = grind (arith, nat_tests)
 

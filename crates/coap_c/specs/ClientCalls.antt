@@ -1,23 +1,29 @@
 -- Defined by this project: the results of the calls on the handle of a client.
-use Rattle.std.specs.Prelude.{◌≡◌, ℕ, ◌+◌, Bool, List, [], ◌∷◌, ◌++◌, length, take, Option, Some, None, option_map}
-use Rattle.std.specs.Prelude.{Result, Ok, Err, nat_lt, if◌then◌else◌, ◌⊎◌}
+use Rattle.std.specs.Prelude.{◌≡◌, ℕ, Bool, true, false, List, [], ◌∷◌, ◌++◌, length, take, Option, Some, None}
+use Rattle.std.specs.Prelude.{option_map, Result, Ok, Err, nat_lt, if◌then◌else◌, ◌⊎◌}
 use Rattle.std.specs.Str.{IsUtf8}
 use Rattle.coap_wire.specs.Uint.{bytes_of_uint}
-use Rattle.coap_conn.specs.Limits.{LimitValues, limits_of, limit_refusal}
+use Rattle.coap_conn.specs.Limits.{LimitValues, limit_refusal}
+use Rattle.coap_conn.specs.Calls.{may_forget}
+use Rattle.coap_conn.specs.Release.{release_refusal}
 use Rattle.coap_conn.specs.RequestState.{next_token}
 use Rattle.coap_request.specs.Requests.{ExtrasValue}
 use Rattle.coap_request.specs.Targets.{TargetValue, target_of}
 use Rattle.coap_request.specs.declared.request.Method.{Method}
 use Rattle.coap_client_engine.specs.ClientValues.{ClientValue, new_client, taking, client_written, client_ended}
 use Rattle.coap_client_engine.specs.ClientValues.{client_sent, client_cancelled, client_pinged, send_refusal}
-use Rattle.coap_client_engine.specs.ClientValues.{cancelling_refusal, ping_refusal}
+use Rattle.coap_client_engine.specs.ClientValues.{cancelling_refusal, ping_refusal, client_released}
+use Rattle.coap_client_engine.specs.ClientValues.{client_forgotten}
 use Rattle.coap_client_engine.specs.ClientWorld.{ClientCall, ClientShows, Took, Sent, Cancelled, Pinged, Wrote, Ended}
+use Rattle.coap_client_engine.specs.ClientWorld.{Released, Forgot}
 use Rattle.coap_handle.specs.declared.span.Parts.{Parts}
 use Rattle.coap_c.specs.ClientEvents.{ShowsEvent, IsPlain, token_number}
-use Rattle.coap_c.specs.Numbers.{limit_code, phase_code, phase_reason, request_code}
+use Rattle.coap_c.specs.Loans.{HaveBytes}
+use Rattle.coap_c.specs.Numbers.{limit_code, phase_code, phase_reason, request_code, send_code}
 use Rattle.coap_c.specs.RequestTexts.{asked, flag_named, IsUriRefusal}
 use Rattle.coap_c.specs.Results.{OnHandle, Answers}
-use Rattle.coap_c.specs.declared.client.ClientLimits.{ClientLimits}
+use Rattle.coap_c.specs.Settings.{client_limits}
+use Rattle.coap_c.specs.declared.settings.ClientLimits.{ClientLimits}
 use Rattle.coap_c.specs.declared.client.ClientStatus.{ClientStatus}
 use Rattle.coap_c.specs.declared.events.ClientEvent.{ClientEvent}
 use Rattle.coap_c.specs.declared.requests.Request.{Request}
@@ -29,9 +35,6 @@ Does call after v v' =
     × ((tokens : ℕ) (calls : List ClientCall) → ClientShows v tokens calls → ClientShows v' tokens (calls ++ call ∷ []))
 
 -- ---- new
-
-abbrev pub client_limits : ClientLimits → LimitValues
-client_limits l = limits_of l.max_message l.max_sent l.queue l.pending l.observers l.outstanding
 
 -- A new client shows no call.
 abbrev pub IsNew : LimitValues → ℕ → Option ClientValue → ℕ → Type 0
@@ -118,18 +121,35 @@ IsTaken piece e =
     (λ v v' r. (r ≡ 0) × ((e.bytes ≡ (taking v piece).count) × (ShowsEvent (taking v piece).event e
     × Does (Took (take e.bytes piece)) (taking v piece).client v v')))
 
--- The queued bytes have this length. Their addresses are not specified.
+-- The parts have the queued bytes, in their order. Their addresses are not specified.
 abbrev pub HasQueuedParts : Option ClientValue → Option ClientValue → (parts parts' : Parts) → ℕ → Type 0
 HasQueuedParts v v' parts parts' r = OnHandle (parts' ≡ parts) (λ x x' n. (n ≡ 0) × ((x' ≡ x)
-    × (parts'.first.count + parts'.second.count ≡ length x.link.waiting))) v v' r
+    × HaveBytes x.link.waiting parts')) v v' r
 
 abbrev pub IsWritten : ℕ → Option ClientValue → Option ClientValue → ℕ → Type 0
 IsWritten count =
-    OnHandle (Unit {0}) (λ v v' r. Answers (Unit {0}) (if nat_lt (length v.link.waiting) count then Some 17 else None)
+    OnHandle (Unit {0}) (λ v v' r. Answers (Unit {0}) (if nat_lt (length v.link.waiting) count then Some 8 else None)
     (Does (Wrote count) (client_written v count) v v') v v' r)
 
 abbrev pub IsEnded : Option ClientValue → Option ClientValue → ℕ → Type 0
 IsEnded = OnHandle (Unit {0}) (λ v v' r. (r ≡ 0) × Does Ended (client_ended v) v v')
+
+-- ---- release, forget
+
+abbrev pub IsReleased : Option ClientValue → Option ClientValue → ℕ → Type 0
+IsReleased =
+    OnHandle (Unit {0}) (λ v v' r. Answers (Unit {0}) (option_map send_code (release_refusal v.link))
+    (Does Released (client_released v) v v') v v' r)
+
+-- 163 if nothing outstanding has the token.
+abbrev pub unknown_code : Bool → Option ℕ
+unknown_code true = None
+unknown_code false = Some 163
+
+abbrev pub IsForgotten : ℕ → Option ClientValue → Option ClientValue → ℕ → Type 0
+IsForgotten token =
+    OnHandle (Unit {0}) (λ v v' r. Answers (Unit {0}) (unknown_code (may_forget v.link (bytes_of_uint token)))
+    (Does (Forgot (bytes_of_uint token)) (client_forgotten v (bytes_of_uint token)) v v') v v' r)
 
 -- ---- status
 

@@ -1,12 +1,12 @@
 -- Defined by this project: the event that a C program reads.
-use Rattle.std.specs.Prelude.{◌≡◌, ℕ, List, length, Option, Some, None, nat_le, if◌then◌else◌}
+use Rattle.std.specs.Prelude.{◌≡◌, ℕ, List, [], length, Option, Some, None, nat_le, if◌then◌else◌}
 use denote.Ref.{Bor}
 use Rattle.coap_conn.specs.Reasons.{reason_number}
 use Rattle.coap_wire.specs.Message.{Message}
 use Rattle.coap_wire.specs.Uint.{uint_of}
 use Rattle.coap_client_engine.specs.ClientValues.{ClientEventValue}
 use Rattle.coap_client_engine.specs.ClientValues as event
-use Rattle.coap_c.specs.Loans.{HasCount}
+use Rattle.coap_c.specs.Loans.{HasBytes}
 use Rattle.coap_c.specs.Messages.{ShowsMessage}
 use Rattle.coap_c.specs.declared.events.ClientEvent.{ClientEvent}
 use Rattle.coap_c.specs.declared.messages.MessageSpans.{MessageSpans}
@@ -17,7 +17,7 @@ token_number token = if nat_le (length token) 8 then uint_of token else 0
 
 -- A message without bytes.
 abbrev pub IsNoMessage : MessageSpans → Type 0
-IsNoMessage m = (m.code ≡ 0) × (HasCount 0 m.token × (HasCount 0 m.options × HasCount 0 m.payload))
+IsNoMessage m = (m.code ≡ 0) × (HasBytes [] m.token × (HasBytes [] m.options × HasBytes [] m.payload))
 
 -- An event of this kind, without anything else.
 abbrev pub IsKind : ℕ → ClientEvent → Type 0
@@ -32,7 +32,8 @@ abbrev pub HasParts : (reason option custody token : ℕ) → ClientEvent → Ty
 HasParts reason option custody token e =
     (e.reason ≡ reason) × ((e.option ≡ option) × ((e.custody ≡ custody) × (e.token ≡ token)))
 
--- A response, whose message is in one slice of memory. The contract does not say which slice.
+-- A response. The spans of its message have the bytes of its parts, and lie in one slice of memory. The contract does
+-- not say which slice.
 abbrev pub IsMessageEvent : ℕ → Message → ClientEvent → Type 0
 IsMessageEvent kind m e =
     (e.kind ≡ kind)

@@ -67,8 +67,8 @@ pub record IsAfter (options : Bor (List ℕ)) (o : CoapOption) (rest : List ℕ)
   pub value_is : IsPart options p.value o.value
 
 abbrev pub IsNext : Bor (List ℕ) → (p p' : OptionPlace) → Option (Result (CoapOption × List ℕ) FormatFault) → ℕ → Type 0
-IsNext options p p' None r = (r ≡ 16) × (p' ≡ p)
-IsNext options p p' (Some (Err e)) r = (r ≡ 17) × (p' ≡ p)
+IsNext options p p' None r = (r ≡ 10) × (p' ≡ p)
+IsNext options p p' (Some (Err e)) r = (r ≡ 128) × (p' ≡ p)
 IsNext options p p' (Some (Ok x)) r = (r ≡ 0) × IsAfter options x.0 x.1 p'
 
 -- ---- write an option
@@ -86,10 +86,10 @@ option_bytes last number value = option_spelling last (record { number = number;
 -- The number of the first error.
 abbrev pub append_refusal : (room count last number : ℕ) → List ℕ → Option ℕ
 append_refusal room count last number value =
-    if nat_lt 65535 number then Some 19
-    else (if nat_lt number last then Some 17
-    else (if nat_lt MAX_EXTENDED_LENGTH (length value) then Some 18
-    else (if nat_lt room (count + length (option_bytes last number value)) then Some 16 else None)))
+    if nat_lt 65535 number then Some 131
+    else (if nat_lt number last then Some 129
+    else (if nat_lt MAX_EXTENDED_LENGTH (length value) then Some 130
+    else (if nat_lt room (count + length (option_bytes last number value)) then Some 7 else None)))
 
 abbrev pub IsAppended : Option ℕ → List ℕ → ℕ → (b b' : OptionBuffer) → ℕ → Type 0
 IsAppended (Some refusal) value number b b' r = (r ≡ refusal) × (b' ≡ b)
@@ -118,16 +118,16 @@ message_with code token options payload =
     record { code = code; token = token; options = options_in 0 options; payload = payload }
 
 abbrev pub write_refusal_for : Option (List CoapOption) → Message → ℕ → Option ℕ
-write_refusal_for None m room = Some 19
+write_refusal_for None m room = Some 134
 write_refusal_for (Some os) m room =
-    if nat_lt LARGEST_MESSAGE (length (body_spelling m)) then Some 20
-    else (if nat_lt room (length (spelling m)) then Some 16 else None)
+    if nat_lt LARGEST_MESSAGE (length (body_spelling m)) then Some 135
+    else (if nat_lt room (length (spelling m)) then Some 7 else None)
 
 -- The number of the first error, for a buffer of `room` bytes.
 abbrev pub write_refusal : Message → Option (List CoapOption) → ℕ → Option ℕ
 write_refusal m coded room =
-    if nat_lt 255 m.code then Some 17
-    else (if nat_lt greatest_token (length m.token) then Some 18 else write_refusal_for coded m room)
+    if nat_lt 255 m.code then Some 132
+    else (if nat_lt greatest_token (length m.token) then Some 133 else write_refusal_for coded m room)
 
 -- The buffer begins with the encoding, and its other bytes are the same.
 abbrev pub IsWritten : Option ℕ → Message → (buffer buffer' : List ℕ) → (count count' : ℕ) → ℕ → Type 0

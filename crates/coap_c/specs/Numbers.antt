@@ -1,10 +1,14 @@
--- Defined by this project: the numbers that calls from C return, and the numbers in their results.
+-- Defined by this project: the numbers that calls from C return, and the numbers in their results. A number has one
+-- meaning in all calls.
 -- - 0: success. 1: the handle has no engine. 2: an allocation failed.
 -- - 3: `new` on a handle that has an engine. 4: the text is not a path. 5: a value that is one of a few is none of
 --   them.
--- - From 16 on: the errors of the call itself. Each is 15 plus the number of the engine's error. The errors of a
---   configuration, after those of the limits, are 31 plus their number. So are those of a request, after
---   those of a URI.
+-- - 6: no connection has the id, or no resource the path. 7: the buffer of the program is too small. 8: more bytes were
+--   written than are queued. 9: the time is before that of the server. 10: there is no further item. 11: the output
+--   queue has no room. 12: the connection is not open. 13: the message exceeds the size that the peer accepts.
+-- - The other numbers are in blocks, each of one kind of call. 32: a value of a configuration. 48: `open`. 64: the
+--   store. 80: the entries of an application. 96: responses. 112: frames. 128: options and the writing of messages.
+--   144: URIs. 160: requests. 176: announcements.
 use Rattle.std.specs.Prelude.{ℕ}
 use Rattle.coap_conn.specs.Reasons.{reason_number}
 use Rattle.coap_conn.specs.declared.phase.Phase.{Phase}
@@ -33,56 +37,59 @@ use Rattle.coap_model.specs.declared.answers.ResponseFault.{ResponseFault}
 use Rattle.coap_model.specs.declared.answers.ResponseFault.TheVariants as responding
 use Rattle.coap_conn.specs.declared.phase.RequestFault.{RequestFault}
 use Rattle.coap_conn.specs.declared.phase.RequestFault.TheVariants as requesting
+use Rattle.coap_conn.specs.declared.phase.SendFault.{SendFault}
+use Rattle.coap_conn.specs.declared.phase.SendFault.TheVariants as sending
 use Rattle.coap_request.specs.declared.target.TargetFault.{TargetFault}
 use Rattle.coap_request.specs.declared.target.TargetFault.TheVariants as naming
 use Rattle.coap_store.specs.declared.fault.StoreFault.{StoreFault}
 use Rattle.coap_store.specs.declared.fault.StoreFault.TheVariants as storing
 
 abbrev pub limit_code : LimitFault → ℕ
-limit_code limit.MaxMessage = 16
-limit_code limit.MaxSent = 17
-limit_code limit.Queue = 18
-limit_code limit.Pending = 19
-limit_code limit.Observers = 20
-limit_code limit.Outstanding = 21
+limit_code limit.MaxMessage = 32
+limit_code limit.MaxSent = 33
+limit_code limit.Queue = 34
+limit_code limit.Pending = 35
+limit_code limit.Observers = 36
+limit_code limit.Outstanding = 37
 
+-- `Turns` does not occur, because C names no turns.
 abbrev pub config_code : ConfigFault → ℕ
-config_code config.Connections = 32
-config_code config.Dynamic = 33
-config_code config.Representation = 34
-config_code config.Turns = 35
+config_code config.Connections = 38
+config_code config.Dynamic = 39
+config_code config.Representation = 40
+config_code config.Turns = 5
 
 abbrev pub open_code : OpenFault → ℕ
-open_code opening.Full = 16
-open_code opening.IdsSpent = 17
+open_code opening.Full = 48
+open_code opening.IdsSpent = 49
 open_code opening.Memory = 2
 
 abbrev pub written_code : WrittenFault → ℕ
-written_code writing.NoSuch = 16
-written_code writing.TooMany = 17
+written_code writing.NoSuch = 6
+written_code writing.TooMany = 8
 
 abbrev pub store_code : StoreFault → ℕ
-store_code storing.NoSuch = 16
-store_code storing.TooLarge = 17
-store_code storing.Limit = 18
-store_code storing.BadPath = 19
-store_code storing.VersionsSpent = 20
+store_code storing.NoSuch = 6
+store_code storing.TooLarge = 64
+store_code storing.Limit = 65
+store_code storing.BadPath = 66
+store_code storing.VersionsSpent = 67
 store_code storing.Memory = 2
 
 abbrev pub release_code : ReleaseFault → ℕ
-release_code releasing.NoSuch = 16
-release_code releasing.NotOpen = 17
-release_code releasing.NoRoom = 18
-release_code releasing.PeerTooSmall = 19
+release_code releasing.NoSuch = 6
+release_code releasing.NotOpen = 12
+release_code releasing.NoRoom = 11
+release_code releasing.PeerTooSmall = 13
 
 abbrev pub announce_code : AnnounceFault → ℕ
-announce_code announcing.NoSuch = 16
-announce_code announcing.NotOpen = 17
-announce_code announcing.Lower = 18
-announce_code announcing.TooLarge = 19
-announce_code announcing.NoRoom = 20
+announce_code announcing.NoSuch = 6
+announce_code announcing.NotOpen = 12
+announce_code announcing.Lower = 176
+announce_code announcing.TooLarge = 177
+announce_code announcing.NoRoom = 11
 announce_code announcing.Memory = 2
-announce_code announcing.PeerTooSmall = 22
+announce_code announcing.PeerTooSmall = 13
 
 -- The number of the effect of a `take`: 0 for nothing, 1 for a message, 2 for a stop.
 abbrev pub handled_code : Handled → ℕ
@@ -111,38 +118,43 @@ phase_reason (phase.Releasing why) = reason_number why
 phase_reason (phase.Stopped why) = reason_number why
 
 abbrev pub request_code : RequestFault → ℕ
-request_code requesting.NotOpen = 32
-request_code requesting.TooMany = 33
-request_code requesting.TooBig = 34
-request_code requesting.NoRoom = 35
-request_code requesting.TokensSpent = 36
-request_code requesting.NoSuchToken = 37
+request_code requesting.NotOpen = 12
+request_code requesting.TooMany = 160
+request_code requesting.TooBig = 161
+request_code requesting.NoRoom = 11
+request_code requesting.TokensSpent = 162
+request_code requesting.NoSuchToken = 163
+
+abbrev pub send_code : SendFault → ℕ
+send_code sending.NotOpen = 12
+send_code sending.NoRoom = 11
+send_code sending.PeerTooSmall = 13
 
 -- The number of an error of a frame.
 abbrev pub format_code : FormatFault → ℕ
-format_code format.TokenLength = 16
-format_code format.OptionDelta = 17
-format_code format.OptionLength = 18
-format_code format.OptionCut = 19
-format_code format.OptionNumber = 20
-format_code format.EmptyPayload = 21
-format_code format.NotOneFrame = 22
+format_code format.TokenLength = 112
+format_code format.OptionDelta = 113
+format_code format.OptionLength = 114
+format_code format.OptionCut = 115
+format_code format.OptionNumber = 116
+format_code format.EmptyPayload = 117
+format_code format.NotOneFrame = 118
 
 abbrev pub target_code : TargetFault → ℕ
-target_code naming.Url = 16
-target_code naming.Scheme = 17
-target_code naming.NoHost = 18
-target_code naming.UserInfo = 19
-target_code naming.Fragment = 20
-target_code naming.PartTooLong = 21
-target_code naming.TooManyParts = 22
+target_code naming.Url = 144
+target_code naming.Scheme = 145
+target_code naming.NoHost = 146
+target_code naming.UserInfo = 147
+target_code naming.Fragment = 148
+target_code naming.PartTooLong = 149
+target_code naming.TooManyParts = 150
 target_code naming.Memory = 2
 
 abbrev pub response_code : ResponseFault → ℕ
-response_code responding.NoSuch = 16
-response_code responding.NoSuchRequest = 17
-response_code responding.NotAResponse = 18
-response_code responding.NoRoom = 19
+response_code responding.NoSuch = 6
+response_code responding.NoSuchRequest = 96
+response_code responding.NotAResponse = 97
+response_code responding.NoRoom = 11
 
 -- The number of what was queued for a response: 0 for all of it, 1 for its code and token, 2 for a stop.
 abbrev pub reply_code : Reply → ℕ
@@ -151,9 +163,9 @@ reply_code reply.Bare = 1
 reply_code reply.Stopped = 2
 
 abbrev pub entry_code : ApplicationFault → ℕ
-entry_code application.Full = 16
-entry_code application.Root = 17
-entry_code application.Twice = 18
-entry_code application.Method = 19
-entry_code application.Attributes = 20
+entry_code application.Full = 80
+entry_code application.Root = 81
+entry_code application.Twice = 82
+entry_code application.Method = 83
+entry_code application.Attributes = 84
 entry_code application.Memory = 2

@@ -50,7 +50,7 @@ WritesNothing number buffer buffer' count count' r = (r ≡ number) × ((buffer'
 
 -- A text was written to the start of a buffer, whose other bytes are the same, unless the buffer is too short for it.
 abbrev pub WritesText : (short : Bool) → List ℕ → (buffer buffer' : List ℕ) → (count count' : ℕ) → ℕ → Type 0
-WritesText true text buffer buffer' count count' r = WritesNothing 23 buffer buffer' count count' r
+WritesText true text buffer buffer' count count' r = WritesNothing 7 buffer buffer' count count' r
 WritesText false text buffer buffer' count count' r =
     (r ≡ 0) × ((count' ≡ length text) × (buffer' ≡ text ++ drop count' buffer))
 

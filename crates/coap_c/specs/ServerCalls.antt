@@ -1,6 +1,6 @@
 -- Defined by this project: the results of the calls on the handle of a server.
-use Rattle.std.specs.Prelude.{◌≡◌, ℕ, ◌+◌, List, [], ◌∷◌, ◌++◌, true, length, take, Option, Some, None, option_map}
-use Rattle.std.specs.Prelude.{option_and_then, nat_le, if◌then◌else◌, ◌⊎◌}
+use Rattle.std.specs.Prelude.{◌≡◌, ℕ, ◌+◌, List, [], ◌∷◌, ◌++◌, true, take, Option, Some, None, option_map}
+use Rattle.std.specs.Prelude.{option_and_then, nat_le, if◌then◌else◌, ◌⊎◌, ◌==◌, ◌≤◌, ◌<◌, ◌^◌}
 use Rattle.coap_path.specs.Paths.{Path}
 use Rattle.coap_path.specs.ResourceKinds.{kind_of_path, is_dynamic}
 use Rattle.coap_store.specs.Refusals.{put_refusal, remove_refusal}
@@ -16,10 +16,14 @@ use Rattle.coap_server_engine.specs.values.Servers.{ServerValue, session_of, is_
 use Rattle.coap_server_engine.specs.values.Servers.{server_opened, server_taken, server_written, server_ticked}
 use Rattle.coap_server_engine.specs.values.Servers.{server_put, server_removed, server_ended, server_released}
 use Rattle.coap_server_engine.specs.values.Servers.{server_announced, server_dropped, server_given}
+use Rattle.coap_server_engine.specs.values.ServerDeadlines.{OnlyTimePasses, next_deadline}
+use Rattle.coap_server_session.specs.values.Deadlines.{IsBefore}
 use Rattle.coap_server_engine.specs.world.Shows.{Shows}
+use Rattle.coap_server_output.specs.Reports.{HasNoOutput, Yields}
+use Rattle.coap_server_output.specs.declared.polled_server.PolledServer.{PolledServer}
 use Rattle.coap_c.specs.Numbers.{open_code, written_code, store_code, release_code, announce_code, handled_code}
 use Rattle.coap_c.specs.Numbers.{handled_reason, phase_code, phase_reason, response_code, reply_code}
-use Rattle.coap_c.specs.Loans.{HasCount, LendsFrame}
+use Rattle.coap_c.specs.Loans.{HasBytes, HaveBytes, LendsFrame}
 use Rattle.coap_c.specs.PathTexts.{format_number}
 use Rattle.coap_c.specs.Results.{OnHandle, AtPath, Answers, AnswersOrMemory}
 use Rattle.coap_c.specs.Settings.{settings_config, settings_refusal}
@@ -48,33 +52,34 @@ Does e after v v' = (v' ≡ after) × ((events : List AcceptedCall) → Shows v 
 -- ---- new
 
 -- A new server shows no event.
-abbrev pub IsNew : Settings → Option ServerValue → ℕ → Type 0
+abbrev pub IsNew : Settings → Option PolledServer → ℕ → Type 0
 IsNew s None r = r ≡ 2
-IsNew s (Some v) r = (r ≡ 0) × ((v ≡ new_server (settings_config s)) × Shows v [])
+IsNew s (Some v) r = (r ≡ 0) × ((v.engine ≡ new_server (settings_config s)) × Shows v.engine [])
 
-abbrev pub MadeUnless : Option ℕ → Settings → Option ServerValue → ℕ → Type 0
+abbrev pub MadeUnless : Option ℕ → Settings → Option PolledServer → ℕ → Type 0
 MadeUnless None s v' r = IsNew s v' r
 MadeUnless (Some number) s v' r = (r ≡ number) × (v' ≡ None)
 
 -- `new` returns 3 if the handle has a server. Otherwise it fails with the number of a value out of range, or with 2,
 -- and the handle stays empty; or it makes the server.
-abbrev pub IsMade : Settings → Option ServerValue → Option ServerValue → ℕ → Type 0
+abbrev pub IsMade : Settings → Option PolledServer → Option PolledServer → ℕ → Type 0
 IsMade s None v' r = MadeUnless (settings_refusal s) s v' r
 IsMade s (Some v) v' r = (r ≡ 3) × (v' ≡ Some v)
 
 -- ---- open, take, written
 
-abbrev pub IsOpened : (id id' : ℕ) → Option ServerValue → Option ServerValue → ℕ → Type 0
-IsOpened id id' = OnHandle (id' ≡ id) (λ v v' r. AnswersOrMemory (id' ≡ id) (option_map open_code (open_refusal v))
-    ((id' ≡ v.ids + 1) × Does (Opened id') (server_opened v) v v') v v' r)
+abbrev pub IsOpened : (id id' : ℕ) → Option PolledServer → Option PolledServer → ℕ → Type 0
+IsOpened id id' = OnHandle (id' ≡ id) (λ v v' r.
+    AnswersOrMemory (id' ≡ id) (option_map open_code (open_refusal v.engine))
+    ((id' ≡ v.engine.ids + 1) × Does (Opened id') (server_opened v.engine) v.engine v'.engine) v v' r)
 
--- A result that reports nothing but accepted bytes.
-abbrev pub IsTookBytes : ℕ → TookResult → Type 0
-IsTookBytes bytes t =
-    (t.bytes ≡ bytes) × ((t.handled ≡ 0) × ((t.reason ≡ 0) × (HasCount 0 t.request × HasCount 0 t.changed)))
+-- A result that reports nothing but accepted bytes, and whether an allocation failed.
+abbrev pub IsTookBytes : (bytes memory : ℕ) → TookResult → Type 0
+IsTookBytes bytes memory t = (t.bytes ≡ bytes) × ((t.handled ≡ 0) × ((t.reason ≡ 0) × ((t.memory ≡ memory)
+    × (HasBytes [] t.request × HasBytes [] t.changed))))
 
 abbrev pub IsBlank : TookResult → Type 0
-IsBlank t = IsTookBytes 0 t
+IsBlank t = IsTookBytes 0 0 t
 
 -- The stores of the worlds before and after a `take` differ at the path of the request that is reported,
 -- and nowhere else.
@@ -93,95 +98,123 @@ HasTaken id piece t v v' = (t.bytes ≡ count_taken v id piece.now)
 -- A `take` in which an allocation failed: the bytes before the last one of the message are accepted.
 abbrev pub HasTakenPart : ℕ → List ℕ → TookResult → ServerValue → ServerValue → Type 0
 HasTakenPart id piece t v v' = RefusesPieceOn v piece t.bytes (session_of id v.sessions)
-    × ((t.handled ≡ 0) × ((t.reason ≡ 0) × ((HasCount 0 t.request × HasCount 0 t.changed)
-    × Does (Took id (take t.bytes piece)) (server_taken v id (take t.bytes piece)) v v')))
+    × (IsTookBytes t.bytes 1 t × Does (Took id (take t.bytes piece)) (server_taken v id (take t.bytes piece)) v v')
 
--- `take` returns 0 and what it accepted and handled, 16 if there is no connection, or 2 if an allocation failed.
-abbrev pub IsTaken : ℕ → Bor (List ℕ) → TookResult → Option ServerValue → Option ServerValue → ℕ → Type 0
+-- A `take` on a connection: what it accepted and handled, or what it accepted if an allocation failed (`memory`).
+abbrev pub IsTakenOn : ℕ → Bor (List ℕ) → TookResult → ServerValue → ServerValue → Type 0
+IsTakenOn id piece t v v' = ((t.memory ≡ 0) × ((is_there (session_of id v.sessions) ≡ true) × HasTaken id piece t v v'))
+    ⊎ HasTakenPart id piece.now t v v'
+
+-- `take` returns 0, or 6 if there is no connection.
+abbrev pub IsTaken : ℕ → Bor (List ℕ) → TookResult → Option PolledServer → Option PolledServer → ℕ → Type 0
 IsTaken id piece t = OnHandle (IsBlank t) (λ v v' r.
-    ((r ≡ 0) × ((is_there (session_of id v.sessions) ≡ true) × HasTaken id piece t v v'))
-    ⊎ (((r ≡ 16) × ((session_of id v.sessions ≡ None) × ((v' ≡ v) × IsBlank t)))
-    ⊎ ((r ≡ 2) × HasTakenPart id piece.now t v v')))
+    ((r ≡ 0) × IsTakenOn id piece t v.engine v'.engine)
+    ⊎ ((r ≡ 6) × ((session_of id v.engine.sessions ≡ None) × ((v' ≡ v) × IsBlank t))))
 
-abbrev pub IsWritten : (id count : ℕ) → Option ServerValue → Option ServerValue → ℕ → Type 0
-IsWritten id count = OnHandle Nothing (λ v v' r. Answers Nothing (option_map written_code (written_refusal v id count))
-    (Does (Wrote id count) (server_written v id count) v v') v v' r)
+abbrev pub IsWritten : (id count : ℕ) → Option PolledServer → Option PolledServer → ℕ → Type 0
+IsWritten id count = OnHandle Nothing (λ v v' r.
+    Answers Nothing (option_map written_code (written_refusal v.engine id count))
+    (Does (Wrote id count) (server_written v.engine id count) v.engine v'.engine) v v' r)
 
 -- ---- tick, put, remove
 
-abbrev pub IsTicked : ℕ → Option ServerValue → Option ServerValue → ℕ → Type 0
-IsTicked now = OnHandle Nothing (λ v v' r. Answers Nothing (if nat_le v.host.now now then None else Some 16)
-    (Does (Ticked now) (server_ticked v now) v v') v v' r)
+abbrev pub IsTicked : ℕ → Option PolledServer → Option PolledServer → ℕ → Type 0
+IsTicked now = OnHandle Nothing (λ v v' r. Answers Nothing (if nat_le v.engine.host.now now then None else Some 9)
+    (Does (Ticked now) (server_ticked v.engine now) v.engine v'.engine) v v' r)
 
 -- `put` at the path that C names, if it names one.
-abbrev pub IsPut : Option Path → Option ℕ → List ℕ → (version version' : ℕ) → Option ServerValue
-    → Option ServerValue → ℕ → Type 0
+abbrev pub IsPut : Option Path → Option ℕ → List ℕ → (version version' : ℕ) → Option PolledServer
+    → Option PolledServer → ℕ → Type 0
 IsPut named format bytes version version' =
     OnHandle (version' ≡ version) (AtPath (version' ≡ version) named (λ path v v' r.
-    AnswersOrMemory (version' ≡ version) (option_map store_code (put_refusal v.host.store path bytes))
-    ((version' ≡ v.host.store.versions + 1) × Does (Stored path format bytes) (server_put v path format bytes) v v') v
-    v' r))
+    AnswersOrMemory (version' ≡ version) (option_map store_code (put_refusal v.engine.host.store path bytes))
+    ((version' ≡ v.engine.host.store.versions + 1)
+    × Does (Stored path format bytes) (server_put v.engine path format bytes) v.engine v'.engine) v v' r))
 
 -- `remove` at the path that C names, if it names one.
-abbrev pub IsRemoved : Option Path → Option ServerValue → Option ServerValue → ℕ → Type 0
+abbrev pub IsRemoved : Option Path → Option PolledServer → Option PolledServer → ℕ → Type 0
 IsRemoved named = OnHandle Nothing (AtPath Nothing named (λ path v v' r.
-    Answers Nothing (option_map store_code (remove_refusal v.host.store path))
-    (Does (Removed path) (server_removed v path) v v') v v' r))
+    Answers Nothing (option_map store_code (remove_refusal v.engine.host.store path))
+    (Does (Removed path) (server_removed v.engine path) v.engine v'.engine) v v' r))
 
 -- ---- the application
 
-abbrev pub IsResponded : ℕ → List ℕ → (reply reply' : ℕ) → Option ServerValue → Option ServerValue → ℕ → Type 0
+abbrev pub IsResponded : ℕ → List ℕ → (reply reply' : ℕ) → Option PolledServer → Option PolledServer → ℕ → Type 0
 IsResponded id response reply reply' =
     OnHandle (reply' ≡ reply)
-    (λ v v' r. Answers (reply' ≡ reply) (option_map response_code (responded_refusal v id response))
-    (((queued : Reply) × (IsReplyOn response queued (session_of id v.sessions) × (reply' ≡ reply_code queued)))
-    × ((v' ≡ server_given v id response)
-    × ((events : List AcceptedCall) → Shows v events → Shows v' (events ++ response_event id (message_of response)))))
+    (λ v v' r. Answers (reply' ≡ reply) (option_map response_code (responded_refusal v.engine id response))
+    (((queued : Reply) × (IsReplyOn response queued (session_of id v.engine.sessions) × (reply' ≡ reply_code queued)))
+    × ((v'.engine ≡ server_given v.engine id response) × ((events : List AcceptedCall) → Shows v.engine events
+    → Shows v'.engine (events ++ response_event id (message_of response)))))
     v v' r)
+
+-- ---- output and deadlines
+
+-- `next_output` yields the first connection that is due and has unwritten output, or returns 10 if there is none.
+abbrev pub IsNextOutput : (id id' : ℕ) → Option PolledServer → Option PolledServer → ℕ → Type 0
+IsNextOutput id id' = OnHandle (id' ≡ id) (λ v v' r. (v'.engine ≡ v.engine)
+    × (((r ≡ 0) × Yields id' v v') ⊎ ((r ≡ 10) × ((id' ≡ id) × HasNoOutput v))))
+
+-- The connection that a `next_output` with the result `r` yields.
+abbrev pub yielded_by : (r id : ℕ) → Option ℕ
+yielded_by r id = if r == 0 then Some id else None
+
+-- `next_deadline` gives the next deadline, or returns 10 if there is none.
+abbrev pub GivesDeadline : Option ℕ → (seconds seconds' : ℕ) → ℕ → Type 0
+GivesDeadline None seconds seconds' r = (r ≡ 10) × (seconds' ≡ seconds)
+GivesDeadline (Some due) seconds seconds' r = (r ≡ 0) × (seconds' ≡ due)
+
+-- A `tick` with an earlier time than the deadline changes only the time.
+abbrev pub IsNextDeadline : (seconds seconds' : ℕ) → Option PolledServer → Option PolledServer → ℕ → Type 0
+IsNextDeadline seconds seconds' = OnHandle (seconds' ≡ seconds) (λ v v' r. (v' ≡ v)
+    × (GivesDeadline (next_deadline v.engine) seconds seconds' r
+    × ((later : ℕ) → v.engine.host.now ≤ later → later < 2 ^ 64 → IsBefore later (next_deadline v.engine)
+    → OnlyTimePasses v.engine later)))
 
 -- ---- connections
 
--- 16 if there is no connection.
+-- 6 if there is no connection.
 abbrev pub absent_code : Option SessionValue → Option ℕ
-absent_code None = Some 16
+absent_code None = Some 6
 absent_code (Some s) = None
 
-abbrev pub IsEnded : ℕ → Option ServerValue → Option ServerValue → ℕ → Type 0
+abbrev pub IsEnded : ℕ → Option PolledServer → Option PolledServer → ℕ → Type 0
 IsEnded id =
-    OnHandle Nothing (λ v v' r. Answers Nothing (absent_code (session_of id v.sessions))
-    (Does (Ended id) (server_ended v id) v v') v v' r)
+    OnHandle Nothing (λ v v' r. Answers Nothing (absent_code (session_of id v.engine.sessions))
+    (Does (Ended id) (server_ended v.engine id) v.engine v'.engine) v v' r)
 
-abbrev pub IsDropped : ℕ → Option ServerValue → Option ServerValue → ℕ → Type 0
+abbrev pub IsDropped : ℕ → Option PolledServer → Option PolledServer → ℕ → Type 0
 IsDropped id =
-    OnHandle Nothing (λ v v' r. Answers Nothing (absent_code (session_of id v.sessions))
-    (Does (Dropped id) (server_dropped v id) v v') v v' r)
+    OnHandle Nothing (λ v v' r. Answers Nothing (absent_code (session_of id v.engine.sessions))
+    (Does (Dropped id) (server_dropped v.engine id) v.engine v'.engine) v v' r)
 
-abbrev pub IsReleased : ℕ → Option ServerValue → Option ServerValue → ℕ → Type 0
+abbrev pub IsReleased : ℕ → Option PolledServer → Option PolledServer → ℕ → Type 0
 IsReleased id =
-    OnHandle Nothing (λ v v' r. Answers Nothing (option_map release_code (released_refusal v id))
-    (Does (Released id) (server_released v id) v v') v v' r)
+    OnHandle Nothing (λ v v' r. Answers Nothing (option_map release_code (released_refusal v.engine id))
+    (Does (Released id) (server_released v.engine id) v.engine v'.engine) v v' r)
 
 -- An announcement can also fail with 2, but only if the size is above the current one.
-abbrev pub AnnouncedOrMemory : ℕ → ℕ → Option ℕ → ServerValue → ServerValue → ℕ → Type 0
-AnnouncedOrMemory id size None v v' r = ((r ≡ 0) × Does (Announced id size) (server_announced v id size) v v')
-    ⊎ ((r ≡ 2) × (WantsRoom size (session_of id v.sessions) × (v' ≡ v)))
+abbrev pub AnnouncedOrMemory : ℕ → ℕ → Option ℕ → PolledServer → PolledServer → ℕ → Type 0
+AnnouncedOrMemory id size None v v' r =
+    ((r ≡ 0) × Does (Announced id size) (server_announced v.engine id size) v.engine v'.engine)
+    ⊎ ((r ≡ 2) × (WantsRoom size (session_of id v.engine.sessions) × (v' ≡ v)))
 AnnouncedOrMemory id size (Some number) v v' r = (r ≡ number) × (v' ≡ v)
 
-abbrev pub IsAnnouncedTo : (id size : ℕ) → Option ServerValue → Option ServerValue → ℕ → Type 0
-IsAnnouncedTo id size = OnHandle Nothing (λ v v' r.
-    AnnouncedOrMemory id size (option_map announce_code (announced_refusal_on size (session_of id v.sessions))) v v' r)
+abbrev pub IsAnnouncedTo : (id size : ℕ) → Option PolledServer → Option PolledServer → ℕ → Type 0
+IsAnnouncedTo id size = OnHandle Nothing (λ v v' r. AnnouncedOrMemory id size
+    (option_map announce_code (announced_refusal_on size (session_of id v.engine.sessions))) v v' r)
 
 -- ---- queries
 
--- A query changes nothing. It returns 16 if there is no connection, and leaves its result as it was then.
-abbrev pub AsksOn : {A : Type 0} → Type 0 → (A → Type 0) → Option A → ServerValue → ServerValue → ℕ → Type 0
-AsksOn same told None v v' r = (r ≡ 16) × ((v' ≡ v) × same)
+-- A query changes nothing. It returns 6 if there is no connection or no resource, and leaves its result as it was then.
+abbrev pub AsksOn : {A : Type 0} → Type 0 → (A → Type 0) → Option A → PolledServer → PolledServer → ℕ → Type 0
+AsksOn same told None v v' r = (r ≡ 6) × ((v' ≡ v) × same)
 AsksOn same told (Some x) v v' r = (r ≡ 0) × ((v' ≡ v) × told x)
 
--- The queued bytes of a connection have this length. Their addresses are not specified.
-abbrev pub HasParts : ℕ → Option ServerValue → Option ServerValue → (parts parts' : Parts) → ℕ → Type 0
+-- The parts have the queued bytes of a connection, in their order. Their addresses are not specified.
+abbrev pub HasParts : ℕ → Option PolledServer → Option PolledServer → (parts parts' : Parts) → ℕ → Type 0
 HasParts id v v' parts parts' r = OnHandle (parts' ≡ parts) (λ x x' n. AsksOn (parts' ≡ parts)
-    (λ s. parts'.first.count + parts'.second.count ≡ length (waiting_at id x)) (session_of id x.sessions) x x' n) v v' r
+    (λ s. HaveBytes (waiting_at id x.engine) parts') (session_of id x.engine.sessions) x x' n) v v' r
 
 -- The fields of a status.
 abbrev pub ShowsStatus : ConnectionStatus → Status → Type 0
@@ -190,20 +223,21 @@ ShowsStatus c s =
     × ((c.pending ≡ s.pending)
     × ((c.observers ≡ s.observers) × ((c.peer_max ≡ s.peer_max) × (c.finished ≡ (if s.finished then 1 else 0))))))))
 
-abbrev pub HasStatus : ℕ → (status status' : ConnectionStatus) → Option ServerValue → Option ServerValue → ℕ → Type 0
+abbrev pub HasStatus : ℕ → (status status' : ConnectionStatus) → Option PolledServer → Option PolledServer → ℕ → Type 0
 HasStatus id status status' =
-    OnHandle (status' ≡ status) (λ v v' r. AsksOn (status' ≡ status) (ShowsStatus status') (status_of v id) v v' r)
+    OnHandle (status' ≡ status) (λ v v' r.
+    AsksOn (status' ≡ status) (ShowsStatus status') (status_of v.engine id) v v' r)
 
--- The fields of the state of a resource. Of its bytes, only their number is specified.
+-- The fields of the state of a resource. The address of its bytes is not specified.
 abbrev pub ShowsState : ResourceState → Representation → Type 0
-ShowsState s p = (s.version ≡ p.version) × ((s.format ≡ format_number p.format) × HasCount (length p.bytes) s.bytes)
+ShowsState s p = (s.version ≡ p.version) × ((s.format ≡ format_number p.format) × HasBytes p.bytes s.bytes)
 
 -- The representation stored at a path, if there is one. A built-in resource has none.
 abbrev pub lent_state : ServerValue → Path → Option Representation
 lent_state v path = if is_dynamic (kind_of_path path) then state_of v.host.store v.host.now path else None
 
 -- `state` at the path that C names, if it names one.
-abbrev pub HasState : Option Path → (state state' : ResourceState) → Option ServerValue
-    → Option ServerValue → ℕ → Type 0
+abbrev pub HasState : Option Path → (state state' : ResourceState) → Option PolledServer
+    → Option PolledServer → ℕ → Type 0
 HasState named state state' = OnHandle (state' ≡ state) (AtPath (state' ≡ state) named (λ path v v' r.
-    AsksOn (state' ≡ state) (ShowsState state') (lent_state v path) v v' r))
+    AsksOn (state' ≡ state) (ShowsState state') (lent_state v.engine path) v v' r))

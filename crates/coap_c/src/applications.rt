@@ -2,6 +2,7 @@
 
 ghost use Rattle.std.specs.Prelude.{◌≡◌, None};
 ghost use Rattle.coap_c.specs.ApplicationCalls.{IsAdded, IsCreated, IsMadeFor};
+ghost use Rattle.coap_server_output.specs.Reports.{KeepsReported};
 
 use crate::applications_handle::ApplicationsHandle;
 use crate::numbers::{BAD_DEADLINE, EMPTY, MEMORY, NOT_A_PATH, OCCUPIED, SUCCESS, entry_number};
@@ -10,6 +11,7 @@ use crate::server_handle::ServerHandle;
 use crate::settings::{Settings, configured};
 use coap_path::Applications;
 use coap_server_engine::Server;
+use coap_server_output::PolledServer;
 use std::alloc::Global;
 
 /// Makes an empty list of entries, if the handle is empty.
@@ -40,7 +42,7 @@ pub extern "C" fn dachreup_applications_new(
 
 /// Adds an entry.
 #[unsafe(no_mangle)]
-pub extern "C" fn dachreup_applications_add(
+pub extern "C" fn dachreup_raw_applications_add(
     alloc: Global,
     handle: &mut ApplicationsHandle,
     path: &[u8],
@@ -87,8 +89,9 @@ pub extern "C" fn dachreup_server_new_for(
     settings: &Settings,
     applications: &mut ApplicationsHandle,
 ) -> u32
-    ensures { IsMadeFor settings.now applications.old.value applications.new.value handle.old.value
+    ensures call { IsMadeFor settings.now applications.old.value applications.new.value handle.old.value
         handle.new.value result }
+    ensures output { KeepsReported handle.old.value handle.new.value }
 {
     if let Some(server) = handle.take_server(alloc) {
         handle.put_back(server);
@@ -104,7 +107,7 @@ pub extern "C" fn dachreup_server_new_for(
     let Ok(server) = Server::with_applications(alloc, config, Box::into_inner(entries)) else {
         return MEMORY;
     };
-    let Ok(boxed) = Box::new(alloc, server) else {
+    let Ok(boxed) = Box::new(alloc, PolledServer::new(server)) else {
         return MEMORY;
     };
     handle.put_back(boxed);

@@ -2,39 +2,21 @@
 
 ghost use Rattle.std.specs.Prelude.{◌≡◌, None};
 ghost use Rattle.coap_c.specs.ClientCalls.{IsMade, IsSent, GivesSent, IsCancelled, GivesCancelled, IsPinged, IsTaken};
-ghost use Rattle.coap_c.specs.ClientCalls.{HasQueuedParts, IsWritten, IsEnded, HasStatus};
+ghost use Rattle.coap_c.specs.ClientCalls.{HasQueuedParts, IsWritten, IsEnded, IsReleased, IsForgotten, HasStatus};
 ghost use Rattle.coap_wire.specs.Uint.{bytes_of_uint};
 
 use crate::client_handle::ClientHandle;
 use crate::events::{ClientEvent, event_of, plain_event, token_number};
 use crate::numbers::{
-    EMPTY, MEMORY, NOT_A_CHOICE, OCCUPIED, SUCCESS, TOO_MANY, limit_number, phase_numbers,
-    request_number,
+    EMPTY, MEMORY, NO_SUCH_TOKEN, NOT_A_CHOICE, OCCUPIED, SUCCESS, TOO_MANY, limit_number,
+    phase_numbers, request_number, send_number,
 };
 use crate::requests::{Request, asked, flag_of, target_of};
+use crate::settings::{ClientLimits, client_limits};
 use coap_client_engine::Client;
-use coap_conn::Limits;
 use coap_handle::{Parts, span_of};
 use coap_wire::{Token, uint_bytes};
 use std::alloc::Global;
-
-/// Limits of a client. `new` checks the ranges.
-#[repr(C)]
-#[derive(Clone, Copy)]
-pub struct ClientLimits {
-    /// Largest message accepted, in bytes.
-    pub max_message: usize,
-    /// Largest message sent, in bytes.
-    pub max_sent: usize,
-    /// Output queue, in bytes.
-    pub queue: usize,
-    /// Largest number of delayed responses and Pongs.
-    pub pending: usize,
-    /// Largest number of observers.
-    pub observers: usize,
-    /// Largest number of outstanding requests.
-    pub outstanding: usize,
-}
 
 /// Status of a client.
 #[repr(C)]
@@ -66,14 +48,7 @@ pub extern "C" fn dachreup_client_new(
         handle.put_back(client);
         return OCCUPIED;
     }
-    let limits = match Limits::new(
-        limits.max_message,
-        limits.max_sent,
-        limits.queue,
-        limits.pending,
-        limits.observers,
-        limits.outstanding,
-    ) {
+    let limits = match client_limits(limits) {
         Ok(limits) => limits,
         Err(fault) => return limit_number(fault),
     };
@@ -89,7 +64,7 @@ pub extern "C" fn dachreup_client_new(
 
 /// Queues a request, and gives its token.
 #[unsafe(no_mangle)]
-pub extern "C" fn dachreup_client_send(
+pub extern "C" fn dachreup_raw_client_send(
     alloc: Global,
     handle: &mut ClientHandle,
     request: &Request,
@@ -139,7 +114,7 @@ fn send(
 
 /// Cancels an observation.
 #[unsafe(no_mangle)]
-pub extern "C" fn dachreup_client_cancel(
+pub extern "C" fn dachreup_raw_client_cancel(
     alloc: Global,
     handle: &mut ClientHandle,
     request: &Request,
@@ -196,7 +171,7 @@ fn token_with(number: u64) -> Token
 
 /// Queues a Ping, and gives its token.
 #[unsafe(no_mangle)]
-pub extern "C" fn dachreup_client_ping(
+pub extern "C" fn dachreup_raw_client_ping(
     alloc: Global,
     handle: &mut ClientHandle,
     custody: u32,
@@ -224,7 +199,7 @@ pub extern "C" fn dachreup_client_ping(
 
 /// Accepts the first bytes of those that the connection received.
 #[unsafe(no_mangle)]
-pub extern "C" fn dachreup_client_take(
+pub extern "C" fn dachreup_raw_client_take(
     alloc: Global,
     handle: &mut ClientHandle,
     piece: &[u8],
@@ -294,6 +269,43 @@ pub extern "C" fn dachreup_client_ended(alloc: Global, handle: &mut ClientHandle
     client.ended();
     handle.put_back(client);
     SUCCESS
+}
+
+/// Queues a Release, and stops the connection.
+#[unsafe(no_mangle)]
+pub extern "C" fn dachreup_client_release(alloc: Global, handle: &mut ClientHandle) -> u32
+    ensures { IsReleased handle.old.value handle.new.value result }
+{
+    let Some(mut client) = handle.take_client(alloc) else {
+        return EMPTY;
+    };
+    let answer = client.release();
+    handle.put_back(client);
+    match answer {
+        Ok(()) => SUCCESS,
+        Err(fault) => send_number(fault),
+    }
+}
+
+/// Ends an outstanding request, observation or Ping, and sends nothing.
+#[unsafe(no_mangle)]
+pub extern "C" fn dachreup_client_forget(
+    alloc: Global,
+    handle: &mut ClientHandle,
+    token: u64,
+) -> u32
+    ensures { IsForgotten token handle.old.value handle.new.value result }
+{
+    let Some(mut client) = handle.take_client(alloc) else {
+        return EMPTY;
+    };
+    let answer = client.forget(&token_with(token));
+    handle.put_back(client);
+    if answer.is_ok() {
+        SUCCESS
+    } else {
+        NO_SUCH_TOKEN
+    }
 }
 
 /// Gives the status of a client.

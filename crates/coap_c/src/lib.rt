@@ -1,16 +1,16 @@
 //! The proved engines for programs in C: a static library.
 //!
-//! - `server.rt` and `resources.rt` have a call for each call of `Server`, and `server_handle.rt` the handle that a C
-//!   program keeps of it. `client.rt` and `client_handle.rt` are the same for `Client`, and `applications.rt` and
-//!   `applications_handle.rt` for `Applications`. `events.rt` has the event of a client, and `requests.rt` requests and
-//!   URIs.
+//! - `server.rt`, `polling.rt` and `resources.rt` have a call for each call of `Server`, and `server_handle.rt` the
+//!   handle that a C program keeps of a `PolledServer`. `client.rt` and `client_handle.rt` are the same for `Client`,
+//!   and `applications.rt` and `applications_handle.rt` for `Applications`. `events.rt` has the event of a client, and
+//!   `requests.rt` requests and URIs.
 //! - `messages.rt` has the calls on messages, which have no handle. `option_reading.rt` decodes options, and
 //!   `option_writing.rt` encodes them.
 //! - `numbers.rt` has the numbers that the calls return, `settings.rt` a configuration, and `paths.rt` paths as text.
 //!
 //! The contract of an export is that of the engine's call over the value of the handle (`specs/ServerCalls.antt`,
 //! `specs/ApplicationCalls.antt`, `specs/ClientCalls.antt`). Those of the calls on messages are in
-//! `specs/Messages.antt`. The header `include/coap_proved.h` documents each call for C, and states what the C program
+//! `specs/Messages.antt`. The header `include/dachreup.h` documents each call for C, and states what the C program
 //! must guarantee.
 #![tactic(auto)]
 
@@ -24,6 +24,7 @@ mod numbers;
 mod option_reading;
 mod option_writing;
 mod paths;
+mod polling;
 mod requests;
 mod resources;
 mod server;
@@ -31,7 +32,7 @@ mod server_handle;
 mod settings;
 
 pub use applications_handle::ApplicationsHandle;
-pub use client::{ClientLimits, ClientStatus};
+pub use client::ClientStatus;
 pub use client_handle::ClientHandle;
 pub use events::ClientEvent;
 pub use messages::MessageSpans;
@@ -39,4 +40,4 @@ pub use requests::{Place, Request};
 pub use resources::ResourceState;
 pub use server::{ConnectionStatus, Took};
 pub use server_handle::ServerHandle;
-pub use settings::Settings;
+pub use settings::{ClientLimits, Settings};

@@ -6,7 +6,10 @@ ghost use Rattle.coap_wire.specs.Layout.{IsLaidOut};
 ghost use Rattle.coap_wire.specs.Reading.{message_of};
 ghost use Rattle.coap_c.specs.Messages as spec;
 
-use crate::numbers::{NOT_A_PATH, format_number};
+use crate::numbers::{
+    NO_MORE, NO_ROOM, NOT_A_PATH, OPTION_MALFORMED, OPTION_NUMBER, OPTION_ORDER, OPTION_TOO_LONG,
+    SUCCESS, WRITE_CODE, WRITE_OPTIONS, WRITE_TOKEN, WRITE_TOO_LARGE, format_number,
+};
 use crate::option_reading::{PAYLOAD_MARKER, are_options, bytes_from, read_option};
 use crate::option_writing::{message_head, option_head, put};
 use crate::paths::write_path;
@@ -36,13 +39,13 @@ pub struct MessageSpans {
 
 /// Reads the message that a frame encodes.
 #[unsafe(no_mangle)]
-pub extern "C" fn dachreup_message_read(frame: &[u8], message: &mut MessageSpans) -> u32
+pub extern "C" fn dachreup_raw_message_read(frame: &[u8], message: &mut MessageSpans) -> u32
     ensures { spec.IsRead frame.entry message.old message.new (message_of frame.now) result }
 {
     match message_spans(frame) {
         Ok(spans) => {
             *message = spans;
-            0
+            SUCCESS
         }
         Err(fault) => format_number(fault),
     }
@@ -50,7 +53,11 @@ pub extern "C" fn dachreup_message_read(frame: &[u8], message: &mut MessageSpans
 
 /// Writes the text that names the path of the request that a frame encodes.
 #[unsafe(no_mangle)]
-pub extern "C" fn dachreup_message_path(frame: &[u8], path: &mut [u8], length: &mut usize) -> u32
+pub extern "C" fn dachreup_raw_message_path(
+    frame: &[u8],
+    path: &mut [u8],
+    length: &mut usize,
+) -> u32
     ensures { spec.IsPathOf (message_of frame.now) path.old path.new length.old length.new result }
 {
     let message = match parse(frame) {
@@ -65,7 +72,7 @@ pub extern "C" fn dachreup_message_path(frame: &[u8], path: &mut [u8], length: &
 
 /// Reads the next one of encoded options, from the position `at` on. Deltas count from `number`.
 #[unsafe(no_mangle)]
-pub extern "C" fn dachreup_option_next(
+pub extern "C" fn dachreup_raw_option_next(
     options: &[u8],
     at: &mut usize,
     number: &mut u32,
@@ -76,28 +83,28 @@ pub extern "C" fn dachreup_option_next(
         (spec.first_option number.old (drop at.old options.now)) result }
 {
     let Some((first, after)) = bytes_from(options, *at).split_first() else {
-        return 16;
+        return NO_MORE;
     };
     if *first == PAYLOAD_MARKER {
-        return 16;
+        return NO_MORE;
     }
     let Ok(base) = u16::try_from(*number) else {
-        return 17;
+        return OPTION_MALFORMED;
     };
     let Ok((option, rest)) = read_option(base, *first, after) else {
-        return 17;
+        return OPTION_MALFORMED;
     };
     let end = options.len() - rest.len();
     let count = option.value.len();
     *value = span_within(options, end - count, count);
     *number = u32::from(option.number);
     *at = end;
-    0
+    SUCCESS
 }
 
 /// Appends an encoded option to the first `length` bytes of a buffer.
 #[unsafe(no_mangle)]
-pub extern "C" fn dachreup_option_write(
+pub extern "C" fn dachreup_raw_option_write(
     options: &mut [u8],
     length: &mut usize,
     last: &mut u32,
@@ -110,27 +117,27 @@ pub extern "C" fn dachreup_option_write(
         (record { bytes = options.new; count = length.new; last = last.new }) result }
 {
     let Ok(next) = u16::try_from(number) else {
-        return 19;
+        return OPTION_NUMBER;
     };
     if number < *last {
-        return 17;
+        return OPTION_ORDER;
     }
     if value.len() > MAX_EXTENDED_LENGTH {
-        return 18;
+        return OPTION_TOO_LONG;
     }
     let head = option_head(*last as u16, next, value.len() as u32);
     if options.len().saturating_sub(*length) < head.len() + value.len() {
-        return 16;
+        return NO_ROOM;
     }
     let at = put(options, *length, &head);
     *length = put(options, at, value);
     *last = number;
-    0
+    SUCCESS
 }
 
 /// Writes the encoding of a message to the start of a buffer.
 #[unsafe(no_mangle)]
-pub extern "C" fn dachreup_message_write(
+pub extern "C" fn dachreup_raw_message_write(
     code: u32,
     token: &[u8],
     options: &[u8],
@@ -143,13 +150,13 @@ pub extern "C" fn dachreup_message_write(
         (spec.message_with code token.now options.now payload.now) buffer.old buffer.new length.old length.new result }
 {
     let Ok(code) = u8::try_from(code) else {
-        return 17;
+        return WRITE_CODE;
     };
     if token.len() > MAX_TOKEN {
-        return 18;
+        return WRITE_TOKEN;
     }
     if !are_options(options) {
-        return 19;
+        return WRITE_OPTIONS;
     }
     let marker = marker_bytes(payload);
     let body = options
@@ -157,18 +164,18 @@ pub extern "C" fn dachreup_message_write(
         .saturating_add(marker.len())
         .saturating_add(payload.len());
     if body > LARGEST_MESSAGE {
-        return 20;
+        return WRITE_TOO_LARGE;
     }
     let head = message_head(code, token.len() as u32, body as u32);
     if buffer.len() < head.len() + token.len() + body {
-        return 16;
+        return NO_ROOM;
     }
     let at = put(buffer, 0, &head);
     let at = put(buffer, at, token);
     let at = put(buffer, at, options);
     let at = put(buffer, at, marker);
     *length = put(buffer, at, payload);
-    0
+    SUCCESS
 }
 
 /// Returns the parts of the message that a frame encodes.

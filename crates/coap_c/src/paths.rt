@@ -5,7 +5,7 @@ ghost use Rattle.std.specs.Prelude.{if◌then◌else◌, true, false, Some};
 ghost use Rattle.coap_c.specs.PathTexts.{text_segments, text_path, format_named, format_number, methods_named};
 ghost use Rattle.coap_c.specs.PathTexts.{listed_segments, listed_path, slashed, IsPathWritten};
 
-use crate::numbers::{NO_ROOM_FOR_PATH, NOT_A_PATH, SUCCESS};
+use crate::numbers::{NO_ROOM, NOT_A_PATH, SUCCESS};
 use crate::option_writing::put;
 use arrayvec::ArrayVec;
 use coap_path::PathKey;
@@ -104,7 +104,7 @@ fn names(text: &[u8], path: &PathKey) -> bool
 }
 
 /// Writes the text that names a path to the start of a buffer, and sets the number of its bytes. Returns `NOT_A_PATH`
-/// if no text names the path, or `NO_ROOM_FOR_PATH` if the text has more bytes than the buffer.
+/// if no text names the path, or `NO_ROOM` if the text has more bytes than the buffer.
 pub(crate) fn write_path(path: &PathKey, buffer: &mut [u8], length: &mut usize) -> u32
     ensures { IsPathWritten (Some path.now) buffer.old buffer.new length.old length.new result }
 {
@@ -114,7 +114,7 @@ pub(crate) fn write_path(path: &PathKey, buffer: &mut [u8], length: &mut usize) 
         return NOT_A_PATH;
     }
     if buffer.len() < text.len() {
-        return NO_ROOM_FOR_PATH;
+        return NO_ROOM;
     }
     *length = put(buffer, 0, text);
     SUCCESS

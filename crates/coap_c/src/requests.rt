@@ -4,7 +4,7 @@ ghost use Rattle.std.specs.Prelude.{◌≡◌, option_map};
 ghost use Rattle.coap_c.specs.RequestTexts as spec;
 ghost use Rattle.coap_request.specs.RequestViews.{extras_value};
 
-use crate::numbers::{NO_ROOM_FOR_HOST, SUCCESS, target_number};
+use crate::numbers::{NO_ROOM, SUCCESS, URI_URL, target_number};
 use crate::option_writing::put;
 use crate::paths::format_of;
 use coap_request::{Extras, Method, Target};
@@ -17,10 +17,8 @@ use std::str::from_utf8;
 pub struct Request {
     /// Detail of the method's code: 1 GET, 2 POST, 3 PUT, 4 DELETE.
     pub method: u32,
-    /// 1 to register as an observer, otherwise 0.
-    pub observe: u32,
-    /// 1 to send no Uri-Host, otherwise 0.
-    pub plain: u32,
+    /// Bit 0 to register as an observer, and bit 1 to send no Uri-Host.
+    pub flags: u32,
     /// Content-Format of the payload, or a number above 65,535 for none.
     pub content_format: u32,
     /// Content-Format of the Accept option, or a number above 65,535 for none.
@@ -41,7 +39,7 @@ pub struct Place {
 
 /// Reads a URI. Copies the host and a zero byte to the start of a buffer.
 #[unsafe(no_mangle)]
-pub extern "C" fn dachreup_target(
+pub extern "C" fn dachreup_raw_target(
     alloc: Global,
     uri: &[u8],
     host: &mut [u8],
@@ -55,7 +53,7 @@ pub extern "C" fn dachreup_target(
     };
     let name = target.host();
     if host.len() <= name.len() {
-        return NO_ROOM_FOR_HOST;
+        return NO_ROOM;
     }
     let end = put(host, 0, name);
     put(host, end, &[0]);
@@ -67,13 +65,12 @@ pub extern "C" fn dachreup_target(
     SUCCESS
 }
 
-/// Returns the method of a request and its extras, or `None` if the method or a flag has another value.
+/// Returns the method of a request and its extras, or `None` if the method or the flags have another value.
 pub(crate) fn asked<'a>(request: &Request, payload: &'a [u8]) -> Option<(Method, Extras<'a>)>
     ensures { option_map (λ x. (x.0, extras_value x.1)) result ≡ spec.asked request.now payload.now }
 {
     let method = method_of(request.method)?;
-    let observe = flag_of(request.observe)?;
-    let plain = flag_of(request.plain)?;
+    let (observe, plain) = flags_of(request.flags)?;
     let extras = Extras {
         observe,
         plain,
@@ -98,6 +95,20 @@ fn method_of(number: u32) -> Option<Method>
     }
 }
 
+/// Returns whether the flags register as an observer, and whether they send no Uri-Host. Returns `None` if another bit
+/// is set.
+fn flags_of(number: u32) -> Option<(bool, bool)>
+    ensures { result ≡ spec.flags_named number }
+{
+    match number {
+        0 => Some((false, false)),
+        1 => Some((true, false)),
+        2 => Some((false, true)),
+        3 => Some((true, true)),
+        _ => None,
+    }
+}
+
 /// Returns the flag with this number, 0 or 1.
 pub(crate) fn flag_of(number: u32) -> Option<bool>
     ensures { result ≡ spec.flag_named number }
@@ -118,7 +129,7 @@ pub(crate) fn target_of(alloc: Global, uri: &[u8]) -> Result<Target, u32>
     ensures { spec.GivesTarget uri.now result }
 {
     let Ok(text) = from_utf8(uri) else {
-        return Err(16);
+        return Err(URI_URL);
     };
     match Target::read(alloc, text) {
         Ok(target) => Ok(target),

@@ -2,8 +2,9 @@
 
 ghost use Rattle.coap_c.specs.PathTexts.{text_path, listed_path, format_named};
 ghost use Rattle.coap_c.specs.ServerCalls.{IsPut, IsRemoved, HasState};
+ghost use Rattle.coap_server_output.specs.Reports.{KeepsReported};
 
-use crate::numbers::{EMPTY, FIRST, NOT_A_PATH, SUCCESS, store_number};
+use crate::numbers::{EMPTY, NO_SUCH, NOT_A_PATH, SUCCESS, store_number};
 use crate::paths::{format_of, number_of_format, path_at, path_in};
 use crate::server_handle::ServerHandle;
 use coap_handle::{Span, span_of};
@@ -32,8 +33,9 @@ fn put_named(
     bytes: &[u8],
     version: &mut u64,
 ) -> u32
-    ensures { IsPut path (format_named format) bytes.now version.old version.new handle.old.value handle.new.value
+    ensures call { IsPut path (format_named format) bytes.now version.old version.new handle.old.value handle.new.value
         result }
+    ensures output { KeepsReported handle.old.value handle.new.value }
 {
     let Some(mut server) = handle.take_server(alloc) else {
         return EMPTY;
@@ -72,10 +74,10 @@ fn state_named(
     };
     if !key.kind().is_dynamic() {
         handle.put_back(server);
-        return FIRST;
+        return NO_SUCH;
     }
-    let answer = match server.state(&key) {
-        State::Absent => FIRST,
+    let answer = match server.engine.state(&key) {
+        State::Absent => NO_SUCH,
         State::Present(present) => {
             *state = ResourceState {
                 bytes: span_of(present.bytes()),
@@ -91,7 +93,8 @@ fn state_named(
 
 /// Removes the resource at the path that the program named, if it named one.
 fn remove_named(alloc: Global, handle: &mut ServerHandle, path: Option<PathKey>) -> u32
-    ensures { IsRemoved path handle.old.value handle.new.value result }
+    ensures call { IsRemoved path handle.old.value handle.new.value result }
+    ensures output { KeepsReported handle.old.value handle.new.value }
 {
     let Some(mut server) = handle.take_server(alloc) else {
         return EMPTY;
@@ -110,7 +113,7 @@ fn remove_named(alloc: Global, handle: &mut ServerHandle, path: Option<PathKey>)
 
 /// Stores a representation at the path that a text names, and gives its version.
 #[unsafe(no_mangle)]
-pub extern "C" fn dachreup_server_put(
+pub extern "C" fn dachreup_raw_server_put(
     alloc: Global,
     handle: &mut ServerHandle,
     path: &[u8],
@@ -118,15 +121,16 @@ pub extern "C" fn dachreup_server_put(
     bytes: &[u8],
     version: &mut u64,
 ) -> u32
-    ensures { IsPut (text_path path.now) (format_named format) bytes.now version.old version.new handle.old.value
+    ensures call { IsPut (text_path path.now) (format_named format) bytes.now version.old version.new handle.old.value
         handle.new.value result }
+    ensures output { KeepsReported handle.old.value handle.new.value }
 {
     put_named(alloc, handle, path_in(path), format, bytes, version)
 }
 
 /// Stores a representation at the path that a list of segments names, and gives its version.
 #[unsafe(no_mangle)]
-pub extern "C" fn dachreup_server_put_at(
+pub extern "C" fn dachreup_raw_server_put_at(
     alloc: Global,
     handle: &mut ServerHandle,
     segments: &[u8],
@@ -134,15 +138,16 @@ pub extern "C" fn dachreup_server_put_at(
     bytes: &[u8],
     version: &mut u64,
 ) -> u32
-    ensures { IsPut (listed_path segments.now) (format_named format) bytes.now version.old version.new
+    ensures call { IsPut (listed_path segments.now) (format_named format) bytes.now version.old version.new
         handle.old.value handle.new.value result }
+    ensures output { KeepsReported handle.old.value handle.new.value }
 {
     put_named(alloc, handle, path_at(segments), format, bytes, version)
 }
 
 /// Lends the representation stored at the path that a text names, until the next call on the handle.
 #[unsafe(no_mangle)]
-pub extern "C" fn dachreup_server_state(
+pub extern "C" fn dachreup_raw_server_state(
     alloc: Global,
     handle: &mut ServerHandle,
     path: &[u8],
@@ -155,7 +160,7 @@ pub extern "C" fn dachreup_server_state(
 
 /// Lends the representation stored at the path that a list of segments names, until the next call on the handle.
 #[unsafe(no_mangle)]
-pub extern "C" fn dachreup_server_state_at(
+pub extern "C" fn dachreup_raw_server_state_at(
     alloc: Global,
     handle: &mut ServerHandle,
     segments: &[u8],
@@ -168,24 +173,26 @@ pub extern "C" fn dachreup_server_state_at(
 
 /// Removes the resource at the path that a text names.
 #[unsafe(no_mangle)]
-pub extern "C" fn dachreup_server_remove(
+pub extern "C" fn dachreup_raw_server_remove(
     alloc: Global,
     handle: &mut ServerHandle,
     path: &[u8],
 ) -> u32
-    ensures { IsRemoved (text_path path.now) handle.old.value handle.new.value result }
+    ensures call { IsRemoved (text_path path.now) handle.old.value handle.new.value result }
+    ensures output { KeepsReported handle.old.value handle.new.value }
 {
     remove_named(alloc, handle, path_in(path))
 }
 
 /// Removes the resource at the path that a list of segments names.
 #[unsafe(no_mangle)]
-pub extern "C" fn dachreup_server_remove_at(
+pub extern "C" fn dachreup_raw_server_remove_at(
     alloc: Global,
     handle: &mut ServerHandle,
     segments: &[u8],
 ) -> u32
-    ensures { IsRemoved (listed_path segments.now) handle.old.value handle.new.value result }
+    ensures call { IsRemoved (listed_path segments.now) handle.old.value handle.new.value result }
+    ensures output { KeepsReported handle.old.value handle.new.value }
 {
     remove_named(alloc, handle, path_at(segments))
 }

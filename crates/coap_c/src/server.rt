@@ -1,20 +1,23 @@
 //! The calls of a server, for C. Each takes the server out of the handle, makes one call and puts the server back.
 
-ghost use Rattle.std.specs.Prelude.{◌≡◌, ◌≤◌, None, length, option_copied};
+ghost use Rattle.std.specs.Prelude.{◌≡◌, ◌≤◌, None, Some, length, option_copied};
 ghost use Rattle.coap_c.specs.Loans.{IsInPiece, LendsFrame};
 ghost use Rattle.coap_c.specs.ServerCalls.{IsMade, IsOpened, IsTaken, IsTookBytes, IsResponded, IsWritten, IsTicked};
 ghost use Rattle.coap_c.specs.ServerCalls.{IsEnded, IsReleased, IsDropped, IsAnnouncedTo, HasParts, HasStatus};
-ghost use Rattle.coap_c.specs.ServerCalls.{ShowsStatus};
+ghost use Rattle.coap_c.specs.ServerCalls.{IsTakenOn, ShowsStatus};
+ghost use Rattle.coap_server_engine.specs.Prelude.{LiesAt};
+ghost use Rattle.coap_server_output.specs.Reports.{KeepsReported};
 
 use crate::numbers::{
-    EMPTY, FIRST, MEMORY, OCCUPIED, SUCCESS, announce_number, handled_numbers, open_number,
-    phase_numbers, release_number, reply_number, response_number, written_number,
+    BACKWARDS, EMPTY, MEMORY, NO_SUCH, OCCUPIED, SUCCESS, announce_number, handled_numbers,
+    open_number, phase_numbers, release_number, reply_number, response_number, written_number,
 };
 use crate::server_handle::ServerHandle;
 use crate::settings::{Settings, configured};
 use coap_handle::{Parts, Span, span_of, span_within};
 use coap_model::{Status, TakeFault};
-use coap_server_engine::Server;
+use coap_server_engine::{ConnIndex, IndexSet, Server};
+use coap_server_output::PolledServer;
 use std::alloc::Global;
 
 /// Result of a `take`.
@@ -27,6 +30,9 @@ pub struct Took {
     pub handled: u32,
     /// Number of the reason of a stop, 1 to 13, or 0.
     pub reason: u32,
+    /// 1 if an allocation failed for the representation that the message stores, otherwise 0. The bytes before its last
+    /// one were accepted all the same.
+    pub memory: u32,
     /// Request that the application answers, or no bytes.
     pub request: Span,
     /// Request that stored or deleted a resource, or no bytes.
@@ -62,7 +68,8 @@ pub extern "C" fn dachreup_server_new(
     handle: &mut ServerHandle,
     settings: &Settings,
 ) -> u32
-    ensures { IsMade settings.now handle.old.value handle.new.value result }
+    ensures call { IsMade settings.now handle.old.value handle.new.value result }
+    ensures output { KeepsReported handle.old.value handle.new.value }
 {
     if let Some(server) = handle.take_server(alloc) {
         handle.put_back(server);
@@ -75,7 +82,7 @@ pub extern "C" fn dachreup_server_new(
     let Ok(server) = Server::new(alloc, config) else {
         return MEMORY;
     };
-    let Ok(boxed) = Box::new(alloc, server) else {
+    let Ok(boxed) = Box::new(alloc, PolledServer::new(server)) else {
         return MEMORY;
     };
     handle.put_back(boxed);
@@ -89,7 +96,8 @@ pub extern "C" fn dachreup_server_open(
     handle: &mut ServerHandle,
     id: &mut u64,
 ) -> u32
-    ensures { IsOpened id.old id.new handle.old.value handle.new.value result }
+    ensures call { IsOpened id.old id.new handle.old.value handle.new.value result }
+    ensures output { KeepsReported handle.old.value handle.new.value }
 {
     let Some(mut server) = handle.take_server(alloc) else {
         return EMPTY;
@@ -108,20 +116,40 @@ pub extern "C" fn dachreup_server_open(
 /// Accepts the first bytes of those that a connection received.
 #[unsafe(no_mangle)]
 #[tactic(auto, using(crate::proofs::LoanLemmas::handed_lies, crate::proofs::LoanLemmas::changing_lies))]
-pub extern "C" fn dachreup_server_take(
+pub extern "C" fn dachreup_raw_server_take(
     alloc: Global,
     handle: &mut ServerHandle,
     id: u64,
     piece: &[u8],
     took: &mut Took,
 ) -> u32
-    ensures { IsTaken id piece.entry took.new handle.old.value handle.new.value result }
+    ensures call { IsTaken id piece.entry took.new handle.old.value handle.new.value result }
+    ensures output { KeepsReported handle.old.value handle.new.value }
 {
     let Some(mut server) = handle.take_server(alloc) else {
-        *took = took_bytes(0);
+        *took = took_bytes(0, 0);
         return EMPTY;
     };
-    let answer = match server.take_request(id, piece) {
+    let Some(at) = server.engine.index_of(id) else {
+        handle.put_back(server);
+        *took = took_bytes(0, 0);
+        return NO_SUCH;
+    };
+    take_at(&mut server, ConnIndex { id, at }, piece, took);
+    handle.put_back(server);
+    SUCCESS
+}
+
+/// Accepts the first bytes of those that the connection at an index received. The connection is due, and so are those
+/// that the message concerns. If an allocation fails, all are due.
+#[tactic(auto, using(crate::proofs::LoanLemmas::handed_lies, crate::proofs::LoanLemmas::changing_lies))]
+fn take_at(server: &mut PolledServer, index: ConnIndex, piece: &[u8], took: &mut Took)
+    requires { LiesAt index.id index.at server.old.engine.sessions }
+    ensures taken { IsTakenOn index.id piece.entry took.new server.old.engine server.new.engine }
+    ensures output { KeepsReported (Some server.old) (Some server.new) }
+{
+    server.due.insert(index.at);
+    match server.engine.take_request_at(index, piece, &mut server.due) {
         Ok(taken) => {
             let (handled, reason) = handled_numbers(taken.taken.handled);
             let count = taken.taken.bytes;
@@ -129,22 +157,17 @@ pub extern "C" fn dachreup_server_take(
                 bytes: count,
                 handled,
                 reason,
+                memory: 0,
                 request: frame_span(piece, count, taken.frame),
                 changed: frame_span(piece, count, taken.changed),
             };
-            SUCCESS
         }
-        Err(TakeFault::NoSuch) => {
-            *took = took_bytes(0);
-            FIRST
-        }
+        Err(TakeFault::NoSuch) => unreachable!(),
         Err(TakeFault::Memory { bytes }) => {
-            *took = took_bytes(bytes);
-            MEMORY
+            server.due = IndexSet::full();
+            *took = took_bytes(bytes, 1);
         }
-    };
-    handle.put_back(server);
-    answer
+    }
 }
 
 /// Returns the place of a frame that the first `bytes` bytes of `piece` end, or of no bytes if there is none. A frame
@@ -167,14 +190,15 @@ fn frame_span(piece: &[u8], bytes: usize, frame: Option<&[u8]>) -> Span
     }
 }
 
-/// Returns the result of a `take` that accepted bytes and handled nothing.
-fn took_bytes(bytes: usize) -> Took
-    ensures { IsTookBytes bytes result }
+/// Returns the result of a `take` that accepted bytes and handled nothing. `memory` is 1 if an allocation failed.
+fn took_bytes(bytes: usize, memory: u32) -> Took
+    ensures { IsTookBytes bytes memory result }
 {
     Took {
         bytes,
         handled: 0,
         reason: 0,
+        memory,
         request: span_of(&[]),
         changed: span_of(&[]),
     }
@@ -182,14 +206,15 @@ fn took_bytes(bytes: usize) -> Took
 
 /// Queues a response of the application, and gives what was queued.
 #[unsafe(no_mangle)]
-pub extern "C" fn dachreup_server_respond(
+pub extern "C" fn dachreup_raw_server_respond(
     alloc: Global,
     handle: &mut ServerHandle,
     id: u64,
     response: &[u8],
     reply: &mut u32,
 ) -> u32
-    ensures { IsResponded id response.now reply.old reply.new handle.old.value handle.new.value result }
+    ensures call { IsResponded id response.now reply.old reply.new handle.old.value handle.new.value result }
+    ensures output { KeepsReported handle.old.value handle.new.value }
 {
     let Some(mut server) = handle.take_server(alloc) else {
         return EMPTY;
@@ -218,8 +243,8 @@ pub extern "C" fn dachreup_server_parts(
     let Some(server) = handle.take_server(alloc) else {
         return EMPTY;
     };
-    let answer = match server.parts(id) {
-        None => FIRST,
+    let answer = match server.engine.parts(id) {
+        None => NO_SUCH,
         Some((first, second)) => {
             *parts = Parts {
                 first: span_of(first),
@@ -240,7 +265,8 @@ pub extern "C" fn dachreup_server_written(
     id: u64,
     count: usize,
 ) -> u32
-    ensures { IsWritten id count handle.old.value handle.new.value result }
+    ensures call { IsWritten id count handle.old.value handle.new.value result }
+    ensures output { KeepsReported handle.old.value handle.new.value }
 {
     let Some(mut server) = handle.take_server(alloc) else {
         return EMPTY;
@@ -256,33 +282,36 @@ pub extern "C" fn dachreup_server_written(
 /// Sets the time, in seconds.
 #[unsafe(no_mangle)]
 pub extern "C" fn dachreup_server_tick(alloc: Global, handle: &mut ServerHandle, now: u64) -> u32
-    ensures { IsTicked now handle.old.value handle.new.value result }
+    ensures call { IsTicked now handle.old.value handle.new.value result }
+    ensures output { KeepsReported handle.old.value handle.new.value }
 {
     let Some(mut server) = handle.take_server(alloc) else {
         return EMPTY;
     };
     let answer = server.tick(now);
     handle.put_back(server);
-    if answer.is_ok() { SUCCESS } else { FIRST }
+    if answer.is_ok() { SUCCESS } else { BACKWARDS }
 }
 
 /// Records the end of the input of a connection.
 #[unsafe(no_mangle)]
 pub extern "C" fn dachreup_server_ended(alloc: Global, handle: &mut ServerHandle, id: u64) -> u32
-    ensures { IsEnded id handle.old.value handle.new.value result }
+    ensures call { IsEnded id handle.old.value handle.new.value result }
+    ensures output { KeepsReported handle.old.value handle.new.value }
 {
     let Some(mut server) = handle.take_server(alloc) else {
         return EMPTY;
     };
     let answer = server.ended(id);
     handle.put_back(server);
-    if answer.is_ok() { SUCCESS } else { FIRST }
+    if answer.is_ok() { SUCCESS } else { NO_SUCH }
 }
 
 /// Queues a Release on a connection.
 #[unsafe(no_mangle)]
 pub extern "C" fn dachreup_server_release(alloc: Global, handle: &mut ServerHandle, id: u64) -> u32
-    ensures { IsReleased id handle.old.value handle.new.value result }
+    ensures call { IsReleased id handle.old.value handle.new.value result }
+    ensures output { KeepsReported handle.old.value handle.new.value }
 {
     let Some(mut server) = handle.take_server(alloc) else {
         return EMPTY;
@@ -298,14 +327,15 @@ pub extern "C" fn dachreup_server_release(alloc: Global, handle: &mut ServerHand
 /// Removes a connection.
 #[unsafe(no_mangle)]
 pub extern "C" fn dachreup_server_drop(alloc: Global, handle: &mut ServerHandle, id: u64) -> u32
-    ensures { IsDropped id handle.old.value handle.new.value result }
+    ensures call { IsDropped id handle.old.value handle.new.value result }
+    ensures output { KeepsReported handle.old.value handle.new.value }
 {
     let Some(mut server) = handle.take_server(alloc) else {
         return EMPTY;
     };
     let answer = server.drop_conn(id);
     handle.put_back(server);
-    if answer.is_ok() { SUCCESS } else { FIRST }
+    if answer.is_ok() { SUCCESS } else { NO_SUCH }
 }
 
 /// Announces a size as the largest message accepted on a connection.
@@ -316,7 +346,8 @@ pub extern "C" fn dachreup_server_announce(
     id: u64,
     size: u32,
 ) -> u32
-    ensures { IsAnnouncedTo id size handle.old.value handle.new.value result }
+    ensures call { IsAnnouncedTo id size handle.old.value handle.new.value result }
+    ensures output { KeepsReported handle.old.value handle.new.value }
 {
     let Some(mut server) = handle.take_server(alloc) else {
         return EMPTY;
@@ -342,10 +373,10 @@ pub extern "C" fn dachreup_server_status(
     let Some(server) = handle.take_server(alloc) else {
         return EMPTY;
     };
-    let found = server.status(id);
+    let found = server.engine.status(id);
     handle.put_back(server);
     match found {
-        None => FIRST,
+        None => NO_SUCH,
         Some(found) => {
             *status = status_of(&found);
             SUCCESS

@@ -4,12 +4,12 @@ ghost use Rattle.std.specs.Prelude.{◌≡◌, None, Some};
 ghost use Rattle.std.specs.Option.{MatchOption};
 ghost use Rattle.std.specs.Coded.{coded_option};
 ghost use Rattle.std.specs.declared.option.Option.{Option};
-ghost use Rattle.coap_server_engine.specs.values.Servers.{ServerValue};
-ghost use Rattle.coap_server_engine.specs.contracts.server.Server.{the_row as server_row};
+ghost use Rattle.coap_server_output.specs.declared.polled_server.PolledServer.{PolledServer as Polled};
+ghost use Rattle.coap_server_output.specs.contracts.polled_server.PolledServer.{the_row as server_row};
 ghost use Rattle.coap_c.specs.Slots.{server_slot};
 
 use coap_handle::BoxParts;
-use coap_server_engine::Server;
+use coap_server_output::PolledServer;
 use std::alloc::Global;
 use std::marker::Model;
 use std::mem::replace;
@@ -20,7 +20,7 @@ use std::ptr::null_mut;
 #[derive(Drop)]
 pub struct ServerHandle {
     at: *mut u8,
-    pub ghost value: { Option ServerValue } by { coded_option server_row.coded },
+    pub ghost value: { Option Polled } by { coded_option server_row.coded },
 }
 
 impl Model for ServerHandle {
@@ -36,7 +36,7 @@ impl ServerHandle {
     }
 
     /// Returns the handle of a server.
-    pub(crate) fn of(server: BoxParts<Server, Global>) -> ServerHandle
+    pub(crate) fn of(server: BoxParts<PolledServer, Global>) -> ServerHandle
         ensures { result.value ≡ Some server.value }
     {
         let BoxParts { at, alloc: _ } = server;
@@ -44,7 +44,7 @@ impl ServerHandle {
     }
 
     /// Returns the server of a handle, or `None` if the handle has none.
-    pub(crate) fn into_parts(self, alloc: Global) -> Option<BoxParts<Server, Global>>
+    pub(crate) fn into_parts(self, alloc: Global) -> Option<BoxParts<PolledServer, Global>>
         ensures { MatchOption result (self.value ≡ None) (λ parts. self.value ≡ Some parts.value) }
     {
         let ServerHandle { at } = self;
@@ -52,14 +52,14 @@ impl ServerHandle {
             None
         } else {
             Some(BoxParts {
-                at: at as *mut Server,
+                at: at as *mut PolledServer,
                 alloc,
             })
         }
     }
 
     /// Takes the server out of a handle, which is empty then. Returns `None` if the handle has none.
-    pub(crate) fn take_server(&mut self, alloc: Global) -> Option<Box<Server>>
+    pub(crate) fn take_server(&mut self, alloc: Global) -> Option<Box<PolledServer>>
         ensures value { MatchOption result (self.old.value ≡ None) (λ server. self.old.value ≡ Some server.value) }
         ensures empty { self.new.value ≡ None }
     {
@@ -68,7 +68,7 @@ impl ServerHandle {
     }
 
     /// Puts a server into a handle that is empty.
-    pub(crate) fn put_back(&mut self, server: Box<Server>)
+    pub(crate) fn put_back(&mut self, server: Box<PolledServer>)
         ensures { self.new.value ≡ Some server.value }
     {
         *self = ServerHandle::of(BoxParts::of(server));

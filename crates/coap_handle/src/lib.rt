@@ -7,9 +7,11 @@
 ghost use Rattle.std.specs.Prelude.{◌≡◌};
 ghost use Rattle.std_alloc.specs.Box.Ownership.{box_owns};
 
+mod places;
 mod span;
 
-pub use span::{Parts, Span, span_of, span_within};
+pub use places::{span_of, span_within};
+pub use span::{Parts, Span};
 use std::alloc::Allocator;
 use std::marker::Model;
 

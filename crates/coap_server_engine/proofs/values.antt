@@ -13,3 +13,4 @@ pub mod DueAtOnceLemmas
 pub mod IndexSetLemmas
 pub mod ConcernedLemmas
 pub mod WorkLemmas
+pub mod DeadlineLemmas

@@ -148,7 +148,8 @@ pub use Rattle.coap_server_engine.specs.declared.index_set.IndexSet.{IndexSet}
 pub use Rattle.coap_server_engine.specs.declared.server.concerned.Concerned.{Concerned}
 pub use Rattle.coap_server_session.specs.values.Causes.{may_concern, last_hash}
 pub use Rattle.coap_server_engine.specs.values.ServerDeadlines.{WaitsForDeadlines, outlook_of, KeepsWork, KeepsOthers}
-pub use Rattle.coap_server_engine.specs.values.ServerDeadlines.{AddsAffected}
+pub use Rattle.coap_server_engine.specs.values.ServerDeadlines.{AddsAffected, OnlyTimePasses, next_deadline}
+unfoldable pub use Rattle.coap_server_engine.specs.values.ServerDeadlines.{earliest_deadline}
 pub use Rattle.coap_server_engine.specs.values.Servers.{config_with, new_server, server_put, server_removed}
 pub use Rattle.coap_server_engine.specs.values.Servers.{server_ticked, AreSettled}
 pub use Rattle.coap_server_engine.specs.values.Servers.{server_dropped, ServerValue, LiesAt, server_opened}

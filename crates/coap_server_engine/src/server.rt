@@ -129,6 +129,8 @@ impl Server {
         ensures shows { IfOk result (λ s. Shows s []) }
     {
         let starts = config.starts();
+        let sets = Concerned::new(alloc)?;
+        let sessions = IndexMap::with_capacity(alloc, config.connections())?;
         let host = ServerState::open(
             alloc,
             config.dynamic_max(),
@@ -141,8 +143,8 @@ impl Server {
             config,
             host,
             ids: starts.ids,
-            sessions: IndexMap::with_capacity(alloc, config.connections())?,
-            sets: Concerned::new(alloc)?,
+            sessions,
+            sets,
             recent: 0,
         })
     }

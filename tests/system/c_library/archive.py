@@ -29,4 +29,4 @@ def build_archive():
                        stdout=subprocess.DEVNULL)
         if not os.path.isdir(kept):
             os.rename(f"{room}/kept", kept)
-    return f"{ROOT}/bin/libcoap_proved.a"
+    return f"{ROOT}/bin/libdachreup.a"

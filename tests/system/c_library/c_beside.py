@@ -1,4 +1,4 @@
-"""Checks the example client beside other servers, and the C library beside libcoap's."""
+"""Checks the example client beside other servers, the example of a socketpair, and the C library beside libcoap's."""
 
 import subprocess
 
@@ -29,6 +29,23 @@ def check_client(checks, clients, server, example):
     for client in clients:
         for uri in ("x", "coap://127.0.0.1/a", f"coap+tcp://127.0.0.1:{free_port('127.0.0.1')}/a"):
             checks.same(f"{client[0]} fails at {uri}", run([*client, uri]).returncode, 2)
+
+
+# Output of examples/c/socketpair.c: the time, the kind of the event and the message.
+EXCHANGED = """0 s: event 1, code 0.00
+0 s: event 3, code 2.05 20
+0 s: event 3, code 2.05 21
+0 s: event 2, code 2.05 done
+10 s: event 2, code 5.04
+10 s: event 6, code 0.00
+"""
+
+
+def check_socketpair(checks, words):
+    """Runs the example with a server and a client in one process."""
+    ran = run(words)
+    said = "".join(f"{line.rstrip()}\n" for line in ran.stdout.decode().splitlines())
+    checks.same(f"a socketpair {words[0]}", (ran.returncode, said, ran.stderr), (0, EXCHANGED, b""))
 
 
 def check_libcoap(checks, archive, driver, room):

@@ -1,28 +1,46 @@
-"""Checks the header of the C library: its numbers and its names."""
+"""Checks the header of the C library: its numbers, its names and its texts; and the names in the archive."""
 
 import pathlib
 import re
 
 import rows
 from c_examples import run
-from c_programs import STRICT
+from c_programs import C, CPP, EXAMPLES, STRICT
 from workspace import ROOT
 
 PREFIX = "dachreup_"
 
+HEADER = f"{ROOT}/include/dachreup.h"
+
 # The definitions of the specs that number the constants of the header: the beginning of their names there.
-PREFIXES = {"limit": "", "config": "", "open": "", "written": "", "store": "", "release": "RELEASE_",
-            "announce": "ANNOUNCE_", "handled": "", "phase": "PHASE_", "request": "REQUEST_", "format": "FRAME_",
-            "target": "URI_", "response": "RESPOND_", "reply": "REPLY_", "entry": "APPLICATION_"}
+PREFIXES = {"limit": "", "config": "", "open": "", "written": "", "store": "", "release": "", "announce": "ANNOUNCE_",
+            "handled": "HANDLED_", "phase": "PHASE_", "request": "REQUEST_", "format": "FRAME_", "target": "URI_",
+            "response": "", "reply": "REPLY_", "entry": "APPLICATION_", "send": ""}
 
 # Variants with another name in the header.
-RENAMED = {"config.Dynamic": "DYNAMIC_MAX", "config.Representation": "REP_MAX",
-           "format.NotOneFrame": "FRAME_NOT_ONE", "reason.Format": "BAD_MESSAGE",
-           "reason.TooLarge": "MESSAGE_TOO_LARGE", "reason.TokenLength": "BAD_TOKEN_LENGTH"}
+RENAMED = {"config.Dynamic": "DYNAMIC_MAX", "config.Representation": "REP_MAX", "format.NotOneFrame": "FRAME_NOT_ONE",
+           "reason.Format": "REASON_BAD_MESSAGE", "reason.TooLarge": "REASON_MESSAGE_TOO_LARGE",
+           "reason.TokenLength": "REASON_BAD_TOKEN_LENGTH", "release.NoRoom": "QUEUE_FULL",
+           "announce.NoRoom": "QUEUE_FULL", "request.NoRoom": "QUEUE_FULL", "response.NoRoom": "QUEUE_FULL",
+           "send.NoRoom": "QUEUE_FULL"}
+
+# A variant that no call from C has.
+UNNAMED = ("config.Turns",)
 
 # Constants that no definition numbers by a variant, and whose number no program of these tests compares with that of a
 # call.
-OTHERS = {"OK": 0, "EVENT_NONE": 0, "NO_FORMAT": 65536, "PATH_ROOM": 254}
+OTHERS = {"OK": 0, "EVENT_NONE": 0, "NO_FORMAT": 65536, "PATH_ROOM": 254, "OBSERVE": 1, "PLAIN": 2}
+
+# Functions of the C library that the archive may call, and its only variable. Nothing reads or writes that one: its
+# address stands for an allocation that failed.
+CALLED = {"malloc", "realloc", "free", "memcpy", "memmove", "memset"}
+VARIABLES = {"nothing"}
+
+# Most lines of the examples, and most columns.
+LINES, COLUMNS = {"client.c": 120, "pool.c": 60, "server.c": 150, "socketpair.c": 120}, 100
+
+# Functions of the header, and whether they are inline.
+FUNCTION = re.compile(r"(static inline )?(?:dachreup_result|void|const char|struct dachreup_\w+)\s+\*?(dachreup_\w+)\(")
 
 
 def spec_numbers():
@@ -35,7 +53,7 @@ def spec_numbers():
     found = [(f"{name}.{variant}", int(number), (f"{PREFIXES[name]}{snake(variant)}", snake(variant)))
              for name, variant, number in re.findall(r"^(\w+)_code \(?\w+\.(\w+)[^=\n]*= (\d+)$",
                                                      text("coap_c/specs/Numbers.antt"), re.M)]
-    found += [(f"reason.{variant}", int(number), (snake(variant),))
+    found += [(f"reason.{variant}", int(number), (f"REASON_{snake(variant)}",))
               for variant, number in re.findall(r"^reason_number \(?(\w+)[^=\n]*= (\d+)$",
                                                 text("coap_conn/specs/Reasons.antt"), re.M)]
     found += [(f"event.{variant}", int(number), (f"EVENT_{snake(variant)}",))
@@ -44,7 +62,7 @@ def spec_numbers():
     found += [(f"method.{variant}", int(number), (snake(variant),))
               for number, variant in re.findall(r"n == (\d) then Some method\.(\w+)",
                                                 text("coap_c/specs/RequestTexts.antt"))]
-    return found
+    return [it for it in found if it[0] not in UNNAMED]
 
 
 def check_numbers(checks, header):
@@ -66,14 +84,43 @@ def check_numbers(checks, header):
 
 
 def check_names(checks, archive):
-    """Checks the names that the archive exports, the header, and the lengths of the examples."""
-    listed = run(["nm", "--defined-only", "--extern-only", archive]).stdout.decode().splitlines()
-    names = [line.split()[2] for line in listed if len(line.split()) == 3]
-    checks.same("exported names", [it for it in names if not it.startswith(PREFIX)], [])
-    header = pathlib.Path(f"{ROOT}/include/coap_proved.h").read_text(encoding="utf-8")
-    checks.same("names in the header", [it for it in names if f"{it}(" not in header], [])
-    compiles = run(["g++", "-fsyntax-only", *STRICT, "-x", "c++", f"{ROOT}/include/coap_proved.h"])
-    checks.same("header in C++", compiles.returncode, 0)
+    """Compares the names that the archive exports with the functions of the header, and checks that it needs no other
+    functions and has no variable."""
+    header = pathlib.Path(HEADER).read_text(encoding="utf-8")
+    def names(*words):
+        return [line.split()[-2:] for line in run(["nm", *words, archive]).stdout.decode().splitlines()
+                if line and not line.endswith(":")]
+    exported = {name for _, name in names("--defined-only", "--extern-only")}
+    declared = {name for inline, name in FUNCTION.findall(header) if not inline}
+    checks.same("functions of the header", len(declared) > 40, True)
+    checks.same("exported names", exported, declared)
+    checks.same("functions that the archive needs", {name for _, name in names("--undefined-only")} - exported, CALLED)
+    listed = header.partition(" * WHAT")[0]
+    checks.same("functions that the header lists", {it for it in CALLED if it in listed}, CALLED)
+    checks.same("variables in the archive", {name for kind, name in names("--defined-only") if kind in "bBcCdD"},
+                VARIABLES)
     check_numbers(checks, header)
-    for path in sorted(pathlib.Path(f"{ROOT}/examples/c").glob("*.c")):
-        checks.same(f"{path.name} has less than 150 lines", path.read_text(encoding="utf-8").count("\n") < 150, True)
+
+
+def check_texts(checks):
+    """Checks the version of the header, that compilers accept it, and the lengths of the examples."""
+    header = pathlib.Path(HEADER).read_text(encoding="utf-8")
+    version = pathlib.Path(f"{ROOT}/VERSION").read_text(encoding="utf-8").strip()
+    checks.same("version of the header", re.findall(r'#define DACHREUP_VERSION "(.*)"', header), [version])
+    for words in (["gcc", "-std=c99", "-x", "c"], [*C, "-x", "c"], ["g++", "-std=c++11", "-x", "c++"], CPP):
+        compiles = run([*words, "-fsyntax-only", *STRICT, "-Wshadow", HEADER])
+        checks.same(f"header by {' '.join(words)}", (compiles.returncode, compiles.stderr), (0, b""))
+    for path in sorted(pathlib.Path(EXAMPLES).glob("*.c")):
+        lines = path.read_text(encoding="utf-8").splitlines()
+        checks.same(f"lines of {path.name}", len(lines) < LINES[path.name], True)
+        checks.same(f"columns of {path.name}", [it for it in lines if len(it) > COLUMNS], [])
+
+
+def check_memory(checks, words):
+    """Compares the bytes of the smallest server and the smallest client with those that the header states."""
+    header = " ".join(pathlib.Path(HEADER).read_text(encoding="utf-8").split("\n * "))
+    stated = re.search(r"the smallest server allocates ([\d,]+) bytes, and the smallest client ([\d,]+)", header)
+    ran = run(words)
+    wanted = "server %s\nclient %s\n" % tuple(it.replace(",", "") for it in stated.groups()) if stated else "none"
+    checks.same(f"bytes that are allocated {words[0]}", (ran.returncode, ran.stdout.decode(), ran.stderr),
+                (0, wanted, b""))

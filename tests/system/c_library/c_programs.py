@@ -9,9 +9,11 @@ from workspace import ROOT
 
 PROCESSORS = len(os.sched_getaffinity(0))
 
-STRICT = ["-pedantic-errors", "-Wall", "-Wextra", "-Werror"]
+STRICT = ["-pedantic-errors", "-Wall", "-Wextra", "-Wconversion", "-Werror"]
 
-WARNINGS = ["-std=c11", "-D_POSIX_C_SOURCE=200809L", *STRICT, "-g", f"-I{ROOT}/include"]
+WARNINGS = ["-D_POSIX_C_SOURCE=200809L", *STRICT, "-g", f"-I{ROOT}/include"]
+
+C, CPP = ["gcc", "-std=c11"], ["g++", "-std=c++17", "-x", "c++"]
 
 SANITIZED = ["-fsanitize=address,undefined", "-fno-sanitize-recover=all"]
 
@@ -21,37 +23,54 @@ FAILING = [*(f"-D{name}={'__wrap_' + name}" for name in ("malloc", "realloc")),
 
 VALGRIND = ["valgrind", "--quiet", "--leak-check=full", "--show-leak-kinds=all", "--error-exitcode=9"]
 
+EXAMPLES = f"{ROOT}/examples/c"
 
-def compiled(checks, source, libraries, target, flags=()):
-    made = run(["gcc", *WARNINGS, *flags, source, *libraries, "-o", target])
-    checks.same(f"compiles {os.path.basename(source)} {' '.join(flags)}", (made.returncode, made.stderr), (0, b""))
-    return target
+# The static pool, in a size that is enough for all programs, and in one that is not.
+POOL, LARGE, SMALL = [f"{EXAMPLES}/pool.c"], "-DUNITS=131072", "-DUNITS=1024"
 
+# The ways in which programs are compiled: the compiler, further sources, and options.
+WAYS = {
+    "plain": (C, [], []),
+    "sanitized": (C, [], SANITIZED),
+    "c++": (CPP, [], SANITIZED),
+    "failing": (C, [f"{rows.HARNESS}/fail_malloc.c"], [*SANITIZED, *FAILING, "-Wno-conversion"]),
+    "pooled": (C, POOL, [*SANITIZED, LARGE]),
+    "unsanitized": (C, POOL, [LARGE]),
+    "small": (C, POOL, [*SANITIZED, SMALL]),
+}
 
 # The programs: their sources, and the ways in which they are compiled.
-EXAMPLES, USUAL = f"{ROOT}/examples/c", ("plain", "sanitized")
+USUAL = ("plain", "sanitized")
 SOURCES = {
-    "driver": (f"{rows.HARNESS}/c_library.c", (*USUAL, "failing")),
-    "pair": (f"{rows.HARNESS}/c_client.c", (*USUAL, "failing")),
+    "driver": (f"{rows.HARNESS}/c_library.c", (*USUAL, "failing", "pooled", "small")),
+    "pair": (f"{rows.HARNESS}/c_client.c", (*USUAL, "failing", "pooled")),
     "script": (f"{rows.HARNESS}/c_script.c", USUAL),
-    "server": (f"{EXAMPLES}/server.c", USUAL),
-    "client": (f"{EXAMPLES}/client.c", USUAL),
+    "habits": (f"{rows.HARNESS}/c_habits.c", (*USUAL, "c++")),
+    "output": (f"{rows.HARNESS}/c_output.c", USUAL),
+    "memory": (f"{rows.HARNESS}/c_memory.c", USUAL),
+    "server": (f"{EXAMPLES}/server.c", (*USUAL, "c++")),
+    "client": (f"{EXAMPLES}/client.c", (*USUAL, "c++")),
+    "socketpair": (f"{EXAMPLES}/socketpair.c", (*USUAL, "c++", "pooled", "unsanitized")),
 }
+
+
+def compiled(checks, source, libraries, target, compiler=C, flags=()):
+    words = [*compiler, *WARNINGS, *flags, source]
+    made = run([*words, *(["-x", "none"] if compiler is CPP else []), *libraries, "-o", target])
+    checks.same(f"compiles {os.path.basename(source)} {' '.join([*compiler, *flags])}", (made.returncode, made.stderr),
+                (0, b""))
+    return target
 
 
 def build(checks, archive, room):
     """Compiles the programs. Returns the commands that run them, by the names of the program and of the way; `valgrind`
     runs the plain one."""
-    kinds = {
-        "plain": ([archive], ()), "sanitized": ([archive], SANITIZED),
-        "failing": ([f"{rows.HARNESS}/fail_malloc.c", archive], [*SANITIZED, *FAILING]),
-    }
     found, jobs = {}, []
     for name, (source, ways) in SOURCES.items():
         for way in ways:
-            libraries, flags = kinds[way]
+            compiler, sources, flags = WAYS[way]
             found[name, way] = [f"{room}/{name}-{way}"]
-            jobs.append((compiled, source, libraries, f"{room}/{name}-{way}", flags))
+            jobs.append((compiled, source, [*sources, archive], f"{room}/{name}-{way}", compiler, flags))
         found[name, "valgrind"] = [*VALGRIND, f"{room}/{name}-plain"]
     checks.add(side_by_side(jobs, PROCESSORS))
     return found
@@ -59,4 +78,4 @@ def build(checks, archive, room):
 
 def check_ended(checks, words):
     ran = run(words)
-    checks.same(f"{words[-1]} {words[0]}", (ran.returncode, ran.stdout, ran.stderr), (0, b"", b""))
+    checks.same(f"{' '.join(words[1:])} {words[0]}", (ran.returncode, ran.stdout, ran.stderr), (0, b"", b""))

@@ -71,9 +71,9 @@ def check_flags(checks, program):
             os.symlink(f"{ROOT}/{name}", f"{folder}/{name}")
         for name in ("bin", "crates"):
             os.mkdir(f"{folder}/{name}")
-        os.symlink(f"{os.path.dirname(program)}/libcoap_proved.a", f"{folder}/bin/libcoap_proved.a")
+        os.symlink(f"{os.path.dirname(program)}/libdachreup.a", f"{folder}/bin/libdachreup.a")
         flags = ["CPPFLAGS=-Wdate-time -D_FORTIFY_SOURCE=3", "CFLAGS=-g -O2 -Werror=format-security"]
-        built = run(["make", "-C", folder, "--silent", "-o", "bin/libcoap_proved.a", "bin/coap-mqtt", *flags],
+        built = run(["make", "-C", folder, "--silent", "-o", "bin/libdachreup.a", "bin/coap-mqtt", *flags],
                     COMPILING)
         checks.same("remarks of the compiler", (built.returncode, built.stderr), (0, ""))
         for of in (program, f"{folder}/bin/coap-mqtt"):

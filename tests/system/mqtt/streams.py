@@ -91,7 +91,7 @@ def check_noise(checks, program):
 
 def check_frames(checks, program):
     """Compares the splitting of frames with that of the proved library, on bytes at random."""
-    archive = os.path.join(os.path.dirname(program), "libcoap_proved.a")
+    archive = os.path.join(os.path.dirname(program), "libdachreup.a")
     with tempfile.TemporaryDirectory(prefix="coap-mqtt-") as folder:
         line = ["gcc", "-std=c11", "-Wall", "-Wextra", "-Werror", f"-I{SOURCES}", f"-I{ROOT}/include"]
         sources = [f"{HARNESS}/mqtt_frames.c", f"{SOURCES}/screen.c", archive, "-o", f"{folder}/frames"]

@@ -36,7 +36,7 @@ def copy_tree(tree, programs, archive):
     for name, program in zip(PROGRAMS, programs):
         shutil.copyfile(program, os.path.join(tree, "bin", name))
         os.chmod(os.path.join(tree, "bin", name), 0o755)
-    shutil.copyfile(archive, os.path.join(tree, "bin/libcoap_proved.a"))
+    shutil.copyfile(archive, os.path.join(tree, "bin/libdachreup.a"))
 
 
 def make_deb(checks, tree, wanted, mask=0o022):

@@ -19,13 +19,13 @@ from workspace import ROOT
 
 # The text of each manual's first section.
 TITLES = {
-    "coap-server": "CoAP server over TCP",
-    "coap-client": "CoAP client over TCP",
-    "coap-explain": "explain a record of a CoAP server",
-    "coap-directory": "CoRE resource directory over TCP",
-    "dachreup": "logs, silent connections, scripts and records of the CoAP programs",
-    "coap_proved": "server and client engines for CoAP over TCP (RFC 8323), as a C library",
-    "coap-mqtt": "CoAP over TCP for the retained messages of an MQTT broker",
+    "coap-server.1": "CoAP server over TCP",
+    "coap-client.1": "CoAP client over TCP",
+    "coap-explain.1": "explain a record of a CoAP server",
+    "coap-directory.1": "CoRE resource directory over TCP",
+    "dachreup.7": "logs, silent connections, scripts and records of the CoAP programs",
+    "dachreup.3": "server and client engines for CoAP over TCP (RFC 8323), as a C library",
+    "coap-mqtt.1": "CoAP over TCP for the retained messages of an MQTT broker",
 }
 
 # Folders in which the installation may create files, folders and links.
@@ -91,11 +91,12 @@ def check_served(checks, name, port):
 
 def check_manuals(checks, names):
     """Checks that `man` finds the installed manuals, if it exists."""
-    for name in names if shutil.which("man") else ():
+    for page in names if shutil.which("man") else ():
+        name, _, part = page.partition(".")
         environment = dict(os.environ, MANPAGER="cat", MANWIDTH="100", LC_ALL="C.UTF-8")
-        status, said = run(["man", "-M", "/usr/share/man", name], env=environment)
-        checks.same("man %s" % name, (status, re.findall(r"(?m)^ +(\S+) \S (%s)$" % re.escape(TITLES[name]), said)),
-                    (0, [(name, TITLES[name])]))
+        status, said = run(["man", "-M", "/usr/share/man", part, name], env=environment)
+        checks.same("man %s" % page, (status, re.findall(r"(?m)^ +(\S+) \S (%s)$" % re.escape(TITLES[page]), said)),
+                    (0, [(name, TITLES[page])]))
 
 
 def check_compiled(checks, client):
@@ -104,10 +105,10 @@ def check_compiled(checks, client):
     environment = {name: value for name, value in os.environ.items() if not name.startswith("PKG_CONFIG")}
     for word, wanted in {"--modversion": version(), "--variable=libdir": here(LIBRARIES),
                          "--variable=includedir": "/usr/include"}.items():
-        checks.same("pkg-config %s" % word, run(["pkg-config", word, "coap_proved"], env=environment),
+        checks.same("pkg-config %s" % word, run(["pkg-config", word, "dachreup"], env=environment),
                     (0, wanted + "\n"))
     with tempfile.TemporaryDirectory() as folder:
-        [line] = re.findall(r"(?m)^\.Dl (cc program\.c .*)$", read(ROOT, "man/coap_proved.3"))
+        [line] = re.findall(r"(?m)^\.Dl (cc program\.c .*)$", read(ROOT, "man/dachreup.3"))
         command = line.replace("program.c", "-std=c11 -Wall -Wextra -Werror -o server %s" % EXAMPLE)
         compiled = run(["sh", "-c", command], cwd=folder, env=environment)
         checks.same("the installed example is compiled", compiled, (0, ""))
@@ -145,7 +146,7 @@ def check_life(checks, package, higher):
                 [path for path in libcoap if path.startswith("/usr/bin/") and not os.path.exists(path)], [])
     checks.same("the unit is disabled", os.path.lexists(ENABLED), False)
     checks.same("command of the unit without options", unit_command(), ["/usr/bin/coap-server"])
-    check_manuals(checks, [*PROGRAMS, "dachreup"])
+    check_manuals(checks, [*(f"{name}.1" for name in PROGRAMS), "dachreup.7"])
 
     changed = read(OPTIONS) + 'COAP_SERVER_OPTIONS="-A %s -p %d %s"\n' % (LOCAL, port, " ".join(STORES))
     write(changed, OPTIONS)
@@ -163,7 +164,7 @@ def check_life(checks, package, higher):
 def check_library_life(checks, package, higher, client):
     """Installs the package of the C library, compiles and runs its example, upgrades it, removes it and purges it."""
     check_installed(checks, LIBRARY, package)
-    check_manuals(checks, ["coap_proved"])
+    check_manuals(checks, ["dachreup.3"])
     check_compiled(checks, client)
     check_upgraded(checks, LIBRARY, higher)
     check_ended(checks, LIBRARY, [])
@@ -172,7 +173,7 @@ def check_library_life(checks, package, higher, client):
 def check_gateway_life(checks, package, higher):
     """Installs the package of the gateway, runs its program, changes its options, upgrades, removes and purges it."""
     check_installed(checks, GATEWAY, package)
-    check_manuals(checks, ["coap-mqtt"])
+    check_manuals(checks, ["coap-mqtt.1"])
     checks.same("the installed gateway", run(["/usr/bin/coap-mqtt", "--version"]), (0, "coap-mqtt %s\n" % version()))
     checks.same("no gateway is enabled", os.path.lexists(GATEWAY_ENABLED), False)
     changed = read(GATEWAY_OPTIONS) + 'COAP_MQTT_BROKER="--broker-port 1884"\n'

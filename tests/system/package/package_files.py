@@ -30,13 +30,14 @@ RECORDS = "/var/lib/systemd/deb-systemd-helper-enabled"
 LEFTOVERS = [OPTIONS, GATEWAY_OPTIONS, ENABLED, GATEWAY_ENABLED, RECORDS + "/coap-server.service.dsh-also",
              RECORDS + "/multi-user.target.wants/coap-server.service"]
 
-EXAMPLE = "/usr/share/doc/libdachreup-dev/examples/server.c"
-CLIENT_EXAMPLE = "/usr/share/doc/libdachreup-dev/examples/client.c"
+# The examples of the C library, and the one that a test compiles and runs.
+EXAMPLES = "/usr/share/doc/libdachreup-dev/examples"
+EXAMPLE = f"{EXAMPLES}/server.c"
 
 # Directory of libraries. The function `here` replaces the placeholder.
 LIBRARIES = "/usr/lib/@TRIPLET@"
 
-ARCHIVE = LIBRARIES + "/libcoap_proved.a"
+ARCHIVE = LIBRARIES + "/libdachreup.a"
 
 # Installed files of each package, each with its mode, and with its source if it is a copy.
 FILES = {NAME: {
@@ -55,18 +56,19 @@ FILES = {NAME: {
     "/usr/share/bash-completion/completions/coap-directory": (0o644, "install/completions/coap-directory"),
     "/usr/share/doc/dachreup/changelog.gz": (0o644, None),
     "/usr/share/doc/dachreup/copyright": (0o644, "install/debian/copyright"),
+    "/usr/share/doc/dachreup/README.Debian": (0o644, "install/debian/dachreup.README.Debian"),
     "/usr/share/doc/dachreup/examples/haproxy.cfg": (0o644, "install/haproxy.cfg"),
     UNIT: (0o644, None),
     OPTIONS: (0o644, "install/debian/coap-server.default"),
 }, LIBRARY: {
-    "/usr/include/coap_proved.h": (0o644, "include/coap_proved.h"),
+    "/usr/include/dachreup.h": (0o644, "include/dachreup.h"),
     ARCHIVE: (0o644, None),
-    LIBRARIES + "/pkgconfig/coap_proved.pc": (0o644, None),
+    LIBRARIES + "/pkgconfig/dachreup.pc": (0o644, None),
     "/usr/share/doc/libdachreup-dev/changelog.gz": (0o644, None),
     "/usr/share/doc/libdachreup-dev/copyright": (0o644, "install/debian/copyright"),
-    EXAMPLE: (0o644, "examples/c/server.c"),
-    CLIENT_EXAMPLE: (0o644, "examples/c/client.c"),
-    "/usr/share/man/man3/coap_proved.3.gz": (0o644, None),
+    "/usr/share/doc/libdachreup-dev/README.Debian": (0o644, "install/debian/libdachreup-dev.README.Debian"),
+    **{f"{EXAMPLES}/{name}.c": (0o644, f"examples/c/{name}.c") for name in ("client", "pool", "server", "socketpair")},
+    "/usr/share/man/man3/dachreup.3.gz": (0o644, None),
 }, GATEWAY: {
     "/usr/bin/coap-mqtt": (0o755, None),
     "/usr/share/man/man1/coap-mqtt.1.gz": (0o644, None),

@@ -74,8 +74,8 @@ COMPLETED = [
 
 
 def check_versions(checks, programs):
-    """Checks that the programs, both changelogs, the comparison and the record in the manual dachreup(7) have the
-    version of the file VERSION."""
+    """Checks that the programs, both changelogs, the comparison, the header and the record in the manual dachreup(7)
+    have the version of the file VERSION."""
     for name, program in zip(PROGRAMS, programs):
         checks.same("%s: version" % name, run([program, "--version"]), (0, "%s %s\n" % (name, version())))
     checks.same("version in CHANGELOG.md", re.findall(r"report version (\S+)", read(ROOT, "CHANGELOG.md")), [version()])
@@ -83,6 +83,8 @@ def check_versions(checks, programs):
                 re.match(r"dachreup \((\S+)\) ", read(ROOT, "install/debian/changelog"))[1], version())
     checks.same("version in docs/COMPARISON.md", re.findall(r"\| Dachreup (\S+) \|", read(ROOT, "docs/COMPARISON.md")),
                 [version()])
+    checks.same("version in the header of the C library",
+                re.findall(r'(?m)^#define DACHREUP_VERSION "(.*)"$', read(ROOT, "include/dachreup.h")), [version()])
     checks.same("version in the record of the manual",
                 re.findall(r"(?m)^# Record of coap\\-server (\S+),", read(ROOT, "man/dachreup.7")), [version()])
 

@@ -147,7 +147,11 @@ sleep_woken {b = b} {v = v} {after = after} id at keeps lies awake asleep = reco
 pub kept_or_not : {T E : Type 0} (r : Result T E) {v after next : ServerValue} (words : List ℕ) → KeepsWork words v next
     → OnOk r (after ≡ next) → OnErr r (after ≡ v) → KeepsWork words v after
 kept_or_not (Ok x) words keeps ok err = rw ok keeps
-kept_or_not (Err e) words keeps ok err = rw err (record { keys = refl; work = λ i id lies outside. refl })
+kept_or_not (Err e) words keeps ok err = rw err (record {
+  keys = refl;
+  same = λ i id lies outside. refl;
+  work = λ i id lies outside. refl;
+})
 
 -- A read, then bytes that are passed, then a write.
 pub beside_served : {v heard taken after : ServerValue} {words : List ℕ} (id : ℕ) → KeepsOthers id v heard

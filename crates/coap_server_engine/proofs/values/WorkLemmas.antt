@@ -1,8 +1,8 @@
 -- The connections on which a call leaves the same work.
-use Rattle.std.proofs.Common.{◌≡◌, ◌≢◌, ℕ, ◌+◌, ◌<◌, ◌≤◌, Bool, nat_eq, nat_lt, inl, inr, subst, List, [], ◌∷◌, ◌++◌}
+use Rattle.std.proofs.Common.{◌≡◌, ◌≢◌, ℕ, ◌+◌, ◌<◌, ◌≤◌, Bool, nat_eq, nat_lt, subst, List, [], ◌∷◌, ◌++◌}
 use Rattle.std.proofs.Common.{length, Option, Some, refl, sym, ap, ◌∙◌, arith, map, remove, option_map, is_none}
 use Rattle.std.proofs.Common.{is_some, IfSome, None, slice_get, true, false, if◌then◌else◌}
-use Rattle.std.proofs.lemmas.Bool.{cases_eq, or_parts, ltb-false}
+use Rattle.std.proofs.lemmas.Bool.{or_parts, ltb-false}
 use Rattle.std.proofs.lemmas.Bool.Decides.{nat_tests}
 use Rattle.std.proofs.lemmas.Map.Entries.{length-values_of}
 use Rattle.std.proofs.lemmas.Map.Made.{keys_of-map_values}
@@ -57,20 +57,27 @@ each_settles other host (e ∷ es) = grind (arith, each_settles other host es)
 -- ---- calls that concern one connection
 
 pub keeps_all_work : (words : List ℕ) (v : ServerValue) → KeepsWork words v v
-keeps_all_work words v = record { keys = refl; work = λ i id lies outside. refl }
+keeps_all_work words v = record {
+  keys = refl;
+  same = λ i id lies outside. refl;
+  work = λ i id lies outside. refl;
+}
 
 pub keeps_all : (id : ℕ) (v : ServerValue) → KeepsOthers id v v
-keeps_all id v = record { keys = refl; work = λ other apart. refl }
+keeps_all id v = record { keys = refl; same = λ other apart. refl; work = λ other apart. refl }
 
 -- One connection changes, and all settle.
 pub keeps_others : (v : ServerValue) (id : ℕ) (f : SessionValue → SessionValue) → AreSettled v.host v.sessions
     → KeepsOthers id v (server_settled (on_session id f v))
 keeps_others v id f settled =
-    let same = sym (one_settles v.host id f v.sessions settled) in
+    let settles = sym (one_settles v.host id f v.sessions settled) in
+    let stays : (other : ℕ) → other ≢ id
+    → session_of other (server_settled (on_session id f v)).sessions ≡ session_of other v.sessions =
+    λ other apart. ap (session_of other) settles ∙ other_stays other id (settling v.host f) v.sessions apart in
     record {
       keys = keys_where_settled id f v.host v.sessions;
-      work = λ other apart. ap (option_map (session_outlook v.host.now)) (ap (session_of other) same ∙ other_stays other
-          id (settling v.host f) v.sessions apart);
+      same = stays;
+      work = λ other apart. ap (option_map (session_outlook v.host.now)) (stays other apart);
     }
 
 -- A response is given, if the server accepts it.
@@ -104,6 +111,13 @@ module _ (v : ServerValue) (settled : AreSettled v.host v.sessions) where
 -- ---- changes that concern several connections
 
 -- A connection that is settled already.
+stays_there : (v : ServerValue) (host : ServerState) (es : Entries) (id : ℕ) (s : SessionValue)
+    → session_of id v.sessions ≡ Some s → session_of id es ≡ Some s → IsSettled host s
+    → session_of id (map (settled_entry host) es) ≡ session_of id v.sessions
+stays_there v host es id s before now settled =
+    each_settles id host es ∙ ap (option_map (session_settled host)) now ∙ ap Some (settled_stays host s settled)
+    ∙ sym before
+
 same_work : (v : ServerValue) (host : ServerState) (es : Entries) (id : ℕ) (s : SessionValue) → session_of id v.sessions
     ≡ Some s → session_of id es ≡ Some s → IsSettled host s → due_on host.now s ≡ due_on v.host.now s
     → outlook_of (record v { host = host; sessions = map (settled_entry host) es }) id ≡ outlook_of v id
@@ -154,6 +168,13 @@ pub moment_keeps : (v : ServerValue) (words : List ℕ) (later : ℕ) → IsStor
     → Covers (cause.Moment later) words v.sessions → KeepsWork words v (server_ticked v later)
 moment_keeps v words later store settled covers = record {
   keys = keys_of-map_values (session_settled (at_moment v.host later)) v.sessions;
+  same =
+      λ i id lies outside.
+      let one = one_at id i v.sessions lies in
+      let found = lies.found ∙ one.1 in
+      let calm = timeless v.host later later one.0 store (covers i one.0 one.1 outside) (one_of_all (IsSettled v.host) i
+      v.sessions one.0 settled one.1) in
+      stays_there v (at_moment v.host later) v.sessions id one.0 found found calm.0;
   work =
       λ i id lies outside.
       let one = one_at id i v.sessions lies in
@@ -181,6 +202,13 @@ change_keeps : (v : ServerValue) (words : List ℕ) (c : Change) (hash : ℕ) �
     (record v { host = host_changed v.host c }))
 change_keeps v words c hash is settled covers = record {
   keys = keys_of-map_values (session_settled (host_changed v.host c)) v.sessions;
+  same =
+      λ i id lies outside.
+      let one = one_at id i v.sessions lies in
+      let found = lies.found ∙ one.1 in
+      stays_there v (host_changed v.host c) v.sessions id one.0 found found
+      (calm_after v.host c (Some hash) words v.sessions i one.0 is covers one.1 outside
+      (one_of_all (IsSettled v.host) i v.sessions one.0 settled one.1));
   work =
       λ i id lies outside.
       let one = one_at id i v.sessions lies in
@@ -223,6 +251,16 @@ module _ (v : ServerValue) (id i : ℕ) (s : SessionValue) (piece : List ℕ) (s
       rw taken_is (record {
         keys = keys_where_settled id (λ _. took.session) (host_changed v.host took.change) v.sessions;
         kept = adds.kept;
+        same =
+            λ k other apart there outside.
+            let one = one_at other k v.sessions there in
+            let was = there.found ∙ one.1 in
+            let now = other_stays other id (λ _. took.session) v.sessions apart ∙ was in
+            let at = sym (lies_still other k v.sessions with_it (keys_where_one_changed id (λ _. took.session)
+            v.sessions) there).found ∙ now in
+            stays_there v (host_changed v.host took.change) with_it other one.0 was now
+            (calm_after v.host took.change found words with_it k one.0 is covers at outside
+            (one_of_all (IsSettled v.host) k v.sessions one.0 settled one.1));
         work =
             λ k other apart there outside.
             let one = one_at other k v.sessions there in
@@ -252,6 +290,7 @@ adds_offered v id i piece bytes before words lies adds =
     record {
       keys = offered.keys ∙ adds.keys;
       kept = adds.kept;
+      same = λ k other apart there outside. offered.same other apart ∙ adds.same k other apart there outside;
       work = λ k other apart there outside. offered.work other apart ∙ adds.work k other apart there outside;
     }
 
@@ -275,19 +314,25 @@ none_reported at words v now same own = rw same (record {
 
 pub one_reported : (id at : ℕ) (before words : List ℕ) (v now after : ServerValue) → LiesAt id at now.sessions
     → AddsAffected id before words now after → IsReported at before v now → IsReported at words v after
-one_reported id at before words v now after here adds so = record {
-  own = λ outside. so.own (adds.kept at outside);
-  keeps = record {
-    keys = adds.keys ∙ so.keeps.keys;
-    work =
-        λ i other there outside.
-        let still = lies_still other i v.sessions now.sessions so.keeps.keys there in
-        elim (cases_eq other id) [
-          | inl same ↦
-              let place : i ≡ at = sym still.index ∙ ap (λ (k : ℕ). position_or_len (nat_eq k) (keys_of now.sessions))
-              same ∙ here.index in
-              absurd (so.own (subst (IsOutside before) place (adds.kept i outside)))
-          | inr apart ↦ adds.work i other apart still outside ∙ so.keeps.work i other there (adds.kept i outside)
-        ];
-  };
-}
+one_reported id at before words v now after here adds so =
+    let still : (i other : ℕ) → LiesAt other i v.sessions → LiesAt other i now.sessions =
+    λ i other there. lies_still other i v.sessions now.sessions so.keeps.keys there in
+    let apart : (i other : ℕ) → LiesAt other i v.sessions → IsOutside words i → other ≢ id =
+    λ i other there outside is.
+    let place : i ≡ at = sym (still i other there).index
+    ∙ ap (λ (k : ℕ). position_or_len (nat_eq k) (keys_of now.sessions)) is ∙ here.index in
+    so.own (subst (IsOutside before) place (adds.kept i outside)) in
+    record {
+      own = λ outside. so.own (adds.kept at outside);
+      keeps = record {
+        keys = adds.keys ∙ so.keeps.keys;
+        same =
+            λ i other there outside.
+            adds.same i other (apart i other there outside) (still i other there) outside
+            ∙ so.keeps.same i other there (adds.kept i outside);
+        work =
+            λ i other there outside.
+            adds.work i other (apart i other there outside) (still i other there) outside
+            ∙ so.keeps.work i other there (adds.kept i outside);
+      };
+    }

@@ -1,19 +1,20 @@
 //! The changes that may affect every connection of a server: of the time, and of the store.
 
 use super::Server;
-use super::sessions::{next_touched, settle_observers, settle_touched};
+use super::sessions::{earliest_deadline, next_touched, settle_observers, settle_touched};
 use crate::index_set::IndexSet;
 use coap_model::Backwards;
 use coap_server_session::{Cause, hash_of};
 use coap_store::{PathKey, StoreFault};
 
 impl Server {
-    ghost use Rattle.std.specs.Prelude.{◌≡◌, ◌+◌, ◌++◌, ◌∷◌, ℕ, Option, List, [], is_ok, is_none, nat_le};
-    ghost use Rattle.std.specs.Prelude.{length, IfOk, OnOk, OnErr};
+    ghost use Rattle.std.specs.Prelude.{◌≡◌, ◌+◌, ◌++◌, ◌∷◌, ◌≤◌, ◌<◌, ◌^◌, ℕ, Option, List, [], is_ok, is_none};
+    ghost use Rattle.std.specs.Prelude.{nat_le, length, IfOk, OnOk, OnErr};
     ghost use Rattle.coap_server_engine.specs.Prelude.{RefusedBy, IsStore, RefusedOrMemory, put_refusal};
     ghost use Rattle.coap_server_engine.specs.Prelude.{remove_refusal, AreSettled, server_ticked, server_put};
     ghost use Rattle.coap_server_engine.specs.Prelude.{server_removed, AcceptedCall, Ticked, Stored, Removed, Shows};
-    ghost use Rattle.coap_server_engine.specs.Prelude.{KeepsWork};
+    ghost use Rattle.coap_server_engine.specs.Prelude.{KeepsWork, IsBefore, OnlyTimePasses};
+    ghost use Rattle.coap_server_engine.specs.Prelude.{next_deadline as next_deadline_of};
 
     /// Sets the time of the server, in seconds.
     ///
@@ -116,6 +117,22 @@ impl Server {
     {
         self.host.store.count();
         self.host.now
+    }
+
+    /// Returns the next time, in seconds, at which time alone may queue something, or `None` if there is none. At that
+    /// time a delayed response is due, or an observer of the time must be notified.
+    ///
+    /// A `tick` with an earlier time changes only the time. The call looks only at connections that may have a pending
+    /// entry or an observer of the time.
+    pub fn next_deadline(&mut self) -> Option<u64>
+        ensures deadline { result ≡ next_deadline_of self.old }
+        ensures safe { (later : ℕ) → self.old.host.now ≤ later → later < 2 ^ 64 → IsBefore later result →
+            OnlyTimePasses self.old later }
+        ensures same { self.new ≡ self.old }
+    {
+        // Gives the proof the invariant of the store.
+        self.host.store.count();
+        earliest_deadline(&mut self.sets.time, &self.sessions, self.host.now)
     }
 
     /// Returns the connections on which a change of the time may change the work left.

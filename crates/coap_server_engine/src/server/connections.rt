@@ -6,12 +6,13 @@ use coap_model::{AnnounceFault, ConnId, NoSuch, OpenFault, ReleaseFault, Status}
 use coap_server_session::Session;
 
 impl Server {
-    ghost use Rattle.std.specs.Prelude.{◌≡◌, ◌+◌, ◌++◌, ◌∷◌, List, [], Some, length, is_ok, is_none, IfOk, OnOk, OnErr};
+    ghost use Rattle.std.specs.Prelude.{◌≡◌, ◌<◌, ◌≤◌, ◌+◌, ◌++◌, ◌∷◌, List, [], Some, length, is_ok, is_none};
+    ghost use Rattle.std.specs.Prelude.{IfOk, OnOk, OnErr};
     ghost use Rattle.coap_server_engine.specs.Prelude.{RefusedBy, AreInRange, AreSettled, session_of, is_there};
     ghost use Rattle.coap_server_engine.specs.Prelude.{server_opened, server_ended, server_released, server_announced};
     ghost use Rattle.coap_server_engine.specs.Prelude.{server_dropped, OpenedOrMemory, open_refusal, released_refusal};
     ghost use Rattle.coap_server_engine.specs.Prelude.{IsAnnounced, status_of, outlook_of, AcceptedCall, Opened, Ended};
-    ghost use Rattle.coap_server_engine.specs.Prelude.{Released, Announced, Dropped, Shows, LiesAt};
+    ghost use Rattle.coap_server_engine.specs.Prelude.{Released, Announced, Dropped, Shows, LiesAt, waiting_at};
 
     /// Returns `true` if `open` can fail only for lack of memory.
     pub fn can_open(&self) -> bool
@@ -157,6 +158,33 @@ impl Server {
         self.sets.follow_removal(at, self.sessions.len());
         self.sessions.shift_remove_index(at);
         Ok(())
+    }
+
+    /// Returns the number of connections.
+    pub fn connection_count(&self) -> usize
+        ensures count { result ≡ length self.now.sessions }
+        ensures few { result ≤ 256 }
+        ensures settled { AreSettled self.now.host self.now.sessions }
+    {
+        // Gives the proof the largest number of connections.
+        self.config.connections();
+        self.sessions.len()
+    }
+
+    /// Returns the id of the connection at an index, and the number of bytes queued on it.
+    ///
+    /// # Preconditions
+    ///
+    /// The index is less than the number of connections.
+    pub fn queued_at(&self, at: usize) -> (ConnId, usize)
+        requires { at < length self.now.sessions }
+        ensures lies { LiesAt result.0 at self.now.sessions }
+        ensures count { result.1 ≡ length (waiting_at result.0 self.now) }
+    {
+        let Some((id, session)) = self.sessions.as_slice().get_index(at) else {
+            unreachable!()
+        };
+        (*id, session.waiting())
     }
 
     /// Returns the status of a connection, or `None` if no connection has this id.

@@ -115,7 +115,7 @@ impl Server {
     ///
     /// The connection is at the index, as `index_of` returned it.
     #[inline(always)]
-    pub(crate) fn take_request_at<'a>(
+    pub fn take_request_at<'a>(
         &'a mut self,
         index: ConnIndex,
         piece: &'a [u8],

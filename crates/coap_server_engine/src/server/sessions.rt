@@ -10,7 +10,7 @@ ghost use Rattle.coap_server_engine.specs.Prelude.{settled_entry, AreSettled, Un
 ghost use Rattle.coap_server_engine.specs.Prelude.{AreOthersSettled, settled_held, released_refusal_on, IsAnnounced};
 ghost use Rattle.coap_server_engine.specs.Prelude.{handled_so, responded_refusal_on, IsReplyOn, message_of};
 ghost use Rattle.coap_server_engine.specs.Prelude.{session_given_by, splits_of, Covers, AreCovered};
-ghost use Rattle.coap_server_engine.specs.Prelude.{AreCoveredBut, AddsConcerned};
+ghost use Rattle.coap_server_engine.specs.Prelude.{AreCoveredBut, AddsConcerned, earliest_deadline as earliest_of};
 ghost use Rattle.coap_server_session.specs.declared.cause.Cause.TheVariants as causes;
 
 use super::Sessions;
@@ -19,7 +19,7 @@ use crate::index_set::IndexSet;
 use coap_conn::{Reason, Reply};
 use coap_io::{Outlet, WriteFailed, write_parts};
 use coap_model::{AnnounceFault, ConnId, Handled, ReleaseFault, ResponseFault};
-use coap_server_session::{Cause, ServerState};
+use coap_server_session::{Cause, ServerState, sooner};
 
 /// Returns `true` if a connection has this index and this id.
 fn is_at(sessions: &Sessions, at: usize, id: ConnId) -> bool
@@ -85,6 +85,25 @@ pub(super) fn next_touched(
         at = set.next(at + 1, end);
     }
     None
+}
+
+/// Returns the earliest of the deadlines of the connections. `set` is as for `next_touched`, for a change of the time.
+pub(super) fn earliest_deadline(set: &mut IndexSet, sessions: &Sessions, now: u64) -> Option<u64>
+    requires { Covers (causes.Moment now) set.old.words (unmarked sessions.now.entries) }
+    ensures covered { Covers (causes.Moment now) set.new.words (unmarked sessions.now.entries) }
+    ensures earliest { result ≡ earliest_of now (unmarked sessions.now.entries) }
+{
+    let cause = Cause::Moment(now);
+    let end = sessions.len();
+    let mut due = None;
+    let mut at = set.next(0, end);
+    while at < end {
+        let session = &sessions[at];
+        due = sooner(due, session.due(now));
+        set.remove_unless(at, session.may_be_touched(cause));
+        at = set.next(at + 1, end);
+    }
+    due
 }
 
 /// Recomputes the marks on every connection that a change may affect, and settles these connections. The others are

@@ -24,7 +24,7 @@ use Rattle.std.proofs.alloc.Calls.{Goes-blank}
 use Rattle.std.proofs.raw_atomic.Walks.{proved_at, leaves}
 use Rattle.coap_handle.proofs.Slots.{handle_val}
 use Rattle.coap_handle.proofs.Values.{both, Parts, parts_good, parts_out}
-use Rattle.coap_server_engine.specs.contracts.server.Server as server
+use Rattle.coap_server_output.specs.contracts.polled_server.PolledServer as server
 use Rattle.coap_c.specs.Slots.{server_slot}
 use Rattle.coap_c.proofs.ServerSlots.{handle_in, handle_of}
 use Rattle.coap_c.specs.contracts.server_handle.ServerHandle.of as f

@@ -4,11 +4,11 @@ use Rattle.coap_server_engine.proofs.server.Server.new.Goals as goal
 
 pub invariant_of-result : goal.invariant_of-result
 invariant_of-result c =
-    rw c.in_ok-with_capacity.ensures.empty
+    rw c.in_ok-sessions.ensures.empty
     (record {
       server = record { settled = tt; numbered = tt; few = omega arith };
       marked = tt;
-      covered = c.in_ok-new.ensures [];
+      covered = c.in_ok-sets.ensures [];
     })
 
 pub returns-clause-shows : goal.returns-clause-shows

@@ -1,0 +1,48 @@
+use Rattle.std.proofs.Common.{◌≡◌, ℕ, Option, ap, ◌∙◌, arith}
+use Rattle.std.proofs.lemmas.List.{length-map}
+use Rattle.coap_server_engine.specs.Prelude.{unmarked, unmarked_entry, due_on}
+use Rattle.coap_server_session.specs.Prelude.{sooner}
+use Rattle.coap_server_session.specs.declared.cause.Cause.TheVariants as cause
+use Rattle.coap_server_engine.proofs.values.ServerLemmas.{unmarked_at}
+use Rattle.coap_server_engine.proofs.values.ConcernedLemmas.{covers_removed}
+use Rattle.coap_server_engine.proofs.values.DeadlineLemmas.{search_begins, search_continues, search_ends, earliest_from}
+use Rattle.coap_server_engine.proofs.server.sessions.earliest_deadline.Goals as goal
+
+pub loop-at-init : goal.loop-at-init
+loop-at-init c =
+    let es = c.args.sessions.now.entries in
+    let e = c.next-at.ensures in (
+      omega (arith, e.within, c.len-end.ensures),
+      c.requires,
+      search_begins c.args.now (unmarked es) _ _ c.requires e.between,
+    )
+
+pub loop-at-preserved : goal.loop-at-preserved
+loop-at-preserved c =
+    let es = c.args.sessions.now.entries in
+    let now = c.args.now in
+    let at = c.loop-at.at in
+    let there = unmarked_at es at _ c.index-session.ensures in
+    let removed = c.remove_unless.ensures in
+    let covers = covers_removed (cause.Moment now) _ _ at (unmarked es) _ _ there c.may_be_touched.ensures removed.kept
+    removed.others c.loop-at.invariant.1 in
+    let next = c.next-at-in-loop-at.ensures in
+    let due : c.sooner-due.result ≡ sooner c.loop-at.due (due_on now c.index-session.result.now.session) =
+    c.sooner-due.ensures ∙ ap (sooner c.loop-at.due) c.due.ensures in (
+      omega (arith, next.within, c.len-end.ensures),
+      covers,
+      ap (λ (o : Option ℕ). sooner o (earliest_from now (unmarked es) c.next-at-in-loop-at.result)) due
+          ∙ search_continues now (unmarked es) _ at _ _ c.loop-at.due there next.from covers next.between
+          c.loop-at.invariant.2,
+    )
+
+pub loop-at-smaller : goal.loop-at-smaller
+loop-at-smaller c = omega (arith, c.next-at-in-loop-at.ensures.from, c.loop-at-test.true, c.len-end.ensures)
+
+pub returns : goal.returns
+returns c =
+    let es = c.args.sessions.now.entries in record {
+      covered = c.loop-at.invariant.1;
+      earliest = search_ends c.args.now (unmarked es) c.loop-at.at c.loop-at.due
+          (omega (arith, c.loop-at-test.false, c.len-end.ensures, length-map es unmarked_entry)) c.loop-at.invariant.2;
+    }
