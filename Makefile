@@ -23,17 +23,17 @@ all: bin/coap-server bin/coap-client bin/coap-explain bin/coap-directory
 SOURCES := $(shell find crates -name out -prune -o -type f -print) crates.txt
 
 bin/coap-server bin/coap-client &: $(SOURCES)
-	tests/build coap_server coap_client_main
+	tests/build program_server program_client
 
 bin/coap-explain bin/coap-directory &: $(SOURCES)
-	tests/build coap_explain coap_directory
+	tests/build program_explain program_directory
 
 # Proves the C library and builds its archive and its pkg-config file.
 lib: bin/libdachreup.a bin/dachreup.pc
 
 bin/libdachreup.a: $(SOURCES) install/library/build install/library/allocator.c
-	tests/build coap_c
-	install/library/build crates/coap_c/out/libcoap_c.a bin
+	tests/build c_calls
+	install/library/build crates/c_calls/out/libc_calls.a bin
 
 bin/dachreup.pc: install/library/dachreup.pc.in VERSION
 	@mkdir -p bin
@@ -85,7 +85,7 @@ faults: bin/coap-server bin/coap-mqtt
 # Then counts instructions, copies and memory, and the instructions of the resource directory. Measures changes through
 # two gateways to MQTT, beside mosquitto. Draws the new figures in docs/pictures. Fails if a target is missed.
 bench: bin/coap-server bin/coap-directory bin/libdachreup.a bin/coap-mqtt
-	tests/build coap_probe
+	tests/build test_rows
 	bench/throughput; missed=$$?; bench/record || missed=1; bench/front || missed=1; bench/gateway || missed=1; \
 	tests/system/flood.py bin/coap-server observers || missed=1; \
 	bench/asymptotics || missed=1; bench/directory || missed=1; bench/instructions && exit $$missed

@@ -5,8 +5,8 @@
  * no clock and starts no thread. It needs these functions of the C library: malloc, realloc and free (or those of the
  * program: see MEMORY), memcpy, memmove and memset.
  *
- * Each exported call is proved to do what its contract states (crates/coap_c). Not proved: the inline functions of this
- * header, and what the C program does.
+ * Each exported call is proved to do what its contract states (crates/c_calls). Not proved: the inline functions of
+ * this header, and what the C program does.
  *
  * WHAT THE PROGRAM MUST GUARANTEE
  *

@@ -39,7 +39,7 @@ def is_program(crate):
 
 def program_name(crate):
     """Returns the name of the program that a crate is built as."""
-    return crate.removesuffix("_main").replace("_", "-")
+    return crate.replace("program_", "coap_").replace("_", "-")
 
 
 def is_static(crate):

@@ -10,7 +10,7 @@ from unproved import build  # noqa: E402
 from workspace import ROOT, program_name  # noqa: E402
 
 # The programs by the layers of edits that tests detect, each with its crate.
-CRATES = {"server": "coap_server", "client": "coap_client_main", "directory": "coap_directory"}
+CRATES = {"server": "program_server", "client": "program_client", "directory": "program_directory"}
 
 # The programs that a test takes, by the layer of its edits.
 TAKES = {"server": ("server", "client"), "client": ("server", "client"), "directory": ("directory", "client")}

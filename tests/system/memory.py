@@ -30,7 +30,7 @@ PACKAGES = {"valgrind": "valgrind"}
 LISTING = b"</>;ct=0,</time>;ct=0;obs,</async>;ct=0".hex()
 
 # Plays events on a framer alone.
-PROBE = os.path.join(ROOT, "crates/coap_probe/out/coap_probe")
+PROBE = os.path.join(ROOT, "crates/test_rows/out/test_rows")
 
 # Messages that a peer sends repeatedly, and their responses.
 KINDS = [

@@ -32,8 +32,8 @@ sys.path.insert(0, os.path.join(os.path.dirname(os.path.abspath(__file__)), ".."
 from checks import SKIPPED  # noqa: E402
 from workspace import ROOT, crates  # noqa: E402
 
-TESTS = "crates/coap_tests/src/examples.rt"
-SOURCES = [TESTS, "crates/coap_tests/src/examples/*.rt", "crates/example_*/src/*.rt"]
+TESTS = "crates/test_proved/src/examples.rt"
+SOURCES = [TESTS, "crates/test_proved/src/examples/*.rt", "crates/example_*/src/*.rt"]
 
 TEST = re.compile(r"#\[test\]\nfn (\w+)\(.*?\{\n(.*?)^\}", re.S | re.M)
 # A function with its name, its parameters and its body.

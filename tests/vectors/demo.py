@@ -115,7 +115,7 @@ def main(words):
     if words == ["--try"]:
         print("First, the server UNPROVED: the same source, built without proofs in about a minute.", flush=True)
         with tempfile.TemporaryDirectory(prefix="try-") as room:
-            if said := build(["coap_server"], room, level=0):
+            if said := build(["program_server"], room, level=0):
                 print(said, end="")
                 return 1
             return run([f"{room}/coap-server", "--stdio"], *STREAMS[0])

@@ -10,8 +10,9 @@
 //! The types of arguments and results are re-exported too. `coap_conn` defines limits, phases and errors, `coap_wire`
 //! tokens and messages, `coap_io` the traits for transports and clocks, and `coap_print` the line of `explain`.
 //!
-//! This crate contains no function. A program that embeds a client imports these names from here, as `coap_client_main`
-//! does. `coap_server` imports from the first two crates, so that its build does not wait for the proof of the client.
+//! This crate contains no function. A program that embeds a client imports these names from here, as `program_client`
+//! does. `program_server` imports from the first two crates, so that its build does not wait for the proof of the
+//! client.
 //! Continue with `coap_client_engine/src/client.rt`.
 #![tactic(auto)]
 

@@ -41,7 +41,7 @@ use Rattle.coap_io.proofs.streams.DeviceLemmas.{told_none, told_then, bytes_none
 use Rattle.coap_client_engine.specs.ClientValues as value
 use Rattle.coap_client_engine.specs.RunSteps.{asking_refusal, cancelling_refusal}
 use Rattle.coap_client_engine.specs.RunTrace.{Writes}
-use Rattle.coap_client_engine.proofs.RunTraceLaws.{course_taken, course_queued}
+use Rattle.coap_client_engine.proofs.RunTraceLaws.{trace_taken, trace_queued}
 use Rattle.coap_client_engine.proofs.ClientShown.{took_takes, took_told, took_shown}
 use Rattle.coap_client_engine.proofs.TakenLemmas.{client_takes_some, cancelled_takes, may_parts, may_not}
 use Rattle.coap_client_engine.proofs.StandLemmas.{bytes_stay, bytes_same, front_length, taking_limits, sent_limits}
@@ -187,8 +187,8 @@ client_stands {plan} {start} {now} {r} {c} stands =
 module _ (plan : ClientPlan) (start now : RunDevices) (r : Run) (c : RunTrace)
     (stands : IsAtTrace plan start now r c) where
   -- The client is the one of the trace.
-  client_of_course : r.client ≡ client_in c
-  client_of_course = client_stands stands
+  client_of_trace : r.client ≡ client_in c
+  client_of_trace = client_stands stands
 
   -- The client accepted all calls.
   accepted_all : AreAccepted default_limits 0 (calls_in c)
@@ -198,7 +198,7 @@ module _ (plan : ClientPlan) (start now : RunDevices) (r : Run) (c : RunTrace)
   asks_same : must_send_request r.client.link.phase r.token ≡ must_send_request (phase_in c) (token_in c)
   asks_same =
       sym (ask_same r.client.link.phase r.token (λ t. t.items))
-      ∙ ap (λ (v : ClientValue). must_send_request v.link.phase (token_of r)) client_of_course
+      ∙ ap (λ (v : ClientValue). must_send_request v.link.phase (token_of r)) client_of_trace
       ∙ ap (λ (t : Option (List ℕ)). must_send_request (phase_in c) t) stands.token
 
   -- ---- whether more input can be processed
@@ -207,7 +207,7 @@ module _ (plan : ClientPlan) (start now : RunDevices) (r : Run) (c : RunTrace)
       ⊎ ((must_send_request r.client.link.phase r.token ≡ true) ⊎ (client_takes r.client ≡ false)) → IsTakenUp c
   taken_by (inl none) = inl (sym stands.rest ∙ rest_is_empty r.rest none)
   taken_by (inr (inl asks)) = inr (inl (sym asks_same ∙ asks))
-  taken_by (inr (inr shut)) = inr (inr (ap client_takes (sym client_of_course) ∙ shut))
+  taken_by (inr (inr shut)) = inr (inr (ap client_takes (sym client_of_trace) ∙ shut))
 
   pub taken_up : may_take r.client r.rest r.token ≡ false → IsTakenUp c
   taken_up is =
@@ -217,7 +217,7 @@ module _ (plan : ClientPlan) (start now : RunDevices) (r : Run) (c : RunTrace)
   takes_one is =
       let parts =
       may_parts (length r.rest == 0) (must_send_request r.client.link.phase r.token) (client_takes r.client) is in
-      let one = client_takes_some (calls_in c) r.rest accepted_all (ap client_takes (sym client_of_course) ∙ parts.2)
+      let one = client_takes_some (calls_in c) r.rest accepted_all (ap client_takes (sym client_of_trace) ∙ parts.2)
       (ltb-true 0 (length r.rest) (some_left r.rest parts.0)) in
       subst (λ (n : ℕ). 1 ≤ n)
       (sym (took_takes r.client r.rest (taking r.client r.rest).count refl 0 (calls_in c) stands.shows
@@ -303,7 +303,7 @@ module _ (plan : ClientPlan) (start now : RunDevices) (r : Run) (c : RunTrace)
         → ExtendsTraceOn plan start (seen now.given now.written now.answers now.moments o e) r'
         (IsAsked (turns_in c)) (Some status)
     took_last looked status is = record {
-      course = Calls c (Took taken_of_rest);
+      trace = Calls c (Took taken_of_rest);
       stands = took_stands;
       ends = took_status ∙ sym is;
       holds = record {
@@ -390,7 +390,7 @@ module _ (plan : ClientPlan) (start now : RunDevices) (r : Run) (c : RunTrace)
               ap (λ (v : ClientValue). v.link.limits) client
               ∙ sent_limits r.client plan.method plan.target (planned_extras plan) ∙ stands.limits;
           rest = rest ∙ stands.rest;
-          token = token ∙ ap (λ (v : ClientValue). Some (next_token v.link.tokens)) client_of_course;
+          token = token ∙ ap (λ (v : ClientValue). Some (next_token v.link.tokens)) client_of_trace;
           started = started ∙ stands.started;
           moment = moment ∙ stands.moment;
           first =
@@ -431,7 +431,7 @@ module _ (plan : ClientPlan) (start now : RunDevices) (r : Run) (c : RunTrace)
         → r'.cause ≡ cause_after r.cause (cause_refused None r.client.link.peer_max plan refusal)
         → AddsBytes now.err e (refusal_text refusal) → After (ended_by refusal)
     asked_to looked asks None is client token cause err = record {
-      course = Calls c (Sent plan.method plan.target (planned_extras plan));
+      trace = Calls c (Sent plan.method plan.target (planned_extras plan));
       stands = sent_stands asks is client token cause err;
       ends = ap status_told (send_tells_none (calls_in c) plan.method plan.target (planned_extras plan) default_limits);
       holds = record {
@@ -444,15 +444,15 @@ module _ (plan : ClientPlan) (start now : RunDevices) (r : Run) (c : RunTrace)
       };
     }
     asked_to looked asks (Some fault) is client token cause err = record {
-      course = Refuses c fault;
+      trace = Refuses c fault;
       stands =
           refused_stands fault
           (inl (asking_refused (must_send_request (phase_in c) (token_in c)) fault (sym asks_same ∙ asks)
           (ap (λ (v : ClientValue). send_refusal v.link plan.method plan.target (planned_extras plan))
-          (sym client_of_course) ∙ is))) client token
+          (sym client_of_trace) ∙ is))) client token
           (cause
           ∙ ap (λ (v : ClientValue). cause_after r.cause (cause_refused None v.link.peer_max plan (Some fault)))
-          client_of_course
+          client_of_trace
           ∙ ap
           (λ (t : Option (List ℕ)). cause_after r.cause (cause_refused t (client_in c).link.peer_max plan (Some fault)))
           (sym (none_where_asked (phase_in c) (token_in c) (sym asks_same ∙ asks))))
@@ -477,7 +477,7 @@ module _ (plan : ClientPlan) (start now : RunDevices) (r : Run) (c : RunTrace)
         asked_to looked asks (send_refusal r.client.link plan.method plan.target (planned_extras plan))
         refl client token cause err
     asked_by looked false asks client token cause err = record {
-      course = c;
+      trace = c;
       stands = same_stands client token cause err;
       ends = goes;
       holds = record {
@@ -564,7 +564,7 @@ module _ (plan : ClientPlan) (start now : RunDevices) (r : Run) (c : RunTrace)
         → r'.cause ≡ cause_after r.cause (cause_stopped why) → AddsBytes now.err e (stop_text why) → ExtendsTraceOn plan
         start (seen given written answers now.moments now.out e) r' (IsHeard (turns_in c)) (status_stopped why)
     heard_on why is cause err = record {
-      course = Reads c got r'.rest;
+      trace = Reads c got r'.rest;
       stands =
           read_stands (cause ∙ ap (λ (w : Option Reason). cause_after r.cause (cause_stopped w)) is)
           (subst (λ (w : Option Reason). AddsBytes now.err e (stop_text w)) is err);
@@ -583,7 +583,7 @@ module _ (plan : ClientPlan) (start now : RunDevices) (r : Run) (c : RunTrace)
       (wrote : AddsBytes now.written written (bytes_passed r.client.link.waiting got))
       (gave : AddsBytes now.given given []) (answered : TellsMore now.answers answers (got ∷ [])) where
     waits_same : r.client.link.waiting ≡ waiting_in c
-    waits_same = ap (λ (v : ClientValue). v.link.waiting) client_of_course
+    waits_same = ap (λ (v : ClientValue). v.link.waiting) client_of_trace
 
     wrote_stands : r'.cause ≡ cause_after r.cause (cause_stopped (stop_written (status_in c) got))
         → AddsBytes now.err e (stop_text (stop_written (status_in c) got))
@@ -621,7 +621,7 @@ module _ (plan : ClientPlan) (start now : RunDevices) (r : Run) (c : RunTrace)
         → ExtendsTraceOn plan start (seen given written answers now.moments now.out e) r' (IsFlushed (turns_in c))
         (or_then next (status_stopped why))
     wrote_leads next ends why is cause err = record {
-      course = Writes c got;
+      trace = Writes c got;
       stands =
           wrote_stands (cause ∙ ap (λ (w : Option Reason). cause_after r.cause (cause_stopped w))
           (is ∙ ap (λ (n : Option ℕ). stop_written n got) (sym ends)))
@@ -670,7 +670,7 @@ module _ (plan : ClientPlan) (start now : RunDevices) (r : Run) (c : RunTrace)
     done_nothing cancels early client cancelled cause err =
         let here = same_stands r' e goes rest started moment first cancelled client tokens_same cause err in
         record {
-          course = Rests c;
+          trace = Rests c;
           stands = rests_stand here (record {
             goes_on = goes;
             in_time = early;
@@ -694,7 +694,7 @@ module _ (plan : ClientPlan) (start now : RunDevices) (r : Run) (c : RunTrace)
         let here = same_stands (record r' { cause = r.cause }) e goes rest started moment first cancelled
         client tokens_same refl err in
         record {
-          course = GivesUp c;
+          trace = GivesUp c;
           stands = given_up_stand r' here goes (record {
             late =
                 ap (λ (s : Option ℕ). is_late_since s (moment_in c) plan.wait) is
@@ -777,14 +777,14 @@ module _ (plan : ClientPlan) (start now : RunDevices) (r : Run) (c : RunTrace)
         (subst (λ (t : Option (List ℕ)). must_send_request (phase_in c) t ≡ true) (sym stands.token ∙ has) asks))
     cancelled_taken held here has client (inr (inr shut)) =
         inr (inr (ap client_takes (sym (client_stands here) ∙ client)
-        ∙ cancelled_takes r.client held plan.target (planned_extras plan) (ap client_takes client_of_course ∙ shut)))
+        ∙ cancelled_takes r.client held plan.target (planned_extras plan) (ap client_takes client_of_trace ∙ shut)))
 
     ends_refused : (fault : RequestFault) → IsRefused plan c fault → ended_by (Some fault) ≡ Some 3
         → r'.client ≡ r.client → r'.cancelled ≡ r.cancelled
         → r'.cause ≡ cause_after r.cause (cause_refused (token_in c) (client_in c).link.peer_max plan (Some fault))
         → AddsBytes now.err e (refusal_text (Some fault)) → Due (ended_by (Some fault))
     ends_refused fault why three client cancelled cause err = record {
-      course = Refuses c fault;
+      trace = Refuses c fault;
       stands = refused_stands r' e goes rest started moment first cancelled fault why client tokens_same cause err;
       ends = refl;
       holds = record { turns = refl; rests = λ still. absurd (some_is_none (sym three ∙ still)); writes = tt };
@@ -796,7 +796,7 @@ module _ (plan : ClientPlan) (start now : RunDevices) (r : Run) (c : RunTrace)
         → r'.cause ≡ cause_after r.cause (cause_refused (token_in c) (client_in c).link.peer_max plan (Some fault))
         → AddsBytes now.err e (refusal_text (Some fault)) → Due (ended_by (Some fault))
     refused_by NoRoom why early client cancelled cause err = record {
-      course = Rests (Refuses c NoRoom);
+      trace = Rests (Refuses c NoRoom);
       stands =
           rests_stand (refused_stands r' e goes rest started moment first cancelled NoRoom why client tokens_same cause
           err) (record {
@@ -826,7 +826,7 @@ module _ (plan : ClientPlan) (start now : RunDevices) (r : Run) (c : RunTrace)
         → r'.cause ≡ cause_after r.cause (cause_refused (Some held) r.client.link.peer_max plan refusal)
         → AddsBytes now.err e (refusal_text refusal) → Due (ended_by refusal)
     cancels_as held due has early None is client when cause err = record {
-      course = Rests (Calls c (Cancelled held plan.target (planned_extras plan)));
+      trace = Rests (Calls c (Cancelled held plan.target (planned_extras plan)));
       stands = rests_stand (cancelled_stands held due has is client when cause err) (record {
         goes_on = ap status_told (cancel_tells_none (calls_in c) held plan.target (planned_extras plan) default_limits);
         in_time =
@@ -849,12 +849,12 @@ module _ (plan : ClientPlan) (start now : RunDevices) (r : Run) (c : RunTrace)
           due,
           ap (λ (t : Option (List ℕ)). cancelling_refusal (client_in c) t plan) (sym stands.token ∙ has)
               ∙ ap (λ (v : ClientValue). value.cancelling_refusal v.link held plan.target (planned_extras plan))
-              (sym client_of_course) ∙ is,
+              (sym client_of_trace) ∙ is,
         ))
         early client when
         (cause
         ∙ ap (λ (v : ClientValue). cause_after r.cause (cause_refused (Some held) v.link.peer_max plan (Some fault)))
-        client_of_course
+        client_of_trace
         ∙ ap
         (λ (t : Option (List ℕ)). cause_after r.cause (cause_refused t (client_in c).link.peer_max plan (Some fault)))
         (sym has ∙ stands.token))
@@ -899,7 +899,7 @@ module _ (plan : ClientPlan) (start now : RunDevices) (r : Run) (c : RunTrace)
     watched_by (Some since) f ek ef client when cause err =
         let k : cancelled_in c ≡ Some since = sym stands.cancelled ∙ ek in
         waited (awaited_in r.client.link.phase (Some since))
-        (ap (λ (v : ClientValue). awaited_in v.link.phase (Some since)) client_of_course
+        (ap (λ (v : ClientValue). awaited_in v.link.phase (Some since)) client_of_trace
         ∙ ap (awaited_in (phase_in c)) (sym k))
         since (ap (λ (k : Option ℕ). waits_since k (first_in c) (started_in c)) k)
         (ap (λ (k : Option ℕ). is_to_cancel k (first_in c) (moment_in c) plan.observe) k) client when cause err
@@ -907,7 +907,7 @@ module _ (plan : ClientPlan) (start now : RunDevices) (r : Run) (c : RunTrace)
         let k : cancelled_in c ≡ None = sym stands.cancelled ∙ ek in
         let f : first_in c ≡ None = sym stands.first ∙ ef in
         waited (awaited_in r.client.link.phase None)
-        (ap (λ (v : ClientValue). awaited_in v.link.phase None) client_of_course ∙ ap (awaited_in (phase_in c)) (sym k))
+        (ap (λ (v : ClientValue). awaited_in v.link.phase None) client_of_trace ∙ ap (awaited_in (phase_in c)) (sym k))
         r.started
         (ap (λ (k : Option ℕ). waits_since k (first_in c) (started_in c)) k
         ∙ ap (λ (f : Option ℕ). waits_since None f (started_in c)) f ∙ ap (λ (m : ℕ). Some m) (sym stands.started))
@@ -960,7 +960,7 @@ pub ended_asked : {plan : ClientPlan} {start now : RunDevices} {r : Run} {turns 
     → ExtendsTraceOn plan start now r (IsAsked turns) (Some status)
     → ExtendsTraceOn plan start now r (IsFinished turns) (Some status)
 ended_asked led = record {
-  course = led.course;
+  trace = led.trace;
   stands = led.stands;
   ends = led.ends;
   holds = record {
@@ -974,7 +974,7 @@ pub ended_heard : {plan : ClientPlan} {start now : RunDevices} {r : Run} {turns 
     → ExtendsTraceOn plan start now r (IsHeard turns) (Some status)
     → ExtendsTraceOn plan start now r (IsFlushed turns) (Some status)
 ended_heard led = record {
-  course = led.course;
+  trace = led.trace;
   stands = led.stands;
   ends = led.ends;
   holds = record {
@@ -1002,7 +1002,7 @@ pub finished_after_taking : {plan : ClientPlan} {start now : RunDevices} {r : Ru
     → ExtendsTraceOn plan start now r (IsFinished m) (Some status)
 finished_after_taking {plan} {start} {now} {r} n m next status same is led =
     as_many IsFinished n m same (record {
-      course = led.course;
+      trace = led.trace;
       stands = led.stands;
       ends = led.ends ∙ is;
       holds = record {
@@ -1017,7 +1017,7 @@ pub ended_taken : {plan : ClientPlan} {start now : RunDevices} {r : Run} {n stat
     → ExtendsTraceOn plan start now r (IsAsked n) (Some status)
     → ExtendsTraceOn plan start now r (IsTaken n) (Some status)
 ended_taken led = record {
-  course = led.course;
+  trace = led.trace;
   stands = led.stands;
   ends = led.ends;
   holds = record {
@@ -1034,14 +1034,14 @@ pub all_that_may_is_taken : (plan : ClientPlan) (start now : RunDevices) (r : Ru
     (led : ExtendsTraceOn plan start now r (IsAsked n) None) → may_take r.client r.rest r.token ≡ false
     → ExtendsTraceOn plan start now r (IsTaken n) None
 all_that_may_is_taken plan start now r n led shut = record {
-  course = led.course;
+  trace = led.trace;
   stands = led.stands;
   ends = led.ends;
   holds = record {
     turns = led.holds.turns;
     looked = led.holds.looked;
     asked = led.holds.asked;
-    taken = λ still. taken_up plan start now r led.course led.stands shut;
+    taken = λ still. taken_up plan start now r led.trace led.stands shut;
     writes = led.holds.writes;
   };
 }
@@ -1050,7 +1050,7 @@ pub all_gone : (plan : ClientPlan) (start now : RunDevices) (r : Run) (n : ℕ)
     (led : ExtendsTraceOn plan start now r (IsAsked n) None) → length r.rest ≡ 0
     → ExtendsTraceOn plan start now r (IsTaken n) None
 all_gone plan start now r n led none = record {
-  course = led.course;
+  trace = led.trace;
   stands = led.stands;
   ends = led.ends;
   holds = record {
@@ -1084,8 +1084,8 @@ module _ (plan : ClientPlan) (start now : RunDevices) (r : Run) (n : ℕ) (next 
       → ExtendsTraceOn plan start (seen now.given now.written now.answers now.moments now.out e) r' (IsFinished n)
       (watched r.cancelled r.first r.started r.moment plan (ended_by (cancelling_refusal r.client (token_of r) plan)))
   watched_so client when cause err =
-      as_many IsFinished (turns_in led.course) n led.holds.turns
-      (watched_on plan start now r led.course led.stands r' e (led.ends ∙ goes) led.holds.looked
+      as_many IsFinished (turns_in led.trace) n led.holds.turns
+      (watched_on plan start now r led.trace led.stands r' e (led.ends ∙ goes) led.holds.looked
       (led.holds.taken (led.ends ∙ goes)) (led.holds.asked (led.ends ∙ goes)) rest token started moment
       first client when cause err)
 
@@ -1106,8 +1106,8 @@ module _ (plan : ClientPlan) (start now : RunDevices) (r : Run) (n : ℕ)
   pub took_ends : (status : ℕ) → next ≡ Some status
       → ExtendsTraceOn plan start (seen now.given now.written now.answers now.moments o e) r' (IsAsked n) (Some status)
   took_ends status is =
-      as_many IsAsked (turns_in led.course) n led.holds.turns
-      (took_last plan start now r led.course led.stands r' o e led.ends may within client rest first token started
+      as_many IsAsked (turns_in led.trace) n led.holds.turns
+      (took_last plan start now r led.trace led.stands r' o e led.ends may within client rest first token started
       moment cancelled cause out err led.holds.looked status (sym is ∙ told))
 
   abbrev seen_then : RunDevices
@@ -1123,12 +1123,12 @@ module _ (plan : ClientPlan) (start now : RunDevices) (r : Run) (n : ℕ)
       → answer ≡ ended_by (asking_refusal r'.client r'.token plan)
       → ExtendsTraceOn plan start (seen now.given now.written now.answers now.moments o e') r'' (IsAsked n) answer
   took_asked goes r'' e' rest' started' moment' first' cancelled' client' token' cause' err' answer is =
-      let c : RunTrace = Calls led.course (Took (take (taking r.client r.rest).count r.rest)) in
-      let stands : IsAtTrace plan start seen_then r' c = took_stands plan start now r led.course led.stands r' o e
+      let c : RunTrace = Calls led.trace (Took (take (taking r.client r.rest).count r.rest)) in
+      let stands : IsAtTrace plan start seen_then r' c = took_stands plan start now r led.trace led.stands r' o e
       led.ends may within client rest first token started moment cancelled cause out err in
-      let on : status_in c ≡ None = took_status plan start now r led.course led.stands r' o e led.ends may within client
+      let on : status_in c ≡ None = took_status plan start now r led.trace led.stands r' o e led.ends may within client
       rest first token started moment cancelled cause out err ∙ sym told ∙ goes in
-      as_many IsAsked (turns_in led.course) n led.holds.turns
+      as_many IsAsked (turns_in led.trace) n led.holds.turns
       (asked_next plan start seen_then r' c stands r'' e' on rest' started' moment' first' cancelled' led.holds.looked
       client' token' cause' err' answer is)
 
@@ -1208,11 +1208,11 @@ module _ (plan : ClientPlan) (start now : RunDevices) (r : Run) (c : RunTrace) (
   run_of status ends =
       let accepted : AreAccepted default_limits 0 (calls_in c) = accepted_all plan start now r c stands in
       record {
-        course = c;
+        trace = c;
         follows = stands.follows;
         accepted = accepted;
-        taken = course_taken plan c stands.follows;
-        queued = course_queued plan c stands.follows accepted;
+        taken = trace_taken plan c stands.follows;
+        queued = trace_queued plan c stands.follows accepted;
         told = stands.told;
         turns = few;
         ends = ends;

@@ -19,7 +19,7 @@ use Rattle.coap_client_engine.specs.Prelude.{waiting_in, taken_in, given_in, res
 use Rattle.std.proofs.lemmas.List.{append-nil, take-append-drop, take-append-le}
 use Rattle.std.proofs.Math.Seq.{drop-append_seam, take-append-add}
 use Rattle.std.proofs.lemmas.List.Concat.{flat_map-append}
-use Rattle.coap_client_engine.specs.RunTrace as course
+use Rattle.coap_client_engine.specs.RunTrace as trace
 use Rattle.coap_conn.specs.Calls as call
 use Rattle.coap_client_engine.proofs.ClientSteps.{taken_with_call, client_first, client_more}
 use Rattle.coap_client_engine.proofs.ClientReached.{accepted_reach}
@@ -76,32 +76,32 @@ given_read calls given rest bytes is none =
     ap (λ (t : List ℕ). t ++ bytes) (is ∙ ap (λ (t : List ℕ). taken_all calls ++ t) none ∙ append-nil (taken_all calls))
 
 -- The accepted bytes and those left to process are the bytes that the wire gave.
-pub course_taken : (plan : ClientPlan) (c : RunTrace) → IsRunTrace plan c → given_in c ≡ taken_in c ++ rest_in c
-course_taken plan (Begins moment) is = refl
-course_taken plan (Turns before moment) is = course_taken plan before is.0
-course_taken plan (Reads before got bytes) is =
+pub trace_taken : (plan : ClientPlan) (c : RunTrace) → IsRunTrace plan c → given_in c ≡ taken_in c ++ rest_in c
+trace_taken plan (Begins moment) is = refl
+trace_taken plan (Turns before moment) is = trace_taken plan before is.0
+trace_taken plan (Reads before got bytes) is =
     given_same (calls_in before) (calls_in before ++ calls_read got) (given_in before ++ bytes) bytes
-    (given_read (calls_in before) (given_in before) (rest_in before) bytes (course_taken plan before is.0) is.3)
+    (given_read (calls_in before) (given_in before) (rest_in before) bytes (trace_taken plan before is.0) is.3)
     (read_taken (calls_in before) got)
-course_taken plan (Calls before (Took bytes)) is =
-    given_taken (calls_in before) (given_in before) (rest_in before) bytes _ (course_taken plan before is.0) is.2.1
-course_taken plan (Calls before (Sent method target extras)) is =
+trace_taken plan (Calls before (Took bytes)) is =
+    given_taken (calls_in before) (given_in before) (rest_in before) bytes _ (trace_taken plan before is.0) is.2.1
+trace_taken plan (Calls before (Sent method target extras)) is =
     given_same (calls_in before) (calls_in before ++ Sent method target extras ∷ []) (given_in before) (rest_in before)
-    (course_taken plan before is.0) (taken_none (calls_in before) (Sent method target extras) refl)
-course_taken plan (Calls before (Cancelled token target extras)) is =
+    (trace_taken plan before is.0) (taken_none (calls_in before) (Sent method target extras) refl)
+trace_taken plan (Calls before (Cancelled token target extras)) is =
     given_same (calls_in before) (calls_in before ++ Cancelled token target extras ∷ []) (given_in before)
-    (rest_in before) (course_taken plan before is.0) (taken_none (calls_in before) (Cancelled token target extras) refl)
-course_taken plan (Calls before (Pinged custody)) is = absurd is.2
-course_taken plan (Calls before (Forgot token)) is = absurd is.2
-course_taken plan (Calls before Released) is = absurd is.2
-course_taken plan (Calls before (Wrote n)) is = absurd is.2
-course_taken plan (Calls before Ended) is = absurd is.2
-course_taken plan (Refuses before fault) is = course_taken plan before is.0
-course_taken plan (GivesUp before) is = course_taken plan before is.0
-course_taken plan (Rests before) is = course_taken plan before is.0
-course_taken plan (course.Writes before got) is =
+    (rest_in before) (trace_taken plan before is.0) (taken_none (calls_in before) (Cancelled token target extras) refl)
+trace_taken plan (Calls before (Pinged custody)) is = absurd is.2
+trace_taken plan (Calls before (Forgot token)) is = absurd is.2
+trace_taken plan (Calls before Released) is = absurd is.2
+trace_taken plan (Calls before (Wrote n)) is = absurd is.2
+trace_taken plan (Calls before Ended) is = absurd is.2
+trace_taken plan (Refuses before fault) is = trace_taken plan before is.0
+trace_taken plan (GivesUp before) is = trace_taken plan before is.0
+trace_taken plan (Rests before) is = trace_taken plan before is.0
+trace_taken plan (trace.Writes before got) is =
     given_same (calls_in before) (calls_in before ++ calls_written got) (given_in before) (rest_in before)
-    (course_taken plan before is.0) (written_taken (calls_in before) got)
+    (trace_taken plan before is.0) (written_taken (calls_in before) got)
 
 -- ---- written bytes
 
@@ -280,29 +280,29 @@ planned_quiet plan before Released is = tt
 planned_quiet plan before (Wrote n) is = is
 planned_quiet plan before Ended is = tt
 
-course_sent : (plan : ClientPlan) (c : RunTrace) → IsRunTrace plan c → AreAccepted default_limits 0 (calls_in c)
+trace_sent : (plan : ClientPlan) (c : RunTrace) → IsRunTrace plan c → AreAccepted default_limits 0 (calls_in c)
     → written_in c ≡ sent_bytes (history_in c)
-course_sent plan (Begins moment) is all = sym nothing_sent_at_first
-course_sent plan (Turns before moment) is all = course_sent plan before is.0 all
-course_sent plan (Reads before got bytes) is all =
-    course_sent plan before is.0 (accepted_before (calls_in before) (calls_read got) all)
+trace_sent plan (Begins moment) is all = sym nothing_sent_at_first
+trace_sent plan (Turns before moment) is all = trace_sent plan before is.0 all
+trace_sent plan (Reads before got bytes) is all =
+    trace_sent plan before is.0 (accepted_before (calls_in before) (calls_read got) all)
     ∙ sym (read_sent (calls_in before) got all)
-course_sent plan (Calls before call) is all =
-    course_sent plan before is.0 (accepted_before (calls_in before) (call ∷ []) all)
+trace_sent plan (Calls before call) is all =
+    trace_sent plan before is.0 (accepted_before (calls_in before) (call ∷ []) all)
     ∙ sym (quiet_sent (calls_in before) call (planned_quiet plan before call is.2) all)
-course_sent plan (Refuses before fault) is all = course_sent plan before is.0 all
-course_sent plan (GivesUp before) is all = course_sent plan before is.0 all
-course_sent plan (Rests before) is all = course_sent plan before is.0 all
-course_sent plan (course.Writes before got) is all =
+trace_sent plan (Refuses before fault) is all = trace_sent plan before is.0 all
+trace_sent plan (GivesUp before) is all = trace_sent plan before is.0 all
+trace_sent plan (Rests before) is all = trace_sent plan before is.0 all
+trace_sent plan (trace.Writes before got) is all =
     ap (λ (w : List ℕ). w ++ bytes_passed (waiting_in before) got)
-    (course_sent plan before is.0 (accepted_before (calls_in before) (calls_written got) all))
+    (trace_sent plan before is.0 (accepted_before (calls_in before) (calls_written got) all))
     ∙ sym (written_sent (calls_in before) got all)
 
 -- The written bytes and those still to be written are the queued bytes.
-pub course_queued : (plan : ClientPlan) (c : RunTrace) → IsRunTrace plan c → AreAccepted default_limits 0 (calls_in c)
+pub trace_queued : (plan : ClientPlan) (c : RunTrace) → IsRunTrace plan c → AreAccepted default_limits 0 (calls_in c)
     → bytes_of (history_in c).queued ≡ written_in c ++ waiting_in c
-course_queued plan c is all =
+trace_queued plan c is all =
     sym (take-append-drop (history_in c).written (bytes_of (history_in c).queued))
     ∙ ap (λ (w : List ℕ). w ++ drop (history_in c).written (bytes_of (history_in c).queued))
-    (sym (course_sent plan c is all))
+    (sym (trace_sent plan c is all))
     ∙ ap (λ (w : List ℕ). written_in c ++ w) (sym (waits_behind (calls_in c)))

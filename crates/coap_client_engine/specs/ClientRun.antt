@@ -37,13 +37,13 @@ seen given written answers moments out err =
     record { given = given; written = written; answers = answers; moments = moments; out = out; err = err }
 
 -- Says that between `start` and `now` the devices recorded exactly the events of a trace.
-pub record IsRecorded (plan : ClientPlan) (start now : RunDevices) (course : RunTrace) : Type 0 where
-  pub given : AddsBytes start.given now.given (given_in course)
-  pub written : AddsBytes start.written now.written (written_in course)
-  pub answers : TellsMore start.answers now.answers (answers_in course)
-  pub moments : TellsMore start.moments now.moments (moments_in course)
-  pub out : AddsBytes start.out now.out (output_in plan course)
-  pub err : AddsBytes start.err now.err (errors_in course)
+pub record IsRecorded (plan : ClientPlan) (start now : RunDevices) (trace : RunTrace) : Type 0 where
+  pub given : AddsBytes start.given now.given (given_in trace)
+  pub written : AddsBytes start.written now.written (written_in trace)
+  pub answers : TellsMore start.answers now.answers (answers_in trace)
+  pub moments : TellsMore start.moments now.moments (moments_in trace)
+  pub out : AddsBytes start.out now.out (output_in plan trace)
+  pub err : AddsBytes start.err now.err (errors_in trace)
 
 -- ---- the contract of a run
 
@@ -54,30 +54,30 @@ most_turns = 1000000000000
 -- Says that the run ended with this status, and that queued bytes were then written as far as one write could. After a
 -- read that ends the run there is no write.
 abbrev pub IsEnded : RunTrace → ℕ → Type 0
-IsEnded course status = (status_in course ≡ Some status) × HasWritten course
+IsEnded trace status = (status_in trace ≡ Some status) × HasWritten trace
 
 -- Says that the run made all iterations to their end, that none of them ended it, and that the status is 4.
 abbrev pub IsOutOfTurns : RunTrace → ℕ → Type 0
-IsOutOfTurns course status =
-    (status_in course ≡ None) × IsBetween course × (turns_in course ≡ most_turns) × (status ≡ 4)
+IsOutOfTurns trace status =
+    (status_in trace ≡ None) × IsBetween trace × (turns_in trace ≡ most_turns) × (status ≡ 4)
 
 -- The contract of a run that returns an exit status. There is a trace of calls that the client accepts. The accepted
 -- bytes are a prefix of the bytes that the wire gave, and the written bytes are a prefix of the queued bytes. The
 -- devices recorded exactly this trace. The status is the one that ends the trace, or 4 if all iterations were made.
 pub record IsClientRun (plan : ClientPlan) (start now : RunDevices) (status : ℕ) : Type 0 where
-  pub course : RunTrace
-  pub follows : IsRunTrace plan course
-  pub accepted : AreAccepted default_limits 0 (calls_in course)
-  pub taken : given_in course ≡ taken_in course ++ rest_in course
-  pub queued : bytes_of (history_in course).queued ≡ written_in course ++ waiting_in course
-  pub told : IsRecorded plan start now course
-  pub turns : turns_in course ≤ most_turns
-  pub ends : IsEnded course status ⊎ IsOutOfTurns course status
+  pub trace : RunTrace
+  pub follows : IsRunTrace plan trace
+  pub accepted : AreAccepted default_limits 0 (calls_in trace)
+  pub taken : given_in trace ≡ taken_in trace ++ rest_in trace
+  pub queued : bytes_of (history_in trace).queued ≡ written_in trace ++ waiting_in trace
+  pub told : IsRecorded plan start now trace
+  pub turns : turns_in trace ≤ most_turns
+  pub ends : IsEnded trace status ⊎ IsOutOfTurns trace status
 
 -- The contract of a run that returns its end: it is a run that returns the status, and the cause is that of its trace.
 pub record IsExplainedRun (plan : ClientPlan) (start now : RunDevices) (end : RunEnd) : Type 0 where
   pub run : IsClientRun plan start now end.status
-  pub cause : end.cause ≡ cause_in plan run.course
+  pub cause : end.cause ≡ cause_in plan run.trace
 
 -- The contract of a run for which allocation fails: the clock recorded one time, and the other devices recorded
 -- nothing.
@@ -92,71 +92,71 @@ abbrev pub token_of : Run → Option (List ℕ)
 token_of run = option_map (λ t. t.items) run.token
 
 -- Says that the state of a run is the one to which a trace leads, and that the devices recorded this trace.
-pub record IsAtTrace (plan : ClientPlan) (start now : RunDevices) (run : Run) (course : RunTrace) : Type 0 where
-  pub follows : IsRunTrace plan course
-  pub shows : ClientShows run.client 0 (calls_in course)
+pub record IsAtTrace (plan : ClientPlan) (start now : RunDevices) (run : Run) (trace : RunTrace) : Type 0 where
+  pub follows : IsRunTrace plan trace
+  pub shows : ClientShows run.client 0 (calls_in trace)
   pub limits : run.client.link.limits ≡ default_limits
-  pub rest : run.rest ≡ rest_in course
-  pub token : token_of run ≡ token_in course
-  pub started : run.started ≡ started_in course
-  pub moment : run.moment ≡ moment_in course
-  pub first : run.first ≡ first_in course
-  pub cancelled : run.cancelled ≡ cancelled_in course
-  pub cause : run.cause ≡ cause_in plan course
-  pub told : IsRecorded plan start now course
+  pub rest : run.rest ≡ rest_in trace
+  pub token : token_of run ≡ token_in trace
+  pub started : run.started ≡ started_in trace
+  pub moment : run.moment ≡ moment_in trace
+  pub first : run.first ≡ first_in trace
+  pub cancelled : run.cancelled ≡ cancelled_in trace
+  pub cause : run.cause ≡ cause_in plan trace
+  pub told : IsRecorded plan start now trace
 
 -- Says that a part of an iteration leads to a trace for which `P` holds. `next` is the exit status after that trace, or
 -- `None` if the run continues.
 pub record ExtendsTraceOn (plan : ClientPlan) (start now : RunDevices) (run : Run) (P : RunTrace → Type 0)
     (next : Option ℕ) : Type 0 where
-  pub course : RunTrace
-  pub stands : IsAtTrace plan start now run course
-  pub ends : status_in course ≡ next
-  pub holds : P course
+  pub trace : RunTrace
+  pub stands : IsAtTrace plan start now run trace
+  pub ends : status_in trace ≡ next
+  pub holds : P trace
 
 -- Says that the wire was read in this iteration, or that input was left when the iteration began.
 abbrev pub HasReadClock : RunTrace → Type 0
-HasReadClock course = has_looked course ≡ true
+HasReadClock trace = has_looked trace ≡ true
 
 -- Says that the wire was read if no input was left, and that no request remains to be sent, except a refused one.
-pub record IsReady (course : RunTrace) : Type 0 where
-  pub looked : HasReadClock course
-  pub asked : IsAskedWhereDue course
+pub record IsReady (trace : RunTrace) : Type 0 where
+  pub looked : HasReadClock trace
+  pub asked : IsAskedWhereDue trace
 
 -- The state after the read, with the number of iterations that began. The wire was read if no input was left, unless
 -- the run has ended. No write may follow yet.
-pub record IsHeard (began : ℕ) (course : RunTrace) : Type 0 where
-  pub turns : turns_in course ≡ began
-  pub looked : status_in course ≡ None → HasReadClock course
-  pub early : MayWrite course → ⊥
+pub record IsHeard (began : ℕ) (trace : RunTrace) : Type 0 where
+  pub turns : turns_in trace ≡ began
+  pub looked : status_in trace ≡ None → HasReadClock trace
+  pub early : MayWrite trace → ⊥
 
 -- The state after the attempt to send the request. If the run continues, no request remains to be sent, except a
 -- refused one.
-pub record IsAsked (began : ℕ) (course : RunTrace) : Type 0 where
-  pub turns : turns_in course ≡ began
-  pub looked : HasReadClock course
-  pub asked : status_in course ≡ None → IsAskedWhereDue course
-  pub writes : status_in course ≢ None → MayWrite course
+pub record IsAsked (began : ℕ) (trace : RunTrace) : Type 0 where
+  pub turns : turns_in trace ≡ began
+  pub looked : HasReadClock trace
+  pub asked : status_in trace ≡ None → IsAskedWhereDue trace
+  pub writes : status_in trace ≢ None → MayWrite trace
 
 -- The state after the input was processed. If the run continues, no more input can be processed now.
-pub record IsTaken (began : ℕ) (course : RunTrace) : Type 0 where
-  pub turns : turns_in course ≡ began
-  pub looked : HasReadClock course
-  pub asked : status_in course ≡ None → IsAskedWhereDue course
-  pub taken : status_in course ≡ None → IsTakenUp course
-  pub writes : status_in course ≢ None → MayWrite course
+pub record IsTaken (began : ℕ) (trace : RunTrace) : Type 0 where
+  pub turns : turns_in trace ≡ began
+  pub looked : HasReadClock trace
+  pub asked : status_in trace ≡ None → IsAskedWhereDue trace
+  pub taken : status_in trace ≡ None → IsTakenUp trace
+  pub writes : status_in trace ≢ None → MayWrite trace
 
 -- The state after everything but the write. If the run continues, nothing else is left in the iteration.
-pub record IsFinished (began : ℕ) (course : RunTrace) : Type 0 where
-  pub turns : turns_in course ≡ began
-  pub rests : status_in course ≡ None → IsResting course
-  pub writes : MayWrite course
+pub record IsFinished (began : ℕ) (trace : RunTrace) : Type 0 where
+  pub turns : turns_in trace ≡ began
+  pub rests : status_in trace ≡ None → IsResting trace
+  pub writes : MayWrite trace
 
 -- The state after the write. If the run continues, the next iteration may begin.
-pub record IsFlushed (began : ℕ) (course : RunTrace) : Type 0 where
-  pub turns : turns_in course ≡ began
-  pub between : status_in course ≡ None → IsBetween course
-  pub written : HasWritten course
+pub record IsFlushed (began : ℕ) (trace : RunTrace) : Type 0 where
+  pub turns : turns_in trace ≡ began
+  pub between : status_in trace ≡ None → IsBetween trace
+  pub written : HasWritten trace
 
 -- ---- the contracts of the parts of a run
 
@@ -179,9 +179,9 @@ with_all given written answers out err now = seen given written answers now.mome
 abbrev pub ExtendsTrace : (old new : RunDevices → RunDevices) (P : RunTrace → Type 0) (Q : ℕ → RunTrace → Type 0)
     → ClientPlan → (before after : Run) → Result (Option ℕ) WriteFailed → Type 0
 ExtendsTrace old new P Q plan before after result =
-    (start now : RunDevices) (course : RunTrace) → IsAtTrace plan start (old now) before course
-    → status_in course ≡ None → P course
-    → IfOk result (ExtendsTraceOn plan start (new now) after (Q (turns_in course)))
+    (start now : RunDevices) (trace : RunTrace) → IsAtTrace plan start (old now) before trace
+    → status_in trace ≡ None → P trace
+    → IfOk result (ExtendsTraceOn plan start (new now) after (Q (turns_in trace)))
 
 -- The contract of a part of an iteration that holds for every plan.
 abbrev pub ExtendsAllTraces : (old new : RunDevices → RunDevices) (P : RunTrace → Type 0) (Q : ℕ → RunTrace → Type 0)
@@ -194,6 +194,6 @@ ExtendsAllTraces old new P Q before after result =
 abbrev pub Flushes : (old new : RunDevices → RunDevices) → (before after : Run) → Option ℕ
     → Result (Option ℕ) WriteFailed → Type 0
 Flushes old new before after next result =
-    (plan : ClientPlan) (start now : RunDevices) (course : RunTrace) → IsAtTrace plan start (old now) before course
-    → status_in course ≡ next → MayWrite course → (status_in course ≡ None → IsResting course)
-    → IfOk result (ExtendsTraceOn plan start (new now) after (IsFlushed (turns_in course)))
+    (plan : ClientPlan) (start now : RunDevices) (trace : RunTrace) → IsAtTrace plan start (old now) before trace
+    → status_in trace ≡ next → MayWrite trace → (status_in trace ≡ None → IsResting trace)
+    → IfOk result (ExtendsTraceOn plan start (new now) after (IsFlushed (turns_in trace)))

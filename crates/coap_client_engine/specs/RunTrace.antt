@@ -56,23 +56,23 @@ calls_in (Writes before got) = calls_in before ++ calls_written got
 
 -- The client after the trace. It has the default limits, and its first token encodes the number 1.
 abbrev pub client_in : RunTrace → ClientValue
-client_in course = client_of default_limits 0 (calls_in course)
+client_in trace = client_of default_limits 0 (calls_in trace)
 
 -- The history of the connection after the trace.
 abbrev pub history_in : RunTrace → History
-history_in course = client_after default_limits 0 (calls_in course)
+history_in trace = client_after default_limits 0 (calls_in trace)
 
 -- The phase of the connection after the trace.
 abbrev pub phase_in : RunTrace → Phase
-phase_in course = (client_in course).link.phase
+phase_in trace = (client_in trace).link.phase
 
 -- The bytes queued for writing.
 abbrev pub waiting_in : RunTrace → List ℕ
-waiting_in course = (client_in course).link.waiting
+waiting_in trace = (client_in trace).link.waiting
 
 -- The event of a call after the trace.
 abbrev pub event_in : RunTrace → ClientCall → Option ClientEventValue
-event_in course call = event_of default_limits 0 (calls_in course) call
+event_in trace call = event_of default_limits 0 (calls_in trace) call
 
 -- The token of the request after a call.
 abbrev pub token_by : ClientCall → ClientValue → Option (List ℕ) → Option (List ℕ)
@@ -184,7 +184,7 @@ waits_since None None started = Some started
 
 -- The time since which the run waits, after the trace.
 abbrev pub since_in : RunTrace → Option ℕ
-since_in course = waits_since (cancelled_in course) (first_in course) (started_in course)
+since_in trace = waits_since (cancelled_in trace) (first_in trace) (started_in trace)
 
 -- True if the run has waited for `wait` seconds.
 abbrev pub is_late_since : Option ℕ → ℕ → ℕ → Bool
@@ -193,7 +193,7 @@ is_late_since (Some since) moment wait = has_passed moment since wait
 
 -- True if the run has waited for a response as long as the plan allows.
 abbrev pub is_late : ClientPlan → RunTrace → Bool
-is_late plan course = is_late_since (since_in course) (moment_in course) plan.wait
+is_late plan trace = is_late_since (since_in trace) (moment_in trace) plan.wait
 
 -- True if the run has waited for `wait` seconds, and began to wait before the current time.
 abbrev pub is_overdue_since : Option ℕ → ℕ → ℕ → Bool
@@ -202,11 +202,11 @@ is_overdue_since (Some since) moment wait = nat_lt since moment && has_passed mo
 
 -- True if the run has waited as long as the plan allows, and began to wait before the current time.
 abbrev pub is_overdue : ClientPlan → RunTrace → Bool
-is_overdue plan course = is_overdue_since (since_in course) (moment_in course) plan.wait
+is_overdue plan trace = is_overdue_since (since_in trace) (moment_in trace) plan.wait
 
 -- True if the observation must be cancelled.
 abbrev pub is_cancel_due : ClientPlan → RunTrace → Bool
-is_cancel_due plan course = is_to_cancel (cancelled_in course) (first_in course) (moment_in course) plan.observe
+is_cancel_due plan trace = is_to_cancel (cancelled_in trace) (first_in trace) (moment_in trace) plan.observe
 
 -- ---- the wire
 
@@ -223,7 +223,7 @@ answers_in (Writes before got) = answers_in before ++ got ∷ []
 
 -- The bytes that the client accepted.
 abbrev pub taken_in : RunTrace → List ℕ
-taken_in course = flat_map taken_by (calls_in course)
+taken_in trace = flat_map taken_by (calls_in trace)
 
 -- The bytes that the reads gave.
 abbrev pub given_in : RunTrace → List ℕ
@@ -456,7 +456,7 @@ MayWrite (Writes before got) = ⊥
 
 -- Says that queued bytes were written as far as one write could: if a write may follow, no bytes are queued.
 abbrev pub HasWritten : RunTrace → Type 0
-HasWritten course = MayWrite course → waiting_in course ≡ []
+HasWritten trace = MayWrite trace → waiting_in trace ≡ []
 
 -- Says that each event of a trace may follow the events before it. After the event that ends the run, there is at most
 -- one write.

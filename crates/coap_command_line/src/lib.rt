@@ -12,7 +12,7 @@
 //! `specs/ExplainWords.antt`, `specs/DirectoryWords.antt` and `specs/Reasons.antt`.
 //!
 //! This crate opens no file and runs nothing. Plans, targets and methods are types of `coap_request`. The crate
-//! `coap_program` has everything else that the programs need, such as exit statuses. Continue with `arguments.rt`.
+//! `program_common` has everything else that the programs need, such as exit statuses. Continue with `arguments.rt`.
 #![tactic(auto)]
 
 mod arguments;

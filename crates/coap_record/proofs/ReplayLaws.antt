@@ -31,7 +31,7 @@ use Rattle.coap_server_engine.specs.values.InResults.{in_result, fed_turns, goes
 use Rattle.coap_server_engine.specs.values.ServerAnswers.{open_refusal, released_refusal, responded_refusal}
 use Rattle.coap_server_engine.specs.values.Servers.{ServerValue, new_server, session_of, server_taken, count_taken}
 use Rattle.coap_server_engine.specs.world.Shows.{Shows, server_of, server_shown, place_shown}
-use Rattle.coap_server_engine.proofs.world.ShowLaws.{side_there, host_shown, takes_shown, shows_opened, shows_taken}
+use Rattle.coap_server_engine.proofs.world.ShowLaws.{side_there, shared_shown, takes_shown, shows_opened, shows_taken}
 use Rattle.coap_server_engine.proofs.world.ShowLaws.{shows_written}
 use Rattle.coap_server_engine.proofs.world.ShowLaws.{shows_ticked, shows_put, shows_removed, shows_ended}
 use Rattle.coap_server_engine.proofs.world.ShowLaws.{shows_released, shows_responded, shows_dropped}
@@ -145,7 +145,7 @@ ticked_replays : (v : ServerValue) (es : List AcceptedCall) (now : ℕ) → Show
     → IsAccepted v.config es (call.Ticked now) → Replays v es (call.Ticked now)
 unfolding IsAccepted events_said replayed event_ran
 ticked_replays v es now shows accepted =
-    let later : v.host.now ≤ now = grind (arith, nat_tests, host_shown v es shows) in
+    let later : v.shared.now ≤ now = grind (arith, nat_tests, shared_shown v es shows) in
     let small : now ≤ 18446744073709551615 = grind (arith, nat_tests) in
     let none : tick_refusal v now ≡ None = grind (arith, nat_tests) in
     rw none (shows_ticked v es now shows later small, refl)
@@ -154,14 +154,14 @@ stored_replays : (v : ServerValue) (es : List AcceptedCall) (path : List (List �
     → Shows v es → IsAccepted v.config es (call.Stored path format bytes) → Replays v es (call.Stored path format bytes)
 unfolding IsAccepted events_said replayed event_ran
 stored_replays v es path format bytes shows accepted =
-    let none : put_refusal v.host.store path bytes ≡ None = rw (host_shown v es shows) accepted in
+    let none : put_refusal v.shared.store path bytes ≡ None = rw (shared_shown v es shows) accepted in
     rw none (shows_put v es path format bytes shows none, refl)
 
 removed_replays : (v : ServerValue) (es : List AcceptedCall) (path : List (List ℕ)) → Shows v es
     → IsAccepted v.config es (call.Removed path) → Replays v es (call.Removed path)
 unfolding IsAccepted events_said replayed event_ran
 removed_replays v es path shows accepted =
-    let none : remove_refusal v.host.store path ≡ None = rw (host_shown v es shows) accepted in
+    let none : remove_refusal v.shared.store path ≡ None = rw (shared_shown v es shows) accepted in
     rw none (shows_removed v es path shows none, refl)
 
 ended_replays : (v : ServerValue) (es : List AcceptedCall) (id : ℕ) → Shows v es

@@ -75,9 +75,9 @@ pub use Rattle.coap_serve.specs.listener.Turns.{activity_after, can_go_on, cours
 pub use Rattle.coap_serve.specs.listener.Turns.{heard_events, is_heard, is_over_in, least_with, left_behind}
 pub use Rattle.coap_serve.specs.listener.Turns.{new_activity, peer_status, readiness, refused_events, rest_behind}
 pub use Rattle.coap_serve.specs.listener.Turns.{server_heard, server_wrote, status_with, visit_state, wait_for}
-pub use Rattle.coap_serve.specs.listener.Turns.{wait_until, waiting_once, wants_in, wants_of, wrote_events}
-pub use Rattle.coap_serve.specs.declared.serve.Report.{Report}
-pub use Rattle.coap_serve.specs.declared.serve.Turn.{Turn}
+pub use Rattle.coap_serve.specs.listener.Turns.{wait_until, waiting_once, interest_in, interest_of, wrote_events}
+pub use Rattle.coap_serve.specs.declared.serve_streams.Report.{Report}
+pub use Rattle.coap_serve.specs.declared.serve_streams.Turn.{Turn}
 pub use Rattle.coap_serve.specs.streams.StdioCalls.{AreTransfers, EndsReport, HasReported, HasReportedCut}
 pub use Rattle.coap_serve.specs.streams.StdioCalls.{HasReportedEnd, HasReportedStop, IsAfterOutput, IsCutFlush}
 pub use Rattle.coap_serve.specs.streams.StdioCalls.{IsReportedFlush, IsReportedRun, IsTransfer, flush_calls, written_in}
@@ -95,7 +95,7 @@ unfoldable pub use Rattle.coap_server_engine.specs.values.Calls.{FollowsMore}
 unfoldable pub use Rattle.coap_server_engine.specs.values.InResults.{fed_turns, took_turns}
 pub use Rattle.coap_server_engine.specs.values.Flushes.{waiting_at, waiting_in}
 pub use Rattle.coap_server_engine.specs.values.Flushes.{IsFlushed, IsFlushedOnce, more_at, more_in}
-pub use Rattle.coap_server_engine.specs.values.ServerDeadlines.{KeepsOthers, KeepsWork, outlook_of, session_outlook}
+pub use Rattle.coap_server_engine.specs.values.ServerDeadlines.{KeepsOthers, KeepsWork, work_of, session_work}
 unfoldable pub use Rattle.coap_server_engine.specs.values.Servers.{session_of, count_taken, server_taken}
 unfoldable pub use Rattle.coap_server_engine.specs.values.Flushes.{flush_turns}
 pub use Rattle.coap_server_engine.specs.values.Exchanges.{Asked, Offered, Given, offers}

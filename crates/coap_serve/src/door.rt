@@ -5,7 +5,7 @@ ghost use Rattle.coap_serve.specs.Prelude.{IsRun, Resting, Silent, Unlimited, Te
 ghost use Rattle.coap_serve.specs.Prelude.{plain_config, views_of, waited_behind};
 
 mod awake;
-mod looks;
+mod next_ready;
 mod parts;
 mod peer;
 mod peer_interest;

@@ -5,7 +5,7 @@ ghost use Rattle.std.specs.Prelude.{◌≡◌, ℕ, Option, Result, List, [], Al
 ghost use Rattle.coap_serve.specs.Prelude.{ConfigValues, ServerValue, AcceptedCall, Shows, IsFlushed, AddsBytes};
 ghost use Rattle.coap_serve.specs.Prelude.{waiting_at, Report, IoFault, IsStdioRun, LeavesNothingWaiting, AreSteps};
 ghost use Rattle.coap_serve.specs.Prelude.{History, IsRunStep, Readiness, AreSettled, LiesAt, IsNoOp, can_go_on};
-ghost use Rattle.coap_serve.specs.Prelude.{wants_of, IsRunCall};
+ghost use Rattle.coap_serve.specs.Prelude.{interest_of, IsRunCall};
 
 pub use coap_conn::laws as connections;
 pub use coap_frame::laws as frames;
@@ -48,7 +48,7 @@ pub fn a_flush_leaves_nothing_waiting()
 /// the connection stays open. The only call is a take that accepts none of the bytes left, if there are some.
 pub fn idle_connections_may_be_skipped()
     ensures { (v : ServerValue) (id i : ℕ) (rest : List ℕ) (ready : Readiness) → LiesAt id i v.sessions → AreSettled
-        v.host v.sessions → can_go_on (wants_of v id rest) ready ≡ false → IsNoOp ready v id rest }
+        v.shared v.sessions → can_go_on (interest_of v id rest) ready ≡ false → IsNoOp ready v id rest }
 {}
 
 /// States that a run stores and removes no resource for the embedding program, and announces no message size. So a

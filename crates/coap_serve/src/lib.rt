@@ -15,14 +15,14 @@
 //! as a function of its events.
 //!
 //! The contracts name the definitions of `specs/streams` (`serve_one`) and of `specs/listener`: `Turns.antt` and
-//! `Serving.antt` (one iteration), `Run.antt` (a run). Continue with `serve.rt`, then `door.rt`, or with
+//! `Serving.antt` (one iteration), `Run.antt` (a run). Continue with `serve_streams.rt`, then `door.rt`, or with
 //! `coap_server_engine/src/server.rt`.
 #![tactic(auto)]
 
 mod door;
 pub mod laws;
 mod output;
-mod serve;
+mod serve_streams;
 
 pub use coap_conn::{LimitFault, Limits, LimitsBuilder, Phase, Reason, Reply};
 pub use coap_io::{
@@ -46,4 +46,4 @@ pub use coap_wire::{
     TokenRef, option_numbers, parse, uint_bytes, uint_value,
 };
 pub use door::{Clocks, Service, ServiceConfig, Times, serve_door, serve_door_with};
-pub use serve::{Report, serve_one, serve_one_with};
+pub use serve_streams::{Report, serve_one, serve_one_with};

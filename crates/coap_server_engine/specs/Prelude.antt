@@ -147,7 +147,7 @@ pub use Rattle.coap_server_engine.specs.values.ConcernSets.{Covers, AreCovered, 
 pub use Rattle.coap_server_engine.specs.declared.index_set.IndexSet.{IndexSet}
 pub use Rattle.coap_server_engine.specs.declared.server.concerned.Concerned.{Concerned}
 pub use Rattle.coap_server_session.specs.values.Causes.{may_concern, last_hash}
-pub use Rattle.coap_server_engine.specs.values.ServerDeadlines.{WaitsForDeadlines, outlook_of, KeepsWork, KeepsOthers}
+pub use Rattle.coap_server_engine.specs.values.ServerDeadlines.{WaitsForDeadlines, work_of, KeepsWork, KeepsOthers}
 pub use Rattle.coap_server_engine.specs.values.ServerDeadlines.{AddsAffected, OnlyTimePasses, next_deadline}
 unfoldable pub use Rattle.coap_server_engine.specs.values.ServerDeadlines.{earliest_deadline}
 pub use Rattle.coap_server_engine.specs.values.Servers.{config_with, new_server, server_put, server_removed}
@@ -161,7 +161,7 @@ pub use Rattle.coap_server_engine.specs.values.Servers.{server_taken_on, server_
 pub use Rattle.coap_server_engine.specs.values.Servers.{unmarked_entry}
 pub use Rattle.coap_server_engine.specs.values.Servers.{unmarked, AreAllMarked, splits_of}
 unfoldable pub use Rattle.coap_server_engine.specs.values.Servers.{session_of, count_taken, server_taken, changed_at}
-pub use Rattle.coap_server_session.specs.values.Sessions.{host_changed}
+pub use Rattle.coap_server_session.specs.values.Sessions.{shared_changed}
 pub use Rattle.coap_server_session.specs.values.Sessions.{SessionValue}
 pub use Rattle.coap_server_session.specs.values.Sessions.{session_written, session_ended, session_released}
 pub use Rattle.coap_server_session.specs.values.Sessions.{session_announced}

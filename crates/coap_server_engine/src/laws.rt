@@ -30,7 +30,7 @@ ghost use Rattle.coap_model.specs.world.World.{Ended};
 /// - No pending Pong is first in the pending list.
 pub fn no_change_is_lost()
     ensures { (v : ServerValue) (events : List AcceptedCall) (id : ℕ) (s : Connection) → Shows v events →
-        side_of id (world_after v.config events).sides ≡ Some s → IsUpToDate v.host.store v.host.now s }
+        side_of id (world_after v.config events).sides ≡ Some s → IsUpToDate v.shared.store v.shared.now s }
 {}
 
 /// States that the division of a stream into slices does not matter.
@@ -116,8 +116,8 @@ pub fn only_stores_allocate()
 /// each deadline, only the time changes. The queued bytes, the pending entries and the observers of every connection
 /// stay the same.
 pub fn waiting_until_next_deadline_is_safe()
-    ensures { (v : ServerValue) (later : ℕ) → IsStore v.host.store → AreSettled v.host v.sessions → v.host.now ≤ later →
-        later < 2 ^ 64 → WaitsForDeadlines v later }
+    ensures { (v : ServerValue) (later : ℕ) → IsStore v.shared.store → AreSettled v.shared v.sessions →
+        v.shared.now ≤ later → later < 2 ^ 64 → WaitsForDeadlines v later }
 {}
 
 /// States that an application that writes no response changes nothing. The calls of `take` that `Server::take_all_for`
@@ -177,12 +177,12 @@ pub fn responses_at_once_have_room()
         responded_refusal (server_taken v id piece) id bytes ≡ Some fault →
         (fault ≡ responding.NotAResponse) ⊎ (fault ≡ responding.NoSuchRequest) }
     ensures accepted { (v : ServerValue) (events : List AcceptedCall) (id : ℕ) (piece bytes : List ℕ)
-        (m response : Message) → Shows v events → v.host.now < 18446744073709551615 →
+        (m response : Message) → Shows v events → v.shared.now < 18446744073709551615 →
         handed_by v id piece ≡ Some m →
         message_of bytes ≡ Ok response → response.token ≡ m.token → is_plain_response response ≡ true →
         responded_refusal (server_taken v id piece) id bytes ≡ None }
     ensures answered { (v : ServerValue) (events : List AcceptedCall) (id : ℕ) (piece bytes : List ℕ) (m : Message) →
-        Shows v events → v.host.now < 18446744073709551615 →
+        Shows v events → v.shared.now < 18446744073709551615 →
         handed_by v id piece ≡ Some m → bytes ≢ [] →
         responded_refusal (server_taken v id piece) id (response_for (server_taken v id piece) id m.token bytes)
         ≡ None }

@@ -98,7 +98,7 @@ type Sessions = IndexMap<u64, Session>;
 pub struct Server {
     alloc: Global,
     config: Config,
-    host: ServerState,
+    shared: ServerState,
     ids: u64,
     sessions: Sessions,
     sets: Concerned,
@@ -131,7 +131,7 @@ impl Server {
         let starts = config.starts();
         let sets = Concerned::new(alloc)?;
         let sessions = IndexMap::with_capacity(alloc, config.connections())?;
-        let host = ServerState::open(
+        let shared = ServerState::open(
             alloc,
             config.dynamic_max(),
             config.rep_max(),
@@ -141,7 +141,7 @@ impl Server {
         Ok(Server {
             alloc,
             config,
-            host,
+            shared,
             ids: starts.ids,
             sessions,
             sets,
@@ -168,22 +168,22 @@ impl Server {
         let Server {
             alloc,
             config,
-            host,
+            shared,
             ids,
             sessions,
             sets,
             recent,
         } = Server::new(alloc, config)?;
-        let ServerState { store, now } = host;
+        let ServerState { store, now } = shared;
         prove!(1 <= applications.deadline());
-        let host = ServerState {
+        let shared = ServerState {
             store: store.with_applications(applications)?,
             now,
         };
         Ok(Server {
             alloc,
             config,
-            host,
+            shared,
             ids,
             sessions,
             sets,

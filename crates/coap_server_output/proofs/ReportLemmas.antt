@@ -75,7 +75,7 @@ one_keeps x y id keeps own others other reported =
     )
 
 -- The call changes the connection, and all settle.
-pub one_changed : (x y : PolledServer) (id : ℕ) (f : SessionValue → SessionValue) → AreSettled x.engine.host
+pub one_changed : (x y : PolledServer) (id : ℕ) (f : SessionValue → SessionValue) → AreSettled x.engine.shared
     x.engine.sessions → y.engine ≡ server_settled (on_session id f x.engine) → (IsReported id y → ⊥)
     → ((i : ℕ) → IsOutside y.due.words i → IsOutside x.due.words i) → KeepsReported (Some x) (Some y)
 one_changed x y id f settled is =
@@ -102,14 +102,14 @@ some_changed x y words after is keeps =
     some_keep x y words (subst (KeepsWork words x.engine) (sym is) keeps)
 
 -- The time stays the same.
-pub time_stays : (x y : PolledServer) (now : ℕ) → now ≡ x.engine.host.now
-    → AreSettled x.engine.host x.engine.sessions → y.engine ≡ server_ticked x.engine now → y.due ≡ x.due
+pub time_stays : (x y : PolledServer) (now : ℕ) → now ≡ x.engine.shared.now
+    → AreSettled x.engine.shared x.engine.sessions → y.engine ≡ server_ticked x.engine now → y.due ≡ x.due
     → KeepsReported (Some x) (Some y)
 time_stays x y now same settled is due =
     let engine : y.engine ≡ x.engine =
     is ∙ ap (server_ticked x.engine) same
     ∙ ap (λ (es : Entries). record x.engine { sessions = es })
-    (all_settled_stay x.engine.host x.engine.sessions settled)
+    (all_settled_stay x.engine.shared x.engine.sessions settled)
     in
     keeps_same x y
     (ap (λ (v : ServerValue). record y { engine = v }) engine ∙ ap (λ d. record x { due = d }) due)
@@ -180,7 +180,7 @@ lies_early id i xs ys last is lies within =
           ∙ early (values_of xs) (last.1 ∷ []) i (omega (arith, within, length-values_of xs)) ∙ sym there.found,
     )
 
-pub open_keeps : (x y : PolledServer) (count : ℕ) → AreSettled x.engine.host x.engine.sessions
+pub open_keeps : (x y : PolledServer) (count : ℕ) → AreSettled x.engine.shared x.engine.sessions
     → count ≡ length x.engine.sessions → y.engine ≡ server_opened x.engine
     → (count < 256 → bit_of y.due.words count ≡ 1)
     → ((i : ℕ) → i ≢ count → bit_of y.due.words i ≡ bit_of x.due.words i) → KeepsReported (Some x) (Some y)
@@ -237,7 +237,7 @@ lies_where_removed id i j at xs ys is distinct place lies =
           ∙ place SessionValue (values_of xs) ∙ sym there.found,
     )
 
-pub drop_keeps : (x y : PolledServer) (id at count : ℕ) → AreSettled x.engine.host x.engine.sessions
+pub drop_keeps : (x y : PolledServer) (id at count : ℕ) → AreSettled x.engine.shared x.engine.sessions
     → LiesAt id at x.engine.sessions → count ≡ length x.engine.sessions → count ≤ 256
     → y.engine ≡ server_dropped x.engine id
     → ((i : ℕ) → i < at → bit_of y.due.words i ≡ bit_of x.due.words i)

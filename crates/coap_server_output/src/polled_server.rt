@@ -123,7 +123,7 @@ impl PolledServer {
     ///
     /// Those of `Server::tick`. Nothing has changed then.
     pub fn tick(&mut self, now: u64) -> Result<(), Backwards>
-        ensures answer { is_ok result ≡ nat_le self.old.engine.host.now now }
+        ensures answer { is_ok result ≡ nat_le self.old.engine.shared.now now }
         ensures ok { OnOk result (self.new.engine ≡ server_ticked self.old.engine now) }
         ensures shows { OnOk result ((events : List AcceptedCall) → Shows self.old.engine events →
             Shows self.new.engine (events ++ Ticked now ∷ [])) }
@@ -231,8 +231,8 @@ impl PolledServer {
         format: Option<u16>,
         bytes: &[u8],
     ) -> Result<u64, StoreFault>
-        ensures answer { RefusedOrMemory result (put_refusal self.old.engine.host.store path.now bytes.now) }
-        ensures version { IfOk result (λ version. version ≡ self.old.engine.host.store.versions + 1) }
+        ensures answer { RefusedOrMemory result (put_refusal self.old.engine.shared.store path.now bytes.now) }
+        ensures version { IfOk result (λ version. version ≡ self.old.engine.shared.store.versions + 1) }
         ensures ok { OnOk result (self.new.engine ≡ server_put self.old.engine path.now format bytes.now) }
         ensures shows { OnOk result ((events : List AcceptedCall) → Shows self.old.engine events →
             Shows self.new.engine (events ++ Stored path.now format bytes.now ∷ [])) }
@@ -251,7 +251,7 @@ impl PolledServer {
     ///
     /// Those of `Server::remove`. Nothing has changed then.
     pub fn remove(&mut self, path: &PathKey) -> Result<(), StoreFault>
-        ensures answer { RefusedBy result (remove_refusal self.old.engine.host.store path.now) }
+        ensures answer { RefusedBy result (remove_refusal self.old.engine.shared.store path.now) }
         ensures ok { OnOk result (self.new.engine ≡ server_removed self.old.engine path.now) }
         ensures shows { OnOk result ((events : List AcceptedCall) → Shows self.old.engine events →
             Shows self.new.engine (events ++ Removed path.now ∷ [])) }

@@ -108,7 +108,7 @@ pub use Rattle.coap_server_session.specs.values.Entries.{settled_held, framer_on
 unfoldable pub use Rattle.coap_server_session.specs.values.Entries.{first_index}
 pub use Rattle.coap_server_session.specs.values.SessionAnswers.{IsAnnounced}
 pub use Rattle.coap_server_session.specs.values.Responses.{path_size}
-pub use Rattle.coap_server_session.specs.values.Sessions.{ObserverValue, answer_on, delay_on, held_in, host_changed}
+pub use Rattle.coap_server_session.specs.values.Sessions.{ObserverValue, answer_on, delay_on, held_in, shared_changed}
 pub use Rattle.coap_server_session.specs.values.Sessions.{link_sent}
 pub use Rattle.coap_server_session.specs.values.Sessions.{new_entry, notification_on, mark_at, present_mark, untold_by}
 pub use Rattle.coap_server_session.specs.values.Sessions.{SessionValue}
@@ -122,7 +122,7 @@ pub use Rattle.coap_server_session.specs.values.Sessions.{mark_of, session_max, 
 pub use Rattle.coap_server_session.specs.values.Sessions.{session_rejected, session_replied, session_settled_so}
 pub use Rattle.coap_server_session.specs.values.Sessions.{state_on}
 pub use Rattle.coap_server_session.specs.values.Sessions.{taking_found, taking_read, MarkedSession, AreMarked, IsMarked}
-pub use Rattle.coap_server_session.specs.values.Sessions.{empty_host, host_with, observers_left}
+pub use Rattle.coap_server_session.specs.values.Sessions.{empty_shared, shared_with, observers_left}
 unfoldable pub use Rattle.coap_server_session.specs.values.Sessions.{changed_mark}
 unfoldable pub use Rattle.coap_server_session.specs.values.Sessions.{without_entry, is_stale, session_settled}
 unfoldable pub use Rattle.coap_server_session.specs.values.Sessions.{session_handled}

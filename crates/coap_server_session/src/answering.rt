@@ -7,7 +7,7 @@ ghost use Rattle.coap_server_session.specs.Prelude.{PendingEntryValue, first_due
 ghost use Rattle.coap_server_session.specs.Prelude.{changed, response_message, planned_value, path_of};
 ghost use Rattle.coap_server_session.specs.Prelude.{IsChangeAt, IsPut, TakesChange, change_hash, MayObserve};
 ghost use Rattle.coap_server_session.specs.Prelude.{asks_entry as asks, is_whole as is_sent_whole, ObserverValue};
-ghost use Rattle.coap_server_session.specs.Prelude.{answer_on, delay_on, held_in, host_changed, link_sent, new_entry};
+ghost use Rattle.coap_server_session.specs.Prelude.{answer_on, delay_on, held_in, shared_changed, link_sent, new_entry};
 ghost use Rattle.coap_server_session.specs.Prelude.{application_deadline, only, is_handed};
 ghost use Rattle.coap_server_session.specs.Prelude.{notification_on, without_entry, IsFirstStale, link_replied};
 ghost use Rattle.coap_server_session.specs.Prelude.{entries_replied, entries_notified, observer_value, LARGEST_MESSAGE};
@@ -67,38 +67,38 @@ impl RequestEffect {
 pub(crate) fn answer(
     link: &mut Link,
     observers: &mut Observers,
-    host: &mut ServerState,
+    shared: &mut ServerState,
     request: &MessageRef,
 ) -> Result<RequestEffect, AllocError>
     requires ready { IsReady link.old }
     requires open { is_open link.old.phase ≡ true }
-    requires marked { AreMarked host.old observers.old.entries observers.old.marks }
-    ensures changed { IfOk result (λ e. e.changed ≡ change_hash (answer_on host.old request.now).change) }
-    ensures handed { IfOk result (λ e. e.handed ≡ is_handed (held_in link.old (delay_on host.old request.now))) }
+    requires marked { AreMarked shared.old observers.old.entries observers.old.marks }
+    ensures changed { IfOk result (λ e. e.changed ≡ change_hash (answer_on shared.old request.now).change) }
+    ensures handed { IfOk result (λ e. e.handed ≡ is_handed (held_in link.old (delay_on shared.old request.now))) }
     ensures quiet { IfOk result (λ e. e.handed ≡ true → e.changed ≡ None) }
-    ensures link { OnOk result (link.new ≡ link_replied host.old link.old observers.old.room
+    ensures link { OnOk result (link.new ≡ link_replied shared.old link.old observers.old.room
         (without_entry request.now.token observers.old.entries) request.now
-        (held_in link.old (delay_on host.old request.now))) }
-    ensures entries { OnOk result (observers.new.entries ≡ entries_replied host.old link.old observers.old.room
+        (held_in link.old (delay_on shared.old request.now))) }
+    ensures entries { OnOk result (observers.new.entries ≡ entries_replied shared.old link.old observers.old.room
         (without_entry request.now.token observers.old.entries) request.now
-        (held_in link.old (delay_on host.old request.now))) }
+        (held_in link.old (delay_on shared.old request.now))) }
     ensures room { OnOk result (observers.new.room ≡ observers.old.room) }
-    ensures marked { OnOk result (AreMarked host.new observers.new.entries observers.new.marks) }
-    ensures host { OnOk result (host.new ≡ host_changed host.old (answer_on host.old request.now).change) }
-    ensures put { OnErr result (IsPut (answer_on host.old request.now).change) }
-    ensures unchanged { OnErr result (host.new ≡ host.old) }
+    ensures marked { OnOk result (AreMarked shared.new observers.new.entries observers.new.marks) }
+    ensures shared { OnOk result (shared.new ≡ shared_changed shared.old (answer_on shared.old request.now).change) }
+    ensures put { OnErr result (IsPut (answer_on shared.old request.now).change) }
+    ensures unchanged { OnErr result (shared.new ≡ shared.old) }
     ensures silent { OnErr result (link.new ≡ link.old) }
     ensures kept { OnErr result (observers.new ≡ observers.old) }
 {
-    if let Some(seconds) = host.store.application_deadline(request) {
-        let moment = host.now.saturating_add(u64::from(seconds));
+    if let Some(seconds) = shared.store.application_deadline(request) {
+        let moment = shared.now.saturating_add(u64::from(seconds));
         let handed = hand_over(link, observers, request, moment);
         return Ok(RequestEffect {
             changed: None,
             handed,
         });
     }
-    let changed = answer_from_store(link, observers, host, request)?;
+    let changed = answer_from_store(link, observers, shared, request)?;
     Ok(RequestEffect {
         changed,
         handed: false,
@@ -124,40 +124,40 @@ pub(crate) fn answer(
 fn answer_from_store(
     link: &mut Link,
     observers: &mut Observers,
-    host: &mut ServerState,
+    shared: &mut ServerState,
     request: &MessageRef,
 ) -> Result<Option<u8>, AllocError>
     requires ready { IsReady link.old }
     requires open { is_open link.old.phase ≡ true }
-    requires unhanded { application_deadline host.old.store.applications request.now ≡ None }
-    requires marked { AreMarked host.old observers.old.entries observers.old.marks }
-    ensures changed { IfOk result (λ changed. changed ≡ change_hash (answer_on host.old request.now).change) }
-    ensures link { OnOk result (link.new ≡ link_replied host.old link.old observers.old.room
+    requires unhanded { application_deadline shared.old.store.applications request.now ≡ None }
+    requires marked { AreMarked shared.old observers.old.entries observers.old.marks }
+    ensures changed { IfOk result (λ changed. changed ≡ change_hash (answer_on shared.old request.now).change) }
+    ensures link { OnOk result (link.new ≡ link_replied shared.old link.old observers.old.room
         (without_entry request.now.token observers.old.entries) request.now
-        (held_in link.old (delay_on host.old request.now))) }
-    ensures entries { OnOk result (observers.new.entries ≡ entries_replied host.old link.old observers.old.room
+        (held_in link.old (delay_on shared.old request.now))) }
+    ensures entries { OnOk result (observers.new.entries ≡ entries_replied shared.old link.old observers.old.room
         (without_entry request.now.token observers.old.entries) request.now
-        (held_in link.old (delay_on host.old request.now))) }
+        (held_in link.old (delay_on shared.old request.now))) }
     ensures room { OnOk result (observers.new.room ≡ observers.old.room) }
-    ensures marked { OnOk result (AreMarked host.new observers.new.entries observers.new.marks) }
-    ensures host { OnOk result (host.new ≡ host_changed host.old (answer_on host.old request.now).change) }
-    ensures put { OnErr result (IsPut (answer_on host.old request.now).change) }
-    ensures unchanged { OnErr result (host.new ≡ host.old) }
+    ensures marked { OnOk result (AreMarked shared.new observers.new.entries observers.new.marks) }
+    ensures shared { OnOk result (shared.new ≡ shared_changed shared.old (answer_on shared.old request.now).change) }
+    ensures put { OnErr result (IsPut (answer_on shared.old request.now).change) }
+    ensures unchanged { OnErr result (shared.new ≡ shared.old) }
     ensures silent { OnErr result (link.new ≡ link.old) }
     ensures kept { OnErr result (observers.new ≡ observers.old) }
 {
     let mut plan = Plan::new();
-    let index = host.store.fill_plan(request, host.now, &mut plan);
+    let index = shared.store.fill_plan(request, shared.now, &mut plan);
     if let Some(seconds) = plan.hold() {
-        let moment = host.now.saturating_add(u64::from(seconds));
+        let moment = shared.now.saturating_add(u64::from(seconds));
         delay_answer(link, observers, request, moment);
         return Ok(None);
     }
     if plan.changes() {
         let planned = plan.into_change();
-        let changed = change(&mut host.store, &planned, index)?;
+        let changed = change(&mut shared.store, &planned, index)?;
         observers.remove_token(request.token());
-        mark_changed(observers, changed, host);
+        mark_changed(observers, changed, shared);
         respond_change(link, request.token(), &planned);
         return Ok(changed);
     }
@@ -165,7 +165,7 @@ fn answer_from_store(
     let observes = asks_entry(plan.watch()) && !observers.is_full();
     let reply = respond(link, request.token(), &plan, observes);
     if observes && is_whole(reply) {
-        add_observer(observers, host, request);
+        add_observer(observers, shared, request);
     }
     Ok(None)
 }
@@ -196,14 +196,14 @@ fn change(
 }
 
 /// Recomputes the changed marks of the observers of a path with this hash, if there is one.
-fn mark_changed(observers: &mut Observers, changed: Option<u8>, host: &ServerState)
+fn mark_changed(observers: &mut Observers, changed: Option<u8>, shared: &ServerState)
     ensures { observers.new ≡ record observers.old {
-      marks = marks_after changed host.entry.now observers.old.entries observers.old.marks;
+      marks = marks_after changed shared.entry.now observers.old.entries observers.old.marks;
     } }
 {
     if let Some(hash) = changed {
         if observers.may_observe(hash) {
-            observers.mark(Cause::Path(hash), host);
+            observers.mark(Cause::Path(hash), shared);
         }
     }
 }
@@ -333,36 +333,37 @@ fn is_whole(reply: Reply) -> bool
 /// Adds the observer that a request asks for. The list must not be full.
 // Never inlined, since a function clears all its locals.
 #[inline(never)]
-fn add_observer(observers: &mut Observers, host: &ServerState, request: &MessageRef)
+fn add_observer(observers: &mut Observers, shared: &ServerState, request: &MessageRef)
     requires room { length observers.old.entries < observers.old.room }
-    requires watched { MayObserve host.now.store host.now.now (path_of request.now) (answer_on host.now request.now) }
+    requires watched { MayObserve shared.now.store shared.now.now (path_of request.now)
+        (answer_on shared.now request.now) }
     ensures value { observers.new ≡ record observers.old {
-      entries = observers.old.entries ++ new_entry host.entry.now request.now ∷ [];
+      entries = observers.old.entries ++ new_entry shared.entry.now request.now ∷ [];
       marks = observers.old.marks ++ None ∷ [];
     } }
-    ensures marked { AreMarked host.entry.now observers.old.entries observers.old.marks →
-        AreMarked host.entry.now observers.new.entries observers.new.marks }
+    ensures marked { AreMarked shared.entry.now observers.old.entries observers.old.marks →
+        AreMarked shared.entry.now observers.new.entries observers.new.marks }
 {
-    observers.add_observer(entry_for(host, request));
+    observers.add_observer(entry_for(shared, request));
 }
 
 /// Returns the observer entry of a request: its path must be present, and its current state counts as sent.
-fn entry_for(host: &ServerState, request: &MessageRef) -> Observer
-    requires { MayObserve host.now.store host.now.now (path_of request.now) (answer_on host.now request.now) }
-    ensures entry { observer_value result ≡ new_entry host.entry.now request.now }
+fn entry_for(shared: &ServerState, request: &MessageRef) -> Observer
+    requires { MayObserve shared.now.store shared.now.now (path_of request.now) (answer_on shared.now request.now) }
+    ensures entry { observer_value result ≡ new_entry shared.entry.now request.now }
     ensures tagged { IsTagged result }
     ensures unmarked { result.changed ≡ None }
 {
     let Some(path) = request_path(request) else {
         unreachable!()
     };
-    let State::Present(there) = host.store.state(&path, host.now) else {
+    let State::Present(there) = shared.store.state(&path, shared.now) else {
         unreachable!()
     };
     Observer {
         token: request.token().to_token(),
         format: there.format(),
-        mark: mark_at(host.now, &there),
+        mark: mark_at(shared.now, &there),
         hash: hash_of(&path),
         built_in: !path.kind().is_dynamic(),
         index: 0,
@@ -380,28 +381,28 @@ fn entry_for(host: &ServerState, request: &MessageRef) -> Observer
 pub(crate) fn notify(
     link: &mut Link,
     observers: &mut Observers,
-    host: &ServerState,
+    shared: &ServerState,
     stale: StaleObserver,
 )
     requires ready { IsReady link.old }
     requires answering { IsAnswering link.old.phase }
-    requires first { IsFirstStale host.now observers.old.entries stale }
-    requires marked { AreMarked host.now observers.old.entries observers.old.marks }
+    requires first { IsFirstStale shared.now observers.old.entries stale }
+    requires marked { AreMarked shared.now observers.old.entries observers.old.marks }
     ensures link { (o : ObserverValue) → slice_get observers.old.entries stale.index ≡ Some o →
-        link.new ≡ link_after link.old (call.Reply (notification_on host.entry.now o)) }
+        link.new ≡ link_after link.old (call.Reply (notification_on shared.entry.now o)) }
     ensures entries { (o : ObserverValue) → slice_get observers.old.entries stale.index ≡ Some o →
-        observers.new.entries ≡ entries_notified host.entry.now link.old observers.old.entries o }
+        observers.new.entries ≡ entries_notified shared.entry.now link.old observers.old.entries o }
     ensures room { observers.new.room ≡ observers.old.room }
-    ensures marked { AreMarked host.entry.now observers.new.entries observers.new.marks }
+    ensures marked { AreMarked shared.entry.now observers.new.entries observers.new.marks }
 {
     let observer = observers.get(stale.index);
     let mut plan = Plan::new();
-    let index = host.store.fill_notification(
+    let index = shared.store.fill_notification(
         &observer.path,
         observer.kind(),
         observer.index,
         observer.format,
-        host.now,
+        shared.now,
         &mut plan,
     );
     let goes_on = plan.code() == Code::CONTENT;

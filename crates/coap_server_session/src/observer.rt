@@ -47,14 +47,14 @@ impl Observer {
     }
 
     /// Returns the mark of the current state of the path, or `None` if the path is absent.
-    pub(crate) fn present(&self, host: &ServerState) -> Option<u64>
+    pub(crate) fn present(&self, shared: &ServerState) -> Option<u64>
         requires { IsTagged self.now }
-        ensures { result ≡ present_mark host.entry.now self.now.path }
+        ensures { result ≡ present_mark shared.entry.now self.now.path }
     {
         if self.built_in {
-            return Some(host.now);
+            return Some(shared.now);
         }
-        host.mark(&self.path, self.index)
+        shared.mark(&self.path, self.index)
     }
 
     /// Returns the kind of the path.
@@ -69,15 +69,15 @@ impl Observer {
     }
 
     /// Returns the same as `present`. If the path is `known`, whose mark is `present`, the store is not read.
-    fn present_by(&self, known: &PathKey, present: Option<u64>, host: &ServerState) -> Option<u64>
+    fn present_by(&self, known: &PathKey, present: Option<u64>, shared: &ServerState) -> Option<u64>
         requires tagged { IsTagged self.now }
-        requires present { present ≡ present_mark host.now known.now }
-        ensures { result ≡ present_mark host.entry.now self.now.path }
+        requires present { present ≡ present_mark shared.now known.now }
+        ensures { result ≡ present_mark shared.entry.now self.now.path }
     {
         if !self.built_in && self.path == *known {
             return present;
         }
-        self.present(host)
+        self.present(shared)
     }
 
     /// Returns the changed mark that this observer must have now.
@@ -85,13 +85,13 @@ impl Observer {
         &self,
         known: &PathKey,
         present: Option<u64>,
-        host: &ServerState,
+        shared: &ServerState,
     ) -> Option<u64>
         requires tagged { IsTagged self.now }
-        requires present { present ≡ present_mark host.now known.now }
-        ensures { result ≡ changed_mark host.entry.now (observer_value self.now) }
+        requires present { present ≡ present_mark shared.now known.now }
+        ensures { result ≡ changed_mark shared.entry.now (observer_value self.now) }
     {
-        untold_by(self.present_by(known, present, host), self.mark)
+        untold_by(self.present_by(known, present, shared), self.mark)
     }
 }
 

@@ -107,16 +107,16 @@ impl Observers {
     }
 
     /// Recomputes the changed marks of the observers that a change affects.
-    pub(crate) fn mark(&mut self, cause: Cause, host: &ServerState)
+    pub(crate) fn mark(&mut self, cause: Cause, shared: &ServerState)
         ensures { self.new
-            ≡ record self.old { marks = marks_anew cause host.entry.now self.old.entries self.old.marks } }
+            ≡ record self.old { marks = marks_anew cause shared.entry.now self.old.entries self.old.marks } }
     {
         mark_chain(
             &mut self.entries,
             &mut self.marked,
             &self.chains,
             cause,
-            host,
+            shared,
         );
     }
 
@@ -229,7 +229,7 @@ fn mark_chain(
     marked: &mut Flags,
     chains: &Chains,
     cause: Cause,
-    host: &ServerState,
+    shared: &ServerState,
 )
     requires many { length observers.old.items ≤ 256 }
     requires tagged { AllByRecursion IsTagged observers.old.items }
@@ -238,7 +238,7 @@ fn mark_chain(
     ensures tagged { AllByRecursion IsTagged observers.new.items }
     ensures entries { map observer_value observers.new.items ≡ map observer_value observers.old.items }
     ensures linked { map linked observers.new.items ≡ map linked observers.old.items }
-    ensures marks { map mark_in observers.new.items ≡ marks_anew cause host.entry.now
+    ensures marks { map mark_in observers.new.items ≡ marks_anew cause shared.entry.now
         (map observer_value observers.old.items) (map mark_in observers.old.items) }
     ensures flagged { AreFlagged marked.new (map mark_in observers.new.items) }
     ensures capacity { vec_capacity observers.new ≡ vec_capacity observers.old }
@@ -248,13 +248,13 @@ fn mark_chain(
     };
     let last = usize::from(last);
     let known = &observers[last];
-    let present = known.present(host);
+    let present = known.present(shared);
     let changed = untold_by(present, known.mark);
     let mut at = known.previous(cause);
     set_mark(observers, marked, last, changed);
     while let Some(index) = at {
         let observer = &observers[usize::from(index)];
-        let changed = observer.changed_by(&observers[last].path, present, host);
+        let changed = observer.changed_by(&observers[last].path, present, shared);
         at = observer.previous(cause);
         set_mark(observers, marked, usize::from(index), changed);
     }

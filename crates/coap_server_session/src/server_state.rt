@@ -1,7 +1,7 @@
 //! The state that all connections of a server share, and from which requests are answered.
 
 ghost use Rattle.std.specs.Prelude.{◌≡◌, ◌<◌, ◌≤◌, ◌^◌, true, IfOk};
-ghost use Rattle.coap_server_session.specs.Prelude.{empty_host, mark_at as mark_in, present_mark, LARGEST_MESSAGE};
+ghost use Rattle.coap_server_session.specs.Prelude.{empty_shared, mark_at as mark_in, present_mark, LARGEST_MESSAGE};
 ghost use Rattle.coap_server_session.specs.Prelude.{is_dynamic, kind_of_path};
 
 use coap_store::{PathKey, Present, Store};
@@ -36,7 +36,7 @@ impl ServerState {
     ) -> Result<ServerState, AllocError>
         requires few { dynamic_max ≤ 1000 }
         requires small { rep_max ≤ LARGEST_MESSAGE }
-        ensures value { IfOk result (λ h. h ≡ empty_host dynamic_max rep_max versions_from now) }
+        ensures value { IfOk result (λ h. h ≡ empty_shared dynamic_max rep_max versions_from now) }
         ensures moment { now < 2 ^ 64 }
     {
         let store = Store::new(alloc, dynamic_max, rep_max, versions_from)?;

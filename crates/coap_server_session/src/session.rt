@@ -6,7 +6,7 @@
 ghost use Rattle.std.specs.Prelude.{◌≡◌, ℕ, List, [], IfOk, OnOk, OnErr, false, None, ◌≤◌, ◌+◌, ◌++◌, ⊤, Some, length};
 ghost use Rattle.std.specs.Prelude.{take, IfErr, IfSome, is_some, true};
 ghost use Rattle.coap_server_session.specs.Prelude.{IsLive, IsReady, IsPut, ServerState as HostValue, change_hash};
-ghost use Rattle.coap_server_session.specs.Prelude.{change_by, host_changed, session_handled, session_with, sizes_of};
+ghost use Rattle.coap_server_session.specs.Prelude.{change_by, shared_changed, session_handled, session_with, sizes_of};
 ghost use Rattle.coap_server_session.specs.Prelude.{framer_on, sem, follows_so, none, RefusedBy, AreInRange};
 ghost use Rattle.coap_server_session.specs.Prelude.{is_finished, release_refusal, MarkedSession, IsMarked, AreMarked};
 ghost use Rattle.coap_server_session.specs.Prelude.{observers_left, new_session, session_takes, taking};
@@ -121,25 +121,25 @@ impl Session {
     ///
     /// The changed marks of the observers are current.
     #[tactic(auto, unfolding(crate::specs::values::Sessions::taking, coap_frame::specs::Framing::framing))]
-    pub fn take(&mut self, host: &mut ServerState, piece: &[u8]) -> Result<TakeOutcome, usize>
-        requires { IsMarked host.old self.old }
-        ensures count { IfOk result (λ t. t.count ≡ (taking host.old self.old.session piece.now).count) }
+    pub fn take(&mut self, shared: &mut ServerState, piece: &[u8]) -> Result<TakeOutcome, usize>
+        requires { IsMarked shared.old self.old }
+        ensures count { IfOk result (λ t. t.count ≡ (taking shared.old self.old.session piece.now).count) }
         ensures within { IfOk result (λ t. t.count ≤ length piece.now) }
-        ensures handled { IfOk result (λ t. t.handled ≡ (taking host.old self.old.session piece.now).handled) }
+        ensures handled { IfOk result (λ t. t.handled ≡ (taking shared.old self.old.session piece.now).handled) }
         ensures changed { IfOk result (λ t. t.changed
-            ≡ change_hash (taking host.old self.old.session piece.now).change) }
-        ensures handed { IfOk result (λ t. t.handed ≡ is_some (handed host.old self.old.session piece.now)) }
+            ≡ change_hash (taking shared.old self.old.session piece.now).change) }
+        ensures handed { IfOk result (λ t. t.handed ≡ is_some (handed shared.old self.old.session piece.now)) }
         ensures quiet { IfOk result (λ t. t.handed ≡ true → t.changed ≡ None) }
         ensures frame { IfOk result (λ t. IfSome (completed self.old.session piece.now) (λ frame.
             frame_back self.new.split (take t.count piece.now) ≡ frame)) }
-        ensures after { OnOk result (self.new.session ≡ (taking host.old self.old.session piece.now).session) }
-        ensures host { OnOk result (host.new
-            ≡ host_changed host.old (taking host.old self.old.session piece.now).change) }
-        ensures refused { IfErr result (λ count. RefusesPiece host.old self.old.session piece.now count) }
+        ensures after { OnOk result (self.new.session ≡ (taking shared.old self.old.session piece.now).session) }
+        ensures shared { OnOk result (shared.new
+            ≡ shared_changed shared.old (taking shared.old self.old.session piece.now).change) }
+        ensures refused { IfErr result (λ count. RefusesPiece shared.old self.old.session piece.now count) }
         ensures kept { IfErr result (λ count. self.new.session
-            ≡ (taking host.old self.old.session (take count piece.now)).session) }
-        ensures unchanged { OnErr result (host.new ≡ host.old) }
-        ensures marked { IsMarked host.new self.new }
+            ≡ (taking shared.old self.old.session (take count piece.now)).session) }
+        ensures unchanged { OnErr result (shared.new ≡ shared.old) }
+        ensures marked { IsMarked shared.new self.new }
     {
         if !self.takes() {
             return Ok(TakeOutcome::without_message(0));
@@ -159,7 +159,7 @@ impl Session {
                     discard_if_closed(&mut self.framer, &self.link, &mut self.observers);
                     Ok(TakeOutcome::without_message(count))
                 }
-                Ok(message) => match handle(&mut self.link, &mut self.observers, host, &message) {
+                Ok(message) => match handle(&mut self.link, &mut self.observers, shared, &message) {
                     Ok(effect) => {
                         discard_if_closed(&mut self.framer, &self.link, &mut self.observers);
                         Ok(TakeOutcome {
@@ -212,7 +212,7 @@ impl Session {
     /// If bytes of an unfinished frame are kept, the input ended within a frame, and the reason of the stop says so.
     pub fn end(&mut self)
         ensures after { self.new.session ≡ session_ended self.old.session }
-        ensures marked { (host : HostValue) → IsMarked host self.old → IsMarked host self.new }
+        ensures marked { (shared : HostValue) → IsMarked shared self.old → IsMarked shared self.new }
     {
         self.link.end(self.framer.kept() > 0);
         discard_if_closed(&mut self.framer, &self.link, &mut self.observers);
@@ -230,7 +230,7 @@ impl Session {
     pub fn release(&mut self) -> Result<(), SendFault>
         ensures answer { RefusedBy result (release_refusal self.old.session.link) }
         ensures after { OnOk result (self.new.session ≡ session_released self.old.session) }
-        ensures marked { OnOk result ((host : HostValue) → IsMarked host self.old → IsMarked host self.new) }
+        ensures marked { OnOk result ((shared : HostValue) → IsMarked shared self.old → IsMarked shared self.new) }
         ensures err { OnErr result (self.new ≡ self.old) }
     {
         self.link.release()?;
@@ -249,7 +249,7 @@ impl Session {
             r ≡ fit (limit_in self.old.session.link) m (bare_response m))) }
         ensures after { OnOk result (OnMessage (message_of response.now) (λ m.
             self.new.session ≡ session_given self.old.session m)) }
-        ensures marked { OnOk result ((host : HostValue) → IsMarked host self.old → IsMarked host self.new) }
+        ensures marked { OnOk result ((shared : HostValue) → IsMarked shared self.old → IsMarked shared self.new) }
         ensures err { OnErr result (self.new ≡ self.old) }
     {
         let reply = self.link.respond(response)?;
@@ -276,7 +276,7 @@ impl Session {
     pub fn announce(&mut self, size: u32) -> Result<(), AnnounceFault>
         ensures answer { IsAnnounced size (Some self.old.session) result }
         ensures after { OnOk result (self.new.session ≡ session_announced self.old.session size) }
-        ensures marked { OnOk result ((host : HostValue) → IsMarked host self.old → IsMarked host self.new) }
+        ensures marked { OnOk result ((shared : HostValue) → IsMarked shared self.old → IsMarked shared self.new) }
         ensures err { OnErr result (self.new ≡ self.old) }
     {
         let Phase::Open = self.link.phase() else {
@@ -375,31 +375,31 @@ impl Session {
 fn handle(
     link: &mut Link,
     observers: &mut Observers,
-    host: &mut ServerState,
+    shared: &mut ServerState,
     message: &MessageRef,
 ) -> Result<RequestEffect, AllocError>
     requires ready { IsReady link.old }
     requires live { IsLive link.old.phase }
     requires room { observers.old.room ≡ link.old.limits.observers }
-    requires marked { AreMarked host.old observers.old.entries observers.old.marks }
+    requires marked { AreMarked shared.old observers.old.entries observers.old.marks }
     ensures after { OnOk result ((frame : List ℕ) → session_with [] link.new observers.new.entries ≡ session_handled
-        host.old (record { frame = frame; link = link.old; observers = observers.old.entries }) message.now) }
+        shared.old (record { frame = frame; link = link.old; observers = observers.old.entries }) message.now) }
     ensures room { OnOk result (observers.new.room ≡ observers.old.room) }
-    ensures marked { OnOk result (AreMarked host.new observers.new.entries observers.new.marks) }
+    ensures marked { OnOk result (AreMarked shared.new observers.new.entries observers.new.marks) }
     ensures sizes { OnOk result (sizes_of link.new ≡ sizes_of link.old) }
-    ensures changed { IfOk result (λ e. e.changed ≡ change_hash (change_by host.old link.old message.now)) }
-    ensures handed { IfOk result (λ e. e.handed ≡ is_handed_over host.old link.old message.now) }
+    ensures changed { IfOk result (λ e. e.changed ≡ change_hash (change_by shared.old link.old message.now)) }
+    ensures handed { IfOk result (λ e. e.handed ≡ is_handed_over shared.old link.old message.now) }
     ensures quiet { IfOk result (λ e. e.handed ≡ true → e.changed ≡ None) }
-    ensures host { OnOk result (host.new ≡ host_changed host.old (change_by host.old link.old message.now)) }
-    ensures put { OnErr result (IsPut (change_by host.old link.old message.now)) }
-    ensures unchanged { OnErr result (host.new ≡ host.old) }
+    ensures shared { OnOk result (shared.new ≡ shared_changed shared.old (change_by shared.old link.old message.now)) }
+    ensures put { OnErr result (IsPut (change_by shared.old link.old message.now)) }
+    ensures unchanged { OnErr result (shared.new ≡ shared.old) }
     ensures silent { OnErr result (link.new ≡ link.old) }
     ensures kept { OnErr result (observers.new ≡ observers.old) }
 {
     match link.on(message) {
         Verdict::Request => {
-            host.keep_moment();
-            answer(link, observers, host, message)
+            shared.keep_moment();
+            answer(link, observers, shared, message)
         }
         _ => Ok(RequestEffect::none()),
     }

@@ -2,7 +2,7 @@
 //! the peer is gone.
 //!
 //! std and mio have no call for it. `keep_alive` therefore calls the C library, in the only `unsafe` block besides the
-//! two of `coap_handle`.
+//! two of `c_handle`.
 
 ghost use Rattle.std.specs.Prelude.{◌≡◌, ◌++◌, replicate};
 ghost use Rattle.std.specs.Int.{to_le_bytes};

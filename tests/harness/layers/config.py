@@ -12,7 +12,7 @@ import re
 
 from layers import Step, quoted
 
-PROBE = "coap_probe"
+PROBE = "test_rows"
 
 USUAL = {
     "max": 65_536, "sent": 65_536, "queue": 131_072, "pending": 16, "observers": 16, "outstanding": 16,

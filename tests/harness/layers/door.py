@@ -36,7 +36,7 @@ from layers.stdio import LIMITS, settings
 from layers.target import repeated
 from message_syntax import bytes_of, spelled
 
-PROBE = "coap_probe"
+PROBE = "test_rows"
 
 HOW = ("waits", "polled", "answer")
 

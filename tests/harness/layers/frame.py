@@ -15,7 +15,7 @@ import re
 from layers import Step, quoted
 from message_syntax import digits, spelled
 
-PROBE = "coap_probe"
+PROBE = "test_rows"
 
 LOOKS = ("look", "copied")
 

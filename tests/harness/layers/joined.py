@@ -12,7 +12,7 @@ import re
 from layers import Step
 from layers.client import cancelled, event_of, told_as, wanted_of, with_codes
 
-PROBE = "coap_probe"
+PROBE = "test_rows"
 LOOKS = ("look",)
 
 # More bytes than any stream has.

@@ -7,7 +7,7 @@ name, the number and the text of the error. The result of `faults send` has the 
 
 from layers import Step, quoted
 
-PROBE = "coap_probe"
+PROBE = "test_rows"
 
 
 def steps(opening, rows):

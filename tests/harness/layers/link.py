@@ -28,7 +28,7 @@ import re
 from layers import Step
 from message_syntax import digits
 
-PROBE = "coap_probe"
+PROBE = "test_rows"
 
 # Queries.
 LOOKS = ("look", "count", "token", "part")

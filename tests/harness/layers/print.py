@@ -7,7 +7,7 @@ from layers import Step
 from layers.target import repeated
 from message_syntax import spelled
 
-PROBE = "coap_probe"
+PROBE = "test_rows"
 
 
 def steps(opening, rows):

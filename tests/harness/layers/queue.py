@@ -7,7 +7,7 @@ the number of queued bytes, and these bytes.
 from layers import Step
 from message_syntax import spelled
 
-PROBE = "coap_probe"
+PROBE = "test_rows"
 
 LOOKS = ("look", "part")
 

@@ -8,7 +8,7 @@ from layers import Step
 from layers.client import event_of, opened, refused
 from message_syntax import spelled
 
-PROBE = "coap_probe"
+PROBE = "test_rows"
 LOOKS = ("look",)
 
 

@@ -11,7 +11,7 @@ from layers import Step
 from layers.target import repeated
 from message_syntax import bytes_of
 
-PROBE = "coap_probe"
+PROBE = "test_rows"
 
 
 def event_of(event):

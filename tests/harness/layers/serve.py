@@ -16,7 +16,7 @@ import re
 from layers import Step
 from message_syntax import CODES, spelled
 
-PROBE = "coap_probe"
+PROBE = "test_rows"
 
 LOOKS = ("status",)
 

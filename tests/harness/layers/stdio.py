@@ -27,7 +27,7 @@ from dataclasses import dataclass, field
 from layers import Step
 from message_syntax import bytes_of, spelled
 
-PROBE = "coap_probe"
+PROBE = "test_rows"
 
 ALL = 2**64 - 1
 

@@ -7,7 +7,7 @@ import re
 
 from layers import Step
 
-PROBE = "coap_probe"
+PROBE = "test_rows"
 
 
 def repeated(text):

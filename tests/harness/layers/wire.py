@@ -17,7 +17,7 @@ number, `=` and a value. `01 07 11=74696d65 -` is a GET of `time` with the token
 from layers import Step, quoted
 from message_syntax import bytes_of, digits, encoded, spelled
 
-PROBE = "coap_probe"
+PROBE = "test_rows"
 
 
 def told_word(word):

@@ -19,7 +19,7 @@ import re
 from layers import Step
 from layers.target import repeated, target_of
 
-PROBE = "coap_probe"
+PROBE = "test_rows"
 
 METHODS = ("Get", "Put", "Post", "Delete")
 NAMES = ("observe", "wait", "plain", "newline", "format", "accept", "option", "payload", "input", "output")

@@ -144,10 +144,10 @@ def check_causes(checks, manual):
 
 # Files with the texts of a log, patterns that find these texts, and their number at least.
 LOGS = {
-    "coap-server": (["coap_server_common/src/log.rt", "coap_server_common/src/reasons.rt"], 23,
+    "coap-server": (["program_server_common/src/log.rt", "program_server_common/src/reasons.rt"], 23,
                     [r'Reason::\w+(?:\(_\))? => "([^"]+)"', r'warn\(id, "([^"]+)"',
                      r'"(connections not accepted[^"]*|failed waits)"', r'(?m)^ +(?:return )?"([^"]+)";?$']),
-    "coap-client": (["coap_client_main/src/logged.rt", "coap_log/src/log*.rt"], 10,
+    "coap-client": (["program_client/src/logged.rt", "coap_log/src/log*.rt"], 10,
                     [r'line\.text\("([^"]+)"', r'connection_line\(number, "([^"]+)"',
                      r'text_line\((?:self\.)?number, "([^"]+)"']),
 }
@@ -166,7 +166,8 @@ def check_log(checks, shared, name):
 def check_reasons(checks, shared):
     """Checks that the shared manual has the number and the text of each reason of the source."""
     numbers = re.findall(r"(?m)^ +Reason::(\w+)(?:\(_\))? => (\d+),", source_of(["coap_conn/src/reason.rt"]))
-    texts = dict(re.findall(r'Reason::(\w+)(?:\(_\))? => "([^"]+)"', source_of(["coap_server_common/src/reasons.rt"])))
+    source = source_of(["program_server_common/src/reasons.rt"])
+    texts = dict(re.findall(r'Reason::(\w+)(?:\(_\))? => "([^"]+)"', source))
     items = " , ".join(" ".join(words) for words, _ in shared.items("REASONS"))
     listed = re.findall(r"(\d+) (.+?)(?= , |$)", items)
     checks.same("reasons", sorted(listed), sorted((number, texts[name]) for name, number in numbers))

@@ -97,7 +97,7 @@ def value_texts(name):
         rows.update({"--queue": "n" + re.search(r'"--queue", least, "([^"]+)"', reasons)[1],
                      "--application": named["ENTRY"]})
     if name == "coap-client":
-        rows["-f"] = re.search(r'"-f takes ([^"]+)"', code_of(["coap_client_main/src/main.rt"]))[1]
+        rows["-f"] = re.search(r'"-f takes ([^"]+)"', code_of(["program_client/src/main.rt"]))[1]
     return rows
 
 

@@ -7,18 +7,18 @@ import re
 from workspace import ROOT
 
 # Sources of the programs that are in libraries with error texts.
-LIBRARIES = ["coap_io/src/*.rt", "coap_program/src/*.rt", "coap_sockets/src/*.rt", "coap_command_line/src/arguments.rt"]
+LIBRARIES = ["coap_io/src/*.rt", "program_common/src/*.rt", "coap_sockets/src/*.rt",
+             "coap_command_line/src/arguments.rt"]
 
 SOURCES = {
     # Source files with the lines and statuses of a program.
-    "coap-server": ["coap_server/src/*.rt", "coap_server_common/src/*.rt", "coap_server_common/src/listening.rt",
-                    "coap_serve/src/*.rt", "coap_serve/src/*.rt", "coap_script/src/*.rt",
-                    "coap_model/src/*.rt", "coap_server_engine/src/*.rt"] + LIBRARIES,
-    "coap-client": ["coap_client_main/src/*.rt", "coap_client_engine/src/run.rt", "coap_client_engine/src/run/*.rt",
+    "coap-server": ["program_server/src/*.rt", "program_server_common/src/*.rt", "coap_serve/src/*.rt",
+                    "coap_script/src/*.rt", "coap_model/src/*.rt", "coap_server_engine/src/*.rt"] + LIBRARIES,
+    "coap-client": ["program_client/src/*.rt", "coap_client_engine/src/run.rt", "coap_client_engine/src/run/*.rt",
                     "coap_client_engine/src/error_lines.rt", "coap_client_engine/src/cause_line.rt"] + LIBRARIES,
-    "coap-explain": ["coap_explain/src/*.rt"] + LIBRARIES,
-    "coap-directory": ["coap_directory/src/*.rt", "coap_server_common/src/*.rt", "coap_server_common/src/listening.rt",
-                       "coap_serve/src/*.rt", "coap_server_engine/src/io_fault.rt"] + LIBRARIES,
+    "coap-explain": ["program_explain/src/*.rt"] + LIBRARIES,
+    "coap-directory": ["program_directory/src/*.rt", "program_server_common/src/*.rt", "coap_serve/src/*.rt",
+                       "coap_server_engine/src/io_fault.rt"] + LIBRARIES,
 }
 
 # Files with error texts that a program prints as lines, beside the texts in its calls of `print_fault`.

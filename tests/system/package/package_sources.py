@@ -9,7 +9,7 @@ from package_files import LIBRARY, NAME, PROGRAMS, version
 from workspace import ROOT, crates, listed
 
 # The crates of each package.
-CRATES = {NAME: ["coap_server", "coap_client_main", "coap_explain", "coap_directory"], LIBRARY: ["coap_c"]}
+CRATES = {NAME: ["program_server", "program_client", "program_explain", "program_directory"], LIBRARY: ["c_calls"]}
 
 # Maintainer scripts with their arguments, and the calls that they make on a machine with systemd. None starts or
 # restarts the server.

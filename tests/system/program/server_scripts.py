@@ -143,7 +143,7 @@ STDIO_WORDS = [
 
 def stored(name):
     """Returns the content of a file beside the sources of the program."""
-    with open(os.path.join(ROOT, "crates", "coap_server", name), "rb") as it:
+    with open(os.path.join(ROOT, "crates", "program_server", name), "rb") as it:
         return it.read()
 
 

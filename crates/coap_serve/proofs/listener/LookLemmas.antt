@@ -16,9 +16,10 @@ an_answer true (Some recorded) = (recorded, refl)
 an_answer false recorded = (false, refl)
 
 -- The readiness of a connection whose wire returned `reads` for a read.
-can_with : (e : PeerStatus) (reads : Bool) → IsAsked e.wants.read e.readable reads → CanGoOn e (e.wants.visit || reads
-    || (an_answer e.wants.write e.writable).0)
-can_with e reads asked = let writes = an_answer e.wants.write e.writable in record {
+can_with : (e : PeerStatus) (reads : Bool) → IsAsked e.interest.read e.readable reads
+    → CanGoOn e (e.interest.visit || reads
+    || (an_answer e.interest.write e.writable).0)
+can_with e reads asked = let writes = an_answer e.interest.write e.writable in record {
   reads = reads;
   writes = writes.0;
   read = asked;
@@ -27,9 +28,9 @@ can_with e reads asked = let writes = an_answer e.wants.write e.writable in reco
 }
 
 -- The connection is ready: it must be visited whatever its wire does, or its wire must be read and may be.
-pub can_go_on_so : (e : PeerStatus) (reads : Bool) {result : Bool} → IsAsked e.wants.read e.readable reads
-    → (e.wants.visit || reads) ≡ true → result ≡ true → CanGoOn e result
-can_go_on_so e reads asked may is = subst (CanGoOn e) (or_left (e.wants.visit || reads) _ may ∙ sym is)
+pub can_go_on_so : (e : PeerStatus) (reads : Bool) {result : Bool} → IsAsked e.interest.read e.readable reads
+    → (e.interest.visit || reads) ≡ true → result ≡ true → CanGoOn e result
+can_go_on_so e reads asked may is = subst (CanGoOn e) (or_left (e.interest.visit || reads) _ may ∙ sym is)
     (can_with e reads asked)
 
 known_asked : (wanted : Bool) {answer : Bool} (recorded : Option Bool) → IsAsked wanted recorded answer → answer ≡ false
@@ -46,21 +47,21 @@ asked_known false recorded = refl
 -- Nothing can be done on the connection.
 pub calm_from : (e : PeerStatus) → CanGoOn e false → is_known_ready e ≡ false
 calm_from e can =
-    let writes = or_parts (e.wants.visit || can.reads) can.writes (sym can.is) in
-    let reads = or_parts e.wants.visit can.reads writes.0 in
+    let writes = or_parts (e.interest.visit || can.reads) can.writes (sym can.is) in
+    let reads = or_parts e.interest.visit can.reads writes.0 in
     rw (
       reads.0,
-      known_asked e.wants.read e.readable can.read reads.1,
-      known_asked e.wants.write e.writable can.write
+      known_asked e.interest.read e.readable can.read reads.1,
+      known_asked e.interest.write e.writable can.write
           writes.1,
     ) refl
 
 pub idle_from : {e : PeerStatus} → MaySleep e → CanGoOn e false
 idle_from {e = e} sleeps = record {
-  reads = e.wants.read && known e.readable;
-  writes = e.wants.write && known e.writable;
-  read = asked_known e.wants.read e.readable;
-  write = asked_known e.wants.write e.writable;
+  reads = e.interest.read && known e.readable;
+  writes = e.interest.write && known e.writable;
+  read = asked_known e.interest.read e.readable;
+  write = asked_known e.interest.write e.writable;
   is = sym sleeps.calm;
 }
 
@@ -70,8 +71,8 @@ idle_from {e = e} sleeps = record {
 some_answer : (all : List PeerStatus) → (ready : Bool) × CanAnyGoOn all ready
 some_answer [] = (false, refl)
 some_answer (e ∷ es) =
-    let reads = an_answer e.wants.read e.readable in
-    let first = e.wants.visit || reads.0 || (an_answer e.wants.write e.writable).0 in
+    let reads = an_answer e.interest.read e.readable in
+    let first = e.interest.visit || reads.0 || (an_answer e.interest.write e.writable).0 in
     let others = some_answer es in
     (first || others.0, (first, others.0, can_with e reads.0 reads.1, others.1, refl))
 
@@ -84,7 +85,7 @@ pub none_seen : {all : List PeerStatus} → IsSeenTo all 0 None
 none_seen = record { any = λ ready can. can; least = refl }
 
 pub one_seen : {all : List PeerStatus} (at : ℕ) {due later : Option ℕ} {e : PeerStatus} → slice_get all at ≡ Some e
-    → CanGoOn e false → later ≡ sooner due e.wants.due → IsSeenTo all at due → IsSeenTo all (at + 1) later
+    → CanGoOn e false → later ≡ sooner due e.interest.due → IsSeenTo all at due → IsSeenTo all (at + 1) later
 one_seen {all = all} at {e = e} there calm is seen =
     let first = next_first all at there in
     record {

@@ -10,7 +10,7 @@ use Rattle.coap_serve.specs.Prelude.{values_of, stop_of, is_over, Later, Session
 use Rattle.coap_serve.specs.Prelude.{LiesAt, AreSettled, session_of, server_taken, count_taken, count_on, stop_on}
 use Rattle.coap_serve.specs.Prelude.{InResult, fed_turns, in_result, fed_more, IsTakenAndWritten, IsTakenAlone, IsNoOp}
 use Rattle.coap_serve.specs.Prelude.{Readiness, VisitState, is_heard, visit_state, waiting_once, server_wrote}
-use Rattle.coap_serve.specs.Prelude.{is_over_in, left_behind, rest_behind, wants_of, can_go_on, outlook_of}
+use Rattle.coap_serve.specs.Prelude.{is_over_in, left_behind, rest_behind, interest_of, can_go_on, work_of}
 use Rattle.coap_serve.specs.Prelude.{PeerInterest, PeerOutcome, calls_only, course_of, AcceptedCall, Took, heard_events}
 use Rattle.coap_serve.specs.Prelude.{refused_events, took, took_turns, wrote_events}
 use Rattle.coap_server_engine.specs.values.InResults.{goes_on, unfed}
@@ -27,21 +27,21 @@ abbrev rest_left : ServerValue → ℕ → List ℕ → List ℕ
 rest_left v id rest = rest_behind (in_result v id rest).server id (in_result v id rest).count rest
 
 untouched : (v : ServerValue) (id i : ℕ) (s : SessionValue) (piece : List ℕ) → LiesAt id i v.sessions
-    → session_of id v.sessions ≡ Some s → AreSettled v.host v.sessions → session_takes s ≡ false
+    → session_of id v.sessions ≡ Some s → AreSettled v.shared v.sessions → session_takes s ≡ false
     → server_taken v id piece ≡ v
 unfolding server_taken
 untouched v id i s piece lies here settled closed =
     let at = sym lies.found ∙ here in
     let written = sym (written_at_index (λ _. s) v.sessions i s at) ∙ written_back v.sessions i s s at refl in
     let same = sym (changed_one id (λ _. s) v.sessions i lies.distinct lies.index lies.within) ∙ written in
-    rw (here, taking_stopped v.host s piece closed, same, all_settled_stay v.host v.sessions settled) refl
+    rw (here, taking_stopped v.shared s piece closed, same, all_settled_stay v.shared v.sessions settled) refl
 
 record IsUnaffected (v : ServerValue) (f : InResult) : Type 0 where
   server : f.server ≡ v
   count : f.count ≡ 0
 
 untouched_where_stopped : (v : ServerValue) (id i : ℕ) (s : SessionValue) (bytes : List ℕ) (turns : ℕ)
-    → LiesAt id i v.sessions → session_of id v.sessions ≡ Some s → AreSettled v.host v.sessions
+    → LiesAt id i v.sessions → session_of id v.sessions ≡ Some s → AreSettled v.shared v.sessions
     → session_takes s ≡ false → IsUnaffected v (fed_turns turns v id bytes)
 unfolding fed_turns count_taken
 untouched_where_stopped v id i s bytes zero lies here settled closed = record { server = refl; count = refl }
@@ -53,7 +53,7 @@ untouched_where_stopped v id i s bytes (suc turns) lies here settled closed =
         server = rw so_far.server (untouched v id i s (drop f.count bytes) lies here settled closed);
         count =
             let none = ap (count_on v (drop f.count bytes)) here
-            ∙ ap (λ t. t.count) (taking_stopped v.host s (drop f.count bytes) closed) in
+            ∙ ap (λ t. t.count) (taking_stopped v.shared s (drop f.count bytes) closed) in
             rw so_far.server (omega (arith, so_far.count, none));
       }
       | false ↦ so_far
@@ -61,7 +61,7 @@ untouched_where_stopped v id i s bytes (suc turns) lies here settled closed =
 
 -- If bytes are left that the connection does not accept, it accepts none.
 takes_nothing : (v : ServerValue) (id : ℕ) (s : SessionValue) (b : ℕ) (rest : List ℕ)
-    → session_of id v.sessions ≡ Some s → (wants_of v id (b ∷ rest)).visit ≡ false
+    → session_of id v.sessions ≡ Some s → (interest_of v id (b ∷ rest)).visit ≡ false
     → (session_takes s ≡ false) × (is_over s.link.phase ≡ false)
 takes_nothing v id s b rest here idle =
     or_parts (session_takes s) (is_over s.link.phase)
@@ -69,7 +69,7 @@ takes_nothing v id s b rest here idle =
 
 -- Bytes that were read before and that do not fit stay; without such bytes, none are accepted.
 still_fed : (v : ServerValue) (id i : ℕ) (s : SessionValue) (rest : List ℕ) → LiesAt id i v.sessions
-    → session_of id v.sessions ≡ Some s → AreSettled v.host v.sessions → (wants_of v id rest).visit ≡ false
+    → session_of id v.sessions ≡ Some s → AreSettled v.shared v.sessions → (interest_of v id rest).visit ≡ false
     → IsUnaffected v (in_result v id rest)
 unfolding fed_turns
 still_fed v id i s [] lies here settled idle = record { server = refl; count = refl }
@@ -82,13 +82,13 @@ begins : (v : ServerValue) (b : ℕ) (bytes : List ℕ) → goes_on (b ∷ bytes
 begins v b bytes = grind (arith, nat_tests)
 
 refused_once : (v : ServerValue) (id i : ℕ) (s : SessionValue) (b : ℕ) (bytes : List ℕ) (turns : ℕ)
-    → LiesAt id i v.sessions → session_of id v.sessions ≡ Some s → AreSettled v.host v.sessions
+    → LiesAt id i v.sessions → session_of id v.sessions ≡ Some s → AreSettled v.shared v.sessions
     → session_takes s ≡ false
     → (took_turns (suc turns) v id (b ∷ bytes) ≡ Took id [] ∷ [])
     × ((fed_turns (suc turns) v id (b ∷ bytes)).done ≡ true)
 unfolding fed_turns took_turns count_taken
 refused_once v id i s b bytes zero lies here settled closed =
-    let stopped = ap (λ t. t.count) (taking_stopped v.host s (b ∷ bytes) closed) in
+    let stopped = ap (λ t. t.count) (taking_stopped v.shared s (b ∷ bytes) closed) in
     let none : count_taken v id (b ∷ bytes) ≡ 0 = ap (count_on v (b ∷ bytes)) here ∙ stopped in
     (rw (begins v b bytes, here, stopped) refl, rw (begins v b bytes, none) refl)
 refused_once v id i s b bytes (suc turns) lies here settled closed =
@@ -98,7 +98,7 @@ refused_once v id i s b bytes (suc turns) lies here settled closed =
 
 -- The event of bytes that were read before and that do not fit.
 still_refused : (v : ServerValue) (id i : ℕ) (s : SessionValue) (rest : List ℕ) → LiesAt id i v.sessions
-    → session_of id v.sessions ≡ Some s → AreSettled v.host v.sessions → (wants_of v id rest).visit ≡ false
+    → session_of id v.sessions ≡ Some s → AreSettled v.shared v.sessions → (interest_of v id rest).visit ≡ false
     → took v id rest ≡ refused_events id rest
 unfolding took_turns
 still_refused v id i s [] lies here settled idle = refl
@@ -106,7 +106,7 @@ still_refused v id i s (b ∷ rest) lies here settled idle =
     (refused_once v id i s b rest (length rest) lies here settled (takes_nothing v id s b rest here idle).0).0
 
 left_as_it_is : (v : ServerValue) (id : ℕ) (s : SessionValue) (rest : List ℕ) → session_of id v.sessions ≡ Some s
-    → (wants_of v id rest).visit ≡ false → left_behind (stop_on (session_of id v.sessions)) rest ≡ rest
+    → (interest_of v id rest).visit ≡ false → left_behind (stop_on (session_of id v.sessions)) rest ≡ rest
 left_as_it_is v id s [] here idle =
     elim (stop_on (session_of id v.sessions)) as (λ why. left_behind why [] ≡ []) [ None ↦ refl | Some why ↦ refl ]
 left_as_it_is v id s (b ∷ rest) here idle =
@@ -133,7 +133,7 @@ nothing_carried : (may_write : Bool) (id : ℕ) (before after : VisitState) (out
     → IsUnaffected before.server (in_result before.server id before.rest)
     → took before.server id before.rest ≡ refused_events id before.rest
     → rest_left before.server id before.rest ≡ before.rest → waiting_once may_write id before.server ≡ []
-    → is_over_in (outlook_of before.server id) ≡ false
+    → is_over_in (work_of before.server id) ≡ false
     → IsTakenAndWritten IsTakenAlone may_write id before after
     (record { outcome = outcome; history = calls_only events })
     → (after ≡ before) × (outcome ≡ Open) × (events ≡ refused_events id before.rest)
@@ -149,20 +149,20 @@ nothing_carried may_write id before after outcome events same refused left_so un
     let events_so : events ≡ carried.taken.history.events ++ wrote_events id carried.wrote =
     ap (λ h. h.events) carried.history in (
       same_state after before server (carried.rest ∙ kept ∙ left_so) wrote.1,
-      carried.outcome ∙ ap (λ w. course_of w (is_over_in (outlook_of after.server id))) wrote.0
-          ∙ ap (λ u. course_of Later (is_over_in (outlook_of u id))) server ∙ ap (course_of Later) on,
+      carried.outcome ∙ ap (λ w. course_of w (is_over_in (work_of after.server id))) wrote.0
+          ∙ ap (λ u. course_of Later (is_over_in (work_of u id))) server ∙ ap (course_of Later) on,
       events_so ∙ ap (λ es. carried.taken.history.events ++ es) none_written ∙ append-nil carried.taken.history.events
           ∙ ap (λ h. h.events) carried.took.2 ∙ refused,
     )
 
 nothing_done : (v : ServerValue) (id i : ℕ) (s : SessionValue) (rest : List ℕ) (ready : Readiness)
-    → LiesAt id i v.sessions → session_of id v.sessions ≡ Some s → AreSettled v.host v.sessions
-    → can_go_on (wants_of v id rest) ready ≡ false → IsNoOp ready v id rest
+    → LiesAt id i v.sessions → session_of id v.sessions ≡ Some s → AreSettled v.shared v.sessions
+    → can_go_on (interest_of v id rest) ready ≡ false → IsNoOp ready v id rest
 nothing_done v id i s rest ready lies here settled idle =
-    let w : PeerInterest = wants_of v id rest in
+    let w : PeerInterest = interest_of v id rest in
     let write = or_parts (w.visit || (w.read && ready.read)) (w.write && ready.write) idle in
     let read = or_parts w.visit (w.read && ready.read) write.0 in
-    let on : is_over_in (outlook_of v id) ≡ false =
+    let on : is_over_in (work_of v id) ≡ false =
     rw here (or_parts (not (length rest == 0) && (session_takes s || is_over s.link.phase)) _ (rw here at read.0)).1 in
     let unread : is_heard ready.read v id rest ≡ false =
     rw here (not_heard ready.read (length rest == 0) (session_takes s) (rw here at read.1)) in
@@ -208,7 +208,7 @@ nothing_done v id i s rest ready lies here settled idle =
 
 -- A connection on which nothing can be done may be skipped.
 pub passed_over : (v : ServerValue) (id i : ℕ) (rest : List ℕ) (ready : Readiness) → LiesAt id i v.sessions
-    → AreSettled v.host v.sessions → can_go_on (wants_of v id rest) ready ≡ false → IsNoOp ready v id rest
+    → AreSettled v.shared v.sessions → can_go_on (interest_of v id rest) ready ≡ false → IsNoOp ready v id rest
 passed_over v id i rest ready lies settled idle =
     let there = there_at (values_of v.sessions) i (rw (length-values_of v.sessions) lies.within) in
     nothing_done v id i there.0 rest ready lies (lies.found ∙ there.1) settled idle

@@ -7,9 +7,9 @@ use Rattle.coap_server_engine.specs.Prelude.{Reason, stop_of, takes_messages, ca
 use Rattle.coap_serve.specs.declared.door.peer.PeerOutcome.TheVariants.{Open}
 use Rattle.coap_server_session.specs.values.Sessions.{session_ready}
 use Rattle.coap_serve.specs.Prelude.{ConnectionWork, IsCourseFor, IsReasonFor, SessionValue, session_of}
-use Rattle.coap_serve.specs.Prelude.{session_outlook, waiting_at, waiting_in, AcceptedCall, ServerValue, WireTrace, Got}
+use Rattle.coap_serve.specs.Prelude.{session_work, waiting_at, waiting_in, AcceptedCall, ServerValue, WireTrace, Got}
 use Rattle.coap_serve.specs.Prelude.{Bytes, End, Failed, Later, PeerOutcome, Taking, is_heard, server_heard}
-use Rattle.coap_serve.specs.Prelude.{server_wrote, has_failed, course_of, is_over_in, outlook_of, waiting_once}
+use Rattle.coap_serve.specs.Prelude.{server_wrote, has_failed, course_of, is_over_in, work_of, waiting_once}
 use Rattle.coap_serve.specs.Prelude.{IsLaidOut, IsOffered, IsServedOnceBy, Readiness, VisitState, Answering}
 use Rattle.coap_serve.specs.Prelude.{AreCallsBetween, Continues, Following, HasAccepted, Over, calls_only, heard_events}
 use Rattle.coap_serve.specs.Prelude.{journal, no_history, wrote_events}
@@ -59,7 +59,7 @@ pub steps_are_a_part : (takes : Taking) (ready : Readiness) (id : ℕ) (before a
     (λ h. IsTakenInPart takes heard_by id bytes after.rest (record { server = taken; count = n; history = h }))
     (Continues (journal b p) (journal c q)) heard_by taken
     → IsOffered (waiting_once ready.write id taken) between wrote after.wire
-    → after.server ≡ server_wrote taken id wrote → outcome ≡ course_of wrote (is_over_in (outlook_of after.server id))
+    → after.server ≡ server_wrote taken id wrote → outcome ≡ course_of wrote (is_over_in (work_of after.server id))
     → AreCallsBetween a b before.server heard_by (heard_events id heard)
     → AreCallsBetween c d taken after.server (wrote_events id wrote)
     → later ≡ activity_after second (nat_lt 0 n || has_written wrote) times
@@ -139,7 +139,7 @@ not_over (Some why) b live = absurd cc
 
 -- A connection that accepts bytes has not finished.
 takes_on : (now : ℕ) (o : Option SessionValue) → can_take_on o ≡ true
-    → IfSome (option_map (session_outlook now) o) (IsReasonFor drop.Failed)
+    → IfSome (option_map (session_work now) o) (IsReasonFor drop.Failed)
 takes_on now None takes = absurd cc
 takes_on now (Some s) takes =
     not_over (stop_of s.link.phase) _ (and_parts (takes_messages s.link.phase) (session_ready s) takes).0
@@ -153,12 +153,12 @@ laid_failed false rest bytes wire between laid = let never : Failed ≡ Later = 
 pub read_failed : (may_read : Bool) (v : ServerValue) {after : ServerValue} (id : ℕ) (rest bytes : List ℕ)
     (wire between : WireTrace) (heard : Got) → after ≡ server_heard v id heard
     → IsLaidOut (is_heard may_read v id rest) rest wire heard bytes between → has_failed heard ≡ true
-    → IfSome (outlook_of after id) (IsReasonFor drop.Failed)
+    → IfSome (work_of after id) (IsReasonFor drop.Failed)
 read_failed may_read v id rest bytes wire between (Bytes n) is laid fails = absurd cc
 read_failed may_read v id rest bytes wire between Later is laid fails = absurd cc
 read_failed may_read v id rest bytes wire between End is laid fails = absurd cc
 read_failed may_read v id rest bytes wire between Failed is laid fails =
-    rw is (takes_on v.host.now (session_of id v.sessions)
+    rw is (takes_on v.shared.now (session_of id v.sessions)
     (last_true may_read (length rest == 0) (laid_failed (is_heard may_read v id rest) rest bytes wire between laid)))
 
 some_queued : (over held : Bool) (waiting : List ℕ) → waiting ≢ [] → (over && (held && (length waiting == 0))) ≡ false
@@ -167,7 +167,7 @@ some_queued over held (b ∷ bs) some = grind arith
 
 -- A connection with queued bytes has not finished.
 queue_left : (now : ℕ) (o : Option SessionValue) → waiting_in o ≢ []
-    → IfSome (option_map (session_outlook now) o) (IsReasonFor drop.Failed)
+    → IfSome (option_map (session_work now) o) (IsReasonFor drop.Failed)
 queue_left now None some = tt
 queue_left now (Some s) some =
     some_queued (is_some (stop_of s.link.phase)) (length s.link.held == 0) s.link.waiting some
@@ -188,10 +188,10 @@ none_offered false waiting none = refl
 -- A write that failed leaves bytes queued. After another result, the connection may have finished.
 pub write_reason : (may_write : Bool) (taken : ServerValue) {after : ServerValue} (id : ℕ) (wrote : Got)
     → after ≡ server_wrote taken id wrote → (waiting_once may_write id taken ≡ [] → wrote ≡ Later)
-    → IsCourseFor (course_of wrote (is_over_in (outlook_of after id))) (outlook_of after id)
-write_reason may_write taken {after = after} id (Bytes n) is idle = over_reason (outlook_of after id)
-write_reason may_write taken {after = after} id Later is idle = over_reason (outlook_of after id)
-write_reason may_write taken {after = after} id End is idle = over_reason (outlook_of after id)
+    → IsCourseFor (course_of wrote (is_over_in (work_of after id))) (work_of after id)
+write_reason may_write taken {after = after} id (Bytes n) is idle = over_reason (work_of after id)
+write_reason may_write taken {after = after} id Later is idle = over_reason (work_of after id)
+write_reason may_write taken {after = after} id End is idle = over_reason (work_of after id)
 write_reason may_write taken id Failed is idle =
-    rw is (queue_left taken.host.now (session_of id taken.sessions)
+    rw is (queue_left taken.shared.now (session_of id taken.sessions)
     (λ none. let never : Failed ≡ Later = idle (none_offered may_write (waiting_at id taken) none) in absurd cc))

@@ -81,14 +81,14 @@ opening_made v false = All-nil IsRunCall
 
 ticked_made : (v : ServerValue) (moment : ℕ) → All IsRunCall (ticked_calls v moment)
 ticked_made v moment =
-    elim (moment == v.host.now) as (λ same. All IsRunCall (if same then [] else Ticked moment ∷ [])) [
+    elim (moment == v.shared.now) as (λ same. All IsRunCall (if same then [] else Ticked moment ∷ [])) [
       | true ↦ All-nil IsRunCall
       | false ↦ All-cons IsRunCall (Ticked moment) [] tt (All-nil IsRunCall)
     ]
 
 moved_made : (v : ServerValue) (moment : ℕ) → All IsRunCall (moved_calls v moment)
 moved_made v moment =
-    elim (nat_le v.host.now moment) as (λ later. All IsRunCall (if later then ticked_calls v moment else [])) [
+    elim (nat_le v.shared.now moment) as (λ later. All IsRunCall (if later then ticked_calls v moment else [])) [
       | true ↦ ticked_made v moment
       | false ↦ All-nil IsRunCall
     ]

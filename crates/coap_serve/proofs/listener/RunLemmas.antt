@@ -32,20 +32,23 @@ use Rattle.coap_serve.proofs.listener.ServingLemmas.{one_step, steps_then}
 -- ---- the time of the server
 
 -- The server has this time already.
-pub same_time : {v : ServerValue} {now : ℕ} → AreSettled v.host v.sessions → now ≡ v.host.now → v ≡ moved_to v now
+pub same_time : {v : ServerValue} {now : ℕ} → AreSettled v.shared v.sessions → now ≡ v.shared.now → v ≡ moved_to v now
 same_time {v = v} settled is =
-    let same : v ≡ server_ticked v v.host.now = sym
-    (ap (λ (es : List (ℕ × SessionValue)). record v { sessions = es }) (all_settled_stay v.host v.sessions settled)) in
-    rw (is, le-leb v.host.now v.host.now (omega arith)) same
+    let same : v ≡ server_ticked v v.shared.now = sym
+    (ap (λ (es : List (ℕ × SessionValue)). record v {
+      sessions =
+          es;
+    }) (all_settled_stay v.shared v.sessions settled)) in
+    rw (is, le-leb v.shared.now v.shared.now (omega arith)) same
 
-pub none_ticked : (v : ServerValue) {now : ℕ} → now ≡ v.host.now → ticked_calls v now ≡ []
+pub none_ticked : (v : ServerValue) {now : ℕ} → now ≡ v.shared.now → ticked_calls v now ≡ []
 none_ticked v is = grind (arith, nat_tests)
 
 -- ---- the history
 
 -- The call of the clock. If the time was earlier, nothing changed.
 pub time_called : {T E M : Type 0} (calls : M → Following) (m n : M) (r : Result T E) {v w : ServerValue} (moment : ℕ)
-    → is_ok r ≡ nat_le v.host.now moment
+    → is_ok r ≡ nat_le v.shared.now moment
     → OnOk r (ShowsMore v w (ticked_calls v moment)) → OnOk r (FollowsMore (calls m) (calls n) (ticked_calls v moment))
     → OnErr r ((w ≡ v) × (n ≡ m)) → AreCallsBetween (calls m) (calls n) v w (moved_calls v moment)
 time_called calls m n (Ok x) moment answer shows received err =

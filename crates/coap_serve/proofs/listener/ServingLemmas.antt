@@ -8,7 +8,7 @@ use Rattle.std.proofs.lemmas.List.{append-nil, length-drop, length-take}
 use Rattle.std.proofs.Math.Bool.{or_assoc}
 use Rattle.coap_server_engine.specs.Prelude.{Reason, handed_by}
 use Rattle.coap_serve.specs.Prelude.{ShowsMore, FollowsMore, Following, opening, ServerValue, count_taken, server_taken}
-use Rattle.coap_serve.specs.Prelude.{ConnectionWork, IsReasonFor, SessionValue, session_outlook, AcceptedCall, Opened}
+use Rattle.coap_serve.specs.Prelude.{ConnectionWork, IsReasonFor, SessionValue, session_work, AcceptedCall, Opened}
 use Rattle.coap_serve.specs.Prelude.{Took, Dropped, server_dropped, server_opened, Answering, AnswersMore, Exchange}
 use Rattle.coap_serve.specs.Prelude.{Gone, HasServed, HasTurned, HasOpened, AreSteps, IsTakenWith, opening_then}
 use Rattle.coap_serve.specs.Prelude.{AreCallsBetween, Continues, HasAccepted, History, IsAccepted, Journal, calls_only}
@@ -144,16 +144,16 @@ wrote_served id wrote is made = calls_made (rw is NoStep) made
 
 -- The reason of a drop is right for the work left on the connection.
 pub reason_left : (now : ℕ) (o : Option SessionValue) (why : DropReason) → is_there o ≡ true
-    → IfSome (option_map (session_outlook now) o) (IsReasonFor why)
-    → (work : ConnectionWork) × (option_map (session_outlook now) o ≡ Some work) × IsReasonFor why work
+    → IfSome (option_map (session_work now) o) (IsReasonFor why)
+    → (work : ConnectionWork) × (option_map (session_work now) o ≡ Some work) × IsReasonFor why work
 reason_left now None why there is = absurd cc
-reason_left now (Some s) why there is = (session_outlook now s, refl, is)
+reason_left now (Some s) why there is = (session_work now s, refl, is)
 
 -- A connection that exists has some work left.
 pub work_left : (now : ℕ) (o : Option SessionValue) → is_there o ≡ true
-    → (work : ConnectionWork) × (option_map (session_outlook now) o ≡ Some work) × Unit {0}
+    → (work : ConnectionWork) × (option_map (session_work now) o ≡ Some work) × Unit {0}
 work_left now None there = absurd cc
-work_left now (Some s) there = (session_outlook now s, refl, tt)
+work_left now (Some s) there = (session_work now s, refl, tt)
 
 -- ---- transfers
 

@@ -15,9 +15,10 @@ use Rattle.coap_model.proofs.OptionLemmas.{one_made}
 use Rattle.coap_server_engine.specs.Prelude.{KeepsOthers, KeepsWork}
 use Rattle.coap_serve.specs.Prelude.{AreAsleep, ArePaired, AreSettled, CanGoOn, ConnectionWork, IsDistinct, IsOutside}
 use Rattle.coap_serve.specs.Prelude.{KeepsBeside, LiesAt, MaySleep, Peer, PeerInterest, PeerStatus, ServerValue}
-use Rattle.coap_serve.specs.Prelude.{SleepOn, bit_of, insert_entry, keys_of, outlook_of, peer_status, server_dropped}
-use Rattle.coap_serve.specs.Prelude.{server_opened, set_value_at, shift_remove_entry, status_with, values_of, wants_in}
-use Rattle.coap_serve.specs.Prelude.{wants_of}
+use Rattle.coap_serve.specs.Prelude.{SleepOn, bit_of, insert_entry, keys_of, work_of, peer_status, server_dropped}
+use Rattle.coap_serve.specs.Prelude.{server_opened, set_value_at, shift_remove_entry, status_with, values_of}
+use Rattle.coap_serve.specs.Prelude.{interest_in}
+use Rattle.coap_serve.specs.Prelude.{interest_of}
 use Rattle.coap_serve.specs.declared.door.awake.Awake.{Awake}
 use Rattle.coap_server_engine.proofs.values.ServerLemmas.{lies_by_key, lies_still}
 use Rattle.coap_server_engine.proofs.values.WorkLemmas.{dropped_keys, opened_keeps, opened_keys}
@@ -46,7 +47,7 @@ module _ {W : Type 0} {v : ServerValue} {es : List (ℕ × Peer W)} (paired : Ar
       record { keys = same ∙ paired.keys ∙ sym keys; distinct = rw same paired.distinct }
 
   -- A connection was dropped.
-  pub paired_without : {after : ServerValue} {now : List (ℕ × Peer W)} (id i : ℕ) → AreSettled v.host v.sessions
+  pub paired_without : {after : ServerValue} {now : List (ℕ × Peer W)} (id i : ℕ) → AreSettled v.shared v.sessions
       → slice_get (keys_of es) i ≡ Some id → after ≡ server_dropped v id → now ≡ remove es i → IsDistinct nat_eq
       (keys_of now) → ArePaired after now
   paired_without id i settled number dropped is distinct =
@@ -58,7 +59,7 @@ module _ {W : Type 0} {v : ServerValue} {es : List (ℕ × Peer W)} (paired : Ar
       }
 
   -- The same by its number.
-  pub paired_left : {after : ServerValue} {now : List (ℕ × Peer W)} (id i : ℕ) → AreSettled v.host v.sessions
+  pub paired_left : {after : ServerValue} {now : List (ℕ × Peer W)} (id i : ℕ) → AreSettled v.shared v.sessions
       → LiesAt id i v.sessions → after ≡ server_dropped v id → now ≡ shift_remove_entry (nat_eq id) es → IsDistinct
       nat_eq (keys_of now) → ArePaired after now
   paired_left id i settled lies dropped is distinct = record {
@@ -175,12 +176,12 @@ without (Some moment) none = absurd cc
 
 -- If a connection sleeps after a look, it may do so.
 pub looked_sleeps : (b : Awake) (at : ℕ) (e : PeerStatus) (ready : Bool) → CanGoOn e ready
-    → ((ready || is_some e.wants.due) ≡ true → IsOutside b.set.words at → ⊥) → IsOutside b.set.words at → MaySleep e
+    → ((ready || is_some e.interest.due) ≡ true → IsOutside b.set.words at → ⊥) → IsOutside b.set.words at → MaySleep e
 looked_sleeps b at e ready can awake outside =
-    elim (ready || is_some e.wants.due) as (λ stays. (ready || is_some e.wants.due) ≡ stays → MaySleep e) [
+    elim (ready || is_some e.interest.due) as (λ stays. (ready || is_some e.interest.due) ≡ stays → MaySleep e) [
       | true ↦ λ stays. absurd (awake stays outside)
-      | false ↦ λ rests. let parts = or_parts ready (is_some e.wants.due) rests in
-          record { calm = calm_from e (rw parts.0 at can); never = without e.wants.due parts.1 }
+      | false ↦ λ rests. let parts = or_parts ready (is_some e.interest.due) rests in
+          record { calm = calm_from e (rw parts.0 at can); never = without e.interest.due parts.1 }
     ] refl
 
 early : {X : Type 0} (xs ys : List X) (i : ℕ) → i < length xs → slice_get (xs ++ ys) i ≡ slice_get xs i
@@ -198,10 +199,10 @@ each_on {P = P} at before one later i after below = elim (cases_lt i at) [
 
 module _ {W : Type 0} (readable writable : W → Option Bool) where
   -- A connection with the same work left has the same status.
-  still_sleeps : (v after : ServerValue) (e : ℕ × Peer W) → outlook_of after e.0 ≡ outlook_of v e.0
+  still_sleeps : (v after : ServerValue) (e : ℕ × Peer W) → work_of after e.0 ≡ work_of v e.0
       → MaySleep (peer_status readable writable v e) → MaySleep (peer_status readable writable after e)
   still_sleeps v after e same sleeps = subst (λ (o : Option ConnectionWork). MaySleep (status_with readable writable
-      e.1.wire (wants_in o (length e.1.rest == 0)))) (sym same) sleeps
+      e.1.wire (interest_in o (length e.1.rest == 0)))) (sym same) sleeps
 
   -- If all connections are awake, none sleeps.
   pub none_asleep : {a : Awake} {v : ServerValue} {es : List (ℕ × Peer W)} → ((i : ℕ) → i < 256 → bit_of a.set.words i ≡
@@ -249,7 +250,7 @@ module _ {W : Type 0} (readable writable : W → Option Bool) where
 
   -- ---- an opened connection
 
-  module _ {v after : ServerValue} {es now : List (ℕ × Peer W)} {id : ℕ} (p : Peer W) (settled : AreSettled v.host
+  module _ {v after : ServerValue} {es now : List (ℕ × Peer W)} {id : ℕ} (p : Peer W) (settled : AreSettled v.shared
       v.sessions) (paired : ArePaired v es) (number : id ≡ v.ids + 1) (opened : after ≡ server_opened v)
       (lies : LiesAt id (length v.sessions) after.sessions) (is : now ≡ insert_entry nat_eq es id p)
       (distinct : IsDistinct nat_eq (keys_of now)) where
@@ -297,19 +298,20 @@ module _ {W : Type 0} (readable writable : W → Option Bool) where
   -- ---- looks
 
   -- A look at the connection at an index.
-  pub looked_at : (v : ServerValue) (es : List (ℕ × Peer W)) (at : ℕ) {p : Peer W} {wants : PeerInterest} {ready : Bool}
-      → IfSome (slice_get es at) (λ e. wants ≡ wants_of v e.0 e.1.rest) → slice_get (values_of es) at ≡ Some p
-      → CanGoOn (status_with readable writable p.wire wants) ready
-      → (e : ℕ × Peer W) × (slice_get es at ≡ Some e) × (wants ≡ wants_of v e.0 e.1.rest)
+  pub looked_at : (v : ServerValue) (es : List (ℕ × Peer W)) (at : ℕ) {p : Peer W} {interest : PeerInterest}
+      {ready : Bool}
+      → IfSome (slice_get es at) (λ e. interest ≡ interest_of v e.0 e.1.rest) → slice_get (values_of es) at ≡ Some p
+      → CanGoOn (status_with readable writable p.wire interest) ready
+      → (e : ℕ × Peer W) × (slice_get es at ≡ Some e) × (interest ≡ interest_of v e.0 e.1.rest)
       × CanGoOn (peer_status readable writable v e) ready
-  looked_at v es at {p = p} {wants = wants} {ready = ready} is there can =
+  looked_at v es at {p = p} {interest = interest} {ready = ready} is there can =
       let here = value_at es at p there in
       let so = rw here.1 at is in (
         here.0,
         here.1,
         so,
         subst (λ (w : PeerInterest). CanGoOn (status_with readable writable here.0.1.wire w) ready) so
-            (subst (λ (q : Peer W). CanGoOn (status_with readable writable q.wire wants) ready) (sym here.2) can),
+            (subst (λ (q : Peer W). CanGoOn (status_with readable writable q.wire interest) ready) (sym here.2) can),
       )
 
   module _ {a : Awake} {v : ServerValue} {es : List (ℕ × Peer W)} (asleep : AreAsleep readable writable a v es) where
@@ -332,7 +334,7 @@ module _ {W : Type 0} (readable writable : W → Option Bool) where
 
     -- A look at one connection may put it to sleep.
     pub one_looked : {b : Awake} (at : ℕ) {e : ℕ × Peer W} {ready : Bool} {due : Option ℕ} → slice_get es at ≡ Some e
-        → CanGoOn (peer_status readable writable v e) ready → due ≡ (wants_of v e.0 e.1.rest).due
+        → CanGoOn (peer_status readable writable v e) ready → due ≡ (interest_of v e.0 e.1.rest).due
         → ((i : ℕ) → i ≢ at → IsOutside b.set.words i → IsOutside a.set.words i) → ((ready || is_some due) ≡ true
         → IsOutside b.set.words at → ⊥) → AreAsleep readable writable b v es
     one_looked {b = b} at {e = e} {ready = ready} there can is kept awake = record {

@@ -4,7 +4,7 @@ use Rattle.std.proofs.Common.{refl, sym, ap, ◌∙◌, arith, slice_get, IfSome
 use Rattle.std.proofs.lemmas.List.{append-nil, drop_all, take_all}
 use Rattle.std.proofs.lemmas.Option.{same_Some, slice_get-map}
 use Rattle.std.proofs.lemmas.Bool.Decides.{nat_tests}
-use Rattle.coap_serve.specs.Prelude.{IsReasonFor, outlook_of, keys_of, set_value_at, Peer, SilenceAction, LoopState}
+use Rattle.coap_serve.specs.Prelude.{IsReasonFor, work_of, keys_of, set_value_at, Peer, SilenceAction, LoopState}
 use Rattle.coap_serve.specs.Prelude.{loop_state, Released, ServerValue, ArePaired, Continues, History, IsAccepted}
 use Rattle.coap_serve.specs.Prelude.{Journal, history_then, no_history, one_call, one_drop, server_released}
 use Rattle.coap_serve.specs.Prelude.{server_dropped, released_refusal, status_of, released_at, unswept, silence_action}
@@ -40,11 +40,11 @@ its_number {X} es i {e = e} at = slice_get-map (λ (e : ℕ × X). e.0) es i ∙
 
 -- Any connection may be dropped as silent.
 pub silent_reason : {W : Type 0} (v : ServerValue) (es : List (ℕ × Peer W)) (i : ℕ) → IfSome (slice_get es i)
-    (λ e. IfSome (outlook_of v e.0) (IsReasonFor drop.Silent))
-silent_reason v es i = elim (slice_get es i) as (λ o. IfSome o (λ e. IfSome (outlook_of v e.0)
+    (λ e. IfSome (work_of v e.0) (IsReasonFor drop.Silent))
+silent_reason v es i = elim (slice_get es i) as (λ o. IfSome o (λ e. IfSome (work_of v e.0)
     (IsReasonFor drop.Silent))) [
       | None ↦ tt
-      | Some e ↦ elim (outlook_of v e.0) as (λ o. IfSome o (IsReasonFor drop.Silent)) [ None ↦ tt | Some work ↦ tt ]
+      | Some e ↦ elim (work_of v e.0) as (λ o. IfSome o (IsReasonFor drop.Silent)) [ None ↦ tt | Some work ↦ tt ]
     ]
 
 pub dropped_here : {W : Type 0} (Known : History → Type 0) (v after : ServerValue) (es left : List (ℕ × Peer W)) (i : ℕ)

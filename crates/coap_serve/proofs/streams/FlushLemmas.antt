@@ -106,7 +106,7 @@ report_ends turns x y a m false all so_far = so_far
 pub flushed_lies : (id i : ℕ) (v after : ServerValue) (wrote : List ℕ → Type 0) (waited : Bool) → LiesAt id i v.sessions
     → IsFlushedOnce id v after wrote waited → LiesAt id i after.sessions
 flushed_lies id i v after wrote true lies did =
-    rw did.0 (lies_where_taken id i (λ s. session_written s (length (waiting_at id v))) v.host v.sessions lies)
+    rw did.0 (lies_where_taken id i (λ s. session_written s (length (waiting_at id v))) v.shared v.sessions lies)
 flushed_lies id i v after wrote false lies did = rw did.1 lies
 
 none_waits : (o : Option SessionValue) → false ≡ is_there o → waiting_in o ≡ []

@@ -198,7 +198,7 @@ absent_turns id v (suc turns) none =
     let u : ServerValue = (flush_turns turns id v).server in
     let becomes : ℕ × SessionValue → ℕ × SessionValue =
     session_becomes id (λ s. session_written s (length (waiting_at id u))) in
-    absent_entries id (settled_entry u.host) (map becomes u.sessions) (λ e. refl)
+    absent_entries id (settled_entry u.shared) (map becomes u.sessions) (λ e. refl)
     (absent_entries id becomes u.sessions
     (λ e. cond_both (e.0 == id) _ _ (λ (x : ℕ × SessionValue). x.0 ≡ e.0) (λ is. refl) (λ apart. refl))
     (absent_turns id v turns none))

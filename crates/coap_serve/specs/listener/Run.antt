@@ -26,15 +26,15 @@ use Rattle.coap_serve.specs.listener.Silence.{Sweep, due_sweep}
 
 -- The server after its clock returned this time. An earlier time changes nothing.
 abbrev pub moved_to : ServerValue → (moment : ℕ) → ServerValue
-moved_to v moment = if nat_le v.host.now moment then server_ticked v moment else v
+moved_to v moment = if nat_le v.shared.now moment then server_ticked v moment else v
 
 -- The call that sets the time of the server, if it changes.
 abbrev pub ticked_calls : ServerValue → (moment : ℕ) → List AcceptedCall
-ticked_calls v moment = if moment == v.host.now then [] else Ticked moment ∷ []
+ticked_calls v moment = if moment == v.shared.now then [] else Ticked moment ∷ []
 
 -- The call that sets the time of the server, if it is accepted and changes the time.
 abbrev pub moved_calls : ServerValue → (moment : ℕ) → List AcceptedCall
-moved_calls v moment = if nat_le v.host.now moment then ticked_calls v moment else []
+moved_calls v moment = if nat_le v.shared.now moment then ticked_calls v moment else []
 
 -- ---- the history of a run
 
@@ -141,7 +141,7 @@ pub record IsTurnFor {A W : Type 0} (E : Environment A W) (times : Times) (K : K
   pub next : Wait
   pub turn : IsTurnBy (way E.follows times.second E.views) (known_after start.history K)
       (loop_state start.server begun.sweep.entries) after.state next
-  pub waits : wait ≡ short_wait s.idle after.state.server.host.now after.state.entries
+  pub waits : wait ≡ short_wait s.idle after.state.server.shared.now after.state.entries
       (wait_within (limit_for start.is_full limit) next)
   pub second : after.second ≡ times.second
   pub idle : after.idle ≡ s.idle

@@ -7,7 +7,7 @@ use Rattle.coap_serve.specs.declared.door.awake.Awake.{Awake}
 use Rattle.coap_serve.specs.declared.door.peer.Peer.{Peer}
 use Rattle.coap_server_engine.specs.Prelude.{IsOutside}
 use Rattle.coap_server_engine.specs.values.Servers.{LiesAt, ServerValue}
-use Rattle.coap_server_engine.specs.values.ServerDeadlines.{outlook_of}
+use Rattle.coap_server_engine.specs.values.ServerDeadlines.{work_of}
 
 -- The connections of a server and their transport sides have the same numbers, in the same order.
 pub record ArePaired {W : Type 0} (v : ServerValue) (es : List (ℕ × Peer W)) : Type 0 where
@@ -21,12 +21,12 @@ known (Some ready) = ready
 
 -- Something can be done at once on the connection, as far as its wire records its readiness.
 abbrev pub is_known_ready : PeerStatus → Bool
-is_known_ready e = e.wants.visit || (e.wants.read && known e.readable) || (e.wants.write && known e.writable)
+is_known_ready e = e.interest.visit || (e.interest.read && known e.readable) || (e.interest.write && known e.writable)
 
 -- The connection may sleep: nothing can be done on it, and it has no deadline.
 pub record MaySleep (e : PeerStatus) : Type 0 where
   pub calm : is_known_ready e ≡ false
-  pub never : e.wants.due ≡ None
+  pub never : e.interest.due ≡ None
 
 -- Each connection that sleeps may do so, by its present interest.
 pub record AreAsleep {W : Type 0} (readable writable : W → Option Bool) (a : Awake) (v : ServerValue)
@@ -38,8 +38,8 @@ pub record AreAsleep {W : Type 0} (readable writable : W → Option Bool) (a : A
 -- connection was added, removed or moved.
 pub record KeepsBeside (id : ℕ) (words : List ℕ) (v after : ServerValue) : Type 0 where
   pub keys : keys_of after.sessions ≡ keys_of v.sessions
-  pub work : (i other : ℕ) → LiesAt other i v.sessions → other ≢ id → IsOutside words i → outlook_of after other ≡
-      outlook_of v other
+  pub work : (i other : ℕ) → LiesAt other i v.sessions → other ≢ id → IsOutside words i → work_of after other ≡
+      work_of v other
 
 -- The awake connections became those of `b` when the server became `after`. Each connection that sleeps now did so
 -- before,
@@ -47,4 +47,4 @@ pub record KeepsBeside (id : ℕ) (words : List ℕ) (v after : ServerValue) : T
 pub record SleepOn (a b : Awake) (v after : ServerValue) : Type 0 where
   pub keys : keys_of after.sessions ≡ keys_of v.sessions
   pub each : (i id : ℕ) → LiesAt id i v.sessions → IsOutside b.set.words i → IsOutside a.set.words i
-      × (outlook_of after id ≡ outlook_of v id)
+      × (work_of after id ≡ work_of v id)

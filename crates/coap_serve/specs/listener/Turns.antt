@@ -7,7 +7,7 @@ use Rattle.coap_server_engine.specs.values.Servers.{ServerValue, session_of, ser
 use Rattle.coap_server_session.specs.values.Deadlines.{sooner}
 use Rattle.coap_server_engine.specs.values.Exchanges.{Answering, AnswersMore}
 use Rattle.coap_server_engine.specs.values.ApplicationCalls.{IsServed as IsServedWith}
-use Rattle.coap_server_engine.specs.values.ServerDeadlines.{outlook_of}
+use Rattle.coap_server_engine.specs.values.ServerDeadlines.{work_of}
 use Rattle.coap_serve.specs.listener.Histories.{History, calls_only, no_history}
 use Rattle.coap_io.specs.streams.Wires.{MatchesTrace, WireTrace, IsReadOnce, IsWrittenOnce}
 use Rattle.coap_server_engine.specs.declared.monitor.DropReason.TheVariants as drop
@@ -186,7 +186,7 @@ pub record IsTakenAndWritten (Takes : Taking) (may_write : Bool) (id : ℕ) (bef
   pub wrote : Got
   pub offered : IsOffered (waiting_once may_write id taken.server) before.wire wrote after.wire
   pub server : after.server ≡ server_wrote taken.server id wrote
-  pub outcome : r.outcome ≡ course_of wrote (is_over_in (outlook_of after.server id))
+  pub outcome : r.outcome ≡ course_of wrote (is_over_in (work_of after.server id))
   pub history : r.history ≡ record (taken.history) { events = taken.history.events ++ wrote_events id wrote }
 
 -- The steps that follow a read. If the read failed, there is none, and the connection has failed.
@@ -234,9 +234,9 @@ pub record IsNoOp (ready : Readiness) (v : ServerValue) (id : ℕ) (rest : List 
 -- The I/O interest of a connection with this work left. It states if the connection must be visited whatever its wire
 -- does, and if the wire must be read and written. The first holds if bytes read before can be accepted or must be
 -- discarded, or nothing more will be written. Without a connection it is empty.
-abbrev pub wants_in : Option ConnectionWork → (is_empty : Bool) → PeerInterest
-wants_in None is_empty = record { visit = false; read = false; write = false; due = None }
-wants_in (Some o) is_empty = record {
+abbrev pub interest_in : Option ConnectionWork → (is_empty : Bool) → PeerInterest
+interest_in None is_empty = record { visit = false; read = false; write = false; due = None }
+interest_in (Some o) is_empty = record {
   visit = (not is_empty && (o.takes || o.stopped)) || o.finished;
   read = is_empty && o.takes;
   write = o.waits;
@@ -244,8 +244,8 @@ wants_in (Some o) is_empty = record {
 }
 
 -- The I/O interest of the connection with this number, for these bytes left from its reads.
-abbrev pub wants_of : ServerValue → ℕ → List ℕ → PeerInterest
-wants_of v id rest = wants_in (outlook_of v id) (length rest == 0)
+abbrev pub interest_of : ServerValue → ℕ → List ℕ → PeerInterest
+interest_of v id rest = interest_in (work_of v id) (length rest == 0)
 
 -- Something in this I/O interest can be done at once.
 abbrev pub can_go_on : PeerInterest → Readiness → Bool
@@ -256,14 +256,19 @@ can_go_on w ready = w.visit || (w.read && ready.read) || (w.write && ready.write
 pub record PeerStatus : Type 0 where
   pub readable : Option Bool
   pub writable : Option Bool
-  pub wants : PeerInterest
+  pub interest : PeerInterest
 
 abbrev pub status_with : {W : Type 0} (readable writable : W → Option Bool) → W → PeerInterest → PeerStatus
-status_with readable writable wire wants = record { readable = readable wire; writable = writable wire; wants = wants }
+status_with readable writable wire interest = record {
+  readable = readable wire;
+  writable = writable wire;
+  interest =
+      interest;
+}
 
 -- The status of a connection, with its present interest.
 abbrev pub peer_status : {W : Type 0} (readable writable : W → Option Bool) → ServerValue → ℕ × Peer W → PeerStatus
-peer_status readable writable v e = status_with readable writable e.1.wire (wants_of v e.0 e.1.rest)
+peer_status readable writable v e = status_with readable writable e.1.wire (interest_of v e.0 e.1.rest)
 
 -- `answer` is the readiness of a wire if that is wanted, and otherwise `false`.
 abbrev pub IsAsked : (wanted : Bool) (recorded : Option Bool) (answer : Bool) → Type 0
@@ -275,9 +280,9 @@ IsAsked false recorded answer = answer ≡ false
 pub record CanGoOn (e : PeerStatus) (result : Bool) : Type 0 where
   pub reads : Bool
   pub writes : Bool
-  pub read : IsAsked e.wants.read e.readable reads
-  pub write : IsAsked e.wants.write e.writable writes
-  pub is : result ≡ e.wants.visit || reads || writes
+  pub read : IsAsked e.interest.read e.readable reads
+  pub write : IsAsked e.interest.write e.writable writes
+  pub is : result ≡ e.interest.visit || reads || writes
 
 -- `result` is `true` if something can be done at once on any of these connections.
 abbrev pub CanAnyGoOn : List PeerStatus → Bool → Type 0
@@ -287,7 +292,7 @@ CanAnyGoOn (e ∷ es) result =
 
 -- The earliest of this time and of all times at which time alone may queue something on one of these connections.
 abbrev pub least_with : Option ℕ → List PeerStatus → Option ℕ
-least_with due all = fold (λ due e. sooner due e.wants.due) due all
+least_with due all = fold (λ due e. sooner due e.interest.due) due all
 
 abbrev pub wait_until : Option ℕ → Wait
 wait_until None = Forever

@@ -10,7 +10,7 @@ use Rattle.coap_model.specs.world.World.{side_of}
 use Rattle.coap_server_engine.specs.values.Flushes.{IsFlushed, flush_turns, more_at, waiting_at}
 use Rattle.coap_server_engine.specs.declared.io_fault.IoFault.{IoFault}
 use Rattle.coap_server_engine.specs.declared.io_fault.IoFault.TheVariants.{Read, Write, Memory, Turns}
-use Rattle.coap_serve.specs.declared.serve.Report.{Report}
+use Rattle.coap_serve.specs.declared.serve_streams.Report.{Report}
 use Rattle.coap_serve.specs.streams.StdioRun.{IsLastByte, IsNoRun}
 
 -- ---- a flush

@@ -3,7 +3,7 @@
 use Rattle.std.specs.Prelude.{◌≡◌, ◌≢◌, ◌⊎◌, ℕ, ◌+◌, ◌≤◌, List, [], ◌∷◌, ◌++◌, length, None, Some, Result, Ok, Err}
 use Rattle.coap_server_engine.specs.Prelude.{AreInRange, ConfigValues, ServerValue, is_cut, Shows}
 use Rattle.coap_conn.specs.Calls.{end_reason}
-use Rattle.coap_serve.specs.declared.serve.Turn.{Turn}
+use Rattle.coap_serve.specs.declared.serve_streams.Turn.{Turn}
 use Rattle.coap_server_engine.specs.declared.io_fault.IoFault.{IoFault}
 use Rattle.coap_server_engine.specs.declared.io_fault.IoFault.TheVariants.{Read, Write, Memory, Turns}
 use Rattle.coap_model.specs.world.Events.{AcceptedCall, spelled_on, world_after}

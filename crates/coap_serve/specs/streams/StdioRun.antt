@@ -5,7 +5,7 @@ use Rattle.std.specs.List.{concat}
 use Rattle.coap_server_engine.specs.Prelude.{Reason, Message, IsPut, ConfigValues, change_made}
 use Rattle.coap_conn.specs.Calls.{end_reason}
 use Rattle.coap_conn.specs.LinkValue.{bytes_of}
-use Rattle.coap_serve.specs.declared.serve.Report.{Report}
+use Rattle.coap_serve.specs.declared.serve_streams.Report.{Report}
 use Rattle.coap_server_engine.specs.declared.io_fault.IoFault.{IoFault}
 use Rattle.coap_server_engine.specs.declared.io_fault.IoFault.TheVariants.{Read, Write, Memory, Turns}
 use Rattle.coap_model.specs.world.Connections.{Connection, is_cut, waiting_on}

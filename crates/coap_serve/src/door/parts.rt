@@ -63,7 +63,7 @@ impl<W: Wire + Ready + Drop> Service<W> {
     ///
     /// - `Backwards`: the time is earlier than that of the server, which is unchanged.
     pub(super) fn tick<M: Monitor<W>>(&mut self, now: u64, monitor: &mut M) -> Result<(), Backwards>
-        ensures answer { is_ok result ≡ nat_le self.old.server.host.now now }
+        ensures answer { is_ok result ≡ nat_le self.old.server.shared.now now }
         ensures moved { self.new.server ≡ moved_to self.old.server now }
         ensures shows { OnOk result ((events : List AcceptedCall) → Shows self.old.server events →
             Shows self.new.server (events ++ ticked_calls self.old.server now)) }
@@ -156,7 +156,7 @@ impl<W: Wire + Ready + Drop> Service<W> {
     /// Returns a wait that lasts at most until the next second of the server's time, if there are a limit of silence
     /// and a connection.
     pub(super) fn at_most_a_second(&self, wait: Wait) -> Wait
-        ensures { result ≡ short_wait self.now.idle self.now.server.host.now self.now.peers.entries wait }
+        ensures { result ≡ short_wait self.now.idle self.now.server.shared.now self.now.peers.entries wait }
     {
         if self.idle.is_none() || self.peers.is_empty() {
             return wait;

@@ -6,12 +6,12 @@ ghost use Rattle.coap_serve.specs.Prelude.{readiness, visit, AddsBytes, AreCalls
 ghost use Rattle.coap_serve.specs.Prelude.{HasAccepted, IsTakenWith, TellsMore, heard_events, wrote_events};
 ghost use Rattle.coap_serve.specs.Prelude.{has_written, trace_by, IsLaidOut, is_heard, server_heard};
 ghost use Rattle.coap_serve.specs.Prelude.{server_wrote, waiting_once, has_failed, course_of};
-ghost use Rattle.coap_serve.specs.Prelude.{wants_of, IsWithin, IsMemory, IsOneWrite, bytes_passed, stop_on};
+ghost use Rattle.coap_serve.specs.Prelude.{interest_of, IsWithin, IsMemory, IsOneWrite, bytes_passed, stop_on};
 ghost use Rattle.coap_serve.specs.Prelude.{session_of, IsAsked, CanGoOn, status_with, IsCourseFor};
-ghost use Rattle.coap_serve.specs.Prelude.{outlook_of, KeepsOthers, KeepsWork, LiesAt};
+ghost use Rattle.coap_serve.specs.Prelude.{work_of, KeepsOthers, KeepsWork, LiesAt};
 ghost use Rattle.coap_io.specs.declared.wire.Got.TheVariants.{Later, End};
 
-use super::peer_interest::{PeerInterest, wants_by};
+use super::peer_interest::{PeerInterest, interest_by};
 use super::silence::Activity;
 use coap_conn::first_part;
 use coap_io::{Got, ReadBuffer, Ready, Wire};
@@ -35,24 +35,24 @@ pub(super) struct Peer<W> {
 impl<W: Ready> Peer<W> {
     /// Returns `true` if the connection must be read and its wire may have input. (The wire is asked first, because
     /// most wires have no input.)
-    fn can_read(&self, wants: PeerInterest) -> bool
-        ensures { IsAsked wants.read (W.readable self.now.wire) result }
+    fn can_read(&self, interest: PeerInterest) -> bool
+        ensures { IsAsked interest.read (W.readable self.now.wire) result }
     {
-        self.wire.may_read() && wants.read
+        self.wire.may_read() && interest.read
     }
 
     /// Returns `true` if the connection must be written and its wire may have room.
-    fn can_write(&self, wants: PeerInterest) -> bool
-        ensures { IsAsked wants.write (W.writable self.now.wire) result }
+    fn can_write(&self, interest: PeerInterest) -> bool
+        ensures { IsAsked interest.write (W.writable self.now.wire) result }
     {
-        wants.write && self.wire.may_write()
+        interest.write && self.wire.may_write()
     }
 
     /// Returns `true` if something can be done at once on the connection, which has this I/O interest.
-    pub(super) fn is_ready(&self, wants: PeerInterest) -> bool
-        ensures { CanGoOn (status_with W.readable W.writable self.now.wire wants) result }
+    pub(super) fn is_ready(&self, interest: PeerInterest) -> bool
+        ensures { CanGoOn (status_with W.readable W.writable self.now.wire interest) result }
     {
-        wants.visit || self.can_read(wants) || self.can_write(wants)
+        interest.visit || self.can_read(interest) || self.can_write(interest)
     }
 }
 
@@ -74,7 +74,7 @@ pub(super) struct PeerVisit {
     /// Outcome for the connection.
     pub(super) outcome: PeerOutcome,
     /// Present I/O interest of the connection.
-    pub(super) wants: PeerInterest,
+    pub(super) interest: PeerInterest,
     /// Indices of the other connections whose work left may have changed.
     pub(super) affected: IndexSet,
 }
@@ -108,10 +108,10 @@ pub(super) fn serve_peer<W: Wire, A: Application, M: Monitor<W>>(
         (known_by M.follows A.follows monitor.old monitor.new application.old application.new) server.old server.new) }
     ensures shows { HasServed (known_by M.follows A.follows monitor.old monitor.new application.old application.new)
         server.old server.new }
-    ensures wants { IfOk result (λ x. x.wants ≡ wants_of server.new index.id peer.new.rest) }
+    ensures interest { IfOk result (λ x. x.interest ≡ interest_of server.new index.id peer.new.rest) }
     // Each other connection that is not affected has the same work left.
     ensures kept { IfOk result (λ x. KeepsBeside index.id x.affected.words server.old server.new) }
-    ensures reason { IfOk result (λ x. IsCourseFor x.outcome (outlook_of server.new index.id)) }
+    ensures reason { IfOk result (λ x. IsCourseFor x.outcome (work_of server.new index.id)) }
     ensures fault { IfErr result IsMemory }
 {
     let id = index.id;
@@ -119,7 +119,7 @@ pub(super) fn serve_peer<W: Wire, A: Application, M: Monitor<W>>(
     if failed(heard) {
         return Ok(PeerVisit {
             outcome: PeerOutcome::Over(DropReason::Failed),
-            wants: wants_by(server.outlook_at(index), peer.rest.is_empty()),
+            interest: interest_by(server.work_at(index), peer.rest.is_empty()),
             affected: IndexSet::empty(),
         });
     }
@@ -135,10 +135,10 @@ pub(super) fn serve_peer<W: Wire, A: Application, M: Monitor<W>>(
     let moved = has_moved(taken.count, wrote);
     let activity = peer.activity.after(second, moved);
     peer.activity = activity;
-    let work = server.outlook_at(index);
+    let work = server.work_at(index);
     Ok(PeerVisit {
         outcome: outcome(wrote, work.finished),
-        wants: wants_by(work, peer.rest.is_empty()),
+        interest: interest_by(work, peer.rest.is_empty()),
         affected: taken.affected,
     })
 }

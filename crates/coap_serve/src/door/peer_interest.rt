@@ -1,7 +1,7 @@
 //! The I/O interest of a connection.
 
 ghost use Rattle.std.specs.Prelude.{◌≡◌, Some};
-ghost use Rattle.coap_serve.specs.Prelude.{wants_in};
+ghost use Rattle.coap_serve.specs.Prelude.{interest_in};
 
 use coap_server_engine::ConnectionWork;
 
@@ -22,8 +22,8 @@ pub(super) struct PeerInterest {
 /// Returns the I/O interest of a connection with this work left. `is_empty` is `true` if all bytes that were read are
 /// accepted.
 #[inline(always)]
-pub(super) fn wants_by(work: ConnectionWork, is_empty: bool) -> PeerInterest
-    ensures { result ≡ wants_in (Some work) is_empty }
+pub(super) fn interest_by(work: ConnectionWork, is_empty: bool) -> PeerInterest
+    ensures { result ≡ interest_in (Some work) is_empty }
 {
     PeerInterest {
         visit: (!is_empty && (work.takes || work.stopped)) || work.finished,

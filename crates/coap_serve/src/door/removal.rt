@@ -2,7 +2,7 @@
 
 ghost use Rattle.std.specs.Prelude.{◌≡◌, ◌<◌, ◌+◌, length, remove, slice_get, IfSome};
 ghost use Rattle.coap_serve.specs.Prelude.{ArePaired, HasServed, IsAccepted, IsReasonFor, keys_of, known_by};
-ghost use Rattle.coap_serve.specs.Prelude.{one_drop, outlook_of, released_at as released, released_on};
+ghost use Rattle.coap_serve.specs.Prelude.{one_drop, work_of, released_at as released, released_on};
 ghost use Rattle.coap_serve.specs.Prelude.{server_dropped, set_value_at};
 
 use super::peer::Peers;
@@ -41,7 +41,7 @@ pub(super) fn drop_at<W: Drop, A: Application, M: Monitor<W>>(
     requires there { at < length peers.old.entries }
     requires paired { ArePaired server.old peers.old.entries }
     requires reason { IfSome (slice_get peers.old.entries at)
-        (λ e. IfSome (outlook_of server.old e.0) (IsReasonFor reason)) }
+        (λ e. IfSome (work_of server.old e.0) (IsReasonFor reason)) }
     ensures shows { HasServed (known_by M.follows A.follows monitor.old monitor.new application.old application.new)
         server.old server.new }
     ensures paired { ArePaired server.new peers.new.entries }

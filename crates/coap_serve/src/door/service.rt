@@ -142,8 +142,8 @@ impl<W: Wire + Ready + Drop> Service<W> {
         bytes: &[u8],
         monitor: &mut M,
     ) -> Result<u64, StoreFault>
-        ensures answer { RefusedOrMemory result (put_refusal self.old.server.host.store path.now bytes.now) }
-        ensures version { IfOk result (λ version. version ≡ self.old.server.host.store.versions + 1) }
+        ensures answer { RefusedOrMemory result (put_refusal self.old.server.shared.store path.now bytes.now) }
+        ensures version { IfOk result (λ version. version ≡ self.old.server.shared.store.versions + 1) }
         ensures ok { OnOk result (self.new.server ≡ server_put self.old.server path.now format bytes.now) }
         ensures shows { OnOk result ((events : List AcceptedCall) → Shows self.old.server events →
             Shows self.new.server (events ++ Stored path.now format bytes.now ∷ [])) }
@@ -171,7 +171,7 @@ impl<W: Wire + Ready + Drop> Service<W> {
         path: &PathKey,
         monitor: &mut M,
     ) -> Result<(), StoreFault>
-        ensures answer { RefusedBy result (remove_refusal self.old.server.host.store path.now) }
+        ensures answer { RefusedBy result (remove_refusal self.old.server.shared.store path.now) }
         ensures ok { OnOk result (self.new.server ≡ server_removed self.old.server path.now) }
         ensures shows { OnOk result ((events : List AcceptedCall) → Shows self.old.server events →
             Shows self.new.server (events ++ Removed path.now ∷ [])) }

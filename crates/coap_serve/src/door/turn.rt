@@ -7,12 +7,12 @@ ghost use Rattle.coap_serve.specs.Prelude.{HasServed, HasTurned, known_by};
 ghost use Rattle.coap_serve.specs.Prelude.{known_of_turn, loop_state, visit, way, AreServed};
 ghost use Rattle.coap_serve.specs.Prelude.{HasGoneOn, IsOpening, IsAskedOnce, asked_by, TellsMore};
 ghost use Rattle.coap_serve.specs.Prelude.{AreCallsBetween, HasAccepted, opening, views_of};
-ghost use Rattle.coap_serve.specs.Prelude.{IsVisited, wants_of, IsMemory, open_refusal};
+ghost use Rattle.coap_serve.specs.Prelude.{IsVisited, interest_of, IsMemory, open_refusal};
 ghost use Rattle.coap_serve.specs.Prelude.{AreAsleep, HasOpened, IsCourseFor, IsTurnBy};
-ghost use Rattle.coap_serve.specs.Prelude.{outlook_of};
+ghost use Rattle.coap_serve.specs.Prelude.{work_of};
 
 use super::awake::Awake;
-use super::looks::{next_ready, next_wait};
+use super::next_ready::{next_ready, next_wait};
 use super::peer::{Peer, PeerOutcome, PeerVisit, Peers, serve_peer};
 use super::removal::drop_at;
 use super::silence::Activity;
@@ -207,8 +207,8 @@ fn serve_next<W: Wire + Ready + Drop, A: Application, M: Monitor<W>>(
         PeerOutcome::Open => {
             awake.join(&served.affected);
             let peer = &peers[at];
-            let is_ready = peer.is_ready(served.wants);
-            awake.record_look(at, peer.wire.place(), is_ready, served.wants.due);
+            let is_ready = peer.is_ready(served.interest);
+            awake.record_look(at, peer.wire.place(), is_ready, served.interest.due);
             Ok(at + 1)
         }
     }
@@ -236,10 +236,10 @@ fn serve_at<W: Wire + Ready, A: Application, M: Monitor<W>>(
         result (λ x. HasAccepted (λ h. IsVisited (way A.follows second (views_of W.readable W.writable W.given
         W.written W.answers W.rooms)) server.old was (visit server.new is.1 x.outcome h)) (known_by M.follows A.follows
         monitor.old monitor.new application.old application.new) server.old server.new))) }
-    ensures wants { IfSome (slice_get peers.new.entries at)
-        (λ is. IfOk result (λ x. x.wants ≡ wants_of server.new is.0 is.1.rest)) }
+    ensures interest { IfSome (slice_get peers.new.entries at)
+        (λ is. IfOk result (λ x. x.interest ≡ interest_of server.new is.0 is.1.rest)) }
     ensures reason { IfSome (slice_get peers.new.entries at)
-        (λ is. IfOk result (λ x. IsCourseFor x.outcome (outlook_of server.new is.0))) }
+        (λ is. IfOk result (λ x. IsCourseFor x.outcome (work_of server.new is.0))) }
     // Each other connection that is not affected has the same work left.
     ensures kept { IfSome (slice_get peers.old.entries at)
         (λ was. IfOk result (λ x. KeepsBeside was.0 x.affected.words server.old server.new)) }

@@ -104,30 +104,31 @@ event_shown v (Tick now) in_time shown =
     unless_shown v (codes "tick") None (comes_to (server_ticked v now) (tick_line now)) (tick_refusal v now) shown
     (λ none.
     let later =
-    leb-true v.host.now now (true_from_ne_false (nat_le v.host.now now) (λ no. let bad = rw no at none in cc)) in
+    leb-true v.shared.now now (true_from_ne_false (nat_le v.shared.now now) (λ no. let bad = rw no at none in cc)) in
     record {
       events = _;
       shows = shows_ticked v shown.events now shown.shows later (omega (arith, in_time));
       ids = shown.ids;
     })
 event_shown v (Put path format bytes) in_time shown =
-    unless_shown v (codes "put") None (comes_to (server_put v path format bytes) (put_line (v.host.store.versions + 1)))
-    (option_map store_number (put_refusal v.host.store path bytes)) shown
+    unless_shown v (codes "put") None (comes_to (server_put v path format bytes) (put_line (v.shared.store.versions
+    + 1)))
+    (option_map store_number (put_refusal v.shared.store path bytes)) shown
     (λ none. record {
       events = _;
       shows =
           shows_put v shown.events path format bytes shown.shows
-          (none_made store_number (put_refusal v.host.store path bytes) none);
+          (none_made store_number (put_refusal v.shared.store path bytes) none);
       ids = shown.ids;
     })
 event_shown v (Remove path text) in_time shown =
     unless_shown v (codes "remove") None (comes_to (server_removed v path) (remove_line text))
-    (option_map store_number (remove_refusal v.host.store path)) shown
+    (option_map store_number (remove_refusal v.shared.store path)) shown
     (λ none. record {
       events = _;
       shows =
           shows_removed v shown.events path shown.shows
-          (none_made store_number (remove_refusal v.host.store path) none);
+          (none_made store_number (remove_refusal v.shared.store path) none);
       ids = shown.ids;
     })
 event_shown v (End id) in_time shown =

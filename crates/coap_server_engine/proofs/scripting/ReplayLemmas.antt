@@ -68,7 +68,7 @@ pub not_taken_within : (v : ServerValue) (id : ℕ) (piece : List ℕ) (count : 
     → IsNotTaken v id piece (taking.Memory count) after → (count ≤ length piece) × (length (take count piece) ≡ count)
 not_taken_within v id piece count after refused =
     let found = refused_on v piece count (session_of id v.sessions) refused.0 in
-    let within : count + 1 ≤ length piece = refused_within v.host found.0 piece count found.2 in
+    let within : count + 1 ≤ length piece = refused_within v.shared found.0 piece count found.2 in
     let fewer : count ≤ length piece = omega (arith, within) in
     (fewer, length-take-le count piece fewer)
 

@@ -49,7 +49,7 @@ use Rattle.coap_server_session.proofs.values.SettleLemmas.{found_ready, settled_
 use Rattle.coap_server_engine.specs.Prelude.{Message, spelling, message_of, FormatFault, AFrame, AFault}
 use Rattle.coap_server_engine.specs.Prelude.{FrameEventValue, framing}
 use Rattle.coap_server_engine.specs.Prelude.{LinkValue, takes_messages, RespondFault, frame_refusal, response_refusal}
-use Rattle.coap_server_engine.specs.Prelude.{host_changed, ServerState, SessionValue, session_takes, session_handled}
+use Rattle.coap_server_engine.specs.Prelude.{shared_changed, ServerState, SessionValue, session_takes, session_handled}
 use Rattle.coap_server_engine.specs.Prelude.{TakeOutcome, taking, taking_read, taking_found, IsSettled}
 use Rattle.coap_server_engine.specs.Prelude.{failure_with, is_handed, is_handed_over, handed, handed_read, handed_found}
 use Rattle.coap_server_engine.specs.Prelude.{message_in, frame_message}
@@ -275,8 +275,8 @@ with_request s m moment = record {
   observers = without_entry m.token s.observers;
 }
 
-module _ (host : ServerState) (s : SessionValue) (m : Message) (takes : session_takes s ≡ true)
-    (over : is_handed_over host s.link m ≡ true) where
+module _ (shared : ServerState) (s : SessionValue) (m : Message) (takes : session_takes s ≡ true)
+    (over : is_handed_over shared s.link m ≡ true) where
   asks : asks_this s.link m ≡ true
   asks = (and_parts (asks_this s.link m) _ over).0
 
@@ -292,16 +292,17 @@ module _ (host : ServerState) (s : SessionValue) (m : Message) (takes : session_
   same_link : link_after s.link (call.Handle m) ≡ s.link
   same_link = request_stays s.link m told
 
-  pub delayed : (seconds : ℕ) × (delay_on host m ≡ Some (record { by = Application; seconds = seconds }))
+  pub delayed : (seconds : ℕ) × (delay_on shared m ≡ Some (record { by = Application; seconds = seconds }))
       × (can_hold s.link ≡ true)
   delayed =
-      handed_delay s.link (delay_on host m) (subst (λ (l : LinkValue). is_handed (held_in l (delay_on host m)) ≡ true)
+      handed_delay s.link (delay_on shared m) (subst (λ (l : LinkValue). is_handed (held_in l (delay_on shared m))
+      ≡ true)
       same_link (and_parts (asks_this s.link m) _ over).1)
 
   abbrev moment : ℕ
-  moment = moment_after host.now delayed.0
+  moment = moment_after shared.now delayed.0
 
-  held_is : held_in s.link (delay_on host m) ≡ Some (record { by = Application; seconds = delayed.0 })
+  held_is : held_in s.link (delay_on shared m) ≡ Some (record { by = Application; seconds = delayed.0 })
   held_is =
       ap (held_in s.link) delayed.1
       ∙ ap (λ (b : Bool). if b then Some (record { by = Application; seconds = delayed.0 }) else None) delayed.2
@@ -321,70 +322,71 @@ module _ (host : ServerState) (s : SessionValue) (m : Message) (takes : session_
         observers = if b then without_entry m.token s.observers else [];
       }) opened
 
-  pub handled_is : session_handled host s m ≡ with_request s m moment
+  pub handled_is : session_handled shared s m ≡ with_request s m moment
   unfolding session_handled
   handled_is =
-      ap (λ (b : Bool). if b then session_replied host (link_after s.link (call.Handle m))
-      (without_entry m.token s.observers) m (held_in (link_after s.link (call.Handle m)) (delay_on host m))
+      ap (λ (b : Bool). if b then session_replied shared (link_after s.link (call.Handle m))
+      (without_entry m.token s.observers) m (held_in (link_after s.link (call.Handle m)) (delay_on shared m))
       else session_with [] (link_after s.link (call.Handle m)) s.observers) asks
       ∙ ap
-      (λ (l : LinkValue). session_replied host l (without_entry m.token s.observers) m (held_in l (delay_on host m)))
+      (λ (l : LinkValue). session_replied shared l (without_entry m.token s.observers) m
+      (held_in l (delay_on shared m)))
       same_link
-      ∙ ap (session_replied host s.link (without_entry m.token s.observers) m) held_is
+      ∙ ap (session_replied shared s.link (without_entry m.token s.observers) m) held_is
       ∙ ap (λ (l : LinkValue). session_with [] l (without_entry m.token s.observers)) appended
       ∙ whole
 
-  pub changes_nothing : change_by host s.link m ≡ store_change.Nothing
+  pub changes_nothing : change_by shared s.link m ≡ store_change.Nothing
   changes_nothing =
-      ap (λ (b : Bool). if b then (answer_on host m).change else store_change.Nothing) asks
-      ∙ late_quiet host m _ 0 [] delayed.1
+      ap (λ (b : Bool). if b then (answer_on shared m).change else store_change.Nothing) asks
+      ∙ late_quiet shared m _ 0 [] delayed.1
 
   -- If the deadline is to come, nothing is left to settle.
-  pub still_settled : IsSettled host s → host.now < moment → IsSettled host (with_request s m moment)
+  pub still_settled : IsSettled shared s → shared.now < moment → IsSettled shared (with_request s m moment)
   unfolding without_entry
   still_settled settled later =
       let ready : session_ready s ≡ true = (and_parts (takes_messages s.link.phase) _ takes).1 in
-      let found = found_ready host s ready in
-      settled_quiet host (with_request s m moment)
-      (none_due_more host.now moment m.token s.link.held later (sym found.0 ∙ settled.0))
-      (none_found (is_stale host) (without_entry m.token s.observers) (all_filter (λ o. is_stale host o ≡ false) _
-      s.observers (none_due (is_stale host) s.observers (sym found.1 ∙ settled.1))))
+      let found = found_ready shared s ready in
+      settled_quiet shared (with_request s m moment)
+      (none_due_more shared.now moment m.token s.link.held later (sym found.0 ∙ settled.0))
+      (none_found (is_stale shared) (without_entry m.token s.observers) (all_filter (λ o. is_stale shared o ≡ false) _
+      s.observers (none_due (is_stale shared) s.observers (sym found.1 ∙ settled.1))))
 
 -- ---- a take that hands over a request
 
-pub record HandsOver (host : ServerState) (s : SessionValue) (piece : List ℕ) (m : Message) : Type 0 where
+pub record HandsOver (shared : ServerState) (s : SessionValue) (piece : List ℕ) (m : Message) : Type 0 where
   pub takes : session_takes s ≡ true
   pub frame : List ℕ
   pub found : (framing (session_max s) s.frame piece).finding ≡ AFrame frame
   pub reads : message_of frame ≡ Ok m
-  pub over : is_handed_over host s.link m ≡ true
+  pub over : is_handed_over shared s.link m ≡ true
 
-module _ (host : ServerState) (s : SessionValue) (piece : List ℕ) (m : Message) where
+module _ (shared : ServerState) (s : SessionValue) (piece : List ℕ) (m : Message) where
   read_over : (frame : List ℕ) (r : Result Message FormatFault) → message_of frame ≡ r
-      → option_and_then frame_message (handed_read host s frame r) ≡ Some m
-      → (message_of frame ≡ Ok m) × (is_handed_over host s.link m ≡ true)
+      → option_and_then frame_message (handed_read shared s frame r) ≡ Some m
+      → (message_of frame ≡ Ok m) × (is_handed_over shared s.link m ≡ true)
   read_over frame (Err e) reads is = absurd cc
   read_over frame (Ok n) reads is =
-      elim (cases_Bool (is_handed_over host s.link n)) [
+      elim (cases_Bool (is_handed_over shared s.link n)) [
         | inl over ↦ (
             let found : frame_message frame ≡ Some m = rw over at is in
             let same : n ≡ m = same_there n m (sym (ap message_in reads) ∙ found) in (
               reads ∙ ap (λ (k : Message). Ok k) same,
-              subst (λ (k : Message). is_handed_over host s.link k ≡ true) same over,
+              subst (λ (k : Message). is_handed_over shared s.link k ≡ true) same over,
             ))
         | inr kept ↦ absurd (let none : ◌≡◌ {A = Option Message} None (Some m) = rw kept at is in cc)
       ]
 
   found_over : session_takes s ≡ true → (found : FrameEventValue)
       → (framing (session_max s) s.frame piece).finding ≡ found
-      → option_and_then frame_message (handed_found host s found) ≡ Some m → HandsOver host s piece m
+      → option_and_then frame_message (handed_found shared s found) ≡ Some m → HandsOver shared s piece m
   found_over takes Nothing e is = absurd cc
   found_over takes (AFault why) e is = absurd cc
   found_over takes (AFrame frame) e is =
       let parts = read_over frame (message_of frame) refl is in
       record { takes = takes; frame = frame; found = e; reads = parts.0; over = parts.1 }
 
-  pub request_handed : option_and_then frame_message (handed host s piece) ≡ Some m → HandsOver host s piece m
+  pub request_handed : option_and_then frame_message (handed shared s piece) ≡ Some m → HandsOver shared s piece m
   unfolding handed
   request_handed is =
       elim (cases_Bool (session_takes s)) [
@@ -392,39 +394,41 @@ module _ (host : ServerState) (s : SessionValue) (piece : List ℕ) (m : Message
         | inr stopped ↦ absurd (let none : ◌≡◌ {A = Option Message} None (Some m) = rw stopped at is in cc)
       ]
 
-module _ (host : ServerState) (s : SessionValue) (piece : List ℕ) (m : Message) (hands : HandsOver host s piece m) where
-  took_message : taking host s piece ≡ taking_read host s (framing (session_max s) s.frame piece).taken (Ok m)
+module _ (shared : ServerState) (s : SessionValue) (piece : List ℕ) (m : Message)
+    (hands : HandsOver shared s piece m) where
+  took_message : taking shared s piece ≡ taking_read shared s (framing (session_max s) s.frame piece).taken (Ok m)
   unfolding taking
   took_message =
       ap (λ (b : Bool). if b
-      then taking_found host s (framing (session_max s) s.frame piece) (framing (session_max s) s.frame piece).finding
+      then taking_found shared s (framing (session_max s) s.frame piece) (framing (session_max s) s.frame piece).finding
       else record { count = 0; handled = false; session = s; change = store_change.Nothing }) hands.takes
-      ∙ ap (taking_found host s (framing (session_max s) s.frame piece)) hands.found
-      ∙ ap (taking_read host s (framing (session_max s) s.frame piece).taken) hands.reads
+      ∙ ap (taking_found shared s (framing (session_max s) s.frame piece)) hands.found
+      ∙ ap (taking_read shared s (framing (session_max s) s.frame piece).taken) hands.reads
 
   -- The time at which the request is due.
   abbrev pub deadline : ℕ
-  deadline = moment_after host.now (delayed host s m hands.takes hands.over).0
+  deadline = moment_after shared.now (delayed shared s m hands.takes hands.over).0
 
-  pub took_session : (taking host s piece).session ≡ with_request s m deadline
-  took_session = ap (λ (t : TakeOutcome). t.session) took_message ∙ handled_is host s m hands.takes hands.over
+  pub took_session : (taking shared s piece).session ≡ with_request s m deadline
+  took_session = ap (λ (t : TakeOutcome). t.session) took_message ∙ handled_is shared s m hands.takes hands.over
 
-  pub took_nothing : host_changed host (taking host s piece).change ≡ host
+  pub took_nothing : shared_changed shared (taking shared s piece).change ≡ shared
   took_nothing =
-      ap (λ (t : TakeOutcome). host_changed host t.change) took_message
-      ∙ ap (host_changed host) (changes_nothing host s m hands.takes hands.over)
+      ap (λ (t : TakeOutcome). shared_changed shared t.change) took_message
+      ∙ ap (shared_changed shared) (changes_nothing shared s m hands.takes hands.over)
 
   -- It is that of any request that is handed over now.
-  pub deadline_is_latest : latest host.store.applications host.now ≡ deadline
+  pub deadline_is_latest : latest shared.store.applications shared.now ≡ deadline
   deadline_is_latest =
-      let d = delayed host s m hands.takes hands.over in
-      latest_is host.store.applications host.now m d.0 (delay_is_deadline _ _ d.0 d.1)
+      let d = delayed shared s m hands.takes hands.over in
+      latest_is shared.store.applications shared.now m d.0 (delay_is_deadline _ _ d.0 d.1)
 
-  pub deadline_later : IfSome host.store.applications (λ a. 1 ≤ a.deadline)
-      → host.now < 18446744073709551615 → host.now < deadline
+  pub deadline_later : IfSome shared.store.applications (λ a. 1 ≤ a.deadline)
+      → shared.now < 18446744073709551615 → shared.now < deadline
   deadline_later some early =
-      let d = delayed host s m hands.takes hands.over in
-      moment_later host.now d.0 (deadline_some host.store.applications m d.0 (delay_is_deadline _ _ d.0 d.1) some) early
+      let d = delayed shared s m hands.takes hands.over in
+      moment_later shared.now d.0 (deadline_some shared.store.applications m d.0 (delay_is_deadline _ _ d.0 d.1) some)
+      early
 
-  pub took_settled : host.now < deadline → IsSettled host s → IsSettled host (with_request s m deadline)
-  took_settled later settled = still_settled host s m hands.takes hands.over settled later
+  pub took_settled : shared.now < deadline → IsSettled shared s → IsSettled shared (with_request s m deadline)
+  took_settled later settled = still_settled shared s m hands.takes hands.over settled later

@@ -27,7 +27,7 @@ use Rattle.coap_store.proofs.ChangeLaws.{put_is_stored, other_is_kept_on_put, ot
 use Rattle.coap_store.proofs.ChangeLaws.{unchanged}
 use Rattle.coap_model.proofs.world.KnownLaws.{IsVersioned}
 use Rattle.coap_model.proofs.world.HearingLaws.{world_known}
-use Rattle.coap_server_engine.proofs.world.ShowLaws.{host_shown}
+use Rattle.coap_server_engine.proofs.world.ShowLaws.{shared_shown}
 
 -- ---- the change of an answer
 
@@ -96,78 +96,80 @@ own_differs s path (store_change.Delete q) is mine does =
 -- ---- the change of a take
 
 -- The change is that of the message of this frame.
-record ComesFrom (host : ServerState) (frame : Option (List ℕ)) (c : Change) : Type 0 where
+record ComesFrom (shared : ServerState) (frame : Option (List ℕ)) (c : Change) : Type 0 where
   bytes : List ℕ
   completes : frame ≡ Some bytes
   message : Message
   reads : message_of bytes ≡ Ok message
-  change : c ≡ (answer_on host message).change
+  change : c ≡ (answer_on shared message).change
 
 -- There is no change, or it is that of the message.
 abbrev MayCome : ServerState → Option (List ℕ) → Change → Type 0
-MayCome host frame c = (changes c ≡ false) ⊎ ComesFrom host frame c
+MayCome shared frame c = (changes c ≡ false) ⊎ ComesFrom shared frame c
 
-read_change : (host : ServerState) (v : SessionValue) (n : ℕ) (frame : List ℕ) (read : Result Message FormatFault)
-    → message_of frame ≡ read → MayCome host (Some frame) (taking_read host v n read).change
-read_change host v n frame (Ok m) reads =
+read_change : (shared : ServerState) (v : SessionValue) (n : ℕ) (frame : List ℕ) (read : Result Message FormatFault)
+    → message_of frame ≡ read → MayCome shared (Some frame) (taking_read shared v n read).change
+read_change shared v n frame (Ok m) reads =
     elim (asks_this v.link m)
-    as (λ b. MayCome host (Some frame) (if b then (answer_on host m).change else store_change.Nothing)) [
+    as (λ b. MayCome shared (Some frame) (if b then (answer_on shared m).change else store_change.Nothing)) [
       | true ↦ inr (record { bytes = frame; completes = refl; message = m; reads = reads; change = refl })
       | false ↦ inl refl
     ]
-read_change host v n frame (Err e) reads = inl refl
+read_change shared v n frame (Err e) reads = inl refl
 
-found_change : (host : ServerState) (v : SessionValue) (f : Framing) (found : FrameEventValue)
-    → MayCome host (found_frame found) (taking_found host v f found).change
-found_change host v f Nothing = inl refl
-found_change host v f (AFault fault) = inl refl
-found_change host v f (AFrame frame) = read_change host v f.taken frame (message_of frame) refl
+found_change : (shared : ServerState) (v : SessionValue) (f : Framing) (found : FrameEventValue)
+    → MayCome shared (found_frame found) (taking_found shared v f found).change
+found_change shared v f Nothing = inl refl
+found_change shared v f (AFault fault) = inl refl
+found_change shared v f (AFrame frame) = read_change shared v f.taken frame (message_of frame) refl
 
-take_change : (host : ServerState) (v : SessionValue) (piece : List ℕ)
-    → MayCome host (completed v piece) (taking host v piece).change
+take_change : (shared : ServerState) (v : SessionValue) (piece : List ℕ)
+    → MayCome shared (completed v piece) (taking shared v piece).change
 unfolding taking completed
-take_change host v piece =
+take_change shared v piece =
     let f : Framing = framing (session_max v) v.frame piece in
     elim (session_takes v)
-    as (λ b. MayCome host (if b then found_frame f.finding else None) (if b then taking_found host v f f.finding
+    as (λ b. MayCome shared (if b then found_frame f.finding else None) (if b then taking_found shared v f f.finding
     else record { count = 0; handled = false; session = v; change = store_change.Nothing }).change) [
-      | true ↦ found_change host v f f.finding
+      | true ↦ found_change shared v f f.finding
       | false ↦ inl refl
     ]
 
 -- ---- the stores before and after a take
 
-module _ (host : ServerState) (s : SessionValue) (piece : List ℕ) where
+module _ (shared : ServerState) (s : SessionValue) (piece : List ℕ) where
   abbrev change_here : Change
-  change_here = (taking host s piece).change
+  change_here = (taking shared s piece).change
 
   -- The change has a frame.
-  change_completes : changes change_here ≡ true → ComesFrom host (completed s piece) change_here
-  change_completes does = elim (take_change host s piece) [
+  change_completes : changes change_here ≡ true → ComesFrom shared (completed s piece) change_here
+  change_completes does = elim (take_change shared s piece) [
     | inl quiet ↦ absurd (let bad : true ≡ false = sym does ∙ quiet in cc)
     | inr from ↦ from
   ]
 
-  stores_differ : IsVersioned host.store → DifferBy host.store (changed host.store change_here)
+  stores_differ : IsVersioned shared.store → DifferBy shared.store (changed shared.store change_here)
       (option_and_then frame_key (if changes change_here then completed s piece else None))
   stores_differ is = elim (cases_Bool (changes change_here)) [
     | inl does ↦
         let from = change_completes does in
-        let own_here : IsOwn host.store (path_of from.message) change_here =
-        subst (IsOwn host.store (path_of from.message)) (sym from.change) (own host.store host.now from.message) in
+        let own_here : IsOwn shared.store (path_of from.message) change_here =
+        subst (IsOwn shared.store (path_of from.message)) (sym from.change)
+        (own shared.store shared.now from.message) in
         rw (does, from.completes, from.reads)
-        (own_differs host.store (path_of from.message) change_here is own_here does)
-    | inr quiet ↦ rw quiet (unchanged host.store change_here quiet)
+        (own_differs shared.store (path_of from.message) change_here is own_here does)
+    | inr quiet ↦ rw quiet (unchanged shared.store change_here quiet)
   ]
 
-taken_differs : (v : ServerValue) (id : ℕ) (piece : List ℕ) → IsVersioned v.host.store
-    → DifferBy v.host.store (server_taken v id piece).host.store (option_and_then frame_key (changing_frame v id piece))
+taken_differs : (v : ServerValue) (id : ℕ) (piece : List ℕ) → IsVersioned v.shared.store
+    → DifferBy v.shared.store (server_taken v id piece).shared.store
+    (option_and_then frame_key (changing_frame v id piece))
 unfolding server_taken changing_frame
 taken_differs v id piece is =
-    elim (session_of id v.sessions) as (λ o. DifferBy v.host.store (server_taken_on v id piece o).host.store
+    elim (session_of id v.sessions) as (λ o. DifferBy v.shared.store (server_taken_on v id piece o).shared.store
     (option_and_then frame_key (changing_on v piece o))) [
       | None ↦ refl
-      | Some s ↦ stores_differ v.host s piece is
+      | Some s ↦ stores_differ v.shared s piece is
     ]
 
 taken_config : (v : ServerValue) (id : ℕ) (piece : List ℕ) → (server_taken v id piece).config ≡ v.config
@@ -185,43 +187,43 @@ pub take_alters : (v new : ServerValue) (id : ℕ) (piece : List ℕ) (n : ℕ) 
     → ChangesBy v.config es (Took id (take n piece)) (option_and_then frame_key frame)
 take_alters v new id piece n frame is new_is becomes es shows =
     let after : List AcceptedCall = es ++ Took id (take n piece) ∷ [] in
-    let before : (world_after v.config es).store ≡ v.host.store =
-    sym (ap (λ (h : ServerState). h.store) (host_shown v es shows)) in
+    let before : (world_after v.config es).store ≡ v.shared.store =
+    sym (ap (λ (h : ServerState). h.store) (shared_shown v es shows)) in
     let config : new.config ≡ v.config = ap (λ (u : ServerValue). u.config) new_is ∙ taken_config v id piece in
-    let later : (world_after v.config after).store ≡ (server_taken v id piece).host.store =
+    let later : (world_after v.config after).store ≡ (server_taken v id piece).shared.store =
     ap (λ c. (world_after c after).store) (sym config)
-    ∙ sym (ap (λ (h : ServerState). h.store) (host_shown new after (becomes es shows)))
-    ∙ ap (λ (u : ServerValue). u.host.store) new_is in
-    let versioned : IsVersioned v.host.store =
+    ∙ sym (ap (λ (h : ServerState). h.store) (shared_shown new after (becomes es shows)))
+    ∙ ap (λ (u : ServerValue). u.shared.store) new_is in
+    let versioned : IsVersioned v.shared.store =
     subst IsVersioned before (world_known v.config es shows.moment).versioned in
     rw (before, later, is) (taken_differs v id piece versioned)
 
 -- ---- the frame that is lent
 
-handed_in_read : (host : ServerState) (v : SessionValue) (frame g : List ℕ) (read : Result Message FormatFault)
-    → handed_read host v g read ≡ Some frame → Some g ≡ Some frame
-handed_in_read host v frame g (Ok m) e =
-    elim (is_handed_over host v.link m) as (λ b. (if b then Some g else None) ≡ Some frame → Some g ≡ Some frame) [
+handed_in_read : (shared : ServerState) (v : SessionValue) (frame g : List ℕ) (read : Result Message FormatFault)
+    → handed_read shared v g read ≡ Some frame → Some g ≡ Some frame
+handed_in_read shared v frame g (Ok m) e =
+    elim (is_handed_over shared v.link m) as (λ b. (if b then Some g else None) ≡ Some frame → Some g ≡ Some frame) [
       | true ↦ λ is. is
       | false ↦ λ is. absurd cc
     ] e
-handed_in_read host v frame g (Err f) e = absurd cc
+handed_in_read shared v frame g (Err f) e = absurd cc
 
-handed_in_found : (host : ServerState) (v : SessionValue) (frame : List ℕ) (found : FrameEventValue)
-    → handed_found host v found ≡ Some frame → found_frame found ≡ Some frame
-handed_in_found host v frame Nothing e = absurd cc
-handed_in_found host v frame (AFault fault) e = absurd cc
-handed_in_found host v frame (AFrame g) e = handed_in_read host v frame g (message_of g) e
+handed_in_found : (shared : ServerState) (v : SessionValue) (frame : List ℕ) (found : FrameEventValue)
+    → handed_found shared v found ≡ Some frame → found_frame found ≡ Some frame
+handed_in_found shared v frame Nothing e = absurd cc
+handed_in_found shared v frame (AFault fault) e = absurd cc
+handed_in_found shared v frame (AFrame g) e = handed_in_read shared v frame g (message_of g) e
 
 -- The frame of a request for the application is the one that the slice completes.
-handed_completes : (host : ServerState) (v : SessionValue) (piece frame : List ℕ) → handed host v piece ≡ Some frame
+handed_completes : (shared : ServerState) (v : SessionValue) (piece frame : List ℕ) → handed shared v piece ≡ Some frame
     → completed v piece ≡ Some frame
 unfolding handed completed
-handed_completes host v piece frame =
+handed_completes shared v piece frame =
     let found : FrameEventValue = (framing (session_max v) v.frame piece).finding in
-    elim (session_takes v) as (λ b. (if b then handed_found host v found else None) ≡ Some frame
+    elim (session_takes v) as (λ b. (if b then handed_found shared v found else None) ≡ Some frame
     → (if b then found_frame found else None) ≡ Some frame) [
-      | true ↦ handed_in_found host v frame found
+      | true ↦ handed_in_found shared v frame found
       | false ↦ λ e. absurd cc
     ]
 
@@ -230,26 +232,26 @@ module _ (v : ServerValue) (piece : List ℕ) (s : SessionValue) (given : List �
   given_is : (frame : List ℕ) → completed s piece ≡ Some frame → given ≡ frame
   given_is frame is = rw is at shown
 
-  given_so : (h : Option (List ℕ)) → handed v.host s piece ≡ h → (if is_some h && true then Some given else None) ≡ h
+  given_so : (h : Option (List ℕ)) → handed v.shared s piece ≡ h → (if is_some h && true then Some given else None) ≡ h
   given_so None e = refl
-  given_so (Some frame) e = ap (λ (b : List ℕ). Some b) (given_is frame (handed_completes v.host s piece frame e))
+  given_so (Some frame) e = ap (λ (b : List ℕ). Some b) (given_is frame (handed_completes v.shared s piece frame e))
 
   -- It is lent if the request is handed over, and the connection has not stopped.
-  pub handed_given : (flag : Bool) (stop : Option Reason) → flag ≡ is_some (handed v.host s piece)
+  pub handed_given : (flag : Bool) (stop : Option Reason) → flag ≡ is_some (handed v.shared s piece)
       → (if flag && is_none stop then Some given else None) ≡ handed_on v piece (Some s) stop
   handed_given flag None counted =
-      ap (λ b. if b && true then Some given else None) counted ∙ given_so (handed v.host s piece) refl
+      ap (λ b. if b && true then Some given else None) counted ∙ given_so (handed v.shared s piece) refl
   handed_given flag (Some why) counted =
       elim flag as (λ b. (if b && false then Some given else None) ≡ None) [ true ↦ refl | false ↦ refl ]
 
   -- It is lent if its message changes the store.
-  pub changing_given : (flag : Bool) → flag ≡ changes (taking v.host s piece).change
+  pub changing_given : (flag : Bool) → flag ≡ changes (taking v.shared s piece).change
       → (if flag then Some given else None) ≡ changing_on v piece (Some s)
   changing_given flag counted =
       ap (λ b. if b then Some given else None) counted
-      ∙ elim (cases_Bool (changes (taking v.host s piece).change)) [
+      ∙ elim (cases_Bool (changes (taking v.shared s piece).change)) [
         | inl does ↦
-            let from = change_completes v.host s piece does in
+            let from = change_completes v.shared s piece does in
             rw (does, from.completes) (ap (λ (b : List ℕ). Some b) (given_is from.bytes from.completes))
         | inr quiet ↦ rw quiet refl
       ]

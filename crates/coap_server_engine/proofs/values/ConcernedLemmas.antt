@@ -31,14 +31,14 @@ each_changed P (suc k) f to (e ∷ es) each zero t at = each zero t at
 each_changed P (suc k) f to (e ∷ es) each (suc i) t at =
     each_changed (λ j. P (suc j)) k f (λ j. to (suc j)) es (λ j. each (suc j)) i t at
 
-each_settled : (P : ℕ → SessionValue → Type 0) (host : ServerState)
-    → ((i : ℕ) (s : SessionValue) → P i s → P i (session_settled host s)) → (es : Entries) → EachAt P es
-    → EachAt P (map (settled_entry host) es)
-each_settled P host to [] each i t at = absurd cc
-each_settled P host to (e ∷ es) each zero t at =
-    subst (P 0) (let is : session_settled host e.1 ≡ t = cc in is) (to 0 e.1 (each 0 e.1 refl))
-each_settled P host to (e ∷ es) each (suc i) t at =
-    each_settled (λ j. P (suc j)) host (λ j. to (suc j)) es (λ j. each (suc j)) i t at
+each_settled : (P : ℕ → SessionValue → Type 0) (shared : ServerState)
+    → ((i : ℕ) (s : SessionValue) → P i s → P i (session_settled shared s)) → (es : Entries) → EachAt P es
+    → EachAt P (map (settled_entry shared) es)
+each_settled P shared to [] each i t at = absurd cc
+each_settled P shared to (e ∷ es) each zero t at =
+    subst (P 0) (let is : session_settled shared e.1 ≡ t = cc in is) (to 0 e.1 (each 0 e.1 refl))
+each_settled P shared to (e ∷ es) each (suc i) t at =
+    each_settled (λ j. P (suc j)) shared (λ j. to (suc j)) es (λ j. each (suc j)) i t at
 
 each_cons : (P : ℕ → SessionValue → Type 0) (e : ℕ × SessionValue) (es : Entries) → P 0 e.1
     → EachAt (λ j. P (suc j)) es → EachAt P (e ∷ es)
@@ -90,36 +90,36 @@ covered_changed_by c k f es fs adds is =
     (λ i s none outside. still_unconcerned why s (f s) (adds s) (none outside)) es))
 
 -- The same if the connection settles afterwards.
-pub covered_changed : (c : Concerned) (k : ℕ) (host : ServerState) (f : SessionValue → SessionValue) (es fs : Entries)
-    → ((s : SessionValue) → AddsNone s (f s)) → fs ≡ changed_at k (settling host f) es
+pub covered_changed : (c : Concerned) (k : ℕ) (shared : ServerState) (f : SessionValue → SessionValue) (es fs : Entries)
+    → ((s : SessionValue) → AddsNone s (f s)) → fs ≡ changed_at k (settling shared f) es
     → AreCovered c es → AreCovered c fs
-covered_changed c k host f es fs adds =
-    covered_changed_by c k (settling host f) es fs (λ s. adds_settled host s (f s) (adds s))
+covered_changed c k shared f es fs adds =
+    covered_changed_by c k (settling shared f) es fs (λ s. adds_settled shared s (f s) (adds s))
 
 -- The same for a call that may fail and changes nothing then.
-pub covered_changed_or_not : {T E : Type 0} (r : Result T E) (c : Concerned) (k : ℕ) (host : ServerState)
+pub covered_changed_or_not : {T E : Type 0} (r : Result T E) (c : Concerned) (k : ℕ) (shared : ServerState)
     (f : SessionValue → SessionValue) (es fs : Entries) → ((s : SessionValue) → AddsNone s (f s))
-    → OnOk r (fs ≡ changed_at k (settling host f) es) → OnErr r (fs ≡ es) → AreCovered c es → AreCovered c fs
-covered_changed_or_not (Ok x) c k host f es fs adds ok err old = covered_changed c k host f es fs adds ok old
-covered_changed_or_not (Err e) c k host f es fs adds ok err old = rw err old
+    → OnOk r (fs ≡ changed_at k (settling shared f) es) → OnErr r (fs ≡ es) → AreCovered c es → AreCovered c fs
+covered_changed_or_not (Ok x) c k shared f es fs adds ok err old = covered_changed c k shared f es fs adds ok old
+covered_changed_or_not (Err e) c k shared f es fs adds ok err old = rw err old
 
-covers_settled : (host : ServerState) (es : Entries) (why : Cause) (words : List ℕ) → Covers why words es
-    → Covers why words (map (settled_entry host) es)
-covers_settled host es why words =
-    each_settled (λ i s. IsOutside words i → may_concern why s ≡ false) host
-    (λ i s none outside. still_unconcerned why s (session_settled host s) (settled_adds host s) (none outside)) es
+covers_settled : (shared : ServerState) (es : Entries) (why : Cause) (words : List ℕ) → Covers why words es
+    → Covers why words (map (settled_entry shared) es)
+covers_settled shared es why words =
+    each_settled (λ i s. IsOutside words i → may_concern why s ≡ false) shared
+    (λ i s none outside. still_unconcerned why s (session_settled shared s) (settled_adds shared s) (none outside)) es
 
-pub covered_settled : (c : Concerned) (host : ServerState) (es fs : Entries) → fs ≡ map (settled_entry host) es
+pub covered_settled : (c : Concerned) (shared : ServerState) (es fs : Entries) → fs ≡ map (settled_entry shared) es
     → AreCovered c es → AreCovered c fs
-covered_settled c host es fs is = rw is (covered_by c es (map (settled_entry host) es) (covers_settled host es))
+covered_settled c shared es fs is = rw is (covered_by c es (map (settled_entry shared) es) (covers_settled shared es))
 
-pub covered_flushed : (c : Concerned) (k : ℕ) (host : ServerState) (s : SessionValue) (es fs : Entries)
+pub covered_flushed : (c : Concerned) (k : ℕ) (shared : ServerState) (s : SessionValue) (es fs : Entries)
     (wrote : List ℕ → Type 0) (waited : Bool) → ((n : ℕ) (u : SessionValue) → AddsNone u (session_written u n))
-    → IsFlushedAt k host s es fs wrote waited → AreCovered c es → AreCovered c fs
-covered_flushed c k host s es fs wrote true adds did old =
-    covered_changed c k host (λ u. session_written u (length s.link.waiting)) es fs
+    → IsFlushedAt k shared s es fs wrote waited → AreCovered c es → AreCovered c fs
+covered_flushed c k shared s es fs wrote true adds did old =
+    covered_changed c k shared (λ u. session_written u (length s.link.waiting)) es fs
     (adds (length s.link.waiting)) did.0 old
-covered_flushed c k host s es fs wrote false adds did old = rw did.1 old
+covered_flushed c k shared s es fs wrote false adds did old = rw did.1 old
 
 -- A response of the application.
 pub given_by_adds : (read : Result Message FormatFault) (s : SessionValue) → AddsNone s (session_given_by read s)
@@ -377,17 +377,17 @@ covers_removed why before after at es s false there is same others covers i u he
     ]
 
 -- The next connection settles.
-pub covers_one_marked : (why : Cause) (words : List ℕ) (host : ServerState) (at : ℕ) (es : MarkedEntries)
-    (s t : MarkedSession) → slice_get (values_of es) at ≡ Some s → t.session ≡ session_settled host s.session
+pub covers_one_marked : (why : Cause) (words : List ℕ) (shared : ServerState) (at : ℕ) (es : MarkedEntries)
+    (s t : MarkedSession) → slice_get (values_of es) at ≡ Some s → t.session ≡ session_settled shared s.session
     → Covers why words (unmarked es) → Covers why words (unmarked (set_value_at es at t))
-covers_one_marked why words host at es s t there is covers =
+covers_one_marked why words shared at es s t there is covers =
     subst (Covers why words) (sym (set_unmarked es at t t.session refl))
     (covers_kept why words at (unmarked es) s.session t.session (unmarked_at es at s there)
-    (subst (AddsNone s.session) (sym is) (settled_adds host s.session)) covers)
+    (subst (AddsNone s.session) (sym is) (settled_adds shared s.session)) covers)
 
-pub covered_one_marked : (c : Concerned) (host : ServerState) (at : ℕ) (es : MarkedEntries) (s t : MarkedSession)
-    → slice_get (values_of es) at ≡ Some s → t.session ≡ session_settled host s.session → AreCovered c (unmarked es)
+pub covered_one_marked : (c : Concerned) (shared : ServerState) (at : ℕ) (es : MarkedEntries) (s t : MarkedSession)
+    → slice_get (values_of es) at ≡ Some s → t.session ≡ session_settled shared s.session → AreCovered c (unmarked es)
     → AreCovered c (unmarked (set_value_at es at t))
-covered_one_marked c host at es s t there is =
+covered_one_marked c shared at es s t there is =
     covered_by c (unmarked es) (unmarked (set_value_at es at t))
-    (λ why words. covers_one_marked why words host at es s t there is)
+    (λ why words. covers_one_marked why words shared at es s t there is)

@@ -121,7 +121,7 @@ each_before later now (e ∷ es) before =
     let parts = before_parts later (due_on now e.1) (earliest_deadline now es) before in
     (parts.0, each_before later now es parts.1)
 
-pub waits_for_the_next : (v : ServerValue) (later : ℕ) → IsStore v.host.store → AreSettled v.host v.sessions
-    → v.host.now ≤ later → later < 18446744073709551616 → IsBefore later (next_deadline v) → OnlyTimePasses v later
+pub waits_for_the_next : (v : ServerValue) (later : ℕ) → IsStore v.shared.store → AreSettled v.shared v.sessions
+    → v.shared.now ≤ later → later < 18446744073709551616 → IsBefore later (next_deadline v) → OnlyTimePasses v later
 waits_for_the_next v later store settled on fits before =
-    waits_for_what_is_due v later store settled on fits (each_before later v.host.now v.sessions before)
+    waits_for_what_is_due v later store settled on fits (each_before later v.shared.now v.sessions before)

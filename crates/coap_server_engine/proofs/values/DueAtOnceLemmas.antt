@@ -72,25 +72,25 @@ sent_asks_none l now (Answer who token moment) left =
     reply_asks_none (link_after l (call.Due now)) (held_message who token) (due_asks_none l now left)
 sent_asks_none l now (Pong token) left = due_asks_none l now left
 
-once_asks_none : (host : ServerState) (v : SessionValue) → NoneAsked v.link.held
-    → NoneAsked (session_settled_once host v).link.held
+once_asks_none : (shared : ServerState) (v : SessionValue) → NoneAsked v.link.held
+    → NoneAsked (session_settled_once shared v).link.held
 unfolding session_settled_once
-once_asks_none host v none = by (next_held_in host.now v)
+once_asks_none shared v none = by (next_held_in shared.now v)
   where
-    told : (next : Option ObserverValue) → NoneAsked (session_notified host v next).link.held
+    told : (next : Option ObserverValue) → NoneAsked (session_notified shared v next).link.held
     told None = none
-    told (Some o) = reply_asks_none v.link (notification_on host o) none
+    told (Some o) = reply_asks_none v.link (notification_on shared o) none
 
-    by : (due : Option PendingEntryValue) → NoneAsked (session_settled_so host v due).link.held
-    by None = told (next_stale host v)
-    by (Some e) = sent_asks_none v.link host.now e (none_asked_left host.now v.link.held none)
+    by : (due : Option PendingEntryValue) → NoneAsked (session_settled_so shared v due).link.held
+    by None = told (next_stale shared v)
+    by (Some e) = sent_asks_none v.link shared.now e (none_asked_left shared.now v.link.held none)
 
-within_asks_none : (turns : ℕ) (host : ServerState) (v : SessionValue) → NoneAsked v.link.held
-    → NoneAsked (session_settled_within turns host v).link.held
+within_asks_none : (turns : ℕ) (shared : ServerState) (v : SessionValue) → NoneAsked v.link.held
+    → NoneAsked (session_settled_within turns shared v).link.held
 unfolding session_settled_within
-within_asks_none zero host v none = none
-within_asks_none (suc turns) host v none =
-    within_asks_none turns host (session_settled_once host v) (once_asks_none host v none)
+within_asks_none zero shared v none = none
+within_asks_none (suc turns) shared v none =
+    within_asks_none turns shared (session_settled_once shared v) (once_asks_none shared v none)
 
 -- ---- the entry of the request is due first
 
@@ -139,31 +139,32 @@ module _ (now : ℕ) (held : List PendingEntryValue) (token : List ℕ) (moment 
       (λ e is is_due. (let bad : None ≡ Some is_due.0 = sym is ∙ is_due.1 in cc)) held (due_nothing now held none).0.0)
       (due, has_come now due first.has_come)
 
-module _ (host : ServerState) (v : SessionValue) (held : List PendingEntryValue) (token : List ℕ) (moment : ℕ)
+module _ (shared : ServerState) (v : SessionValue) (held : List PendingEntryValue) (token : List ℕ) (moment : ℕ)
     (is : v.link.held ≡ held ++ Answer Application token moment ∷ []) (ready : session_ready v ≡ true)
-    (none : first_due host.now held ≡ None) (come : moment ≤ host.now) (asked : NoneAsked held) where
-  first_settles : NoneAsked (session_settled_once host v).link.held
+    (none : first_due shared.now held ≡ None) (come : moment ≤ shared.now) (asked : NoneAsked held) where
+  first_settles : NoneAsked (session_settled_once shared v).link.held
   unfolding session_settled_once
-  first_settles = by (next_held_in host.now v) (sym (ap (first_due host.now) is) ∙ sym (found_ready host v ready).0)
+  first_settles = by (next_held_in shared.now v) (sym (ap (first_due shared.now) is)
+      ∙ sym (found_ready shared v ready).0)
     where
-      by : (due : Option PendingEntryValue) → first_due host.now (held ++ Answer Application token moment ∷ []) ≡ due
-          → NoneAsked (session_settled_so host v due).link.held
-      by None found = absurd (never host.now held token moment none come (due_nothing host.now _ found).0.0)
+      by : (due : Option PendingEntryValue) → first_due shared.now (held ++ Answer Application token moment ∷ []) ≡ due
+          → NoneAsked (session_settled_so shared v due).link.held
+      by None found = absurd (never shared.now held token moment none come (due_nothing shared.now _ found).0.0)
       by (Some (Pong other)) found =
-          absurd (never host.now held token moment none come (due_alone host.now _ other found))
+          absurd (never shared.now held token moment none come (due_alone shared.now _ other found))
       by (Some (Answer who other due)) found =
-          let left : without_due host.now v.link.held ≡ held =
-          ap (without_due host.now) is ∙ others_left host.now held token moment none come who other due found in
-          sent_asks_none v.link host.now (Answer who other due) (subst NoneAsked (sym left) asked)
+          let left : without_due shared.now v.link.held ≡ held =
+          ap (without_due shared.now) is ∙ others_left shared.now held token moment none come who other due found in
+          sent_asks_none v.link shared.now (Answer who other due) (subst NoneAsked (sym left) asked)
 
   -- No request of the application is pending after the connection settled.
-  pub settles_request : NoneAsked (session_settled host v).link.held
+  pub settles_request : NoneAsked (session_settled shared v).link.held
   unfolding session_settled session_settled_within
   settles_request =
       let count : length v.link.held + length v.observers ≡ suc (length held + length v.observers) =
       omega (arith, ap length is, length-append held (Answer Application token moment ∷ [])) in
-      subst (λ (n : ℕ). NoneAsked (session_settled_within n host v).link.held) (sym count)
-      (within_asks_none (length held + length v.observers) host (session_settled_once host v) first_settles)
+      subst (λ (n : ℕ). NoneAsked (session_settled_within n shared v).link.held) (sym count)
+      (within_asks_none (length held + length v.observers) shared (session_settled_once shared v) first_settles)
 
 -- ---- errors without a pending request
 

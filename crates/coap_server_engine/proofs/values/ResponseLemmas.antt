@@ -107,7 +107,7 @@ module _ (v : ServerValue) (id : ℕ) (bytes : List ℕ) where
   offered_lies i lies =
       elim (is_none (responded_refusal v id bytes))
       as (λ b. LiesAt id i (if b then server_given v id bytes else v).sessions) [
-        | true ↦ lies_where_taken id i (session_given_by (message_of bytes)) v.host v.sessions lies
+        | true ↦ lies_where_taken id i (session_given_by (message_of bytes)) v.shared v.sessions lies
         | false ↦ lies
       ]
 

@@ -7,24 +7,24 @@ use Rattle.std.proofs.lemmas.Bool.{cases_lt}
 use Rattle.coap_server_engine.proofs.values.ServerLemmas.{all_settled_stay, Entries}
 use Rattle.coap_server_session.proofs.values.DueLemmas.{at_moment, stays_settled}
 
-stay_settled : (host : ServerState) (later : ℕ) (es : Entries) → IsStore host.store → AreSettled host es
-    → host.now < later → later < 2 ^ 64 → AllByRecursion (λ e. IsBefore later (due_on host.now e.1)) es
-    → AreSettled (at_moment host later) es
-stay_settled host later [] store settled more fits before = tt
-stay_settled host later (e ∷ es) store settled more fits before = (
-  stays_settled host later e.1 store settled.0 more fits before.0,
-  stay_settled host later es store settled.1 more fits before.1,
+stay_settled : (shared : ServerState) (later : ℕ) (es : Entries) → IsStore shared.store → AreSettled shared es
+    → shared.now < later → later < 2 ^ 64 → AllByRecursion (λ e. IsBefore later (due_on shared.now e.1)) es
+    → AreSettled (at_moment shared later) es
+stay_settled shared later [] store settled more fits before = tt
+stay_settled shared later (e ∷ es) store settled more fits before = (
+  stays_settled shared later e.1 store settled.0 more fits before.0,
+  stay_settled shared later es store settled.1 more fits before.1,
 )
 
 -- Time alone queues nothing before it is due.
-pub waits_for_what_is_due : (v : ServerValue) (later : ℕ) → IsStore v.host.store → AreSettled v.host v.sessions
-    → v.host.now ≤ later → later < 2 ^ 64 → WaitsForDeadlines v later
+pub waits_for_what_is_due : (v : ServerValue) (later : ℕ) → IsStore v.shared.store → AreSettled v.shared v.sessions
+    → v.shared.now ≤ later → later < 2 ^ 64 → WaitsForDeadlines v later
 waits_for_what_is_due v later store settled on fits before =
-    let still : AreSettled (at_moment v.host later) v.sessions = elim (cases_lt v.host.now later) [
-      | inl more ↦ stay_settled v.host later v.sessions store settled more fits before
+    let still : AreSettled (at_moment v.shared later) v.sessions = elim (cases_lt v.shared.now later) [
+      | inl more ↦ stay_settled v.shared later v.sessions store settled more fits before
       | inr no_more ↦
-          let same : v.host.now ≡ later = omega (arith, on, no_more) in
-          subst (λ (n : ℕ). AreSettled (at_moment v.host n) v.sessions) same settled
+          let same : v.shared.now ≡ later = omega (arith, on, no_more) in
+          subst (λ (n : ℕ). AreSettled (at_moment v.shared n) v.sessions) same settled
     ] in
-    ap (λ (es : Entries). record v { host = at_moment v.host later; sessions = es })
-    (all_settled_stay (at_moment v.host later) v.sessions still)
+    ap (λ (es : Entries). record v { shared = at_moment v.shared later; sessions = es })
+    (all_settled_stay (at_moment v.shared later) v.sessions still)

@@ -292,29 +292,33 @@ changed_one id f =
 -- ---- settling
 
 abbrev pub settling : ServerState → (SessionValue → SessionValue) → SessionValue → SessionValue
-settling host f s = session_settled host (f s)
+settling shared f s = session_settled shared (f s)
 
-entry_settles : (host : ServerState) (f : SessionValue → SessionValue) (b : Bool) (e : ℕ × SessionValue)
-    → IsSettled host e.1 → cond b (e.0, settling host f e.1) e ≡ settled_entry host (cond b (e.0, f e.1) e)
-entry_settles host f true e settled = refl
-entry_settles host f false e settled = ap (λ (v : SessionValue). (e.0, v)) (sym (settled_stays host e.1 settled))
+entry_settles : (shared : ServerState) (f : SessionValue → SessionValue) (b : Bool) (e : ℕ × SessionValue)
+    → IsSettled shared e.1 → cond b (e.0, settling shared f e.1) e ≡ settled_entry shared (cond b (e.0, f e.1) e)
+entry_settles shared f true e settled = refl
+entry_settles shared f false e settled = ap (λ (v : SessionValue). (e.0, v)) (sym (settled_stays shared e.1 settled))
 
 -- If all connections were settled, only the changed one needs to settle.
-pub one_settles : (host : ServerState) (id : ℕ) (f : SessionValue → SessionValue) (es : Entries) → AreSettled host es
-    → map (session_becomes id (settling host f)) es ≡ map (settled_entry host) (map (session_becomes id f) es)
-one_settles host id f [] all = refl
-one_settles host id f (e ∷ es) all = cc (entry_settles host f (nat_eq e.0 id) e all.0, one_settles host id f es all.1)
+pub one_settles : (shared : ServerState) (id : ℕ) (f : SessionValue → SessionValue) (es : Entries)
+    → AreSettled shared es
+    → map (session_becomes id (settling shared f)) es ≡ map (settled_entry shared) (map (session_becomes id f) es)
+one_settles shared id f [] all = refl
+one_settles shared id f (e ∷ es) all = cc (
+  entry_settles shared f (nat_eq e.0 id) e all.0,
+  one_settles shared id f es all.1,
+)
 
-pub all_are_settled : (host : ServerState) (es : Entries) → AreSettled host (map (settled_entry host) es)
-all_are_settled host [] = tt
-all_are_settled host (e ∷ es) = (settled_is_settled host e.1, all_are_settled host es)
+pub all_are_settled : (shared : ServerState) (es : Entries) → AreSettled shared (map (settled_entry shared) es)
+all_are_settled shared [] = tt
+all_are_settled shared (e ∷ es) = (settled_is_settled shared e.1, all_are_settled shared es)
 
-pub all_settled_stay : (host : ServerState) (es : Entries) → AreSettled host es → map (settled_entry host) es ≡ es
-all_settled_stay host [] all = refl
-all_settled_stay host (e ∷ es) all = cc (
-  ap {B = ℕ × SessionValue} (λ (v : SessionValue). (e.0, v)) (settled_stays host
+pub all_settled_stay : (shared : ServerState) (es : Entries) → AreSettled shared es → map (settled_entry shared) es ≡ es
+all_settled_stay shared [] all = refl
+all_settled_stay shared (e ∷ es) all = cc (
+  ap {B = ℕ × SessionValue} (λ (v : SessionValue). (e.0, v)) (settled_stays shared
       e.1 all.0),
-  all_settled_stay host es all.1,
+  all_settled_stay shared es all.1,
 )
 
 -- A property of all entries still holds if the changed entry keeps it.
@@ -325,21 +329,26 @@ all_still P id f to = all_map P P (session_becomes id f) (λ e holds. cond_both 
 
 -- ---- a server after one connection may have changed and all have settled
 
-pub settled_server : (v : ServerValue) (entries : Entries) → entries ≡ map (settled_entry v.host) v.sessions
+pub settled_server : (v : ServerValue) (entries : Entries) → entries ≡ map (settled_entry v.shared) v.sessions
     → AllByRecursion (λ e. e.0 ≤ v.ids) v.sessions → length v.sessions ≤ v.config.connections
     → IsServer (record v { sessions = entries })
 settled_server v entries is numbered few = rw is (record {
-  settled = all_are_settled v.host v.sessions;
-  numbered = all_map (λ e. e.0 ≤ v.ids) (λ e. e.0 ≤ v.ids) (settled_entry v.host) (λ e low. low) v.sessions numbered;
-  few = rw (length-map v.sessions (settled_entry v.host)) few;
+  settled = all_are_settled v.shared v.sessions;
+  numbered = all_map (λ e. e.0 ≤ v.ids) (λ e. e.0 ≤ v.ids) (settled_entry v.shared) (λ e low. low) v.sessions numbered;
+  few = rw (length-map v.sessions (settled_entry v.shared)) few;
 })
 
-pub taken_server_with : (v : ServerValue) (id : ℕ) (f : SessionValue → SessionValue) (host : ServerState) → IsServer v
-    → IsServer (record v { host = host; sessions = map (settled_entry host) (map (session_becomes id f) v.sessions) })
-taken_server_with v id f host server =
+pub taken_server_with : (v : ServerValue) (id : ℕ) (f : SessionValue → SessionValue) (shared : ServerState) → IsServer v
+    → IsServer (record v {
+      shared = shared;
+      sessions =
+          map (settled_entry shared) (map (session_becomes id f) v.sessions);
+    })
+taken_server_with v id f shared server =
     let few : length (map (session_becomes id f) v.sessions) ≤ v.config.connections = rw (length-map v.sessions
     (session_becomes id f)) server.few in
-    settled_server (record (on_session id f v) { host = host }) _ refl (all_still (λ e. e.0 ≤ v.ids) id f (λ e low. low)
+    settled_server (record (on_session id f v) { shared = shared }) _ refl (all_still (λ e. e.0
+    ≤ v.ids) id f (λ e low. low)
     v.sessions server.numbered) few
 
 -- Ids keep their index.
@@ -352,103 +361,109 @@ keys_where_one_changed id f (e ∷ es) = cc (
   keys_where_one_changed id f es,
 )
 
-pub keys_where_settled : (id : ℕ) (f : SessionValue → SessionValue) (host : ServerState) (es : Entries)
-    → keys_of (map (settled_entry host) (map (session_becomes id f) es)) ≡ keys_of es
-keys_where_settled id f host es = keys_of-map_values (session_settled host) (map (session_becomes id f) es) ∙
+pub keys_where_settled : (id : ℕ) (f : SessionValue → SessionValue) (shared : ServerState) (es : Entries)
+    → keys_of (map (settled_entry shared) (map (session_becomes id f) es)) ≡ keys_of es
+keys_where_settled id f shared es = keys_of-map_values (session_settled shared) (map (session_becomes id f) es) ∙
     keys_where_one_changed id f es
 
-pub lies_where_taken : (id i : ℕ) (f : SessionValue → SessionValue) (host : ServerState) (es : Entries) → LiesAt id i es
-    → LiesAt id i (map (settled_entry host) (map (session_becomes id f) es))
-lies_where_taken id i f host es = lies_still id i es (map (settled_entry host) (map (session_becomes id f) es))
-    (keys_where_settled id f host es)
+pub lies_where_taken : (id i : ℕ) (f : SessionValue → SessionValue) (shared : ServerState) (es : Entries)
+    → LiesAt id i es
+    → LiesAt id i (map (settled_entry shared) (map (session_becomes id f) es))
+lies_where_taken id i f shared es = lies_still id i es (map (settled_entry shared) (map (session_becomes id f) es))
+    (keys_where_settled id f shared es)
 
 module _ (v : ServerValue) (id i : ℕ) (f : SessionValue → SessionValue) (entries : Entries) (server : IsServer v)
-    (lies : LiesAt id i v.sessions) (is : entries ≡ changed_at i (settling v.host f) v.sessions) where
-  entries_changed : entries ≡ map (settled_entry v.host) (map (session_becomes id f) v.sessions)
-  entries_changed = is ∙ changed_one id (settling v.host f) v.sessions i lies.distinct lies.index lies.within ∙
-      one_settles v.host id f v.sessions server.settled
+    (lies : LiesAt id i v.sessions) (is : entries ≡ changed_at i (settling v.shared f) v.sessions) where
+  entries_changed : entries ≡ map (settled_entry v.shared) (map (session_becomes id f) v.sessions)
+  entries_changed = is ∙ changed_one id (settling v.shared f) v.sessions i lies.distinct lies.index lies.within ∙
+      one_settles v.shared id f v.sessions server.settled
 
   pub changed_value : record v { sessions = entries } ≡ server_settled (on_session id f v)
   changed_value = ap (λ (es : Entries). record v { sessions = es }) entries_changed
 
   pub changed_server : IsServer (record v { sessions = entries })
-  changed_server = rw entries_changed (taken_server_with v id f v.host server)
+  changed_server = rw entries_changed (taken_server_with v id f v.shared server)
 
   pub changed_lies : LiesAt id i entries
-  changed_lies = rw entries_changed (lies_where_taken id i f v.host v.sessions lies)
+  changed_lies = rw entries_changed (lies_where_taken id i f v.shared v.sessions lies)
 
 -- The same for a call that may fail and changes nothing then.
 pub changed_server_or_not : {T E : Type 0} (r : Result T E) (v : ServerValue) (id i : ℕ) (f : SessionValue
     → SessionValue) (entries : Entries) → IsServer v → LiesAt id i v.sessions
-    → OnOk r (entries ≡ changed_at i (settling v.host f) v.sessions) → OnErr r (entries ≡ v.sessions)
+    → OnOk r (entries ≡ changed_at i (settling v.shared f) v.sessions) → OnErr r (entries ≡ v.sessions)
     → IsServer (record v { sessions = entries })
 changed_server_or_not (Ok x) v id i f entries server lies ok err = changed_server v id i f entries server lies ok
 changed_server_or_not (Err e) v id i f entries server lies ok err = rw err server
 
 pub changed_value_or_not : {T E : Type 0} (r : Result T E) (v w : ServerValue) (id i : ℕ) (f : SessionValue
     → SessionValue) (entries : Entries) → IsServer v → LiesAt id i v.sessions → v ≡ w
-    → OnOk r (entries ≡ changed_at i (settling v.host f) v.sessions) → OnOk r (record v { sessions = entries } ≡
+    → OnOk r (entries ≡ changed_at i (settling v.shared f) v.sessions) → OnOk r (record v { sessions = entries } ≡
     server_settled (on_session id f w))
 changed_value_or_not (Ok x) v w id i f entries server lies same ok = changed_value v id i f entries server lies ok ∙
     ap (λ u. server_settled (on_session id f u)) same
 changed_value_or_not (Err e) v w id i f entries server lies same ok = tt
 
 -- A tick to the current time changes nothing.
-pub same_moment : (v : ServerValue) (now : ℕ) → IsServer v → now ≡ v.host.now → v ≡ server_ticked v now
+pub same_moment : (v : ServerValue) (now : ℕ) → IsServer v → now ≡ v.shared.now → v ≡ server_ticked v now
 same_moment v now server same =
-    ap (λ (es : Entries). record v { sessions = es }) (sym (all_settled_stay v.host v.sessions server.settled)) ∙
+    ap (λ (es : Entries). record v { sessions = es }) (sym (all_settled_stay v.shared v.sessions server.settled)) ∙
     ap (server_ticked v) (sym same)
 
 -- ---- all connections settle, one after the other
 
 -- The first `n` connections have settled.
 unfoldable pub settled_up_to : ℕ → ServerState → Entries → Entries
-settled_up_to zero host es = es
-settled_up_to (suc n) host [] = []
-settled_up_to (suc n) host (e ∷ es) = settled_entry host e ∷ settled_up_to n host es
+settled_up_to zero shared es = es
+settled_up_to (suc n) shared [] = []
+settled_up_to (suc n) shared (e ∷ es) = settled_entry shared e ∷ settled_up_to n shared es
 
-pub none_settled : (host : ServerState) (es : Entries) → es ≡ settled_up_to 0 host es
+pub none_settled : (shared : ServerState) (es : Entries) → es ≡ settled_up_to 0 shared es
 unfolding settled_up_to
-none_settled host es = refl
+none_settled shared es = refl
 
-pub length-settled_up_to : (n : ℕ) (host : ServerState) (es : Entries) → length (settled_up_to n host es) ≡ length es
+pub length-settled_up_to : (n : ℕ) (shared : ServerState) (es : Entries) → length (settled_up_to n shared es)
+    ≡ length es
 unfolding settled_up_to
-length-settled_up_to zero host es = refl
-length-settled_up_to (suc n) host [] = refl
-length-settled_up_to (suc n) host (e ∷ es) = ap suc (length-settled_up_to n host es)
+length-settled_up_to zero shared es = refl
+length-settled_up_to (suc n) shared [] = refl
+length-settled_up_to (suc n) shared (e ∷ es) = ap suc (length-settled_up_to n shared es)
 
-pub as_many_settled : (n : ℕ) (host : ServerState) (es now : MarkedEntries) → unmarked now ≡ settled_up_to n host
+pub as_many_settled : (n : ℕ) (shared : ServerState) (es now : MarkedEntries) → unmarked now ≡ settled_up_to n shared
     (unmarked es) → length now ≡ length es
-as_many_settled n host es now is =
-    sym (length-map now unmarked_entry) ∙ ap length is ∙ length-settled_up_to n host (unmarked es) ∙ length-map es
+as_many_settled n shared es now is =
+    sym (length-map now unmarked_entry) ∙ ap length is ∙ length-settled_up_to n shared (unmarked es) ∙ length-map es
     unmarked_entry
 
-next_settles : (n : ℕ) (host : ServerState) (es : Entries) → changed_at n (session_settled host) (settled_up_to n host
-    es) ≡ settled_up_to (suc n) host es
+next_settles : (n : ℕ) (shared : ServerState) (es : Entries)
+    → changed_at n (session_settled shared) (settled_up_to n shared
+    es) ≡ settled_up_to (suc n) shared es
 unfolding settled_up_to changed_at
-next_settles zero host [] = refl
-next_settles zero host (e ∷ es) = refl
-next_settles (suc n) host [] = refl
-next_settles (suc n) host (e ∷ es) = ap (λ (rest : Entries). settled_entry host e ∷ rest) (next_settles n host es)
+next_settles zero shared [] = refl
+next_settles zero shared (e ∷ es) = refl
+next_settles (suc n) shared [] = refl
+next_settles (suc n) shared (e ∷ es) = ap (λ (rest : Entries). settled_entry shared e ∷ rest) (next_settles n shared es)
 
 -- The next connection settles.
-pub one_more_settled : (n : ℕ) (host : ServerState) (es now : Entries) (s after : SessionValue) → now ≡ settled_up_to n
-    host es → slice_get (values_of now) n ≡ Some s → after ≡ session_settled host s → set_value_at now n after ≡
-    settled_up_to (n + 1) host es
-one_more_settled n host es now s after is at settles =
+pub one_more_settled : (n : ℕ) (shared : ServerState) (es now : Entries) (s after : SessionValue) → now
+    ≡ settled_up_to n
+    shared es → slice_get (values_of now) n ≡ Some s → after ≡ session_settled shared s → set_value_at now n after ≡
+    settled_up_to (n + 1) shared es
+one_more_settled n shared es now s after is at settles =
     let next : suc n ≡ n + 1 = omega arith in
-    cc (written_at_index (session_settled host) now n s at, next_settles n host es)
+    cc (written_at_index (session_settled shared) now n s at, next_settles n shared es)
 
-settled_to_the_end : (host : ServerState) (es : Entries) → settled_up_to (length es) host es ≡ map (settled_entry host)
+settled_to_the_end : (shared : ServerState) (es : Entries) → settled_up_to (length es) shared es
+    ≡ map (settled_entry shared)
     es
 unfolding settled_up_to
-settled_to_the_end host [] = refl
-settled_to_the_end host (e ∷ es) = ap (λ (rest : Entries). settled_entry host e ∷ rest) (settled_to_the_end host es)
+settled_to_the_end shared [] = refl
+settled_to_the_end shared (e ∷ es) = ap (λ (rest : Entries). settled_entry shared e
+    ∷ rest) (settled_to_the_end shared es)
 
 -- All connections have settled.
-pub all_settled : (n : ℕ) (host : ServerState) (es now : Entries) → now ≡ settled_up_to n host es → n ≡ length es
-    → now ≡ map (settled_entry host) es
-all_settled n host es now is end = cc (settled_to_the_end host es)
+pub all_settled : (n : ℕ) (shared : ServerState) (es now : Entries) → now ≡ settled_up_to n shared es → n ≡ length es
+    → now ≡ map (settled_entry shared) es
+all_settled n shared es now is end = cc (settled_to_the_end shared es)
 
 -- ---- a connection is removed
 
@@ -462,15 +477,15 @@ others_are_kept id [] apart = refl
 others_are_kept id (e ∷ es) apart = rw (nat_eq_equiv.symm e.0 id ∙ apart.0) (ap (λ (rest : Entries). e ∷ rest)
     (others_are_kept id es apart.1))
 
-pub others_settle : (v : ServerValue) (id : ℕ) → AreSettled v.host v.sessions → map (settled_entry v.host)
+pub others_settle : (v : ServerValue) (id : ℕ) → AreSettled v.shared v.sessions → map (settled_entry v.shared)
     (filter (is_other id) v.sessions) ≡ filter (is_other id) v.sessions
 others_settle v id settled =
-    all_settled_stay v.host (filter (is_other id) v.sessions) (all_filter (λ e. IsSettled v.host e.1) (is_other id)
+    all_settled_stay v.shared (filter (is_other id) v.sessions) (all_filter (λ e. IsSettled v.shared e.1) (is_other id)
     v.sessions settled)
 
 -- The connection at the index of its id is removed.
-pub one_removed : (v : ServerValue) (id i : ℕ) → AreSettled v.host v.sessions → LiesAt id i v.sessions
-    → remove v.sessions i ≡ map (settled_entry v.host) (filter (is_other id) v.sessions)
+pub one_removed : (v : ServerValue) (id i : ℕ) → AreSettled v.shared v.sessions → LiesAt id i v.sessions
+    → remove v.sessions i ≡ map (settled_entry v.shared) (filter (is_other id) v.sessions)
 one_removed v id i settled lies =
     at_number (λ es i. remove es i ≡ filter (is_other id) es) id (λ e es here apart. cc (
       here,
@@ -482,7 +497,7 @@ one_removed v id i settled lies =
 
 module _ (v : ServerValue) (id i : ℕ) (entries : Entries) (server : IsServer v) (lies : LiesAt id i v.sessions)
     (is : entries ≡ remove v.sessions i) where
-  one_gone : entries ≡ map (settled_entry v.host) (filter (is_other id) v.sessions)
+  one_gone : entries ≡ map (settled_entry v.shared) (filter (is_other id) v.sessions)
   one_gone = is ∙ one_removed v id i server.settled lies
 
   pub dropped_value : record v { sessions = entries } ≡ server_dropped v id
@@ -506,17 +521,18 @@ goes_last n s (e ∷ es) all = rw (ne_eqb (n + 1) e.0 (λ is. omega (arith, all.
 abbrev pub with_new : ServerValue → Entries
 with_new v = v.sessions ++ (v.ids + 1, new_session v.config.limits) ∷ []
 
-pub one_opened : (v : ServerValue) → AreSettled v.host v.sessions → map (settled_entry v.host) (with_new v) ≡ with_new v
+pub one_opened : (v : ServerValue) → AreSettled v.shared v.sessions → map (settled_entry v.shared) (with_new v)
+    ≡ with_new v
 one_opened v settled =
-    let quiet = settled_quiet v.host (new_session v.config.limits) (none_held v.host.now [] (omega arith)) refl in
-    all_settled_stay v.host (with_new v) (all_append (λ e. IsSettled v.host e.1) v.sessions _ settled (quiet, tt))
+    let quiet = settled_quiet v.shared (new_session v.config.limits) (none_held v.shared.now [] (omega arith)) refl in
+    all_settled_stay v.shared (with_new v) (all_append (λ e. IsSettled v.shared e.1) v.sessions _ settled (quiet, tt))
 
 module _ (v : ServerValue) (entries : Entries) (server : IsServer v) (is : entries ≡ insert_entry nat_eq v.sessions
     (v.ids + 1) (new_session v.config.limits)) where
   one_last : entries ≡ with_new v
   one_last = is ∙ goes_last v.ids (new_session v.config.limits) v.sessions server.numbered
 
-  one_more_last : entries ≡ map (settled_entry v.host) (with_new v)
+  one_more_last : entries ≡ map (settled_entry v.shared) (with_new v)
   one_more_last = one_last ∙ sym (one_opened v server.settled)
 
   pub opened_lies : IsDistinct nat_eq (keys_of entries) → LiesAt (v.ids + 1) (length v.sessions) entries

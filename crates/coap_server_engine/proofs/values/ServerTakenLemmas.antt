@@ -4,7 +4,8 @@ use Rattle.std.proofs.Common.{◌≡◌, ℕ, Bool, false, cond, List, take, Opt
 use Rattle.std.proofs.Common.{slice_get}
 use Rattle.coap_server_engine.specs.Prelude.{values_of, set_value_at, stop_of, Reason, changes, ServerState}
 use Rattle.coap_server_engine.specs.Prelude.{SessionValue, TakeOutcome}
-use Rattle.coap_server_engine.specs.Prelude.{session_takes, taking, host_changed, IsSettled, RefusesPiece, settled_held}
+use Rattle.coap_server_engine.specs.Prelude.{session_takes, taking, shared_changed, IsSettled, RefusesPiece}
+use Rattle.coap_server_engine.specs.Prelude.{settled_held}
 use Rattle.coap_server_engine.specs.Prelude.{ServerValue, LiesAt, session_of, changed_at, session_becomes}
 use Rattle.coap_server_engine.specs.Prelude.{settled_entry}
 use Rattle.coap_server_engine.specs.Prelude.{AreSettled, server_taken_on, server_taken, count_on, count_taken}
@@ -17,7 +18,7 @@ use Rattle.std.proofs.lemmas.Bool.{cond_both}
 use Rattle.coap_server_engine.proofs.values.ServerLemmas.{Entries, one_of_all, written_at_index, changed_one}
 use Rattle.coap_server_engine.proofs.values.ServerLemmas.{changed_written, settling, one_settles, all_settled_stay}
 use Rattle.coap_server_engine.proofs.values.ServerLemmas.{all_still, taken_server_with, lies_where_taken}
-use Rattle.coap_server_session.proofs.values.TakenLemmas.{host_stays, refused_changes_nothing, refused_stays_settled}
+use Rattle.coap_server_session.proofs.values.TakenLemmas.{shared_stays, refused_changes_nothing, refused_stays_settled}
 use Rattle.coap_server_session.proofs.values.TakenLemmas.{taking_settles_held}
 
 -- ---- the server
@@ -25,10 +26,10 @@ use Rattle.coap_server_session.proofs.values.TakenLemmas.{taking_settles_held}
 module _ (v : ServerValue) (id i : ℕ) (s : SessionValue) (piece : List ℕ) (server : IsServer v)
     (lies : LiesAt id i v.sessions) (here : slice_get (values_of v.sessions) i ≡ Some s) where
   abbrev taking_here : TakeOutcome
-  taking_here = taking v.host s piece
+  taking_here = taking v.shared s piece
 
-  abbrev host_after : ServerState
-  host_after = host_changed v.host taking_here.change
+  abbrev shared_after : ServerState
+  shared_after = shared_changed v.shared taking_here.change
 
   abbrev with_it : Entries
   with_it = map (session_becomes id (λ _. taking_here.session)) v.sessions
@@ -44,62 +45,63 @@ module _ (v : ServerValue) (id i : ℕ) (s : SessionValue) (piece : List ℕ) (s
 
   -- If no resource changed, the other connections are settled.
   quiet_is : changes taking_here.change ≡ false
-      → changed_at i (settled_held host_after) (set_value_at v.sessions i taking_here.session)
-      ≡ map (settled_entry host_after) with_it
+      → changed_at i (settled_held shared_after) (set_value_at v.sessions i taking_here.session)
+      ≡ map (settled_entry shared_after) with_it
   quiet_is quiet =
       let last : SessionValue → SessionValue = λ _. taking_here.session in
-      rw (host_stays v.host taking_here.change quiet)
-      (changed_written i (settled_held v.host) v.sessions taking_here.session
+      rw (shared_stays v.shared taking_here.change quiet)
+      (changed_written i (settled_held v.shared) v.sessions taking_here.session
       ∙ ap (λ (to : SessionValue). changed_at i (λ _. to) v.sessions)
-      (taking_settles_held v.host s piece (one_of_all (IsSettled v.host) i v.sessions s server.settled here))
-      ∙ changed_one id (settling v.host last) v.sessions i lies.distinct lies.index lies.within
-      ∙ one_settles v.host id last v.sessions server.settled)
+      (taking_settles_held v.shared s piece (one_of_all (IsSettled v.shared) i v.sessions s server.settled here))
+      ∙ changed_one id (settling v.shared last) v.sessions i lies.distinct lies.index lies.within
+      ∙ one_settles v.shared id last v.sessions server.settled)
 
   -- The same if this connection is still settled.
-  pub still_is : changes taking_here.change ≡ false → IsSettled v.host taking_here.session
-      → set_value_at v.sessions i taking_here.session ≡ map (settled_entry host_after) with_it
+  pub still_is : changes taking_here.change ≡ false → IsSettled v.shared taking_here.session
+      → set_value_at v.sessions i taking_here.session ≡ map (settled_entry shared_after) with_it
   still_is quiet still =
-      let settled : AreSettled host_after with_it =
-      rw (host_stays v.host taking_here.change quiet)
-      (all_still (λ e. IsSettled v.host e.1) id (λ _. taking_here.session) (λ e _. still) v.sessions server.settled) in
-      written_is ∙ sym (all_settled_stay host_after with_it settled)
+      let settled : AreSettled shared_after with_it =
+      rw (shared_stays v.shared taking_here.change quiet)
+      (all_still (λ e. IsSettled v.shared e.1) id (λ _. taking_here.session) (λ e _. still) v.sessions
+      server.settled) in
+      written_is ∙ sym (all_settled_stay shared_after with_it settled)
 
   -- All connections settle if a resource changed, otherwise this one, if an entry is pending.
   abbrev left_so : ServerState → SessionValue → Bool → Entries
-  left_so host after changed =
-      cond changed (map (settled_entry host) (set_value_at v.sessions i after))
-      (changed_at i (settled_held host) (set_value_at v.sessions i after))
+  left_so shared after changed =
+      cond changed (map (settled_entry shared) (set_value_at v.sessions i after))
+      (changed_at i (settled_held shared) (set_value_at v.sessions i after))
 
   -- A server with these connections.
-  module _ (host : ServerState) (entries : Entries) (host_is : host ≡ host_after)
-      (all : entries ≡ map (settled_entry host_after) with_it) where
-    pub becomes : IsServer (record v { host = host; sessions = entries })
-        × (record v { host = host; sessions = entries } ≡ server_taken v id piece)
+  module _ (shared : ServerState) (entries : Entries) (shared_is : shared ≡ shared_after)
+      (all : entries ≡ map (settled_entry shared_after) with_it) where
+    pub becomes : IsServer (record v { shared = shared; sessions = entries })
+        × (record v { shared = shared; sessions = entries } ≡ server_taken v id piece)
     unfolding server_taken
-    becomes = rw (host_is, all) (
-      taken_server_with v id (λ _. taking_here.session) host_after server,
+    becomes = rw (shared_is, all) (
+      taken_server_with v id (λ _. taking_here.session) shared_after server,
       sym (ap (server_taken_on v id piece) (lies.found ∙ here)),
     )
 
-  module _ (host : ServerState) (after : SessionValue) (changed : Bool) (entries : Entries)
-      (after_is : after ≡ taking_here.session) (host_is : host ≡ host_after)
-      (changed_is : changed ≡ changes taking_here.change) (entries_are : entries ≡ left_so host after changed) where
-    all_are : entries ≡ map (settled_entry host_after) with_it
+  module _ (shared : ServerState) (after : SessionValue) (changed : Bool) (entries : Entries)
+      (after_is : after ≡ taking_here.session) (shared_is : shared ≡ shared_after)
+      (changed_is : changed ≡ changes taking_here.change) (entries_are : entries ≡ left_so shared after changed) where
+    all_are : entries ≡ map (settled_entry shared_after) with_it
     all_are =
-        let left : left_so host_after taking_here.session (changes taking_here.change)
-        ≡ map (settled_entry host_after) with_it =
-        cond_both (changes taking_here.change) _ _ (λ es. es ≡ map (settled_entry host_after) with_it)
-        (λ _. ap (map (settled_entry host_after)) written_is) quiet_is in
+        let left : left_so shared_after taking_here.session (changes taking_here.change)
+        ≡ map (settled_entry shared_after) with_it =
+        cond_both (changes taking_here.change) _ _ (λ es. es ≡ map (settled_entry shared_after) with_it)
+        (λ _. ap (map (settled_entry shared_after)) written_is) quiet_is in
         cc left
 
-    pub taken_value : record v { host = host; sessions = entries } ≡ server_taken v id piece
-    taken_value = (becomes host entries host_is all_are).1
+    pub taken_value : record v { shared = shared; sessions = entries } ≡ server_taken v id piece
+    taken_value = (becomes shared entries shared_is all_are).1
 
-    pub taken_server : IsServer (record v { host = host; sessions = entries })
-    taken_server = (becomes host entries host_is all_are).0
+    pub taken_server : IsServer (record v { shared = shared; sessions = entries })
+    taken_server = (becomes shared entries shared_is all_are).0
 
     pub taken_lies : LiesAt id i entries
-    taken_lies = rw all_are (lies_where_taken id i (λ _. taking_here.session) host_after v.sessions lies)
+    taken_lies = rw all_are (lies_where_taken id i (λ _. taking_here.session) shared_after v.sessions lies)
 
     -- The result of the call, from the state of the connection after it.
     pub taken_handled : (takes message : Bool) (stop : Option Reason) (now : SessionValue) → takes ≡ session_takes s
@@ -121,38 +123,40 @@ module _ (v : ServerValue) (id i : ℕ) (s : SessionValue) (piece : List ℕ) (s
     taken_change = ap (changing_on v piece) (sym (lies.found ∙ here))
 
 -- A change of the store keeps the applications.
-pub applications_stay : (host : ServerState) (c : Change)
-    → (host_changed host c).store.applications ≡ host.store.applications
-applications_stay host store_change.Nothing = refl
-applications_stay host (store_change.Put path format bytes) = refl
-applications_stay host (store_change.Delete path) = refl
+pub applications_stay : (shared : ServerState) (c : Change)
+    → (shared_changed shared c).store.applications ≡ shared.store.applications
+applications_stay shared store_change.Nothing = refl
+applications_stay shared (store_change.Put path format bytes) = refl
+applications_stay shared (store_change.Delete path) = refl
 
 -- ---- the server after allocation failed
 
 module _ (v : ServerValue) (id i : ℕ) (s : SessionValue) (piece : List ℕ) (count : ℕ) (server : IsServer v)
     (lies : LiesAt id i v.sessions) (here : slice_get (values_of v.sessions) i ≡ Some s)
-    (refuses : RefusesPiece v.host s piece count) where
+    (refuses : RefusesPiece v.shared s piece count) where
   pub refuses_on : RefusesPieceOn v piece count (session_of id v.sessions)
   refuses_on = subst (RefusesPieceOn v piece count) (sym (lies.found ∙ here)) refuses
 
-  module _ (host : ServerState) (after : SessionValue) (after_is : after ≡ (taking v.host s (take count piece)).session)
-      (host_is : host ≡ v.host) where
-    host_after_is : host ≡ host_changed v.host (taking v.host s (take count piece)).change
-    host_after_is = host_is ∙ sym (ap (host_changed v.host) (refused_changes_nothing v.host s piece count refuses))
+  module _ (shared : ServerState) (after : SessionValue) (after_is : after
+      ≡ (taking v.shared s (take count piece)).session)
+      (shared_is : shared ≡ v.shared) where
+    shared_after_is : shared ≡ shared_changed v.shared (taking v.shared s (take count piece)).change
+    shared_after_is = shared_is ∙ sym (ap (shared_changed v.shared)
+        (refused_changes_nothing v.shared s piece count refuses))
 
     still_all : set_value_at v.sessions i after
-        ≡ map (settled_entry (host_changed v.host (taking v.host s (take count piece)).change))
-        (map (session_becomes id (λ _. (taking v.host s (take count piece)).session)) v.sessions)
+        ≡ map (settled_entry (shared_changed v.shared (taking v.shared s (take count piece)).change))
+        (map (session_becomes id (λ _. (taking v.shared s (take count piece)).session)) v.sessions)
     still_all =
         ap (set_value_at v.sessions i) after_is
         ∙ still_is v id i s (take count piece) server lies here
-        (ap changes (refused_changes_nothing v.host s piece count refuses))
-        (refused_stays_settled v.host s piece count refuses
-        (one_of_all (IsSettled v.host) i v.sessions s server.settled here))
+        (ap changes (refused_changes_nothing v.shared s piece count refuses))
+        (refused_stays_settled v.shared s piece count refuses
+        (one_of_all (IsSettled v.shared) i v.sessions s server.settled here))
 
-    pub refused_value : record v { host = host; sessions = set_value_at v.sessions i after }
+    pub refused_value : record v { shared = shared; sessions = set_value_at v.sessions i after }
         ≡ server_taken v id (take count piece)
-    refused_value = (becomes v id i s (take count piece) server lies here host _ host_after_is still_all).1
+    refused_value = (becomes v id i s (take count piece) server lies here shared _ shared_after_is still_all).1
 
-    pub refused_server : IsServer (record v { host = host; sessions = set_value_at v.sessions i after })
-    refused_server = (becomes v id i s (take count piece) server lies here host _ host_after_is still_all).0
+    pub refused_server : IsServer (record v { shared = shared; sessions = set_value_at v.sessions i after })
+    refused_server = (becomes v id i s (take count piece) server lies here shared _ shared_after_is still_all).0

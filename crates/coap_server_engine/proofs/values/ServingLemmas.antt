@@ -11,7 +11,7 @@ use Rattle.coap_server_engine.specs.Prelude.{asked_by, served, AreMade}
 use Rattle.coap_server_engine.specs.Prelude.{IsServed, IsPartlyServed, IsTakenFor, IsNotTakenFor, asking, asks_for}
 use Rattle.coap_server_engine.specs.Prelude.{handed_by, message_limit, server_offered, offered_events, response_for}
 use Rattle.coap_server_engine.specs.Prelude.{Message, LiesAt, keys_of, server_taken, server_taken_on, taking}
-use Rattle.coap_server_engine.specs.Prelude.{host_changed}
+use Rattle.coap_server_engine.specs.Prelude.{shared_changed}
 use Rattle.coap_server_engine.proofs.values.ServerLemmas.{keys_where_settled, lies_still}
 use Rattle.coap_server_engine.specs.values.InResults.{goes_on}
 use Rattle.coap_server_engine.proofs.scripting.ShownLemmas.{shows_same, shows_then}
@@ -170,8 +170,8 @@ taken_keys v id piece =
     elim (session_of id v.sessions) as (λ o. keys_of (server_taken_on v id piece o).sessions ≡ keys_of v.sessions) [
       | None ↦ refl
       | Some s ↦
-          keys_where_settled id (λ _. (taking v.host s piece).session)
-          (host_changed v.host (taking v.host s piece).change) v.sessions
+          keys_where_settled id (λ _. (taking v.shared s piece).session)
+          (shared_changed v.shared (taking v.shared s piece).change) v.sessions
     ]
 
 pub taken_stays : (v : ServerValue) (id i : ℕ) (piece : List ℕ) → LiesAt id i v.sessions

@@ -16,13 +16,13 @@ for_one_on_fault (Err e) o P t is holds = λ s also. subst P (same_session o t s
 
 module _ (v : ServerValue) (id i : ℕ) (s : SessionValue) (server : IsServer v) (lies : LiesAt id i v.sessions)
     (here : slice_get (values_of v.sessions) i ≡ Some s) (entries : Entries) (wrote : List ℕ → Type 0) where
-  pub turned_server : (waited : Bool) → IsFlushedAt i v.host s v.sessions entries wrote waited
+  pub turned_server : (waited : Bool) → IsFlushedAt i v.shared s v.sessions entries wrote waited
       → IsServer (record v { sessions = entries })
   turned_server true did =
       changed_server v id i (λ u. session_written u (length s.link.waiting)) entries server lies did.0
   turned_server false did = rw did.1 server
 
-  pub turned_value : (waited : Bool) → IsFlushedAt i v.host s v.sessions entries wrote waited
+  pub turned_value : (waited : Bool) → IsFlushedAt i v.shared s v.sessions entries wrote waited
       → IsFlushedOnce id v (record v { sessions = entries }) wrote waited
   turned_value true did = rw (lies.found ∙ here) (
     changed_value v id i (λ u. session_written u (length s.link.waiting)) entries server lies did.0,
@@ -31,6 +31,6 @@ module _ (v : ServerValue) (id i : ℕ) (s : SessionValue) (server : IsServer v)
   turned_value false did =
       rw (lies.found ∙ here) (did.0, ap (λ (es : Entries). record v { sessions = es }) did.1, did.2)
 
-  pub turned_lies : (waited : Bool) → IsFlushedAt i v.host s v.sessions entries wrote waited → LiesAt id i entries
+  pub turned_lies : (waited : Bool) → IsFlushedAt i v.shared s v.sessions entries wrote waited → LiesAt id i entries
   turned_lies true did = changed_lies v id i (λ u. session_written u (length s.link.waiting)) entries server lies did.0
   turned_lies false did = rw did.1 lies

@@ -3,7 +3,7 @@ use Rattle.std.proofs.Common.{◌≡◌, ℕ, suc, ◌≤◌, Bool, true, false,
 use Rattle.std.proofs.Common.{Option, Some, None, refl, sym, ap, ◌∙◌, arith, nat_lt}
 use Rattle.std.proofs.lemmas.Bool.{and_parts, ltb-true, eqb-false}
 use Rattle.coap_server_engine.specs.Prelude.{ServerValue, session_of, is_there, count_taken, server_taken}
-use Rattle.coap_server_engine.specs.Prelude.{server_taken_on, AcceptedCall, Took, taking, host_changed}
+use Rattle.coap_server_engine.specs.Prelude.{server_taken_on, AcceptedCall, Took, taking, shared_changed}
 use Rattle.coap_server_engine.specs.Prelude.{InResult, in_result, fed_turns, took, took_turns, where_there, Exchange}
 use Rattle.coap_server_engine.specs.Prelude.{AreUnanswered, asked_by, asking, served, ServeResult, AreMade, IsServed}
 use Rattle.coap_server_engine.specs.Prelude.{Message, handed_by, message_limit, SessionValue}
@@ -46,8 +46,8 @@ taken_there v id piece there = by (session_of id v.sessions) refl there
         → is_there (session_of id (server_taken_on v id piece o).sessions) ≡ true
     by None is there = absurd cc
     by (Some s) is there =
-        ap is_there (becomes_settled (host_changed v.host (taking v.host s piece).change) id
-        (λ _. (taking v.host s piece).session) v.sessions s is)
+        ap is_there (becomes_settled (shared_changed v.shared (taking v.shared s piece).change) id
+        (λ _. (taking v.shared s piece).session) v.sessions s is)
 
 -- The same number of takes without an application.
 record HasTaken (v : ServerValue) (id : ℕ) (bytes : List ℕ) (responses : List (List ℕ)) : Type 0 where

@@ -8,25 +8,25 @@ use Rattle.std.proofs.lemmas.Map.Entries.{length-values_of}
 use Rattle.std.proofs.lemmas.Map.Made.{keys_of-map_values}
 use Rattle.indexmap.proofs.SetLemmas.{map-remove}
 use Rattle.coap_server_engine.specs.Prelude.{keys_of, values_of, Path, Change, Put, Delete, IsStore, ServerState}
-use Rattle.coap_server_engine.specs.Prelude.{SessionValue, host_changed, due_on, path_hash, change_hash}
+use Rattle.coap_server_engine.specs.Prelude.{SessionValue, shared_changed, due_on, path_hash, change_hash}
 use Rattle.coap_server_engine.specs.Prelude.{new_session, session_settled, IsSettled, ServerValue, LiesAt, session_of}
 use Rattle.coap_server_engine.specs.Prelude.{session_becomes, settled_entry}
 use Rattle.coap_server_engine.specs.Prelude.{on_session, server_settled, server_opened, server_dropped, server_ticked}
 use Rattle.coap_server_engine.specs.Prelude.{server_put, server_removed}
 use Rattle.coap_server_engine.specs.Prelude.{server_given, server_offered, session_given_by, message_of}
 use Rattle.coap_server_engine.specs.Prelude.{responded_refusal, AreSettled}
-use Rattle.coap_server_engine.specs.Prelude.{Covers, IsOutside, bit_of, outlook_of, KeepsWork, KeepsOthers}
+use Rattle.coap_server_engine.specs.Prelude.{Covers, IsOutside, bit_of, work_of, KeepsWork, KeepsOthers}
 use Rattle.coap_server_engine.specs.Prelude.{AddsAffected, AddsConcerned, TakeOutcome, taking}
 use Rattle.coap_server_engine.specs.Prelude.{server_taken, server_taken_on, server_taken_so, set_value_at}
 use Rattle.coap_server_engine.specs.Prelude.{position_or_len}
-use Rattle.coap_server_engine.specs.values.ServerDeadlines.{session_outlook}
+use Rattle.coap_server_engine.specs.values.ServerDeadlines.{session_work}
 use Rattle.coap_server_session.specs.Prelude.{AllByRecursion, find, list_any, ObserverValue, is_stale, is_time_observer}
 use Rattle.coap_server_session.specs.Prelude.{changed_mark, may_concern, IsBefore}
 use Rattle.coap_server_session.specs.declared.cause.Cause.TheVariants as cause
 use Rattle.coap_server_session.proofs.values.SettleLemmas.{settled_stays, settled_still, none_held}
 use Rattle.coap_server_session.proofs.values.CauseLemmas.{hash_where_changed, settled_elsewhere}
 use Rattle.coap_server_session.proofs.values.DueLemmas.{at_moment, mark_later}
-use Rattle.coap_server_session.proofs.values.TakenLemmas.{host_stays}
+use Rattle.coap_server_session.proofs.values.TakenLemmas.{shared_stays}
 use Rattle.coap_server_session.proofs.values.ConcernLemmas.{unconcerned}
 use Rattle.coap_model.proofs.OptionLemmas.{there_at}
 use Rattle.coap_model.proofs.world.EntryLemmas.{none_due}
@@ -48,11 +48,11 @@ unfolding session_of
 other_is_there other id s [] apart = grind (arith, nat_tests)
 other_is_there other id s (e ∷ es) apart = rw (other_is_there other id s es apart) refl
 
-each_settles : (other : ℕ) (host : ServerState) (es : Entries) → session_of other (map (settled_entry host) es) ≡
-    option_map (session_settled host) (session_of other es)
+each_settles : (other : ℕ) (shared : ServerState) (es : Entries) → session_of other (map (settled_entry shared) es) ≡
+    option_map (session_settled shared) (session_of other es)
 unfolding session_of
-each_settles other host [] = refl
-each_settles other host (e ∷ es) = grind (arith, each_settles other host es)
+each_settles other shared [] = refl
+each_settles other shared (e ∷ es) = grind (arith, each_settles other shared es)
 
 -- ---- calls that concern one connection
 
@@ -67,21 +67,21 @@ pub keeps_all : (id : ℕ) (v : ServerValue) → KeepsOthers id v v
 keeps_all id v = record { keys = refl; same = λ other apart. refl; work = λ other apart. refl }
 
 -- One connection changes, and all settle.
-pub keeps_others : (v : ServerValue) (id : ℕ) (f : SessionValue → SessionValue) → AreSettled v.host v.sessions
+pub keeps_others : (v : ServerValue) (id : ℕ) (f : SessionValue → SessionValue) → AreSettled v.shared v.sessions
     → KeepsOthers id v (server_settled (on_session id f v))
 keeps_others v id f settled =
-    let settles = sym (one_settles v.host id f v.sessions settled) in
+    let settles = sym (one_settles v.shared id f v.sessions settled) in
     let stays : (other : ℕ) → other ≢ id
     → session_of other (server_settled (on_session id f v)).sessions ≡ session_of other v.sessions =
-    λ other apart. ap (session_of other) settles ∙ other_stays other id (settling v.host f) v.sessions apart in
+    λ other apart. ap (session_of other) settles ∙ other_stays other id (settling v.shared f) v.sessions apart in
     record {
-      keys = keys_where_settled id f v.host v.sessions;
+      keys = keys_where_settled id f v.shared v.sessions;
       same = stays;
-      work = λ other apart. ap (option_map (session_outlook v.host.now)) (stays other apart);
+      work = λ other apart. ap (option_map (session_work v.shared.now)) (stays other apart);
     }
 
 -- A response is given, if the server accepts it.
-pub offered_keeps : (v : ServerValue) (id : ℕ) (bytes : List ℕ) → AreSettled v.host v.sessions → KeepsOthers id v
+pub offered_keeps : (v : ServerValue) (id : ℕ) (bytes : List ℕ) → AreSettled v.shared v.sessions → KeepsOthers id v
     (server_offered v id bytes)
 offered_keeps v id bytes settled =
     elim (is_none (responded_refusal v id bytes))
@@ -90,7 +90,7 @@ offered_keeps v id bytes settled =
       | false ↦ keeps_all id v
     ]
 
-module _ (v : ServerValue) (settled : AreSettled v.host v.sessions) where
+module _ (v : ServerValue) (settled : AreSettled v.shared v.sessions) where
   pub opened_keys : keys_of (server_opened v).sessions ≡ keys_of v.sessions ++ (v.ids + 1) ∷ []
   opened_keys = ap keys_of (one_opened v settled) ∙ keys_with v.sessions
     where
@@ -99,9 +99,9 @@ module _ (v : ServerValue) (settled : AreSettled v.host v.sessions) where
       keys_with [] = refl
       keys_with (e ∷ es) = ap (λ (ks : List ℕ). e.0 ∷ ks) (keys_with es)
 
-  pub opened_keeps : (other : ℕ) → other ≢ v.ids + 1 → outlook_of (server_opened v) other ≡ outlook_of v other
+  pub opened_keeps : (other : ℕ) → other ≢ v.ids + 1 → work_of (server_opened v) other ≡ work_of v other
   opened_keeps other apart =
-      ap (option_map (session_outlook v.host.now)) (ap (session_of other) (one_opened v settled) ∙ other_is_there other
+      ap (option_map (session_work v.shared.now)) (ap (session_of other) (one_opened v settled) ∙ other_is_there other
       (v.ids + 1) (new_session v.config.limits) v.sessions apart)
 
   pub dropped_keys : (id i : ℕ) → LiesAt id i v.sessions → keys_of (server_dropped v id).sessions ≡ remove
@@ -111,50 +111,53 @@ module _ (v : ServerValue) (settled : AreSettled v.host v.sessions) where
 -- ---- changes that concern several connections
 
 -- A connection that is settled already.
-stays_there : (v : ServerValue) (host : ServerState) (es : Entries) (id : ℕ) (s : SessionValue)
-    → session_of id v.sessions ≡ Some s → session_of id es ≡ Some s → IsSettled host s
-    → session_of id (map (settled_entry host) es) ≡ session_of id v.sessions
-stays_there v host es id s before now settled =
-    each_settles id host es ∙ ap (option_map (session_settled host)) now ∙ ap Some (settled_stays host s settled)
+stays_there : (v : ServerValue) (shared : ServerState) (es : Entries) (id : ℕ) (s : SessionValue)
+    → session_of id v.sessions ≡ Some s → session_of id es ≡ Some s → IsSettled shared s
+    → session_of id (map (settled_entry shared) es) ≡ session_of id v.sessions
+stays_there v shared es id s before now settled =
+    each_settles id shared es ∙ ap (option_map (session_settled shared)) now ∙ ap Some (settled_stays shared s settled)
     ∙ sym before
 
-same_work : (v : ServerValue) (host : ServerState) (es : Entries) (id : ℕ) (s : SessionValue) → session_of id v.sessions
-    ≡ Some s → session_of id es ≡ Some s → IsSettled host s → due_on host.now s ≡ due_on v.host.now s
-    → outlook_of (record v { host = host; sessions = map (settled_entry host) es }) id ≡ outlook_of v id
-same_work v host es id s before now settled due =
-    ap (option_map (session_outlook host.now)) (each_settles id host es ∙ ap (option_map (session_settled host)) now ∙
-    ap Some (settled_stays host s settled))
-    ∙ ap (λ (d : Option ℕ). Some (record (session_outlook host.now s) { due = d })) due
-    ∙ sym (ap (option_map (session_outlook v.host.now)) before)
+same_work : (v : ServerValue) (shared : ServerState) (es : Entries) (id : ℕ) (s : SessionValue)
+    → session_of id v.sessions
+    ≡ Some s → session_of id es ≡ Some s → IsSettled shared s → due_on shared.now s ≡ due_on v.shared.now s
+    → work_of (record v { shared = shared; sessions = map (settled_entry shared) es }) id ≡ work_of v id
+same_work v shared es id s before now settled due =
+    ap (option_map (session_work shared.now)) (each_settles id shared es ∙ ap (option_map (session_settled shared)) now
+    ∙
+    ap Some (settled_stays shared s settled))
+    ∙ ap (λ (d : Option ℕ). Some (record (session_work shared.now s) { due = d })) due
+    ∙ sym (ap (option_map (session_work v.shared.now)) before)
 
 one_at : (id i : ℕ) (es : Entries) → LiesAt id i es → (s : SessionValue) × (slice_get (values_of es) i ≡ Some s)
 one_at id i es lies = there_at (values_of es) i (rw (length-values_of es) lies.within)
 
 -- An observer that does not observe the time is not stale later.
-fresh_later : (host : ServerState) (later : ℕ) (os : List ObserverValue) → IsStore host.store
-    → list_any is_time_observer os ≡ false → AllByRecursion (λ o. is_stale host o ≡ false) os
-    → find (is_stale (at_moment host later)) os ≡ None
+fresh_later : (shared : ServerState) (later : ℕ) (os : List ObserverValue) → IsStore shared.store
+    → list_any is_time_observer os ≡ false → AllByRecursion (λ o. is_stale shared o ≡ false) os
+    → find (is_stale (at_moment shared later)) os ≡ None
 unfolding changed_mark
-fresh_later host later [] store none fresh = refl
-fresh_later host later (o ∷ os) store none fresh =
+fresh_later shared later [] store none fresh = refl
+fresh_later shared later (o ∷ os) store none fresh =
     let parts = or_parts (is_time_observer o) (list_any is_time_observer os) none in
-    let unmarked : changed_mark (at_moment host later) o ≡ None = rw (← mark_later host later o store parts.0, fresh.0)
+    let unmarked : changed_mark (at_moment shared later) o ≡ None =
+    rw (← mark_later shared later o store parts.0, fresh.0)
     refl in
-    rw (not_marked _ _ unmarked) (fresh_later host later os store parts.1 fresh.1)
+    rw (not_marked _ _ unmarked) (fresh_later shared later os store parts.1 fresh.1)
   where
     not_marked : (stale : Bool) (mark : ℕ) → (if stale then Some mark else None) ≡ None → stale ≡ false
     not_marked true mark none = absurd cc
     not_marked false mark none = refl
 
 -- A connection that no change of the time concerns has no deadline, and stays settled.
-timeless : (host : ServerState) (before later : ℕ) (s : SessionValue) → IsStore host.store → may_concern
-    (cause.Moment before) s ≡ false → IsSettled host s → IsSettled (at_moment host later) s
+timeless : (shared : ServerState) (before later : ℕ) (s : SessionValue) → IsStore shared.store → may_concern
+    (cause.Moment before) s ≡ false → IsSettled shared s → IsSettled (at_moment shared later) s
     × ((now : ℕ) → due_on now s ≡ None)
-timeless host before later s store none settled =
+timeless shared before later s store none settled =
     let parts = or_parts (nat_lt 0 (length s.link.held)) (list_any is_time_observer s.observers) none in
     let few : length s.link.held ≤ 0 = omega (arith, ltb-false 0 (length s.link.held) parts.0) in (
-      settled_still host (at_moment host later) s (λ _. none_held later s.link.held few)
-          (λ fresh. fresh_later host later s.observers store parts.1 (none_due (is_stale host) s.observers fresh))
+      settled_still shared (at_moment shared later) s (λ _. none_held later s.link.held few)
+          (λ fresh. fresh_later shared later s.observers store parts.1 (none_due (is_stale shared) s.observers fresh))
           settled,
       λ now. never (due_on now s) (λ due. (unconcerned (cause.Moment now) due s none).0),
     )
@@ -164,62 +167,65 @@ timeless host before later s store none settled =
     never (Some due) each = absurd (omega (arith, each due))
 
 -- The time changes.
-pub moment_keeps : (v : ServerValue) (words : List ℕ) (later : ℕ) → IsStore v.host.store → AreSettled v.host v.sessions
+pub moment_keeps : (v : ServerValue) (words : List ℕ) (later : ℕ) → IsStore v.shared.store
+    → AreSettled v.shared v.sessions
     → Covers (cause.Moment later) words v.sessions → KeepsWork words v (server_ticked v later)
 moment_keeps v words later store settled covers = record {
-  keys = keys_of-map_values (session_settled (at_moment v.host later)) v.sessions;
+  keys = keys_of-map_values (session_settled (at_moment v.shared later)) v.sessions;
   same =
       λ i id lies outside.
       let one = one_at id i v.sessions lies in
       let found = lies.found ∙ one.1 in
-      let calm = timeless v.host later later one.0 store (covers i one.0 one.1 outside) (one_of_all (IsSettled v.host) i
+      let calm = timeless v.shared later later one.0 store (covers i one.0 one.1 outside)
+      (one_of_all (IsSettled v.shared) i
       v.sessions one.0 settled one.1) in
-      stays_there v (at_moment v.host later) v.sessions id one.0 found found calm.0;
+      stays_there v (at_moment v.shared later) v.sessions id one.0 found found calm.0;
   work =
       λ i id lies outside.
       let one = one_at id i v.sessions lies in
       let found = lies.found ∙ one.1 in
-      let calm = timeless v.host later later one.0 store (covers i one.0 one.1 outside) (one_of_all (IsSettled v.host) i
+      let calm = timeless v.shared later later one.0 store (covers i one.0 one.1 outside)
+      (one_of_all (IsSettled v.shared) i
       v.sessions one.0 settled one.1) in
-      same_work v (at_moment v.host later) v.sessions id one.0 found found calm.0 (calm.1 later ∙
-      sym (calm.1 v.host.now));
+      same_work v (at_moment v.shared later) v.sessions id one.0 found found calm.0 (calm.1 later ∙
+      sym (calm.1 v.shared.now));
 }
 
 -- A change of the store leaves the connections settled that it does not concern.
-calm_after : (host : ServerState) (c : Change) (found : Option ℕ) (words : List ℕ) (es : Entries) (i : ℕ)
+calm_after : (shared : ServerState) (c : Change) (found : Option ℕ) (words : List ℕ) (es : Entries) (i : ℕ)
     (s : SessionValue) → found ≡ change_hash c → IfSome found (λ hash. Covers (cause.Path hash) words es)
     → slice_get (values_of es) i ≡ Some s → IsOutside words i
-    → IsSettled host s → IsSettled (host_changed host c) s
-calm_after host c None words es i s is covers at outside settled =
-    rw (host_stays host c (sym (ap is_some is ∙ hash_where_changed c))) settled
-calm_after host c (Some hash) words es i s is covers at outside settled =
-    settled_elsewhere host c hash s (sym is) (unconcerned (cause.Path hash) host.now s (covers i s at outside)).0
+    → IsSettled shared s → IsSettled (shared_changed shared c) s
+calm_after shared c None words es i s is covers at outside settled =
+    rw (shared_stays shared c (sym (ap is_some is ∙ hash_where_changed c))) settled
+calm_after shared c (Some hash) words es i s is covers at outside settled =
+    settled_elsewhere shared c hash s (sym is) (unconcerned (cause.Path hash) shared.now s (covers i s at outside)).0
     settled
 
 -- The resource at a path changes.
 change_keeps : (v : ServerValue) (words : List ℕ) (c : Change) (hash : ℕ) → Some hash ≡ change_hash c → AreSettled
-    v.host v.sessions → Covers (cause.Path hash) words v.sessions → KeepsWork words v (server_settled
-    (record v { host = host_changed v.host c }))
+    v.shared v.sessions → Covers (cause.Path hash) words v.sessions → KeepsWork words v (server_settled
+    (record v { shared = shared_changed v.shared c }))
 change_keeps v words c hash is settled covers = record {
-  keys = keys_of-map_values (session_settled (host_changed v.host c)) v.sessions;
+  keys = keys_of-map_values (session_settled (shared_changed v.shared c)) v.sessions;
   same =
       λ i id lies outside.
       let one = one_at id i v.sessions lies in
       let found = lies.found ∙ one.1 in
-      stays_there v (host_changed v.host c) v.sessions id one.0 found found
-      (calm_after v.host c (Some hash) words v.sessions i one.0 is covers one.1 outside
-      (one_of_all (IsSettled v.host) i v.sessions one.0 settled one.1));
+      stays_there v (shared_changed v.shared c) v.sessions id one.0 found found
+      (calm_after v.shared c (Some hash) words v.sessions i one.0 is covers one.1 outside
+      (one_of_all (IsSettled v.shared) i v.sessions one.0 settled one.1));
   work =
       λ i id lies outside.
       let one = one_at id i v.sessions lies in
       let found = lies.found ∙ one.1 in
-      let calm = calm_after v.host c (Some hash) words v.sessions i one.0 is covers one.1 outside
-      (one_of_all (IsSettled v.host) i v.sessions one.0 settled one.1) in
-      same_work v (host_changed v.host c) v.sessions id one.0 found found calm refl;
+      let calm = calm_after v.shared c (Some hash) words v.sessions i one.0 is covers one.1 outside
+      (one_of_all (IsSettled v.shared) i v.sessions one.0 settled one.1) in
+      same_work v (shared_changed v.shared c) v.sessions id one.0 found found calm refl;
 }
 
 module _ (v : ServerValue) (words : List ℕ) (path : Path) (hash : ℕ) (is : hash ≡ path_hash path) (settled : AreSettled
-    v.host v.sessions) (covers : Covers (cause.Path hash) words v.sessions) where
+    v.shared v.sessions) (covers : Covers (cause.Path hash) words v.sessions) where
   pub put_keeps : (format : Option ℕ) (bytes : List ℕ) → KeepsWork words v (server_put v path format bytes)
   put_keeps format bytes = change_keeps v words (Put path format bytes) hash (ap Some is) settled covers
 
@@ -228,10 +234,10 @@ module _ (v : ServerValue) (words : List ℕ) (path : Path) (hash : ℕ) (is : h
 
 -- ---- takes, which may change a resource
 
-module _ (v : ServerValue) (id i : ℕ) (s : SessionValue) (piece : List ℕ) (settled : AreSettled v.host v.sessions)
+module _ (v : ServerValue) (id i : ℕ) (s : SessionValue) (piece : List ℕ) (settled : AreSettled v.shared v.sessions)
     (lies : LiesAt id i v.sessions) (here : slice_get (values_of v.sessions) i ≡ Some s) where
   abbrev took : TakeOutcome
-  took = taking v.host s piece
+  took = taking v.shared s piece
 
   abbrev with_it : Entries
   with_it = map (session_becomes id (λ _. took.session)) v.sessions
@@ -249,7 +255,7 @@ module _ (v : ServerValue) (id i : ℕ) (s : SessionValue) (piece : List ℕ) (s
       let covers = subst (λ (es : Entries). IfSome found (λ hash. Covers (cause.Path hash) words es)) written
       adds.covers in
       rw taken_is (record {
-        keys = keys_where_settled id (λ _. took.session) (host_changed v.host took.change) v.sessions;
+        keys = keys_where_settled id (λ _. took.session) (shared_changed v.shared took.change) v.sessions;
         kept = adds.kept;
         same =
             λ k other apart there outside.
@@ -258,9 +264,9 @@ module _ (v : ServerValue) (id i : ℕ) (s : SessionValue) (piece : List ℕ) (s
             let now = other_stays other id (λ _. took.session) v.sessions apart ∙ was in
             let at = sym (lies_still other k v.sessions with_it (keys_where_one_changed id (λ _. took.session)
             v.sessions) there).found ∙ now in
-            stays_there v (host_changed v.host took.change) with_it other one.0 was now
-            (calm_after v.host took.change found words with_it k one.0 is covers at outside
-            (one_of_all (IsSettled v.host) k v.sessions one.0 settled one.1));
+            stays_there v (shared_changed v.shared took.change) with_it other one.0 was now
+            (calm_after v.shared took.change found words with_it k one.0 is covers at outside
+            (one_of_all (IsSettled v.shared) k v.sessions one.0 settled one.1));
         work =
             λ k other apart there outside.
             let one = one_at other k v.sessions there in
@@ -268,17 +274,17 @@ module _ (v : ServerValue) (id i : ℕ) (s : SessionValue) (piece : List ℕ) (s
             let now = other_stays other id (λ _. took.session) v.sessions apart ∙ was in
             let at = sym (lies_still other k v.sessions with_it (keys_where_one_changed id (λ _. took.session)
             v.sessions) there).found ∙ now in
-            same_work v (host_changed v.host took.change) with_it other one.0 was now
-            (calm_after v.host took.change found words with_it k one.0 is covers at outside
-            (one_of_all (IsSettled v.host) k v.sessions one.0 settled one.1)) refl;
+            same_work v (shared_changed v.shared took.change) with_it other one.0 was now
+            (calm_after v.shared took.change found words with_it k one.0 is covers at outside
+            (one_of_all (IsSettled v.shared) k v.sessions one.0 settled one.1)) refl;
       })
 
 taken_settled : (v : ServerValue) (id i : ℕ) (piece : List ℕ) → LiesAt id i v.sessions → AreSettled (server_taken v id
-    piece).host (server_taken v id piece).sessions
+    piece).shared (server_taken v id piece).sessions
 unfolding server_taken
 taken_settled v id i piece lies =
     let one = one_at id i v.sessions lies in
-    subst (λ (o : Option SessionValue). AreSettled (server_taken_on v id piece o).host (server_taken_on v id piece
+    subst (λ (o : Option SessionValue). AreSettled (server_taken_on v id piece o).shared (server_taken_on v id piece
     o).sessions) (sym (lies.found ∙ one.1)) (all_are_settled _ _)
 
 -- The response of the application may be given after it.

@@ -25,7 +25,7 @@ use Rattle.coap_server_engine.specs.Prelude.{RespondFault, ResponseFault, respon
 use Rattle.coap_server_engine.specs.Prelude.{SessionValue, session_settled, IsSettled}
 use Rattle.coap_server_engine.specs.Prelude.{ServerValue, session_of, session_becomes, settled_entry, server_settled}
 use Rattle.coap_server_engine.specs.Prelude.{server_taken, server_taken_on, AreSettled, TakeOutcome, taking}
-use Rattle.coap_server_engine.specs.Prelude.{host_changed}
+use Rattle.coap_server_engine.specs.Prelude.{shared_changed}
 use Rattle.coap_server_engine.specs.Prelude.{World, Step, new_world, after_steps, AcceptedCall, world_after, steps_of}
 use Rattle.coap_server_engine.specs.Prelude.{server_shown, server_of, Shows}
 use Rattle.coap_server_engine.specs.Prelude.{stop_on, handed_on, handed_frame, handed_by, frame_message}
@@ -38,12 +38,12 @@ use Rattle.coap_server_engine.proofs.values.AtOnceLemmas.{deadline_later, deadli
 use Rattle.coap_server_engine.proofs.values.AtOnceLemmas.{took_nothing, took_settled}
 use Rattle.coap_server_engine.proofs.values.DueAtOnceLemmas.{NoneAsked, settles_request, no_request_fault}
 use Rattle.coap_server_engine.proofs.world.DeadlineLaws.{no_request_waits}
-use Rattle.coap_server_engine.proofs.world.ShowLaws.{server_after_settling, host_shown, session_there}
+use Rattle.coap_server_engine.proofs.world.ShowLaws.{server_after_settling, shared_shown, session_there}
 
 -- ---- a server that shows events
 
 -- Every connection of it is settled.
-shown_is_settled : (v : ServerValue) (es : List AcceptedCall) → Shows v es → AreSettled v.host v.sessions
+shown_is_settled : (v : ServerValue) (es : List AcceptedCall) → Shows v es → AreSettled v.shared v.sessions
 unfolding server_of
 shown_is_settled v es shows =
     let c : ConfigValues = v.config in
@@ -52,7 +52,7 @@ shown_is_settled v es shows =
     sym (server_after_settling c es w (world_known c es shows.moment))
     ∙ ap (server_shown c es) (world_stays w (world_hears c es)) in
     let still : server_settled v ≡ v = ap server_settled shows.same ∙ same ∙ sym shows.same in
-    subst (λ (u : ServerValue). AreSettled u.host u.sessions) still (all_are_settled v.host v.sessions)
+    subst (λ (u : ServerValue). AreSettled u.shared u.sessions) still (all_are_settled v.shared v.sessions)
 
 steps_keep_applications : (limits : LimitValues) (w : World) (ss : List Step)
     → (after_steps limits w ss).store.applications ≡ w.store.applications
@@ -63,37 +63,38 @@ steps_keep_applications limits w (s ∷ ss) =
 
 -- Its applications are those of its configuration.
 shown_applications : (v : ServerValue) (es : List AcceptedCall) → Shows v es
-    → v.host.store.applications ≡ v.config.applications
+    → v.shared.store.applications ≡ v.config.applications
 unfolding world_after
 shown_applications v es shows =
-    ap (λ (h : ServerState). h.store.applications) (host_shown v es shows)
+    ap (λ (h : ServerState). h.store.applications) (shared_shown v es shows)
     ∙ steps_keep_applications v.config.limits (new_world v.config) (steps_of v.config.limits.max_message es)
 
 -- ---- a connection by its id
 
-one_settled : (host : ServerState) (id : ℕ) (es : Entries) (s : SessionValue) → AreSettled host es
-    → session_of id es ≡ Some s → IsSettled host s
+one_settled : (shared : ServerState) (id : ℕ) (es : Entries) (s : SessionValue) → AreSettled shared es
+    → session_of id es ≡ Some s → IsSettled shared s
 unfolding session_of
-one_settled host id [] s all is = absurd cc
-one_settled host id (e ∷ es) s all is =
+one_settled shared id [] s all is = absurd cc
+one_settled shared id (e ∷ es) s all is =
     elim (cases_Bool (e.0 == id)) [
       | inl here ↦
-          (let found : Some e.1 ≡ Some s = rw here at is in subst (IsSettled host) (same_there e.1 s found) all.0)
-      | inr other ↦ one_settled host id es s all.1 (rw other at is)
+          (let found : Some e.1 ≡ Some s = rw here at is in subst (IsSettled shared) (same_there e.1 s found) all.0)
+      | inr other ↦ one_settled shared id es s all.1 (rw other at is)
     ]
 
 -- The connection after a call on it, when all have settled.
-pub becomes_settled : (host : ServerState) (id : ℕ) (f : SessionValue → SessionValue) (es : Entries) (s : SessionValue)
+pub becomes_settled : (shared : ServerState) (id : ℕ) (f : SessionValue
+    → SessionValue) (es : Entries) (s : SessionValue)
     → session_of id es ≡ Some s
-    → session_of id (map (settled_entry host) (map (session_becomes id f) es)) ≡ Some (session_settled host (f s))
+    → session_of id (map (settled_entry shared) (map (session_becomes id f) es)) ≡ Some (session_settled shared (f s))
 unfolding session_of
-becomes_settled host id f [] s is = absurd cc
-becomes_settled host id f (e ∷ es) s is =
+becomes_settled shared id f [] s is = absurd cc
+becomes_settled shared id f (e ∷ es) s is =
     elim (cases_Bool (e.0 == id)) [
       | inl here ↦
           (let found : Some e.1 ≡ Some s = rw here at is in
-          rw (here, here) (ap (λ (v : SessionValue). Some (session_settled host (f v))) (same_there e.1 s found)))
-      | inr other ↦ rw (other, other) (becomes_settled host id f es s (rw other at is))
+          rw (here, here) (ap (λ (v : SessionValue). Some (session_settled shared (f v))) (same_there e.1 s found)))
+      | inr other ↦ rw (other, other) (becomes_settled shared id f es s (rw other at is))
     ]
 
 -- ---- the request that a take hands over
@@ -111,26 +112,26 @@ none_is (Some x) none = absurd cc
 module _ (v : ServerValue) (es : List AcceptedCall) (id : ℕ) (piece : List ℕ) (m : Message) (shows : Shows v es)
     (asked : handed_by v id piece ≡ Some m) where
   -- The connection before the take.
-  there_before : (s : SessionValue) × (session_of id v.sessions ≡ Some s) × HandsOver v.host s piece m
+  there_before : (s : SessionValue) × (session_of id v.sessions ≡ Some s) × HandsOver v.shared s piece m
   unfolding handed_frame
   there_before = by (session_of id v.sessions) (stop_on (session_of id (server_taken v id piece).sessions)) refl asked
     where
       by : (found : Option SessionValue) (stop : Option Reason) → session_of id v.sessions ≡ found
           → option_and_then frame_message (handed_on v piece found stop) ≡ Some m
-          → (s : SessionValue) × (session_of id v.sessions ≡ Some s) × HandsOver v.host s piece m
+          → (s : SessionValue) × (session_of id v.sessions ≡ Some s) × HandsOver v.shared s piece m
       by None stop there is = absurd cc
       by (Some s) (Some why) there is = absurd cc
-      by (Some s) None there is = (s, there, request_handed v.host s piece m is)
+      by (Some s) None there is = (s, there, request_handed v.shared s piece m is)
 
   abbrev asking : SessionValue
   asking = there_before.0
 
-  asking_settled : IsSettled v.host asking
-  asking_settled = one_settled v.host id v.sessions asking (shown_is_settled v es shows) there_before.1
+  asking_settled : IsSettled v.shared asking
+  asking_settled = one_settled v.shared id v.sessions asking (shown_is_settled v es shows) there_before.1
 
   -- The time at which the request is due.
   abbrev due : ℕ
-  due = deadline v.host asking piece m there_before.2
+  due = deadline v.shared asking piece m there_before.2
 
   -- The connection after the take, before it settles.
   abbrev waiting : SessionValue
@@ -139,27 +140,29 @@ module _ (v : ServerValue) (es : List AcceptedCall) (id : ℕ) (piece : List ℕ
   ready : session_ready waiting ≡ true
   ready = (and_parts (takes_messages asking.link.phase) _ there_before.2.takes).1
 
-  there_after : session_of id (server_taken v id piece).sessions ≡ Some (session_settled v.host waiting)
+  there_after : session_of id (server_taken v id piece).sessions ≡ Some (session_settled v.shared waiting)
   unfolding server_taken
   there_after =
-      let t : TakeOutcome = taking v.host asking piece in
+      let t : TakeOutcome = taking v.shared asking piece in
       ap (λ (o : Option SessionValue). session_of id (server_taken_on v id piece o).sessions) there_before.1
-      ∙ becomes_settled (host_changed v.host t.change) id (λ _. t.session) v.sessions asking there_before.1
-      ∙ ap (λ (h : ServerState). Some (session_settled h t.session)) (took_nothing v.host asking piece m there_before.2)
-      ∙ ap (λ (s : SessionValue). Some (session_settled v.host s)) (took_session v.host asking piece m there_before.2)
+      ∙ becomes_settled (shared_changed v.shared t.change) id (λ _. t.session) v.sessions asking there_before.1
+      ∙ ap (λ (h : ServerState). Some (session_settled h t.session))
+      (took_nothing v.shared asking piece m there_before.2)
+      ∙ ap (λ (s : SessionValue). Some (session_settled v.shared s))
+      (took_session v.shared asking piece m there_before.2)
 
   refusal_is : (bytes : List ℕ) → responded_refusal (server_taken v id piece) id bytes
-      ≡ option_map response_fault (frame_refusal (session_settled v.host waiting).link (message_of bytes))
+      ≡ option_map response_fault (frame_refusal (session_settled v.shared waiting).link (message_of bytes))
   refusal_is bytes = ap (responded_refusal_on bytes) there_after
 
   -- ---- a deadline to come
 
-  module _ (later : v.host.now < due) where
-    stays_settled : session_settled v.host waiting ≡ waiting
+  module _ (later : v.shared.now < due) where
+    stays_settled : session_settled v.shared waiting ≡ waiting
     stays_settled =
-        settled_stays v.host waiting (took_settled v.host asking piece m there_before.2 later asking_settled)
+        settled_stays v.shared waiting (took_settled v.shared asking piece m there_before.2 later asking_settled)
 
-    has_room : (session_settled v.host waiting).link.limits.max_sent ≤ free_in (session_settled v.host waiting).link
+    has_room : (session_settled v.shared waiting).link.limits.max_sent ≤ free_in (session_settled v.shared waiting).link
     has_room =
         subst (λ (s : SessionValue). s.link.limits.max_sent ≤ free_in s.link) (sym stays_settled)
         (leb-true waiting.link.limits.max_sent (free_in waiting.link) ready)
@@ -172,56 +175,56 @@ module _ (v : ServerValue) (es : List AcceptedCall) (id : ℕ) (piece : List ℕ
         (asked_last m.token asking.link.held due) in
         refusal_is bytes
         ∙ ap (λ (read : Result Message FormatFault). option_map response_fault
-        (frame_refusal (session_settled v.host waiting).link read)) reads
+        (frame_refusal (session_settled v.shared waiting).link read)) reads
         ∙ ap (λ (o : Option RespondFault). option_map response_fault o)
-        (accepted_with (session_settled v.host waiting).link response has_room
+        (accepted_with (session_settled v.shared waiting).link response has_room
         (subst (λ (s : SessionValue). has_request response.token s.link.held ≡ true) (sym stays_settled) has) plain)
 
   -- ---- a deadline that has come
 
   -- No request of the application was pending.
-  none_before : due ≤ v.host.now → NoneAsked asking.link.held
+  none_before : due ≤ v.shared.now → NoneAsked asking.link.held
   none_before come =
       let model = session_there v es id asking shows there_before.1 in
       let w : World = world_after v.config es in
-      let now : v.host.now ≡ w.now = ap (λ (h : ServerState). h.now) (host_shown v es shows) in
+      let now : v.shared.now ≡ w.now = ap (λ (h : ServerState). h.now) (shared_shown v es shows) in
       let held : asking.link.held ≡ model.side.history.held = ap (λ (s : SessionValue). s.link.held) model.shown in
       let phases : asking.link.phase ≡ model.side.history.phase = ap (λ (s : SessionValue). s.link.phase) model.shown in
       let live : takes_messages model.side.history.phase ≡ true =
       subst (λ (p : Phase). takes_messages p ≡ true) phases
       (and_parts (takes_messages asking.link.phase) _ there_before.2.takes).0 in
-      let silent : first_due v.host.now asking.link.held ≡ None =
-      sym (found_ready v.host asking (and_parts (takes_messages asking.link.phase) _ there_before.2.takes).1).0
+      let silent : first_due v.shared.now asking.link.held ≡ None =
+      sym (found_ready v.shared asking (and_parts (takes_messages asking.link.phase) _ there_before.2.takes).1).0
       ∙ asking_settled.0 in
-      let last : latest v.config.applications v.host.now ≡ due =
-      ap (λ (o : Option ApplicationsValue). latest o v.host.now) (sym (shown_applications v es shows))
-      ∙ deadline_is_latest v.host asking piece m there_before.2 in
+      let last : latest v.config.applications v.shared.now ≡ due =
+      ap (λ (o : Option ApplicationsValue). latest o v.shared.now) (sym (shown_applications v es shows))
+      ∙ deadline_is_latest v.shared asking piece m there_before.2 in
       subst NoneAsked (sym held)
       (no_request_waits v.config es id model.side model.there (never_stopped model.side.history.phase live)
       (omega (arith, ap (latest v.config.applications) now, last, now, come))
       (subst (λ (n : ℕ). AllByRecursion (λ e. due_moment n e ≡ None) model.side.history.held) now
-      (subst (AllByRecursion (λ e. due_moment v.host.now e ≡ None)) held
-      (due_nothing v.host.now asking.link.held silent).0.0)))
+      (subst (AllByRecursion (λ e. due_moment v.shared.now e ≡ None)) held
+      (due_nothing v.shared.now asking.link.held silent).0.0)))
 
-  none_after : due ≤ v.host.now → NoneAsked (session_settled v.host waiting).link.held
+  none_after : due ≤ v.shared.now → NoneAsked (session_settled v.shared waiting).link.held
   none_after come =
-      let silent : first_due v.host.now asking.link.held ≡ None =
-      sym (found_ready v.host asking (and_parts (takes_messages asking.link.phase) _ there_before.2.takes).1).0
+      let silent : first_due v.shared.now asking.link.held ≡ None =
+      sym (found_ready v.shared asking (and_parts (takes_messages asking.link.phase) _ there_before.2.takes).1).0
       ∙ asking_settled.0 in
-      settles_request v.host waiting asking.link.held m.token due refl ready silent come (none_before come)
+      settles_request v.shared waiting asking.link.held m.token due refl ready silent come (none_before come)
 
   -- ---- errors
 
   fault_by : (read : Result Message FormatFault) (why : RespondFault)
-      → frame_refusal (session_settled v.host waiting).link read ≡ Some why
+      → frame_refusal (session_settled v.shared waiting).link read ≡ Some why
       → (why ≡ fault.NotAResponse) ⊎ (why ≡ fault.NoSuchRequest)
   fault_by read why is =
-      elim (cases_Bool (nat_lt v.host.now due)) [
+      elim (cases_Bool (nat_lt v.shared.now due)) [
         | inl later ↦
-            other_fault (session_settled v.host waiting).link read why (has_room (ltb-true v.host.now due later)) is
+            other_fault (session_settled v.shared waiting).link read why (has_room (ltb-true v.shared.now due later)) is
         | inr come ↦
-            no_request_fault (session_settled v.host waiting).link read why
-            (none_after (ltb-false v.host.now due come)) is
+            no_request_fault (session_settled v.shared waiting).link read why
+            (none_after (ltb-false v.shared.now due come)) is
       ]
 
   -- Only the message and its token can be wrong.
@@ -229,7 +232,7 @@ module _ (v : ServerValue) (es : List AcceptedCall) (id : ℕ) (piece : List ℕ
       → responded_refusal (server_taken v id piece) id bytes ≡ Some why
       → (why ≡ responding.NotAResponse) ⊎ (why ≡ responding.NoSuchRequest)
   at_once_refused bytes why is =
-      let made = one_made response_fault (frame_refusal (session_settled v.host waiting).link (message_of bytes)) why
+      let made = one_made response_fault (frame_refusal (session_settled v.shared waiting).link (message_of bytes)) why
       (sym (refusal_is bytes) ∙ is) in
       elim (fault_by (message_of bytes) made.0 made.1) [
         | inl other ↦ inl (sym made.2 ∙ ap response_fault other)
@@ -238,10 +241,10 @@ module _ (v : ServerValue) (es : List AcceptedCall) (id : ℕ) (piece : List ℕ
 
   -- ---- before the last time
 
-  module _ (early : v.host.now < 18446744073709551615) where
-    to_come : v.host.now < due
+  module _ (early : v.shared.now < 18446744073709551615) where
+    to_come : v.shared.now < due
     to_come =
-        deadline_later v.host asking piece m there_before.2
+        deadline_later v.shared asking piece m there_before.2
         (subst (λ (o : Option ApplicationsValue). IfSome o (λ a. 1 ≤ a.deadline))
         (sym (shown_applications v es shows)) shows.deadline) early
 

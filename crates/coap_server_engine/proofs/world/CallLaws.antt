@@ -79,23 +79,23 @@ written_shows (Err e) v new id n none is = tt
 -- ---- tick
 
 pub tick_shows : {T F : Type 0} (r : Result T F) (v new : ServerValue) (now : ℕ) → now < 2 ^ 64
-    → is_ok r ≡ nat_le v.host.now now → OnOk r (new ≡ server_ticked v now)
+    → is_ok r ≡ nat_le v.shared.now now → OnOk r (new ≡ server_ticked v now)
     → OnOk r ((es : List AcceptedCall) → Shows v es → Shows new (es ++ Ticked now ∷ []))
 tick_shows (Ok x) v new now fits told is =
-    λ es shows. rw is (shows_ticked v es now shows (leb-true v.host.now now (sym told)) (omega (arith, fits)))
+    λ es shows. rw is (shows_ticked v es now shows (leb-true v.shared.now now (sym told)) (omega (arith, fits)))
 tick_shows (Err e) v new now fits told is = tt
 
 -- ---- put, remove
 
 pub put_shows : {T : Type 0} (r : Result T StoreFault) (v new : ServerValue) (path : Path) (format : Option ℕ)
-    (bytes : List ℕ) → RefusedOrMemory r (put_refusal v.host.store path bytes)
+    (bytes : List ℕ) → RefusedOrMemory r (put_refusal v.shared.store path bytes)
     → OnOk r (new ≡ server_put v path format bytes)
     → OnOk r ((es : List AcceptedCall) → Shows v es → Shows new (es ++ Stored path format bytes ∷ []))
 put_shows (Ok x) v new path format bytes none is = λ es shows. rw is (shows_put v es path format bytes shows none)
 put_shows (Err e) v new path format bytes none is = tt
 
 pub remove_shows : {T : Type 0} (r : Result T StoreFault) (v new : ServerValue) (path : Path)
-    → RefusedBy r (remove_refusal v.host.store path) → OnOk r (new ≡ server_removed v path)
+    → RefusedBy r (remove_refusal v.shared.store path) → OnOk r (new ≡ server_removed v path)
     → OnOk r ((es : List AcceptedCall) → Shows v es → Shows new (es ++ Removed path ∷ []))
 remove_shows (Ok x) v new path none is = λ es shows. rw is (shows_removed v es path shows none)
 remove_shows (Err e) v new path none is = tt

@@ -51,7 +51,7 @@ module _ (c : ConfigValues) (es : List AcceptedCall) (id : ℕ) (piece : List �
   abbrev pub session_before : SessionValue
   session_before = session_shown rest_before s
 
-  module _ (host : ServerState) (does : handles s ≡ true) where
+  module _ (shared : ServerState) (does : handles s ≡ true) where
     abbrev TakesFront : Bool → Type 0
     TakesFront message =
         TakesSo c.limits.max_message id es (take (front_of handling_size rest_before piece) piece) s message
@@ -61,7 +61,7 @@ module _ (c : ConfigValues) (es : List AcceptedCall) (id : ℕ) (piece : List �
 
     frame_so : (frame : List ℕ) (read : Result Message FormatFault)
         → (framing handling_size rest_before piece).finding ≡ AFrame frame → message_of frame ≡ read
-        → TakesFront (taking_read host session_before (framing handling_size rest_before piece).taken read).handled
+        → TakesFront (taking_read shared session_before (framing handling_size rest_before piece).taken read).handled
     frame_so frame (Ok m) e reads =
         OneMessage refl does m (piece_adds_message c.limits.max_message id es piece no_fault_before frame m e reads)
     frame_so frame (Err f) e reads =
@@ -69,7 +69,7 @@ module _ (c : ConfigValues) (es : List AcceptedCall) (id : ℕ) (piece : List �
         (piece_adds_bad c.limits.max_message id es piece no_fault_before frame f e reads)
 
     found_so : (found : FrameEventValue) → (framing handling_size rest_before piece).finding ≡ found
-        → TakesFront (taking_found host session_before (framing handling_size rest_before piece) found).handled
+        → TakesFront (taking_found shared session_before (framing handling_size rest_before piece) found).handled
     found_so Nothing e =
         let adds = piece_adds_nothing c.limits.max_message id es piece no_fault_before e in
         NoStep refl adds.steps (rw (adds.stream, append-nil) refl) (rw adds.stream (sym no_fault_before))
@@ -78,18 +78,18 @@ module _ (c : ConfigValues) (es : List AcceptedCall) (id : ℕ) (piece : List �
         OneFault refl does (OfFrame fault) _ (piece_adds_fault c.limits.max_message id es piece no_fault_before fault e)
 
   -- The accepted bytes of any slice.
-  pub took_so : (host : ServerState)
-      → TakesSo c.limits.max_message id es bytes_taken s (taking host session_before piece).handled
-  took_so host =
+  pub took_so : (shared : ServerState)
+      → TakesSo c.limits.max_message id es bytes_taken s (taking shared session_before piece).handled
+  took_so shared =
       elim (cases_Bool (handles s)) [
         | inl does ↦ rw (
           takes_there c es id piece s there,
           does,
-          taking_front host handling_size rest_before piece s (is.sizes id s there) does,
+          taking_front shared handling_size rest_before piece s (is.sizes id s there) does,
         )
-            (found_so host does (framing handling_size rest_before piece).finding refl)
+            (found_so shared does (framing handling_size rest_before piece).finding refl)
         | inr stopped ↦
-            rw (takes_there c es id piece s there, stopped, taking_stopped host session_before piece stopped)
+            rw (takes_there c es id piece s there, stopped, taking_stopped shared session_before piece stopped)
             (NoStep refl (no_bytes_steps c.limits.max_message id es)
             (rw (no_bytes_stream c.limits.max_message id es) refl)
             (rw (no_bytes_stream c.limits.max_message id es) refl))
@@ -100,13 +100,14 @@ accepted_so : (c : ConfigValues) (es : List AcceptedCall) (id : ℕ) (bytes : Li
     → side_of id (world_after c es).sides ≡ Some s → takes c es id bytes ≡ length bytes
     → (message : Bool) × TakesSo c.limits.max_message id es bytes s message
 accepted_so c es id bytes s is there all =
-    let host : ServerState = record { store = (world_after c es).store; now = (world_after c es).now } in
+    let shared : ServerState = record { store = (world_after c es).store; now = (world_after c es).now } in
     let whole : bytes_taken c es id bytes s is there ≡ bytes =
     take_all (takes c es id bytes) bytes (omega (arith, all)) in
-    let message : Bool = (taking host (session_shown (stream_on c.limits.max_message id es).rest s) bytes).handled in (
+    let message : Bool = (taking shared (session_shown (stream_on c.limits.max_message id es).rest s) bytes).handled
+    in (
       message,
       subst (λ (b : List ℕ). TakesSo c.limits.max_message id es b s message) whole
-          (took_so c es id bytes s is there host),
+          (took_so c es id bytes s is there shared),
     )
 
 pub took_became : (c : ConfigValues) (es : List AcceptedCall) (id : ℕ) (bytes : List ℕ) (s t : Connection)
@@ -160,11 +161,11 @@ module _ (v : ServerValue) (es : List AcceptedCall) (id : ℕ) (piece : List ℕ
       let c : ConfigValues = v.config in
       let rest : List ℕ = (stream_on c.limits.max_message id es).rest in
       let at : session_of id v.sessions ≡ Some (session_shown rest s) = side_there v es id s shows there in
-      let message : Bool = (taking v.host (session_shown rest s) piece).handled in
+      let message : Bool = (taking v.shared (session_shown rest s) piece).handled in
       let so : TakesSo c.limits.max_message id es (take (count_taken v id piece) piece) s message =
       subst (λ (n : ℕ). TakesSo c.limits.max_message id es (take n piece) s message)
       (sym (takes_shown v es id piece shows))
-      (took_so c es id piece s (accepted_is c es shows.accepted) there v.host) in
+      (took_so c es id piece s (accepted_is c es shows.accepted) there v.shared) in
       let after = became c es id (take (count_taken v id piece) piece) s message there so in
       rw (at, stop_shown (session_shown rest s) at, after.1, there) (tells_what_became _ _ s after.0 message after.2)
 

@@ -19,7 +19,8 @@ use Rattle.std.proofs.Math.Seq.{drop-cons}
 use Rattle.coap_frame.proofs.FrontLaws.{added_front}
 use Rattle.coap_model.proofs.world.TookLaws.{Adds, adds_nothing, piece_adds_message, front_within, but_last_unfinished}
 use Rattle.coap_server_session.proofs.world.SideShown.{change_shown}
-use Rattle.coap_server_engine.proofs.world.ShowLaws.{session_there, host_shown, sessions_shown, takes_shown, refused_on}
+use Rattle.coap_server_engine.proofs.world.ShowLaws.{session_there, shared_shown, sessions_shown, takes_shown}
+use Rattle.coap_server_engine.proofs.world.ShowLaws.{refused_on}
 use Rattle.coap_server_engine.proofs.world.ShowLaws.{refused_unfinished, refused_message, refused_front}
 use Rattle.coap_model.proofs.world.StepLaws.{stream_more}
 use Rattle.coap_model.proofs.OptionLemmas.{none_made}
@@ -53,7 +54,7 @@ pub record RefusesLast (v : ServerValue) (es : List AcceptedCall) (id : ℕ) (pi
 
 -- If allocation fails for a slice, it fails for the message that the next byte would complete.
 pub refuses_last : (v : ServerValue) (es : List AcceptedCall) (id : ℕ) (piece : List ℕ) (n : ℕ) (s : SessionValue)
-    → Shows v es → session_of id v.sessions ≡ Some s → RefusesPiece v.host s piece n → RefusesLast v es id piece n
+    → Shows v es → session_of id v.sessions ≡ Some s → RefusesPiece v.shared s piece n → RefusesLast v es id piece n
 unfolding steps_by
 refuses_last v es id piece n s shows e refused =
     let w : World = world_after v.config es in
@@ -62,7 +63,7 @@ refuses_last v es id piece n s shows e refused =
     let so_far : Stream = stream_on M id es in
     let at = session_there v es id s shows e in
     let t : Connection = at.side in
-    let refuses : RefusesPiece v.host (session_shown so_far.rest t) piece n = rw at.shown at refused in
+    let refuses : RefusesPiece v.shared (session_shown so_far.rest t) piece n = rw at.shown at refused in
     let front : List ℕ = take n piece in
     let last : List ℕ = get_or piece n 0 ∷ [] in
     let clean = refused_unfinished v es id piece n t shows at.there refuses in
@@ -93,7 +94,7 @@ refuses_last v es id piece n s shows e refused =
       ) refl;
       stores = rw (at.there, change_shown w.store w.now t stored.message refuses.takes)
           (subst (λ (h : ServerState). IsPut (change_by h (session_shown so_far.rest t).link stored.message))
-          (host_shown v es shows) stored.puts);
+          (shared_shown v es shows) stored.puts);
     }
 
 -- ---- the message for which allocation failed, from the events: the next byte of the slice would complete it

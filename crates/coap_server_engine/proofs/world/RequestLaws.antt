@@ -25,8 +25,8 @@ use Rattle.coap_model.proofs.world.TookLaws.{piece_adds_message}
 use Rattle.coap_model.proofs.world.ReachedLaws.{accepted_is, takes_there, IsReached}
 use Rattle.coap_model.proofs.world.BecameLaws.{became, Became, Stayed, Heard, Rejected}
 use Rattle.coap_model.proofs.world.SideLaws.{handles_parts}
-use Rattle.coap_server_session.proofs.world.SideShown.{host_of}
-use Rattle.coap_server_engine.proofs.world.ShowLaws.{side_there, no_session, takes_shown, host_shown, taking_front}
+use Rattle.coap_server_session.proofs.world.SideShown.{shared_of}
+use Rattle.coap_server_engine.proofs.world.ShowLaws.{side_there, no_session, takes_shown, shared_shown, taking_front}
 use Rattle.coap_server_engine.proofs.world.ShowLaws.{taking_stopped, history_there}
 use Rattle.coap_server_engine.proofs.world.HandledLaws.{took_so, bytes_taken, rest_before, handling_size}
 use Rattle.coap_server_engine.proofs.world.HandledLaws.{session_before, no_fault_before, stop_then, side_stop}
@@ -76,7 +76,7 @@ heard_became before after s t message m heard adds (Rejected e does fault reject
 
 -- The model hands over the same requests.
 same_request : (w : World) (rest : List ℕ) (s : Connection) (m : Message) → IsHistory s.history
-    → is_handed_over (host_of w.store w.now) (session_shown rest s).link m
+    → is_handed_over (shared_of w.store w.now) (session_shown rest s).link m
     ≡ (asks_answer s m && is_handed (held_for (after s.history (call.Handle m)) (delay_of w.store w.now m)))
 same_request w rest s m history =
     let same : link_of (after s.history (call.Handle m)) ≡ link_after (link_of s.history) (call.Handle m) =
@@ -91,11 +91,11 @@ same_request w rest s m history =
     ap (λ d. asks_answer s m && is_handed d)
     (held (link_after (link_of s.history) (call.Handle m)) (sym same) (delay_of w.store w.now m))
 
-read_request : (host : ServerState) (v : SessionValue) (frame : List ℕ) (m : Message) → message_of frame ≡ Ok m
-    → option_and_then frame_message (handed_read host v frame (Ok m))
-    ≡ (if is_handed_over host v.link m then Some m else None)
-read_request host v frame m reads =
-    elim (is_handed_over host v.link m)
+read_request : (shared : ServerState) (v : SessionValue) (frame : List ℕ) (m : Message) → message_of frame ≡ Ok m
+    → option_and_then frame_message (handed_read shared v frame (Ok m))
+    ≡ (if is_handed_over shared v.link m then Some m else None)
+read_request shared v frame m reads =
+    elim (is_handed_over shared v.link m)
     as (λ b. option_and_then frame_message (if b then Some frame else None) ≡ (if b then Some m else None)) [
       | true ↦ rw reads refl
       | false ↦ refl
@@ -106,8 +106,8 @@ module _ (c : ConfigValues) (es : List AcceptedCall) (id : ℕ) (piece : List �
   abbrev w : World
   w = world_after c es
 
-  abbrev host : ServerState
-  host = host_of w.store w.now
+  abbrev shared : ServerState
+  shared = shared_of w.store w.now
 
   abbrev bytes : List ℕ
   bytes = bytes_taken c es id piece s is there
@@ -128,21 +128,21 @@ module _ (c : ConfigValues) (es : List AcceptedCall) (id : ℕ) (piece : List �
   rest = rest_before c es id piece s is there
 
   -- The request of a connection that accepts no bytes: there is none.
-  unready : session_takes shown ≡ false → handed host shown piece ≡ None
+  unready : session_takes shown ≡ false → handed shared shown piece ≡ None
   unfolding handed
   unready stopped = rw stopped refl
 
-  accepts : handles s ≡ true → handed host shown piece ≡ handed_found host shown (framing size rest piece).finding
+  accepts : handles s ≡ true → handed shared shown piece ≡ handed_found shared shown (framing size rest piece).finding
   unfolding handed
   accepts does = rw ((handles_parts s does).0, (handles_parts s does).1, is.sizes id s there) refl
 
   abbrev message : Bool
-  message = (taking host shown piece).handled
+  message = (taking shared shown piece).handled
 
   -- The connection after the take.
   pub after_take : (t : Connection) × (side_of id (world_after c (es ++ Took id bytes ∷ [])).sides ≡ Some t)
       × Became before later s t message
-  after_take = became c es id bytes s message there (took_so c es id piece s is there host)
+  after_take = became c es id bytes s message there (took_so c es id piece s is there shared)
 
   abbrev Same : Option (List ℕ) → Type 0
   Same found =
@@ -156,39 +156,39 @@ module _ (c : ConfigValues) (es : List AcceptedCall) (id : ℕ) (piece : List �
 
   module _ (does : handles s ≡ true) where
     front : (found : FrameEventValue) → (framing size rest piece).finding ≡ found
-        → (taking host shown piece) ≡ taking_found host shown (framing size rest piece) found
+        → (taking shared shown piece) ≡ taking_found shared shown (framing size rest piece) found
     front found e =
-        taking_front host size rest piece s (is.sizes id s there) does
-        ∙ ap (taking_found host shown (framing size rest piece)) e
+        taking_front shared size rest piece s (is.sizes id s there) does
+        ∙ ap (taking_found shared shown (framing size rest piece)) e
 
     frame_same : (frame : List ℕ) (read : Result Message FormatFault) → (framing size rest piece).finding ≡ AFrame frame
-        → message_of frame ≡ read → Same (handed_read host shown frame read)
+        → message_of frame ≡ read → Same (handed_read shared shown frame read)
     frame_same frame (Err f) e reads =
         none_same (ap (λ (o : TakeOutcome). o.handled) (front (AFrame frame) e) ∙ rw reads refl)
     frame_same frame (Ok m) e reads =
         let adds = piece_adds_message c.limits.max_message id es piece
-        (no_fault_before c es id piece s is there host does) frame m e reads in
+        (no_fault_before c es id piece s is there shared does) frame m e reads in
         let added : later.messages ≡ before.messages ++ m ∷ [] =
         rw (takes_there c es id piece s there, does) (ap (λ (u : Stream). u.messages) adds.stream) in
         let heard : message ≡ true = ap (λ (o : TakeOutcome). o.handled) (front (AFrame frame) e) ∙ rw reads refl in
-        read_request host shown frame m reads
+        read_request shared shown frame m reads
         ∙ ap (λ b. if b then Some m else None) (same_request w rest s m history)
         ∙ ap (option_and_then (request_to w.store w.now s))
         (sym (heard_became before later s after_take.0 message m heard added after_take.2))
 
     found_same : (found : FrameEventValue) → (framing size rest piece).finding ≡ found
-        → Same (handed_found host shown found)
+        → Same (handed_found shared shown found)
     found_same Nothing e = none_same (ap (λ (o : TakeOutcome). o.handled) (front Nothing e))
     found_same (AFault fault) e = none_same (ap (λ (o : TakeOutcome). o.handled) (front (AFault fault) e))
     found_same (AFrame frame) e = frame_same frame (message_of frame) e refl
 
-  pub request_same : Same (handed host shown piece)
+  pub request_same : Same (handed shared shown piece)
   request_same =
       elim (cases_Bool (handles s)) [
         | inl does ↦ rw (accepts does) (found_same does (framing size rest piece).finding refl)
         | inr stopped ↦
             rw (unready stopped)
-            (none_same (ap (λ (o : TakeOutcome). o.handled) (taking_stopped host shown piece stopped)))
+            (none_same (ap (λ (o : TakeOutcome). o.handled) (taking_stopped shared shown piece stopped)))
       ]
 
 -- ---- the clause of a take
@@ -196,7 +196,7 @@ module _ (c : ConfigValues) (es : List AcceptedCall) (id : ℕ) (piece : List �
 module _ (v : ServerValue) (es : List AcceptedCall) (id : ℕ) (piece : List ℕ) (shows : Shows v es) where
   -- A connection that no longer accepts messages hands over none.
   by_stop : (w : World) (s t : Connection) (found : Option (List ℕ)) (sv : SessionValue)
-      → handed v.host sv piece ≡ found
+      → handed v.shared sv piece ≡ found
       → option_and_then frame_message found ≡ option_and_then (request_to w.store w.now s) (message_between s t)
       → (stop : Option Reason) → stop_of t.history.phase ≡ stop
       → option_and_then frame_message (handed_on v piece (Some sv) stop)
@@ -220,9 +220,9 @@ module _ (v : ServerValue) (es : List AcceptedCall) (id : ℕ) (piece : List ℕ
       let history = history_there c es id s shows.moment there in
       let after = after_take c es id piece s is there history in
       let same = request_same c es id piece s is there history in
-      let host : handed v.host (session_shown rest s) piece
-      ≡ handed (host_of w.store w.now) (session_shown rest s) piece =
-      ap (λ h. handed h (session_shown rest s) piece) (host_shown v es shows) in
+      let shared : handed v.shared (session_shown rest s) piece
+      ≡ handed (shared_of w.store w.now) (session_shown rest s) piece =
+      ap (λ h. handed h (session_shown rest s) piece) (shared_shown v es shows) in
       let stop : stop_then v es id piece shows ≡ stop_of after.0.history.phase =
       stop_shown v es id piece shows (session_shown rest s) at
       ∙ ap (λ (n : ℕ). side_stop (side_of id (world_after c (es ++ Took id (take n piece) ∷ [])).sides))
@@ -230,7 +230,8 @@ module _ (v : ServerValue) (es : List AcceptedCall) (id : ℕ) (piece : List ℕ
       ∙ ap side_stop after.1 in
       ap (λ o. option_and_then frame_message (handed_on v piece (session_of id v.sessions) o)) stop
       ∙ ap (λ o. option_and_then frame_message (handed_on v piece o (stop_of after.0.history.phase))) at
-      ∙ by_stop w s after.0 (handed (host_of w.store w.now) (session_shown rest s) piece) (session_shown rest s) host
+      ∙ by_stop w s after.0 (handed (shared_of w.store w.now) (session_shown rest s) piece) (session_shown rest s)
+      shared
       same (stop_of after.0.history.phase) refl
       ∙ ap (request_between w (Some s)) (sym after.1)
       ∙ ap (λ o. request_between w o (side_of id (world_after c (es ++ event ∷ [])).sides)) (sym there)

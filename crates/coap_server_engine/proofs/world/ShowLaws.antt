@@ -45,7 +45,7 @@ use Rattle.coap_model.proofs.world.EntryLemmas.{all_to, maps_alike, mapped_filte
 use Rattle.coap_model.proofs.world.ReachedLaws.{IsReached, handling_goes_on, accepted_is, takes_there, piece_accepted}
 use Rattle.coap_model.proofs.world.ReachedLaws.{events_distinct, opens}
 use Rattle.coap_model.proofs.world.SideLaws.{IsKnownSide, handles_parts}
-use Rattle.coap_server_session.proofs.world.SideShown.{host_of, faulted_shown, handled_shown, change_shown}
+use Rattle.coap_server_session.proofs.world.SideShown.{shared_of, faulted_shown, handled_shown, change_shown}
 use Rattle.coap_server_session.proofs.world.SideShown.{written_shown}
 use Rattle.coap_server_session.proofs.world.SideShown.{ended_side_shown, released_shown, given_shown, announced_shown}
 use Rattle.coap_server_session.proofs.world.SideShown.{settled_shown}
@@ -90,10 +90,10 @@ pub server_after_settling : (c : ConfigValues) (es : List AcceptedCall) (w : Wor
 server_after_settling c es w known =
     let shown : ConnectionEntry → ℕ × SessionValue = place_shown c.limits.max_message es in
     let settles : ConnectionEntry → ConnectionEntry = settled_place w.store w.now in
-    let host : ServerState = host_of w.store w.now in
+    let shared : ServerState = shared_of w.store w.now in
     ap (λ (os : List (ℕ × SessionValue)). record (server_shown c es w) { sessions = os })
-    (maps_alike settles shown shown (settled_entry host) w.sides
-    (all_to (IsKnownPlace w.store) (λ p. shown (settles p) ≡ settled_entry host (shown p))
+    (maps_alike settles shown shown (settled_entry shared) w.sides
+    (all_to (IsKnownPlace w.store) (λ p. shown (settles p) ≡ settled_entry shared (shown p))
     (λ p is. ap (λ (v : SessionValue). (p.id, v))
     (settled_shown w.store w.now known.moment known.versioned (stream_on c.limits.max_message p.id es).rest p.side is))
     w.sides known.places))
@@ -107,48 +107,54 @@ history_there c es id t small there =
 
 -- ---- the bytes that a session accepts
 
-pub taking_stopped : (host : ServerState) (s : SessionValue) (piece : List ℕ) → session_takes s ≡ false
-    → taking host s piece ≡ record { count = 0; handled = false; session = s; change = store_change.Nothing }
+pub taking_stopped : (shared : ServerState) (s : SessionValue) (piece : List ℕ) → session_takes s ≡ false
+    → taking shared s piece ≡ record { count = 0; handled = false; session = s; change = store_change.Nothing }
 unfolding taking
-taking_stopped host s piece stopped = rw stopped refl
+taking_stopped shared s piece stopped = rw stopped refl
 
 -- A connection that accepts bytes finds in the kept bytes and the slice the frame or error that `framing` finds.
-pub taking_front : (host : ServerState) (M : ℕ) (rest piece : List ℕ) (t : Connection)
+pub taking_front : (shared : ServerState) (M : ℕ) (rest piece : List ℕ) (t : Connection)
     → t.history.own_max ≡ M → handles t ≡ true
-    → taking host (session_shown rest t) piece
-    ≡ taking_found host (session_shown rest t) (framing M rest piece) (framing M rest piece).finding
+    → taking shared (session_shown rest t) piece
+    ≡ taking_found shared (session_shown rest t) (framing M rest piece) (framing M rest piece).finding
 unfolding taking
-taking_front host M rest piece t most does = rw ((handles_parts t does).0, (handles_parts t does).1, most) refl
+taking_front shared M rest piece t most does = rw ((handles_parts t does).0, (handles_parts t does).1, most) refl
 
-count_found : (host : ServerState) (s : SessionValue) (f : Framing) (found : FrameEventValue)
-    → (taking_found host s f found).count ≡ f.taken
-count_found host s f found = grind arith
+count_found : (shared : ServerState) (s : SessionValue) (f : Framing) (found : FrameEventValue)
+    → (taking_found shared s f found).count ≡ f.taken
+count_found shared s f found = grind arith
 
 -- The number of bytes that it accepts.
-pub taking_count : (host : ServerState) (M : ℕ) (rest piece : List ℕ) (t : Connection) → t.history.own_max ≡ M
-    → (taking host (session_shown rest t) piece).count ≡ (if handles t then front_of M rest piece else 0)
-taking_count host M rest piece t most =
+pub taking_count : (shared : ServerState) (M : ℕ) (rest piece : List ℕ) (t : Connection) → t.history.own_max ≡ M
+    → (taking shared (session_shown rest t) piece).count ≡ (if handles t then front_of M rest piece else 0)
+taking_count shared M rest piece t most =
     let s : SessionValue = session_shown rest t in
     let f : Framing = framing M rest piece in
-    grind (arith, taking_front host M rest piece t most, count_found host s f f.finding, taking_stopped host s piece)
+    grind (
+      arith,
+      taking_front shared M rest piece t most,
+      count_found shared s f f.finding,
+      taking_stopped shared s piece,
+    )
 
 -- A representation is stored only by a frame whose message stores it.
-pub record StoresBy (host : ServerState) (s : SessionValue) (found : FrameEventValue) : Type 0 where
+pub record StoresBy (shared : ServerState) (s : SessionValue) (found : FrameEventValue) : Type 0 where
   pub frame : List ℕ
   pub message : Message
   pub is : found ≡ AFrame frame
   pub reads : message_of frame ≡ Ok message
-  pub puts : IsPut (change_by host s.link message)
+  pub puts : IsPut (change_by shared s.link message)
 
-stores_by : (host : ServerState) (s : SessionValue) (f : Framing) (found : FrameEventValue)
-    → IsPut (taking_found host s f found).change → StoresBy host s found
-stores_by host s f (AFrame frame) put = by (message_of frame) refl put
+stores_by : (shared : ServerState) (s : SessionValue) (f : Framing) (found : FrameEventValue)
+    → IsPut (taking_found shared s f found).change → StoresBy shared s found
+stores_by shared s f (AFrame frame) put = by (message_of frame) refl put
   where
-    by : (read : Result Message FormatFault) → message_of frame ≡ read → IsPut (taking_read host s f.taken read).change
-        → StoresBy host s (AFrame frame)
+    by : (read : Result Message FormatFault) → message_of frame ≡ read
+        → IsPut (taking_read shared s f.taken read).change
+        → StoresBy shared s (AFrame frame)
     by (Ok m) e puts = record { frame = frame; message = m; is = refl; reads = e; puts = puts }
     by (Err fault) e puts = absurd puts
-stores_by host s f other put = absurd put
+stores_by shared s f other put = absurd put
 
 -- ---- the bytes that a server accepts
 
@@ -167,8 +173,8 @@ module _ (c : ConfigValues) (es : List AcceptedCall) (id : ℕ) (piece : List �
   abbrev world_then : World
   world_then = world_after c es
 
-  abbrev pub host_then : ServerState
-  host_then = host_of world_then.store world_then.now
+  abbrev pub shared_then : ServerState
+  shared_then = shared_of world_then.store world_then.now
 
   -- The current message size.
   abbrev in_force : ℕ
@@ -189,16 +195,16 @@ module _ (c : ConfigValues) (es : List AcceptedCall) (id : ℕ) (piece : List �
       → IsKnownWorld (record (on_side id f world_then) { store = store })
       → world_after c (es ++ Took id bytes ∷ []) ≡ all_settled (record (on_side id f world_then) { store = store })
       → session_shown (stream_on most id (es ++ Took id bytes ∷ [])).rest (f t) ≡ v
-      → server_settled (record (on_session id (λ s. v) (server_of c es)) { host = host_of store world_then.now })
+      → server_settled (record (on_session id (λ s. v) (server_of c es)) { shared = shared_of store world_then.now })
       ≡ server_of c (es ++ Took id bytes ∷ [])
   unfolding server_of
   took bytes f v store known settles shown =
       let fs : List AcceptedCall = es ++ Took id bytes ∷ [] in
-      let host : ServerState = host_of store world_then.now in
+      let shared : ServerState = shared_of store world_then.now in
       sym (ap (server_shown c fs) settles
       ∙ server_after_settling c fs (record (on_side id f world_then) { store = store }) known
       ∙ ap (λ (os : List (ℕ × SessionValue)).
-      server_settled (record (server_shown c es world_then) { host = host; sessions = os }))
+      server_settled (record (server_shown c es world_then) { shared = shared; sessions = os }))
       (one_becomes most id es fs f (λ s. v) t world_then.sides (events_distinct c es) there
       (λ k apart. stream_elsewhere most k id es bytes apart) shown))
 
@@ -241,17 +247,17 @@ module _ (c : ConfigValues) (es : List AcceptedCall) (id : ℕ) (piece : List �
     -- The bytes of a frame, from the result of the parser.
     frame_takes : (frame : List ℕ) (read : Result Message FormatFault)
         → Adds most id es front_taken_then (frame_then frame read (record { messages = []; rest = []; fault = None }))
-        → TakesAs (taking_read host_then session_then framing_then.taken read)
+        → TakesAs (taking_read shared_then session_then framing_then.taken read)
     unfolding server_of acted world.step
     frame_takes frame (Ok m) adds =
         let w : World = world_then in
         let st : Step = world.Handled id m in
         let known : IsKnownWorld w = world_known c es small in
-        let store : StoreValue = changed w.store (change_by host_then session_then.link m) in
+        let store : StoreValue = changed w.store (change_by shared_then session_then.link m) in
         let acts : acted c.limits w st ≡ record (on_side id (λ u. side_after w.store w.now u m) w) { store = store } =
         ap (λ (s : StoreValue). record (on_side id (λ u. side_after w.store w.now u m) w) { store = s })
         (ap (stored_after w m) there ∙ ap (changed w.store) (change_shown w.store w.now t m does)) in
-        took front_taken_then (λ u. side_after w.store w.now u m) (session_handled host_then session_then m) store
+        took front_taken_then (λ u. side_after w.store w.now u m) (session_handled shared_then session_then m) store
         (subst IsKnownWorld acts (acted_known c.limits w st known))
         (world_step c es (Took id front_taken_then) st adds.steps ∙ ap all_settled acts)
         (ap (λ (u : Stream). session_shown u.rest (side_after w.store w.now t m)) adds.stream
@@ -261,7 +267,7 @@ module _ (c : ConfigValues) (es : List AcceptedCall) (id : ℕ) (piece : List �
 
     found_takes : (found : FrameEventValue) → framing_then.finding ≡ found
         → Adds most id es front_taken_then (added_by so_far front_taken_then found)
-        → TakesAs (taking_found host_then session_then framing_then found)
+        → TakesAs (taking_found shared_then session_then framing_then found)
     found_takes Nothing e adds =
         took_quietly front_taken_then (record session_then { frame = framing_then.kept }) adds.steps
         (ap (λ (u : Stream). session_shown u.rest t) adds.stream
@@ -270,14 +276,14 @@ module _ (c : ConfigValues) (es : List AcceptedCall) (id : ℕ) (piece : List �
     found_takes (AFault fault) e adds = fault_takes (OfFrame fault) _ adds
 
   -- The accepted bytes of any slice.
-  server_takes : TakesAs (taking host_then session_then piece)
+  server_takes : TakesAs (taking shared_then session_then piece)
   server_takes =
       elim (cases_Bool (handles t)) [
         | inl does ↦
-            rw (taking_front host_then in_force so_far piece t (is.sizes id t there) does)
+            rw (taking_front shared_then in_force so_far piece t (is.sizes id t there) does)
             (found_takes does framing_then.finding refl
             (piece_adds most id es piece (handling_goes_on c es id t is there does)))
-        | inr stopped ↦ rw (taking_stopped host_then session_then piece stopped) stopped_takes
+        | inr stopped ↦ rw (taking_stopped shared_then session_then piece stopped) stopped_takes
       ]
 
 -- ---- the connections of a server are those of its model
@@ -320,20 +326,20 @@ pub no_session : (v : ServerValue) (es : List AcceptedCall) (id : ℕ) → Shows
 no_session v es id shows e = sessions_shown v es id shows ∙ rw e refl
 
 -- The resources and the time.
-pub host_shown : (v : ServerValue) (es : List AcceptedCall) → Shows v es
-    → v.host ≡ host_of (world_after v.config es).store (world_after v.config es).now
+pub shared_shown : (v : ServerValue) (es : List AcceptedCall) → Shows v es
+    → v.shared ≡ shared_of (world_after v.config es).store (world_after v.config es).now
 unfolding server_of
-host_shown v es shows = ap (λ (u : ServerValue). u.host) shows.same
+shared_shown v es shows = ap (λ (u : ServerValue). u.shared) shows.same
 
 -- ---- no change is lost
 
 -- A connection is up to date if its queue has room, since the one of the model is.
 pub no_change_is_lost : (v : ServerValue) (es : List AcceptedCall) (id : ℕ) (s : SessionValue) (t : Connection)
     → Shows v es → session_of id v.sessions ≡ Some s → side_of id (world_after v.config es).sides ≡ Some t
-    → IsUpToDate v.host.store v.host.now t
+    → IsUpToDate v.shared.store v.shared.now t
 no_change_is_lost v es id s t shows e there =
     let w : World = world_after v.config es in
-    rw (host_shown v es shows)
+    rw (shared_shown v es shows)
     (of_number (λ n u. IsUpToDate w.store w.now u) id t w.sides (world_hears v.config es) there)
 
 -- ---- calls that accept no byte
@@ -456,34 +462,34 @@ shows_dropped v es id s shows there =
     (mapped_filter (place_shown c.limits.max_message es) others (world_after c es).sides))
 
 -- `tick`.
-pub shows_ticked : (v : ServerValue) (es : List AcceptedCall) (now : ℕ) → Shows v es → v.host.now ≤ now
+pub shows_ticked : (v : ServerValue) (es : List AcceptedCall) (now : ℕ) → Shows v es → v.shared.now ≤ now
     → now ≤ 18446744073709551615 → Shows (server_ticked v now) (es ++ Ticked now ∷ [])
 unfolding IsAccepted server_of acted steps_by
 shows_ticked v es now shows later small =
     let ticks_there : ticks (world_after v.config es).now now ≡ true =
-    grind (arith, nat_tests, host_shown v es shows) in
-    shows_step v es (Ticked now) _ (λ u. record u { host = record u.host { now = now } }) shows ticks_there refl
+    grind (arith, nat_tests, shared_shown v es shows) in
+    shows_step v es (Ticked now) _ (λ u. record u { shared = record u.shared { now = now } }) shows ticks_there refl
     (λ k. refl) (rw ticks_there refl)
 
 -- `put`.
 pub shows_put : (v : ServerValue) (es : List AcceptedCall) (path : Path) (format : Option ℕ) (bytes : List ℕ)
-    → Shows v es → put_refusal v.host.store path bytes ≡ None
+    → Shows v es → put_refusal v.shared.store path bytes ≡ None
     → Shows (server_put v path format bytes) (es ++ Stored path format bytes ∷ [])
 unfolding IsAccepted server_of acted steps_by
 shows_put v es path format bytes shows none =
-    let free : put_refusal (world_after v.config es).store path bytes ≡ None = rw (host_shown v es shows) at none in
+    let free : put_refusal (world_after v.config es).store path bytes ≡ None = rw (shared_shown v es shows) at none in
     shows_step v es (Stored path format bytes) _
-    (λ u. record u { host = record u.host { store = put_in u.host.store path format bytes } }) shows free
+    (λ u. record u { shared = record u.shared { store = put_in u.shared.store path format bytes } }) shows free
     refl (λ k. refl) (rw free refl)
 
 -- `remove`.
 pub shows_removed : (v : ServerValue) (es : List AcceptedCall) (path : Path) → Shows v es
-    → remove_refusal v.host.store path ≡ None → Shows (server_removed v path) (es ++ Removed path ∷ [])
+    → remove_refusal v.shared.store path ≡ None → Shows (server_removed v path) (es ++ Removed path ∷ [])
 unfolding IsAccepted server_of acted steps_by
 shows_removed v es path shows none =
     shows_step v es (Removed path) _
-    (λ u. record u { host = record u.host { store = removed_in u.host.store path } }) shows
-    (rw (host_shown v es shows) at none) refl (λ k. refl) refl
+    (λ u. record u { shared = record u.shared { store = removed_in u.shared.store path } }) shows
+    (rw (shared_shown v es shows) at none) refl (λ k. refl) refl
 
 -- `open`.
 pub shows_opened : (v : ServerValue) (es : List AcceptedCall) → Shows v es → v.ids + 1 ≤ 18446744073709551615
@@ -518,7 +524,7 @@ takes_by : (v : ServerValue) (es : List AcceptedCall) (id : ℕ) (piece : List �
     ≡ takes_of (size_on v.config.limits.max_message id es) (rest_on v es id) piece side
 takes_by v es id piece None is e = refl
 takes_by v es id piece (Some t) is e =
-    taking_count v.host (size_on v.config.limits.max_message id es) (rest_on v es id) piece t (is.sizes id t e)
+    taking_count v.shared (size_on v.config.limits.max_message id es) (rest_on v es id) piece t (is.sizes id t e)
 
 -- The number of bytes that a server accepts is a function of its events.
 pub takes_shown : (v : ServerValue) (es : List AcceptedCall) (id : ℕ) (piece : List ℕ) → Shows v es
@@ -534,15 +540,15 @@ pub shows_taken : (v : ServerValue) (es : List AcceptedCall) (id : ℕ) (piece :
 unfolding server_taken
 shows_taken v es id piece s shows e =
     let c : ConfigValues = v.config in
-    let host : ServerState = host_of (world_after c es).store (world_after c es).now in
+    let shared : ServerState = shared_of (world_after c es).store (world_after c es).now in
     let at = session_there v es id s shows e in
     let is : IsReached c es = accepted_is c es shows.accepted in
-    let taken : TakeOutcome = taking host (session_shown (rest_on v es id) at.side) piece in
-    let same : taking v.host s piece ≡ taken =
-    ap (λ (h : ServerState). taking h s piece) (host_shown v es shows)
-    ∙ ap (λ (u : SessionValue). taking host u piece) at.shown in
+    let taken : TakeOutcome = taking shared (session_shown (rest_on v es id) at.side) piece in
+    let same : taking v.shared s piece ≡ taken =
+    ap (λ (h : ServerState). taking h s piece) (shared_shown v es shows)
+    ∙ ap (λ (u : SessionValue). taking shared u piece) at.shown in
     let count : taken.count ≡ takes c es id piece =
-    taking_count host (size_on c.limits.max_message id es) (rest_on v es id) piece at.side
+    taking_count shared (size_on c.limits.max_message id es) (rest_on v es id) piece at.side
     (is.sizes id at.side at.there)
     ∙ sym (takes_there c es id piece at.side at.there) in
     rw (takes_shown v es id piece shows)
@@ -557,14 +563,14 @@ shows_taken v es id piece s shows e =
 
 -- The connection exists.
 pub refused_on : (v : ServerValue) (piece : List ℕ) (n : ℕ) (found : Option SessionValue)
-    → RefusesPieceOn v piece n found → (s : SessionValue) × (found ≡ Some s) × RefusesPiece v.host s piece n
+    → RefusesPieceOn v piece n found → (s : SessionValue) × (found ≡ Some s) × RefusesPiece v.shared s piece n
 refused_on v piece n None refuses = absurd refuses
 refused_on v piece n (Some s) refuses = (s, refl, refuses)
 
 -- A slice on a connection of the model.
 module _ (v : ServerValue) (es : List AcceptedCall) (id : ℕ) (piece : List ℕ) (n : ℕ) (t : Connection)
     (shows : Shows v es) (there : side_of id (world_after v.config es).sides ≡ Some t)
-    (refuses : RefusesPiece v.host (session_shown (stream_on v.config.limits.max_message id es).rest t) piece n) where
+    (refuses : RefusesPiece v.shared (session_shown (stream_on v.config.limits.max_message id es).rest t) piece n) where
   abbrev stream_then : Stream
   stream_then = stream_on v.config.limits.max_message id es
 
@@ -583,15 +589,16 @@ module _ (v : ServerValue) (es : List AcceptedCall) (id : ℕ) (piece : List ℕ
       (none, rest_unfinished v.config.limits.max_message id es none)
 
   -- The slice begins with a frame whose message stores a representation, and that ends after `n` more bytes.
-  pub refused_message : StoresBy v.host (session_shown stream_then.rest t)
+  pub refused_message : StoresBy v.shared (session_shown stream_then.rest t)
       (framing size_so_far stream_then.rest piece).finding
   refused_message =
-      stores_by v.host (session_shown stream_then.rest t) (framing size_so_far stream_then.rest piece) _
-      (rw (taking_front v.host size_so_far stream_then.rest piece t size_there refusing_handles) at refuses.stores)
+      stores_by v.shared (session_shown stream_then.rest t) (framing size_so_far stream_then.rest piece) _
+      (rw (taking_front v.shared size_so_far stream_then.rest piece t size_there refusing_handles) at refuses.stores)
 
   pub refused_front : front_of size_so_far stream_then.rest piece ≡ n + 1
   refused_front =
-      sym (rw refusing_handles at (taking_count v.host size_so_far stream_then.rest piece t size_there)) ∙ refuses.last
+      sym (rw refusing_handles at (taking_count v.shared size_so_far stream_then.rest piece t size_there))
+      ∙ refuses.last
 
   refused_count : count_taken v id (take n piece) ≡ n
   refused_count =
@@ -605,7 +612,7 @@ module _ (v : ServerValue) (es : List AcceptedCall) (id : ℕ) (piece : List ℕ
 
 -- All bytes but the last of a message that stores a representation are accepted, and the server shows this.
 pub shows_refused_take : (v : ServerValue) (es : List AcceptedCall) (id : ℕ) (piece : List ℕ) (n : ℕ) (s : SessionValue)
-    → Shows v es → session_of id v.sessions ≡ Some s → RefusesPiece v.host s piece n
+    → Shows v es → session_of id v.sessions ≡ Some s → RefusesPiece v.shared s piece n
     → Shows (server_taken v id (take n piece)) (es ++ Took id (take n piece) ∷ [])
 shows_refused_take v es id piece n s shows e refuses =
     let at = session_there v es id s shows e in

@@ -62,7 +62,7 @@ response_number responding.NoRoom = 4
 
 -- The number of the error of `tick`, if the time is before that of the server.
 abbrev pub tick_refusal : ServerValue → ℕ → Option ℕ
-tick_refusal v now = if nat_le v.host.now now then None else Some 1
+tick_refusal v now = if nat_le v.shared.now now then None else Some 1
 
 -- ---- events that fail
 
@@ -126,11 +126,11 @@ event_ran v (Tick now) =
     unless_refused v (codes "tick") None (comes_to (server_ticked v now) (tick_line now)) (tick_refusal v now)
 event_ran v (Put path format bytes) =
     unless_refused v (codes "put") None
-    (comes_to (server_put v path format bytes) (put_line (v.host.store.versions + 1)))
-    (option_map store_number (put_refusal v.host.store path bytes))
+    (comes_to (server_put v path format bytes) (put_line (v.shared.store.versions + 1)))
+    (option_map store_number (put_refusal v.shared.store path bytes))
 event_ran v (Remove path text) =
     unless_refused v (codes "remove") None (comes_to (server_removed v path) (remove_line text))
-    (option_map store_number (remove_refusal v.host.store path))
+    (option_map store_number (remove_refusal v.shared.store path))
 event_ran v (End id) =
     on_connection v (codes "end") id (λ s. comes_to (server_ended v id) (word_line (codes "end") id))
     (session_of id v.sessions)

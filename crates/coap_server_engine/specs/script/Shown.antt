@@ -36,8 +36,8 @@ events_made v (In id bytes) = took v id bytes
 events_made v (Drain id most) =
     where_there (session_of id v.sessions) (λ s. Wrote id (length (drained most s.link.waiting)))
 events_made v (Tick now) = unless (tick_refusal v now) (Ticked now)
-events_made v (Put path format bytes) = unless (put_refusal v.host.store path bytes) (Stored path format bytes)
-events_made v (Remove path text) = unless (remove_refusal v.host.store path) (Removed path)
+events_made v (Put path format bytes) = unless (put_refusal v.shared.store path bytes) (Stored path format bytes)
+events_made v (Remove path text) = unless (remove_refusal v.shared.store path) (Removed path)
 events_made v (End id) = where_there (session_of id v.sessions) (λ s. Ended id)
 events_made v (Release id) = unless (released_refusal v id) (Released id)
 events_made v (Respond id bytes) = unless_any (responded_refusal v id bytes) (response_event id (message_of bytes))

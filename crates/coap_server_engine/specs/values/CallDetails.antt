@@ -10,7 +10,7 @@ use Rattle.coap_server_engine.specs.declared.monitor.DropReason.TheVariants as d
 use Rattle.coap_server_engine.specs.declared.server.ConnectionWork.{ConnectionWork}
 use Rattle.coap_server_engine.specs.values.Flushes.{waiting_at}
 use Rattle.coap_server_engine.specs.values.ServerAnswers.{IsNotTaken, handled_by}
-use Rattle.coap_server_engine.specs.values.ServerDeadlines.{outlook_of}
+use Rattle.coap_server_engine.specs.values.ServerDeadlines.{work_of}
 use Rattle.coap_server_engine.specs.values.Servers.{ServerValue, count_taken, server_announced, server_ended}
 use Rattle.coap_server_engine.specs.values.Servers.{server_given, server_put, server_released, server_removed}
 use Rattle.coap_server_engine.specs.values.Servers.{server_taken, server_ticked}
@@ -47,4 +47,4 @@ IsTrueCall (call.Ended id) v = (before : ServerValue) × (v ≡ server_ended bef
 IsTrueCall (call.Released id) v = (before : ServerValue) × (v ≡ server_released before id)
 IsTrueCall (call.Responded id bytes) v = (before : ServerValue) × (v ≡ server_given before id bytes.now)
 IsTrueCall (call.Announced id size) v = (before : ServerValue) × (v ≡ server_announced before id size)
-IsTrueCall (call.Dropped id why) v = (work : ConnectionWork) × (outlook_of v id ≡ Some work) × IsReasonFor why work
+IsTrueCall (call.Dropped id why) v = (work : ConnectionWork) × (work_of v id ≡ Some work) × IsReasonFor why work

@@ -17,7 +17,7 @@ use Rattle.coap_server_engine.specs.values.HandedRequests.{frame_message}
 -- The frame that a `take` of `piece` completes on a connection, if its message stores or deletes a resource.
 abbrev pub changing_on : ServerValue → List ℕ → Option SessionValue → Option (List ℕ)
 changing_on v piece None = None
-changing_on v piece (Some s) = if changes (taking v.host s piece).change then completed s piece else None
+changing_on v piece (Some s) = if changes (taking v.shared s piece).change then completed s piece else None
 
 -- The same for the connection with this id.
 unfoldable pub changing_frame : ServerValue → ℕ → List ℕ → Option (List ℕ)

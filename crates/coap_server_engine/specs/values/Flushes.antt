@@ -50,9 +50,9 @@ IsFlushedOnce id v after wrote true = (after ≡ server_written v id (length (wa
 -- The same for the connection at an index, whose value is `s`.
 abbrev pub IsFlushedAt : ℕ → ServerState → SessionValue → List (ℕ × SessionValue) → List (ℕ × SessionValue)
     → (List ℕ → Type 0) → Bool → Type 0
-IsFlushedAt at host s sessions after wrote false = (s.link.waiting ≡ []) × (after ≡ sessions) × wrote []
-IsFlushedAt at host s sessions after wrote true =
-    (after ≡ changed_at at (λ u. session_settled host (session_written u (length s.link.waiting))) sessions)
+IsFlushedAt at shared s sessions after wrote false = (s.link.waiting ≡ []) × (after ≡ sessions) × wrote []
+IsFlushedAt at shared s sessions after wrote true =
+    (after ≡ changed_at at (λ u. session_settled shared (session_written u (length s.link.waiting))) sessions)
     × wrote s.link.waiting
 
 -- Holds if a flush is complete. It ends when nothing is queued, or after one more iteration than there were pending

@@ -26,7 +26,7 @@ frame_message frame = message_in (message_of frame)
 -- connection has the reason `stop` afterwards, since nobody can respond on it.
 abbrev pub handed_on : ServerValue → List ℕ → Option SessionValue → Option Reason → Option (List ℕ)
 handed_on v piece None stop = None
-handed_on v piece (Some s) None = handed v.host s piece
+handed_on v piece (Some s) None = handed v.shared s piece
 handed_on v piece (Some s) (Some why) = None
 
 -- The same for the connection with this id.

@@ -94,7 +94,7 @@ handled_so true false None = handled.Nothing
 -- The result of a `take` of `piece` on a connection that has the reason `stop` afterwards.
 abbrev pub handled_on : ServerValue → List ℕ → Option SessionValue → Option Reason → Handled
 handled_on v piece None stop = handled.Nothing
-handled_on v piece (Some s) stop = handled_so (session_takes s) (taking v.host s piece).handled stop
+handled_on v piece (Some s) stop = handled_so (session_takes s) (taking v.shared s piece).handled stop
 
 -- The result of a `take` of `piece` on the connection with this id.
 unfoldable pub handled_by : ServerValue → ℕ → List ℕ → Handled
@@ -104,7 +104,7 @@ handled_by v id piece =
 -- Holds if there is a connection, and allocation may fail in its `take` of `piece`.
 abbrev pub RefusesPieceOn : ServerValue → List ℕ → ℕ → Option SessionValue → Type 0
 RefusesPieceOn v piece bytes None = ⊥
-RefusesPieceOn v piece bytes (Some s) = RefusesPiece v.host s piece bytes
+RefusesPieceOn v piece bytes (Some s) = RefusesPiece v.shared s piece bytes
 
 -- States the server after a `take` that failed. If no connection has this id, nothing has changed. If allocation
 -- failed, the server has accepted the first `bytes` bytes of `piece`.

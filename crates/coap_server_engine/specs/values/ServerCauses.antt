@@ -12,15 +12,15 @@ use Rattle.coap_server_engine.specs.values.Servers.{changed_at, AreAllMarked}
 
 -- Holds if every connection that a change cannot affect is settled.
 abbrev pub UnaffectedAreSettled : Cause → ServerState → List (ℕ × SessionValue) → Type 0
-UnaffectedAreSettled why host sessions =
-    AllByRecursion (λ e. IsUnaffected why host.now e.1 → IsSettled host e.1) sessions
+UnaffectedAreSettled why shared sessions =
+    AllByRecursion (λ e. IsUnaffected why shared.now e.1 → IsSettled shared e.1) sessions
 
 -- The same for a change of a path with this hash, if there was any, after the connection at an index is settled too.
 abbrev pub AreOthersSettled : Option ℕ → ℕ → ServerState → List (ℕ × SessionValue) → Type 0
-AreOthersSettled None at host sessions = Unit {0}
-AreOthersSettled (Some hash) at host sessions =
-    (s : SessionValue) → IsSettled host s
-    → UnaffectedAreSettled (cause.Path hash) host (changed_at at (λ _. s) sessions)
+AreOthersSettled None at shared sessions = Unit {0}
+AreOthersSettled (Some hash) at shared sessions =
+    (s : SessionValue) → IsSettled shared s
+    → UnaffectedAreSettled (cause.Path hash) shared (changed_at at (λ _. s) sessions)
 
 -- Holds if a change affects no connection from the index `from` up to, but not including, `to`.
 abbrev pub AreUntouched : Cause → ℕ → ℕ → ℕ → List (ℕ × MarkedSession) → Type 0
@@ -30,9 +30,9 @@ AreUntouched why now from to sessions =
 
 -- Holds if all changed marks are current after those are recomputed that a change may affect.
 abbrev pub AreMarkedBut : Cause → ServerState → List (ℕ × MarkedSession) → Type 0
-AreMarkedBut why host sessions = AllByRecursion (λ e. IsMarkedBut why host e.1) sessions
+AreMarkedBut why shared sessions = AllByRecursion (λ e. IsMarkedBut why shared e.1) sessions
 
 -- The same for a change of a path with this hash, or for current marks if there was none.
 abbrev pub AreMarkedAfter : Option ℕ → ServerState → List (ℕ × MarkedSession) → Type 0
-AreMarkedAfter None host sessions = AreAllMarked host sessions
-AreMarkedAfter (Some hash) host sessions = AreMarkedBut (cause.Path hash) host sessions
+AreMarkedAfter None shared sessions = AreAllMarked shared sessions
+AreMarkedAfter (Some hash) shared sessions = AreMarkedBut (cause.Path hash) shared sessions

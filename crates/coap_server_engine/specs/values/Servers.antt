@@ -11,15 +11,15 @@ use Rattle.coap_path.specs.Applications.{ApplicationsValue}
 use Rattle.coap_store.specs.Store.{put_in, removed_in}
 use Rattle.coap_model.specs.Configs.{ConfigValues}
 use Rattle.coap_server_session.specs.declared.server_state.ServerState.{ServerState}
-use Rattle.coap_server_session.specs.values.Sessions.{empty_host, host_with, SessionValue, MarkedSession, IsMarked}
-use Rattle.coap_server_session.specs.values.Sessions.{TakeOutcome, new_session, taking, host_changed, session_written}
+use Rattle.coap_server_session.specs.values.Sessions.{empty_shared, shared_with, SessionValue, MarkedSession, IsMarked}
+use Rattle.coap_server_session.specs.values.Sessions.{TakeOutcome, new_session, taking, shared_changed, session_written}
 use Rattle.coap_server_session.specs.values.Sessions.{session_ended, session_released, session_announced, session_given}
 use Rattle.coap_server_session.specs.values.Sessions.{session_settled, IsSettled}
 
 -- A server: its configuration, the resources with the time, the last id, and the connections in ascending order of ids.
 pub record ServerValue : Type 0 where
   pub config : ConfigValues
-  pub host : ServerState
+  pub shared : ServerState
   pub ids : ℕ
   pub sessions : List (ℕ × SessionValue)
 
@@ -53,15 +53,15 @@ on_session id f v = record v { sessions = map (session_becomes id f) v.sessions 
 
 -- An entry of the list after its connection settled.
 abbrev pub settled_entry : ServerState → ℕ × SessionValue → ℕ × SessionValue
-settled_entry host e = (e.0, session_settled host e.1)
+settled_entry shared e = (e.0, session_settled shared e.1)
 
 -- The server after every connection settled.
 abbrev pub server_settled : ServerValue → ServerValue
-server_settled v = record v { sessions = map (settled_entry v.host) v.sessions }
+server_settled v = record v { sessions = map (settled_entry v.shared) v.sessions }
 
 -- Holds if every connection is settled.
 abbrev pub AreSettled : ServerState → List (ℕ × SessionValue) → Type 0
-AreSettled host sessions = AllByRecursion (λ e. IsSettled host e.1) sessions
+AreSettled shared sessions = AllByRecursion (λ e. IsSettled shared e.1) sessions
 
 -- ---- the changed marks
 
@@ -75,7 +75,7 @@ unmarked sessions = map unmarked_entry sessions
 
 -- Holds if the changed marks of all observers of all connections are current.
 abbrev pub AreAllMarked : ServerState → List (ℕ × MarkedSession) → Type 0
-AreAllMarked host sessions = AllByRecursion (λ e. IsMarked host e.1) sessions
+AreAllMarked shared sessions = AllByRecursion (λ e. IsMarked shared e.1) sessions
 
 -- ---- queries
 
@@ -91,8 +91,8 @@ splits_of sessions = map (λ e. e.1.split) sessions
 -- ---- calls
 
 -- The server state (`ServerState`) of a new server, which stores nothing.
-abbrev pub new_host : ConfigValues → ServerState
-new_host c = host_with (empty_host c.dynamic_max c.rep_max c.starts.versions c.starts.moment) c.applications
+abbrev pub new_shared : ConfigValues → ServerState
+new_shared c = shared_with (empty_shared c.dynamic_max c.rep_max c.starts.versions c.starts.moment) c.applications
 
 -- The configuration with these applications.
 abbrev pub config_with : ConfigValues → Option ApplicationsValue → ConfigValues
@@ -102,7 +102,7 @@ config_with c applications = record c { applications = applications }
 abbrev pub new_server : ConfigValues → ServerValue
 new_server c = record {
   config = c;
-  host = new_host c;
+  shared = new_shared c;
   ids = c.starts.ids;
   sessions = [];
 }
@@ -116,12 +116,12 @@ server_opened v = server_settled (record v {
 -- The server after a `take` with the effect `t` on the connection with this id.
 abbrev pub server_taken_so : ServerValue → ℕ → TakeOutcome → ServerValue
 server_taken_so v id t =
-    server_settled (record (on_session id (λ s. t.session) v) { host = host_changed v.host t.change })
+    server_settled (record (on_session id (λ s. t.session) v) { shared = shared_changed v.shared t.change })
 
 -- The server after a `take` on a connection, unchanged if there is none.
 abbrev pub server_taken_on : ServerValue → ℕ → List ℕ → Option SessionValue → ServerValue
 server_taken_on v id piece None = v
-server_taken_on v id piece (Some s) = server_taken_so v id (taking v.host s piece)
+server_taken_on v id piece (Some s) = server_taken_so v id (taking v.shared s piece)
 
 -- The server after a `take` of `piece`.
 unfoldable pub server_taken : ServerValue → ℕ → List ℕ → ServerValue
@@ -130,7 +130,7 @@ server_taken v id piece = server_taken_on v id piece (session_of id v.sessions)
 -- The number of bytes that a `take` of `piece` accepts on a connection.
 abbrev pub count_on : ServerValue → List ℕ → Option SessionValue → ℕ
 count_on v piece None = 0
-count_on v piece (Some s) = (taking v.host s piece).count
+count_on v piece (Some s) = (taking v.shared s piece).count
 
 -- The same for the connection with this id.
 unfoldable pub count_taken : ServerValue → ℕ → List ℕ → ℕ
@@ -140,14 +140,17 @@ abbrev pub server_written : ServerValue → ℕ → ℕ → ServerValue
 server_written v id n = server_settled (on_session id (λ s. session_written s n) v)
 
 abbrev pub server_ticked : ServerValue → ℕ → ServerValue
-server_ticked v now = server_settled (record v { host = record v.host { now = now } })
+server_ticked v now = server_settled (record v { shared = record v.shared { now = now } })
 
 abbrev pub server_put : ServerValue → Path → Option ℕ → List ℕ → ServerValue
 server_put v path format bytes =
-    server_settled (record v { host = record v.host { store = put_in v.host.store path format bytes } })
+    server_settled (record v { shared = record v.shared { store = put_in v.shared.store path format bytes } })
 
 abbrev pub server_removed : ServerValue → Path → ServerValue
-server_removed v path = server_settled (record v { host = record v.host { store = removed_in v.host.store path } })
+server_removed v path = server_settled (record v {
+  shared =
+      record v.shared { store = removed_in v.shared.store path };
+})
 
 abbrev pub server_ended : ServerValue → ℕ → ServerValue
 server_ended v id = server_settled (on_session id session_ended v)

@@ -17,7 +17,7 @@ place_shown M events p = (p.id, session_shown (stream_on M p.id events).rest p.s
 abbrev pub server_shown : ConfigValues → List AcceptedCall → World → ServerValue
 server_shown c events w = record {
   config = c;
-  host = record { store = w.store; now = w.now };
+  shared = record { store = w.store; now = w.now };
   ids = w.ids;
   sessions = map (place_shown c.limits.max_message events) w.sides;
 }

@@ -78,7 +78,7 @@ impl Server {
     pub fn index_of(&self, id: ConnId) -> Option<usize>
         ensures there { is_some result ≡ is_there (session_of id self.now.sessions) }
         ensures at { IfSome result (λ at. LiesAt id at self.now.sessions) }
-        ensures settled { AreSettled self.now.host self.now.sessions }
+        ensures settled { AreSettled self.now.shared self.now.sessions }
     {
         find(&self.sessions, self.recent, id)
     }
@@ -212,7 +212,7 @@ impl Server {
     /// - `TooMany`: `count` exceeds the number of queued bytes.
     #[tactic(auto, using(crate::proofs::values::ServerLemmas::unmarked_at, crate::proofs::values::ServerLemmas::within_unmarked))]
     pub fn written(&mut self, id: ConnId, count: usize) -> Result<(), WrittenFault>
-        ensures settled { AreSettled self.old.host self.old.sessions }
+        ensures settled { AreSettled self.old.shared self.old.sessions }
         ensures answer { RefusedBy result (written_refusal self.old id count) }
         ensures ok { OnOk result (self.new ≡ server_written self.old id count) }
         ensures shows { OnOk result ((events : List AcceptedCall) → Shows self.old events →
@@ -225,7 +225,7 @@ impl Server {
         if self.sessions[at].waiting() < count {
             return Err(WrittenFault::TooMany);
         }
-        written_at(&mut self.sessions, at, &self.host, count);
+        written_at(&mut self.sessions, at, &self.shared, count);
         Ok(())
     }
 
@@ -292,7 +292,7 @@ impl Server {
         ensures lies { OnOk result (LiesAt index.id index.at self.new.sessions) }
     {
         let more = self.sessions[index.at].settle_bound();
-        let waited = flush_at(&mut self.sessions, index.at, &self.host, writer)?;
+        let waited = flush_at(&mut self.sessions, index.at, &self.shared, writer)?;
         let stop = self.sessions[index.at].phase().stop();
         Ok(FlushStep { waited, more, stop })
     }

@@ -25,14 +25,14 @@ impl Server {
     ///
     /// - `Backwards`: `now` is earlier than the time of the server. Nothing has changed.
     pub fn tick(&mut self, now: u64) -> Result<(), Backwards>
-        ensures settled { AreSettled self.old.host self.old.sessions }
-        ensures answer { is_ok result ≡ nat_le self.old.host.now now }
+        ensures settled { AreSettled self.old.shared self.old.sessions }
+        ensures answer { is_ok result ≡ nat_le self.old.shared.now now }
         ensures ok { OnOk result (self.new ≡ server_ticked self.old now) }
         ensures shows { OnOk result ((events : List AcceptedCall) → Shows self.old events →
             Shows self.new (events ++ Ticked now ∷ [])) }
         ensures err { OnErr result (self.new ≡ self.old) }
     {
-        if now < self.host.now {
+        if now < self.shared.now {
             return Err(Backwards);
         }
         let before = self.moment();
@@ -40,10 +40,10 @@ impl Server {
             return Ok(());
         }
         let cause = Cause::Moment(before);
-        self.host.move_to(now);
+        self.shared.move_to(now);
         if next_touched(&mut self.sets.time, &self.sessions, 0, cause, now).is_some() {
-            self.host.keep_moment();
-            settle_touched(&mut self.sets.time, &mut self.sessions, &self.host, cause);
+            self.shared.keep_moment();
+            settle_touched(&mut self.sets.time, &mut self.sessions, &self.shared, cause);
         }
         Ok(())
     }
@@ -68,17 +68,17 @@ impl Server {
         format: Option<u16>,
         bytes: &[u8],
     ) -> Result<u64, StoreFault>
-        ensures settled { AreSettled self.old.host self.old.sessions }
-        ensures answer { RefusedOrMemory result (put_refusal self.old.host.store path.now bytes.now) }
-        ensures version { IfOk result (λ version. version ≡ self.old.host.store.versions + 1) }
+        ensures settled { AreSettled self.old.shared self.old.sessions }
+        ensures answer { RefusedOrMemory result (put_refusal self.old.shared.store path.now bytes.now) }
+        ensures version { IfOk result (λ version. version ≡ self.old.shared.store.versions + 1) }
         ensures ok { OnOk result (self.new ≡ server_put self.old path.now format bytes.now) }
         ensures shows { OnOk result ((events : List AcceptedCall) → Shows self.old events →
             Shows self.new (events ++ Stored path.now format bytes.now ∷ [])) }
         ensures err { OnErr result (self.new ≡ self.old) }
     {
-        let version = self.host.store.put(path, format, bytes)?;
+        let version = self.shared.store.put(path, format, bytes)?;
         let hash = hash_of(path);
-        settle_observers(&mut self.sets, &mut self.sessions, &self.host, hash);
+        settle_observers(&mut self.sets, &mut self.sessions, &self.shared, hash);
         Ok(version)
     }
 
@@ -88,35 +88,35 @@ impl Server {
     ///
     /// - `NoSuch`: the path is absent, or that of a built-in resource. Nothing has changed.
     pub fn remove(&mut self, path: &PathKey) -> Result<(), StoreFault>
-        ensures settled { AreSettled self.old.host self.old.sessions }
-        ensures answer { RefusedBy result (remove_refusal self.old.host.store path.now) }
+        ensures settled { AreSettled self.old.shared self.old.sessions }
+        ensures answer { RefusedBy result (remove_refusal self.old.shared.store path.now) }
         ensures ok { OnOk result (self.new ≡ server_removed self.old path.now) }
         ensures shows { OnOk result ((events : List AcceptedCall) → Shows self.old events →
             Shows self.new (events ++ Removed path.now ∷ [])) }
         ensures err { OnErr result (self.new ≡ self.old) }
     {
-        self.host.store.remove(path)?;
+        self.shared.store.remove(path)?;
         let hash = hash_of(path);
-        settle_observers(&mut self.sets, &mut self.sessions, &self.host, hash);
+        settle_observers(&mut self.sets, &mut self.sessions, &self.shared, hash);
         Ok(())
     }
 
     /// Returns `true` if `remove` would succeed at a path. Changes nothing and allocates no memory.
     pub fn can_remove(&self, path: &PathKey) -> bool
-        ensures { result ≡ is_none (remove_refusal self.now.host.store path.now) }
+        ensures { result ≡ is_none (remove_refusal self.now.shared.store path.now) }
     {
-        self.host.store.can_remove(path)
+        self.shared.store.can_remove(path)
     }
 
     /// Returns the time of the server, in seconds. Its contract also states that every connection is settled, as after
     /// every call.
     pub fn moment(&self) -> u64
-        ensures moment { result ≡ self.now.host.now }
-        ensures store { IsStore self.now.host.store }
-        ensures settled { AreSettled self.now.host self.now.sessions }
+        ensures moment { result ≡ self.now.shared.now }
+        ensures store { IsStore self.now.shared.store }
+        ensures settled { AreSettled self.now.shared self.now.sessions }
     {
-        self.host.store.count();
-        self.host.now
+        self.shared.store.count();
+        self.shared.now
     }
 
     /// Returns the next time, in seconds, at which time alone may queue something, or `None` if there is none. At that
@@ -126,13 +126,13 @@ impl Server {
     /// entry or an observer of the time.
     pub fn next_deadline(&mut self) -> Option<u64>
         ensures deadline { result ≡ next_deadline_of self.old }
-        ensures safe { (later : ℕ) → self.old.host.now ≤ later → later < 2 ^ 64 → IsBefore later result →
+        ensures safe { (later : ℕ) → self.old.shared.now ≤ later → later < 2 ^ 64 → IsBefore later result →
             OnlyTimePasses self.old later }
         ensures same { self.new ≡ self.old }
     {
         // Gives the proof the invariant of the store.
-        self.host.store.count();
-        earliest_deadline(&mut self.sets.time, &self.sessions, self.host.now)
+        self.shared.store.count();
+        earliest_deadline(&mut self.sets.time, &self.sessions, self.shared.now)
     }
 
     /// Returns the connections on which a change of the time may change the work left.
@@ -140,7 +140,7 @@ impl Server {
         ensures { (later : ℕ) → KeepsWork result.words self.now (server_ticked self.now later) }
     {
         // Gives the proof the invariant of the store.
-        self.host.store.count();
+        self.shared.store.count();
         self.sets.time
     }
 
@@ -155,8 +155,8 @@ impl Server {
 
     /// Returns the number of stored resources.
     pub fn resource_count(&self) -> usize
-        ensures { result ≡ length self.now.host.store.resources }
+        ensures { result ≡ length self.now.shared.store.resources }
     {
-        self.host.store.count()
+        self.shared.store.count()
     }
 }

@@ -11,13 +11,13 @@ impl Server {
     ghost use Rattle.coap_server_engine.specs.Prelude.{RefusedBy, AreInRange, AreSettled, session_of, is_there};
     ghost use Rattle.coap_server_engine.specs.Prelude.{server_opened, server_ended, server_released, server_announced};
     ghost use Rattle.coap_server_engine.specs.Prelude.{server_dropped, OpenedOrMemory, open_refusal, released_refusal};
-    ghost use Rattle.coap_server_engine.specs.Prelude.{IsAnnounced, status_of, outlook_of, AcceptedCall, Opened, Ended};
+    ghost use Rattle.coap_server_engine.specs.Prelude.{IsAnnounced, status_of, work_of, AcceptedCall, Opened, Ended};
     ghost use Rattle.coap_server_engine.specs.Prelude.{Released, Announced, Dropped, Shows, LiesAt, waiting_at};
 
     /// Returns `true` if `open` can fail only for lack of memory.
     pub fn can_open(&self) -> bool
         ensures answer { result ≡ is_none (open_refusal self.now) }
-        ensures settled { AreSettled self.now.host self.now.sessions }
+        ensures settled { AreSettled self.now.shared self.now.sessions }
     {
         self.sessions.len() < self.config.connections() && self.ids < u64::MAX
     }
@@ -68,7 +68,7 @@ impl Server {
     /// - `NoSuch`: no connection has this id. Nothing has changed.
     #[tactic(auto, using(crate::proofs::values::ServerLemmas::unmarked_at, crate::proofs::values::ServerLemmas::within_unmarked))]
     pub fn ended(&mut self, id: ConnId) -> Result<(), NoSuch>
-        ensures settled { AreSettled self.old.host self.old.sessions }
+        ensures settled { AreSettled self.old.shared self.old.sessions }
         ensures answer { is_ok result ≡ is_there (session_of id self.old.sessions) }
         ensures ok { OnOk result (self.new ≡ server_ended self.old id) }
         ensures shows { OnOk result ((events : List AcceptedCall) → Shows self.old events →
@@ -78,7 +78,7 @@ impl Server {
         let Some(at) = find(&self.sessions, self.recent, id) else {
             return Err(NoSuch);
         };
-        end_at(&mut self.sessions, at, &self.host);
+        end_at(&mut self.sessions, at, &self.shared);
         Ok(())
     }
 
@@ -94,7 +94,7 @@ impl Server {
     /// - `PeerTooSmall`: the peer accepts fewer than 2 bytes.
     #[tactic(auto, using(crate::proofs::values::ServerLemmas::unmarked_at, crate::proofs::values::ServerLemmas::within_unmarked))]
     pub fn release(&mut self, id: ConnId) -> Result<(), ReleaseFault>
-        ensures settled { AreSettled self.old.host self.old.sessions }
+        ensures settled { AreSettled self.old.shared self.old.sessions }
         ensures answer { RefusedBy result (released_refusal self.old id) }
         ensures ok { OnOk result (self.new ≡ server_released self.old id) }
         ensures shows { OnOk result ((events : List AcceptedCall) → Shows self.old events →
@@ -104,7 +104,7 @@ impl Server {
         let Some(at) = find(&self.sessions, self.recent, id) else {
             return Err(ReleaseFault::NoSuch);
         };
-        release_at(&mut self.sessions, at, &self.host)
+        release_at(&mut self.sessions, at, &self.shared)
     }
 
     /// Announces `new` as the largest message accepted on a connection from now on (RFC 8323 section 5.3.1).
@@ -135,7 +135,7 @@ impl Server {
         let Some(at) = find(&self.sessions, self.recent, id) else {
             return Err(AnnounceFault::NoSuch);
         };
-        announce_at(&mut self.sessions, at, &self.host, new)
+        announce_at(&mut self.sessions, at, &self.shared, new)
     }
 
     /// Removes a connection, with its queued bytes and pending entries.
@@ -145,7 +145,7 @@ impl Server {
     /// - `NoSuch`: no connection has this id. Nothing has changed.
     #[tactic(auto, using(crate::proofs::values::ServerLemmas::unmarked_at, crate::proofs::values::ServerLemmas::within_unmarked))]
     pub fn drop_conn(&mut self, id: ConnId) -> Result<(), NoSuch>
-        ensures settled { AreSettled self.old.host self.old.sessions }
+        ensures settled { AreSettled self.old.shared self.old.sessions }
         ensures answer { is_ok result ≡ is_there (session_of id self.old.sessions) }
         ensures ok { OnOk result (self.new ≡ server_dropped self.old id) }
         ensures shows { OnOk result ((events : List AcceptedCall) → Shows self.old events →
@@ -164,7 +164,7 @@ impl Server {
     pub fn connection_count(&self) -> usize
         ensures count { result ≡ length self.now.sessions }
         ensures few { result ≤ 256 }
-        ensures settled { AreSettled self.now.host self.now.sessions }
+        ensures settled { AreSettled self.now.shared self.now.sessions }
     {
         // Gives the proof the largest number of connections.
         self.config.connections();
@@ -211,9 +211,9 @@ impl Server {
     /// The connection is at the index, as `index_of` returned it.
     #[tactic(auto, using(crate::proofs::values::ServerLemmas::unmarked_at, crate::proofs::values::ServerLemmas::within_unmarked))]
     #[inline(always)]
-    pub fn outlook_at(&self, index: ConnIndex) -> ConnectionWork
+    pub fn work_at(&self, index: ConnIndex) -> ConnectionWork
         requires { LiesAt index.id index.at self.now.sessions }
-        ensures { outlook_of self.now index.id ≡ Some result }
+        ensures { work_of self.now index.id ≡ Some result }
     {
         let session = &self.sessions[index.at];
         ConnectionWork {
@@ -221,7 +221,7 @@ impl Server {
             stopped: session.phase().stop().is_some(),
             waits: session.waiting() > 0,
             finished: session.finished(),
-            due: session.due(self.host.now),
+            due: session.due(self.shared.now),
         }
     }
 }

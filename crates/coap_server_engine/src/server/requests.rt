@@ -148,7 +148,7 @@ impl Server {
             (server_taken self.old index.id piece.now)) }
     {
         let takes = self.sessions[index.at].takes();
-        match self.sessions[index.at].take(&mut self.host, piece) {
+        match self.sessions[index.at].take(&mut self.shared, piece) {
             Err(bytes) => Err(TakeFault::Memory { bytes }),
             Ok(taking) => {
                 settle_after(
@@ -156,7 +156,7 @@ impl Server {
                     &mut self.sets,
                     &mut self.sessions,
                     index.at,
-                    &self.host,
+                    &self.shared,
                     affected,
                 );
                 let session = &self.sessions[index.at];
@@ -398,7 +398,7 @@ impl Server {
         response: &mut Vec<u8>,
         monitor: &mut M,
     ) -> Option<ConnId>
-        ensures settled { IfSome result (λ id. AreSettled self.old.host self.old.sessions) }
+        ensures settled { IfSome result (λ id. AreSettled self.old.shared self.old.sessions) }
         ensures asked { IsAskedLater self.old result self.new
             (FollowsMore (M.follows monitor.old) (M.follows monitor.new))
             (AnswersMore (A.follows application.old) (A.follows application.new)) }

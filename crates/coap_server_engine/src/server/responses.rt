@@ -50,7 +50,7 @@ impl Server {
     /// assert!(&rt; output.ends_with(b"\x01\x41\x2a"));
     /// ```
     pub fn respond(&mut self, id: ConnId, response: &[u8]) -> Result<Reply, ResponseFault>
-        ensures settled { AreSettled self.old.host self.old.sessions }
+        ensures settled { AreSettled self.old.shared self.old.sessions }
         ensures answer { RefusedBy result (responded_refusal self.old id response.now) }
         ensures reply { IfOk result (λ r. IsReplyOn response.now r (session_of id self.old.sessions)) }
         ensures ok { OnOk result (self.new ≡ server_given self.old id response.now) }
@@ -94,7 +94,7 @@ impl Server {
         let Some(at) = at else {
             return Err(ResponseFault::NoSuch);
         };
-        let reply = respond_at(&mut self.sessions, at, &self.host, response)?;
+        let reply = respond_at(&mut self.sessions, at, &self.shared, response)?;
         monitor.accepted(Call::Responded(id, response), self);
         Ok(reply)
     }

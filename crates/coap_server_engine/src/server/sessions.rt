@@ -111,21 +111,21 @@ pub(super) fn earliest_deadline(set: &mut IndexSet, sessions: &Sessions, now: u6
 pub(super) fn settle_touched(
     set: &mut IndexSet,
     sessions: &mut Sessions,
-    host: &ServerState,
+    shared: &ServerState,
     cause: Cause,
 )
     requires covered { Covers cause set.old.words (unmarked sessions.old.entries) }
-    requires settled { UnaffectedAreSettled cause host.now (unmarked sessions.old.entries) }
-    requires marked { AreMarkedBut cause host.now sessions.old.entries }
+    requires settled { UnaffectedAreSettled cause shared.now (unmarked sessions.old.entries) }
+    requires marked { AreMarkedBut cause shared.now sessions.old.entries }
     ensures covered { Covers cause set.new.words (unmarked sessions.new.entries) }
     ensures after { unmarked sessions.new.entries
-        ≡ map (settled_entry host.entry.now) (unmarked sessions.old.entries) }
-    ensures marked { AreAllMarked host.entry.now sessions.new.entries }
+        ≡ map (settled_entry shared.entry.now) (unmarked sessions.old.entries) }
+    ensures marked { AreAllMarked shared.entry.now sessions.new.entries }
     ensures splits { splits_of sessions.new.entries ≡ splits_of sessions.old.entries }
 {
     let mut from = 0;
-    while let Some(at) = next_touched(set, sessions, from, cause, host.now) {
-        sessions[at].mark_and_settle(host, cause);
+    while let Some(at) = next_touched(set, sessions, from, cause, shared.now) {
+        sessions[at].mark_and_settle(shared, cause);
         from = at + 1;
     }
 }
@@ -136,22 +136,22 @@ pub(super) fn settle_touched(
 pub(super) fn settle_observers(
     sets: &mut Concerned,
     sessions: &mut Sessions,
-    host: &ServerState,
+    shared: &ServerState,
     hash: u8,
 )
     requires covered { AreCovered sets.old (unmarked sessions.old.entries) }
-    requires settled { UnaffectedAreSettled (causes.Path hash) host.now (unmarked sessions.old.entries) }
-    requires marked { AreMarkedBut (causes.Path hash) host.now sessions.old.entries }
+    requires settled { UnaffectedAreSettled (causes.Path hash) shared.now (unmarked sessions.old.entries) }
+    requires marked { AreMarkedBut (causes.Path hash) shared.now sessions.old.entries }
     ensures covered { AreCovered sets.new (unmarked sessions.new.entries) }
     ensures after { unmarked sessions.new.entries
-        ≡ map (settled_entry host.entry.now) (unmarked sessions.old.entries) }
-    ensures marked { AreAllMarked host.entry.now sessions.new.entries }
+        ≡ map (settled_entry shared.entry.now) (unmarked sessions.old.entries) }
+    ensures marked { AreAllMarked shared.entry.now sessions.new.entries }
     ensures splits { splits_of sessions.new.entries ≡ splits_of sessions.old.entries }
 {
     settle_touched(
         &mut sets.paths[usize::from(hash)],
         sessions,
-        host,
+        shared,
         Cause::Path(hash),
     );
 }
@@ -166,29 +166,29 @@ pub(super) fn settle_after(
     sets: &mut Concerned,
     sessions: &mut Sessions,
     at: usize,
-    host: &ServerState,
+    shared: &ServerState,
     affected: &mut IndexSet,
 )
     requires within { at < length sessions.old.entries }
     requires covered { AreCoveredBut at sets.old (unmarked sessions.old.entries) }
-    requires others { AreOthersSettled changed at host.now (unmarked sessions.old.entries) }
-    requires marked { AreMarkedAfter changed host.now sessions.old.entries }
-    requires own { IfSome (slice_get (values sessions.old) at) (IsMarked host.now) }
+    requires others { AreOthersSettled changed at shared.now (unmarked sessions.old.entries) }
+    requires marked { AreMarkedAfter changed shared.now sessions.old.entries }
+    requires own { IfSome (slice_get (values sessions.old) at) (IsMarked shared.now) }
     ensures covered { AreCovered sets.new (unmarked sessions.new.entries) }
-    ensures after { unmarked sessions.new.entries ≡ (if is_some changed then map (settled_entry host.entry.now)
-        (unmarked sessions.old.entries) else changed_at at (settled_held host.entry.now)
+    ensures after { unmarked sessions.new.entries ≡ (if is_some changed then map (settled_entry shared.entry.now)
+        (unmarked sessions.old.entries) else changed_at at (settled_held shared.entry.now)
         (unmarked sessions.old.entries)) }
-    ensures marked { AreAllMarked host.entry.now sessions.new.entries }
+    ensures marked { AreAllMarked shared.entry.now sessions.new.entries }
     ensures splits { splits_of sessions.new.entries ≡ splits_of sessions.old.entries }
     ensures affected { AddsConcerned changed affected.old.words affected.new.words (unmarked sessions.old.entries) }
 {
     sets.note(&sessions[at], at);
     match changed {
-        None => sessions[at].settle_if_pending(host),
+        None => sessions[at].settle_if_pending(shared),
         Some(hash) => {
             affected.join(sets.of_path(hash));
-            sessions[at].settle(host);
-            settle_observers(sets, sessions, host, hash);
+            sessions[at].settle(shared);
+            settle_observers(sets, sessions, shared, hash);
         }
     }
 }
@@ -214,30 +214,30 @@ pub(super) fn what_was_handled(takes: bool, message: bool, stop: Option<Reason>)
 }
 
 /// Removes the first `count` bytes from the queue of the connection at an index, and settles it.
-pub(super) fn written_at(sessions: &mut Sessions, at: usize, host: &ServerState, count: usize)
+pub(super) fn written_at(sessions: &mut Sessions, at: usize, shared: &ServerState, count: usize)
     requires within { at < length sessions.old.entries }
     requires waiting { IfSome (slice_get (values_of (unmarked sessions.old.entries)) at)
         (λ s. count ≤ length s.link.waiting) }
-    requires settled { AreSettled host.now (unmarked sessions.old.entries) }
-    requires marked { AreAllMarked host.now sessions.old.entries }
+    requires settled { AreSettled shared.now (unmarked sessions.old.entries) }
+    requires marked { AreAllMarked shared.now sessions.old.entries }
     ensures after { unmarked sessions.new.entries ≡ changed_at at
-        (λ s. session_settled host.entry.now (session_written s count)) (unmarked sessions.old.entries) }
-    ensures marked { AreAllMarked host.entry.now sessions.new.entries }
+        (λ s. session_settled shared.entry.now (session_written s count)) (unmarked sessions.old.entries) }
+    ensures marked { AreAllMarked shared.entry.now sessions.new.entries }
 {
-    sessions[at].written_and_settled(host, count);
+    sessions[at].written_and_settled(shared, count);
 }
 
 /// Records the end of the input of the connection at an index, and settles it.
-pub(super) fn end_at(sessions: &mut Sessions, at: usize, host: &ServerState)
+pub(super) fn end_at(sessions: &mut Sessions, at: usize, shared: &ServerState)
     requires within { at < length sessions.old.entries }
-    requires marked { AreAllMarked host.now sessions.old.entries }
+    requires marked { AreAllMarked shared.now sessions.old.entries }
     ensures after { unmarked sessions.new.entries ≡ changed_at at
-        (λ s. session_settled host.entry.now (session_ended s)) (unmarked sessions.old.entries) }
-    ensures marked { AreAllMarked host.entry.now sessions.new.entries }
+        (λ s. session_settled shared.entry.now (session_ended s)) (unmarked sessions.old.entries) }
+    ensures marked { AreAllMarked shared.entry.now sessions.new.entries }
 {
     let session = &mut sessions[at];
     session.end();
-    session.settle(host);
+    session.settle(shared);
 }
 
 /// Releases the connection at an index, and settles it.
@@ -249,19 +249,19 @@ pub(super) fn end_at(sessions: &mut Sessions, at: usize, host: &ServerState)
 pub(super) fn release_at(
     sessions: &mut Sessions,
     at: usize,
-    host: &ServerState,
+    shared: &ServerState,
 ) -> Result<(), ReleaseFault>
     requires within { at < length sessions.old.entries }
-    requires marked { AreAllMarked host.now sessions.old.entries }
+    requires marked { AreAllMarked shared.now sessions.old.entries }
     ensures answer { RefusedBy result (released_refusal_on (slice_get (values_of (unmarked sessions.old.entries)) at)) }
     ensures ok { OnOk result (unmarked sessions.new.entries ≡ changed_at at
-        (λ s. session_settled host.entry.now (session_released s)) (unmarked sessions.old.entries)) }
-    ensures marked { AreAllMarked host.entry.now sessions.new.entries }
+        (λ s. session_settled shared.entry.now (session_released s)) (unmarked sessions.old.entries)) }
+    ensures marked { AreAllMarked shared.entry.now sessions.new.entries }
     ensures err { OnErr result (sessions.new.entries ≡ sessions.old.entries) }
 {
     let session = &mut sessions[at];
     session.release()?;
-    session.settle(host);
+    session.settle(shared);
     Ok(())
 }
 
@@ -274,24 +274,24 @@ pub(super) fn release_at(
 pub(super) fn respond_at(
     sessions: &mut Sessions,
     at: usize,
-    host: &ServerState,
+    shared: &ServerState,
     response: &[u8],
 ) -> Result<Reply, ResponseFault>
     requires within { at < length sessions.old.entries }
-    requires marked { AreAllMarked host.now sessions.old.entries }
+    requires marked { AreAllMarked shared.now sessions.old.entries }
     ensures answer { RefusedBy result
         (responded_refusal_on response.now (slice_get (values_of (unmarked sessions.old.entries)) at)) }
     ensures reply { IfOk result (λ r.
         IsReplyOn response.now r (slice_get (values_of (unmarked sessions.old.entries)) at)) }
     ensures ok { OnOk result (unmarked sessions.new.entries ≡ changed_at at
-        (λ s. session_settled host.entry.now (session_given_by (message_of response.now) s))
+        (λ s. session_settled shared.entry.now (session_given_by (message_of response.now) s))
         (unmarked sessions.old.entries)) }
-    ensures marked { AreAllMarked host.entry.now sessions.new.entries }
+    ensures marked { AreAllMarked shared.entry.now sessions.new.entries }
     ensures err { OnErr result (sessions.new.entries ≡ sessions.old.entries) }
 {
     let session = &mut sessions[at];
     let reply = session.respond(response)?;
-    session.settle(host);
+    session.settle(shared);
     Ok(reply)
 }
 
@@ -304,20 +304,20 @@ pub(super) fn respond_at(
 pub(super) fn announce_at(
     sessions: &mut Sessions,
     at: usize,
-    host: &ServerState,
+    shared: &ServerState,
     size: u32,
 ) -> Result<(), AnnounceFault>
     requires within { at < length sessions.old.entries }
-    requires marked { AreAllMarked host.now sessions.old.entries }
+    requires marked { AreAllMarked shared.now sessions.old.entries }
     ensures answer { IsAnnounced size (slice_get (values_of (unmarked sessions.old.entries)) at) result }
     ensures ok { OnOk result (unmarked sessions.new.entries ≡ changed_at at
-        (λ s. session_settled host.entry.now (session_announced s size)) (unmarked sessions.old.entries)) }
-    ensures marked { AreAllMarked host.entry.now sessions.new.entries }
+        (λ s. session_settled shared.entry.now (session_announced s size)) (unmarked sessions.old.entries)) }
+    ensures marked { AreAllMarked shared.entry.now sessions.new.entries }
     ensures err { OnErr result (sessions.new.entries ≡ sessions.old.entries) }
 {
     let session = &mut sessions[at];
     session.announce(size)?;
-    session.settle(host);
+    session.settle(shared);
     Ok(())
 }
 
@@ -329,20 +329,20 @@ pub(super) fn announce_at(
 pub(super) fn flush_at<W: Outlet>(
     sessions: &mut Sessions,
     at: usize,
-    host: &ServerState,
+    shared: &ServerState,
     writer: &mut W,
 ) -> Result<bool, WriteFailed>
     requires within { at < length sessions.old.entries }
     requires works { W.is_failed writer.old ≡ false }
-    requires marked { AreAllMarked host.now sessions.old.entries }
+    requires marked { AreAllMarked shared.now sessions.old.entries }
     ensures ok { IfOk result (λ waited. (s : SessionValue) →
         slice_get (values_of (unmarked sessions.old.entries)) at ≡ Some s →
-        IsFlushedAt at host.entry.now s (unmarked sessions.old.entries) (unmarked sessions.new.entries)
+        IsFlushedAt at shared.entry.now s (unmarked sessions.old.entries) (unmarked sessions.new.entries)
         (AddsBytes (W.written writer.old) (W.written writer.new)) waited) }
     ensures part { OnErr result ((s : SessionValue) →
         slice_get (values_of (unmarked sessions.old.entries)) at ≡ Some s →
         WritesPart (W.written writer.old) (W.written writer.new) s.link.waiting) }
-    ensures marked { AreAllMarked host.entry.now sessions.new.entries }
+    ensures marked { AreAllMarked shared.entry.now sessions.new.entries }
     ensures err { OnErr result (sessions.new.entries ≡ sessions.old.entries) }
     ensures failure { W.is_failed writer.new ≡ is_err result }
 {
@@ -354,6 +354,6 @@ pub(super) fn flush_at<W: Outlet>(
     let (first, second) = session.parts();
     write_parts(writer, first, second)?;
     session.written(count);
-    session.settle(host);
+    session.settle(shared);
     Ok(true)
 }

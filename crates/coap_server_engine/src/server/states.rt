@@ -25,8 +25,8 @@ impl Server {
     /// }
     /// ```
     pub fn state(&self, path: &PathKey) -> State<'_>
-        ensures { state_value result ≡ state_of self.now.host.store self.now.host.now path.now }
+        ensures { state_value result ≡ state_of self.now.shared.store self.now.shared.now path.now }
     {
-        self.host.store.state(path, self.host.now)
+        self.shared.store.state(path, self.shared.now)
     }
 }

@@ -31,18 +31,19 @@ use Rattle.coap_model.proofs.world.EntryLemmas.{asks_to_enter}
 
 -- ---- a request
 
-pub may_watch : (host : ServerState) (m : Message) → asks_entry (answer_on host m).watch ≡ true
-    → MayObserve host.store host.now (path_of m) (answer_on host m)
-may_watch host m asks =
-    prompt_cases host.store host.now m (λ a. a.watch ≡ watch.Add → MayObserve host.store host.now (path_of m) a)
-    (λ e. absurd cc) (promptly_watched_is_there host.store host.now m) (asks_to_enter (answer_on host m).watch asks)
+pub may_watch : (shared : ServerState) (m : Message) → asks_entry (answer_on shared m).watch ≡ true
+    → MayObserve shared.store shared.now (path_of m) (answer_on shared m)
+may_watch shared m asks =
+    prompt_cases shared.store shared.now m (λ a. a.watch ≡ watch.Add → MayObserve shared.store shared.now (path_of m) a)
+    (λ e. absurd cc) (promptly_watched_is_there shared.store shared.now m)
+    (asks_to_enter (answer_on shared m).watch asks)
 
 -- A request that changes the store gets no entry.
-unobserved : (host : ServerState) (m : Message) (room : ℕ) (others : List ObserverValue)
-    → changes (answer_on host m).change ≡ true → is_observed host room others m ≡ false
-unobserved host m room others does =
-    and_left _ _ (false_from_ne_true (asks_entry (answer_on host m).watch)
-    (λ asks. both_ways (changes (answer_on host m).change) (ap changes (may_watch host m asks).quiet) does))
+unobserved : (shared : ServerState) (m : Message) (room : ℕ) (others : List ObserverValue)
+    → changes (answer_on shared m).change ≡ true → is_observed shared room others m ≡ false
+unobserved shared m room others does =
+    and_left _ _ (false_from_ne_true (asks_entry (answer_on shared m).watch)
+    (λ asks. both_ways (changes (answer_on shared m).change) (ap changes (may_watch shared m asks).quiet) does))
 
 -- A change that changes something is not `Nothing`.
 pub nothing_changed : (c : answer.Change) → changes c ≡ false → c ≡ answer.Nothing
@@ -77,98 +78,99 @@ refused_by s now m d (Some seconds) hold holds is = record { quiet = refl; refus
 refused_by s now m d None None holds is = absurd cc
 refused_by s now m d None (Some seconds) holds is = refused_immediately s now m seconds holds
 
-refused_delay_of : (host : ServerState) (m : Message) (d : Delay) → delay_on host m ≡ Some d
-    → IsRefusedDelay (answer_on host m)
+refused_delay_of : (shared : ServerState) (m : Message) (d : Delay) → delay_on shared m ≡ Some d
+    → IsRefusedDelay (answer_on shared m)
 unfolding prompt_answer
-refused_delay_of host m d =
-    refused_by host.store host.now m d (application_deadline host.store.applications m)
-    (answer_of host.store host.now m).hold refl
+refused_delay_of shared m d =
+    refused_by shared.store shared.now m d (application_deadline shared.store.applications m)
+    (answer_of shared.store shared.now m).hold refl
 
-module _ (host : ServerState) (m : Message) (d : Delay) (room : ℕ) (others : List ObserverValue)
-    (delays : delay_on host m ≡ Some d) where
-  pub late_quiet : (answer_on host m).change ≡ answer.Nothing
-  late_quiet = (refused_delay_of host m d delays).quiet
+module _ (shared : ServerState) (m : Message) (d : Delay) (room : ℕ) (others : List ObserverValue)
+    (delays : delay_on shared m ≡ Some d) where
+  pub late_quiet : (answer_on shared m).change ≡ answer.Nothing
+  late_quiet = (refused_delay_of shared m d delays).quiet
 
   -- It gets no entry.
-  late_unobserved : is_observed host room others m ≡ false
-  late_unobserved = and_left _ _ (refused_delay_of host m d delays).unwatched
+  late_unobserved : is_observed shared room others m ≡ false
+  late_unobserved = and_left _ _ (refused_delay_of shared m d delays).unwatched
 
   -- Its response is delayed if the pending list has room, and is 5.03 otherwise.
-  pub late_link : (l after : LinkValue) (moment : ℕ) → moment ≡ moment_after host.now d.seconds
+  pub late_link : (l after : LinkValue) (moment : ℕ) → moment ≡ moment_after shared.now d.seconds
       → after ≡ (if can_hold l then link_after l (hold_call d.by m.token moment)
       else link_after l (call.Reply (response_message m.token (only code.service_unavailable))))
-      → after ≡ link_replied host l room others m (held_in l (delay_on host m))
+      → after ≡ link_replied shared l room others m (held_in l (delay_on shared m))
   late_link l after moment at is =
-      let refused : response_message m.token (only code.service_unavailable) ≡ response_on host room others m =
-      cc (late_unobserved, (refused_delay_of host m d delays).refused) in
+      let refused : response_message m.token (only code.service_unavailable) ≡ response_on shared room others m =
+      cc (late_unobserved, (refused_delay_of shared m d delays).refused) in
       is
       ∙ elim (can_hold l) as (λ b. (if b then link_after l (hold_call d.by m.token moment)
       else link_after l (call.Reply (response_message m.token (only code.service_unavailable))))
-      ≡ link_replied host l room others m (if b then Some d else None)) [
+      ≡ link_replied shared l room others m (if b then Some d else None)) [
         | true ↦ cc at
         | false ↦ cc refused
       ]
-      ∙ ap (λ (delay : Option Delay). link_replied host l room others m (held_in l delay)) (sym delays)
+      ∙ ap (λ (delay : Option Delay). link_replied shared l room others m (held_in l delay)) (sym delays)
 
-  pub late_entries : (l : LinkValue) → others ≡ entries_replied host l room others m (held_in l (delay_on host m))
+  pub late_entries : (l : LinkValue) → others ≡ entries_replied shared l room others m (held_in l (delay_on shared m))
   late_entries l =
       rw delays
-      (elim (can_hold l) as (λ b. others ≡ entries_replied host l room others m (if b then Some d else None)) [
+      (elim (can_hold l) as (λ b. others ≡ entries_replied shared l room others m (if b then Some d else None)) [
         | true ↦ refl
         | false ↦ cc late_unobserved
       ])
 
 -- ---- a request that the application does not answer
 
-module _ (host : ServerState) (m : Message) (unhanded : application_deadline host.store.applications m ≡ None) where
-  pub delay_unhanded : delay_on host m ≡ delay_by Engine (answer_of host.store host.now m).hold
-  delay_unhanded = ap (λ deadline. delay_or deadline (answer_of host.store host.now m).hold) unhanded
+module _ (shared : ServerState) (m : Message) (unhanded : application_deadline shared.store.applications m ≡ None) where
+  pub delay_unhanded : delay_on shared m ≡ delay_by Engine (answer_of shared.store shared.now m).hold
+  delay_unhanded = ap (λ deadline. delay_or deadline (answer_of shared.store shared.now m).hold) unhanded
 
-  answer_unhanded : answer_on host m ≡ immediate_answer host.store host.now m
+  answer_unhanded : answer_on shared m ≡ immediate_answer shared.store shared.now m
   unfolding prompt_answer
-  answer_unhanded = ap (λ deadline. unless_handed deadline (immediate_answer host.store host.now m)) unhanded
+  answer_unhanded = ap (λ deadline. unless_handed deadline (immediate_answer shared.store shared.now m)) unhanded
 
   -- ---- a request that is answered at once
 
-  pub prompt_is : (a : Answer) → a ≡ answer_of host.store host.now m → a.hold ≡ None
-      → (delay_on host m ≡ None) × (a ≡ answer_on host m)
+  pub prompt_is : (a : Answer) → a ≡ answer_of shared.store shared.now m → a.hold ≡ None
+      → (delay_on shared m ≡ None) × (a ≡ answer_on shared m)
   prompt_is a is at_once =
-      let none : (answer_of host.store host.now m).hold ≡ None = cc in (
+      let none : (answer_of shared.store shared.now m).hold ≡ None = cc in (
         delay_unhanded ∙ ap (delay_by Engine) none,
-        is ∙ sym (same_at_once host.store host.now m none) ∙ sym answer_unhanded,
+        is ∙ sym (same_at_once shared.store shared.now m none) ∙ sym answer_unhanded,
       )
 
 -- The delay of a request that the application answers.
-pub delay_handed : (host : ServerState) (m : Message) (deadline : ℕ)
-    → application_deadline host.store.applications m ≡ Some deadline
-    → delay_on host m ≡ Some (record { by = Application; seconds = deadline })
-delay_handed host m deadline is = ap (λ (d : Option ℕ). delay_or d (answer_of host.store host.now m).hold) is
+pub delay_handed : (shared : ServerState) (m : Message) (deadline : ℕ)
+    → application_deadline shared.store.applications m ≡ Some deadline
+    → delay_on shared m ≡ Some (record { by = Application; seconds = deadline })
+delay_handed shared m deadline is = ap (λ (d : Option ℕ). delay_or d (answer_of shared.store shared.now m).hold) is
 
-module _ (host : ServerState) (m : Message) (l : LinkValue) (room : ℕ) (others : List ObserverValue)
-    (none : delay_on host m ≡ None) where
-  pub prompt_link : link_after l (call.Reply (response_on host room others m))
-      ≡ link_replied host l room others m (held_in l (delay_on host m))
+module _ (shared : ServerState) (m : Message) (l : LinkValue) (room : ℕ) (others : List ObserverValue)
+    (none : delay_on shared m ≡ None) where
+  pub prompt_link : link_after l (call.Reply (response_on shared room others m))
+      ≡ link_replied shared l room others m (held_in l (delay_on shared m))
   prompt_link = cc none
 
   pub prompt_entries : (enters : Bool)
-      → enters ≡ (is_observed host room others m && is_sent l (response_on host room others m))
-      → with_entry enters others (new_entry host m) ≡ entries_replied host l room others m (held_in l (delay_on host m))
+      → enters ≡ (is_observed shared room others m && is_sent l (response_on shared room others m))
+      → with_entry enters others (new_entry shared m)
+      ≡ entries_replied shared l room others m (held_in l (delay_on shared m))
   prompt_entries enters is = cc
 
   -- A request that changes the store gets no entry.
-  module _ (does : changes (answer_on host m).change ≡ true) where
-    pub change_link : (after : LinkValue) (r : Response) → r ≡ (answer_on host m).response
+  module _ (does : changes (answer_on shared m).change ≡ true) where
+    pub change_link : (after : LinkValue) (r : Response) → r ≡ (answer_on shared m).response
         → after ≡ link_after l (call.Reply (response_with_observe m.token false r))
-        → after ≡ link_replied host l room others m (held_in l (delay_on host m))
+        → after ≡ link_replied shared l room others m (held_in l (delay_on shared m))
     change_link after r same is =
         is
         ∙ ap (λ (s : Response). link_after l (call.Reply (response_with_observe m.token false s))) same
-        ∙ ap (λ (b : Bool). link_after l (call.Reply (response_with_observe m.token b (answer_on host m).response)))
-        (sym (unobserved host m room others does))
+        ∙ ap (λ (b : Bool). link_after l (call.Reply (response_with_observe m.token b (answer_on shared m).response)))
+        (sym (unobserved shared m room others does))
         ∙ prompt_link
 
-    pub change_entries : others ≡ entries_replied host l room others m (held_in l (delay_on host m))
-    change_entries = prompt_entries false (cc (unobserved host m room others does))
+    pub change_entries : others ≡ entries_replied shared l room others m (held_in l (delay_on shared m))
+    change_entries = prompt_entries false (cc (unobserved shared m room others does))
 
 -- ---- pending entries
 
@@ -180,26 +182,29 @@ nothing_sent l now none = rw (none, (due_nothing now l.held none).1, append-nil 
 
 -- `true` if a notification is a 2.05 and is sent whole.
 abbrev pub goes_whole : ServerState → LinkValue → ObserverValue → Bool
-goes_whole host l o =
-    goes_on (notification_of host.store host.now o.path o.format) && is_sent l (notification_on host o)
+goes_whole shared l o =
+    goes_on (notification_of shared.store shared.now o.path o.format) && is_sent l (notification_on shared o)
 
 -- The entries after the notification of the observer at the index of the first stale one.
-pub notified_entries : (host : ServerState) (l : LinkValue) (entries : List ObserverValue) (index : ℕ)
-    (o : ObserverValue) (stays : Bool) → first_index (is_stale host) entries ≡ Some index → stays ≡ goes_whole host l o
-    → (if stays then slice_set entries index (record o { mark = mark_of host.now (state_on host o.path) })
-    else remove entries index) ≡ entries_notified host l entries o
-notified_entries host l entries index o true first is = (is_first (is_stale host) entries index first).becomes _ ∙ cc
-notified_entries host l entries index o false first is = (is_first (is_stale host) entries index first).goes ∙ cc
+pub notified_entries : (shared : ServerState) (l : LinkValue) (entries : List ObserverValue) (index : ℕ)
+    (o : ObserverValue) (stays : Bool) → first_index (is_stale shared) entries ≡ Some index → stays
+    ≡ goes_whole shared l o
+    → (if stays then slice_set entries index (record o { mark = mark_of shared.now (state_on shared o.path) })
+    else remove entries index) ≡ entries_notified shared l entries o
+notified_entries shared l entries index o true first is = (is_first (is_stale shared) entries index first).becomes _
+    ∙ cc
+notified_entries shared l entries index o false first is = (is_first (is_stale shared) entries index first).goes ∙ cc
 
 -- An observer stays if and only if the code computes so from the entry at the index.
-pub observer_stays_by : (host : ServerState) (l : LinkValue) (entries : List ObserverValue) (index : ℕ)
+pub observer_stays_by : (shared : ServerState) (l : LinkValue) (entries : List ObserverValue) (index : ℕ)
     (seen o : ObserverValue) (a : Answer) (c : ℕ) (goes : Bool) (reply : Reply) → slice_get entries index ≡ Some seen
     → slice_get entries index ≡ Some o
-    → a ≡ says (notification_of host.store host.now seen.path seen.format) → c ≡ a.response.code
+    → a ≡ says (notification_of shared.store shared.now seen.path seen.format) → c ≡ a.response.code
     → goes ≡ (c == code.content)
     → reply ≡ fit (limit_in l) (response_with_observe seen.token goes a.response)
-    (bare_response (response_with_observe seen.token goes a.response)) → (goes && is_whole reply) ≡ goes_whole host l o
-observer_stays_by host l entries index seen o a c goes reply read at told code_is goes_is sent =
+    (bare_response (response_with_observe seen.token goes a.response)) → (goes && is_whole reply)
+    ≡ goes_whole shared l o
+observer_stays_by shared l entries index seen o a c goes reply read at told code_is goes_is sent =
     let same : seen ≡ o = cc (read, at) in
-    let stays : (goes && is_whole reply) ≡ goes_whole host l seen = cc (told, code_is, goes_is, sent) in
-    stays ∙ ap (goes_whole host l) same
+    let stays : (goes && is_whole reply) ≡ goes_whole shared l seen = cc (told, code_is, goes_is, sent) in
+    stays ∙ ap (goes_whole shared l) same

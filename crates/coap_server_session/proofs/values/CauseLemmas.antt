@@ -8,7 +8,7 @@ use Rattle.coap_server_session.specs.Prelude.{state_at, Root, Time, Async, Listi
 use Rattle.coap_server_session.specs.Prelude.{Delete}
 use Rattle.coap_server_session.specs.Prelude.{changed, changes, IsStore, ServerState, Cause, ObserverValue}
 use Rattle.coap_server_session.specs.Prelude.{SessionValue}
-use Rattle.coap_server_session.specs.Prelude.{is_marked, is_stale, host_changed, IsSettled, path_hash, change_hash}
+use Rattle.coap_server_session.specs.Prelude.{is_marked, is_stale, shared_changed, IsSettled, path_hash, change_hash}
 use Rattle.coap_server_session.specs.Prelude.{ObservesNone, mark_of, state_on, changed_mark, MarkedSession, IsMarked}
 use Rattle.coap_server_session.specs.Prelude.{is_concerned, AreMarked, marks_after, ConcernsNone, marks_anew}
 use Rattle.coap_server_session.specs.Prelude.{IsMarkedBut}
@@ -50,12 +50,13 @@ marked_alike s t now mark key Listing same = refl
 marked_alike s t now mark None Dynamic same = refl
 marked_alike s t now mark (Some q) Dynamic same = ap (is_marked now mark) (same q refl)
 
-stale_elsewhere : (host : ServerState) (c : Change) (hash : ℕ) (o : ObserverValue) → change_hash c ≡ Some hash
-    → path_hash o.path ≢ hash → is_stale host o ≡ is_stale (host_changed host c) o
+stale_elsewhere : (shared : ServerState) (c : Change) (hash : ℕ) (o : ObserverValue) → change_hash c ≡ Some hash
+    → path_hash o.path ≢ hash → is_stale shared o ≡ is_stale (shared_changed shared c) o
 unfolding is_stale
-stale_elsewhere host c hash o is other =
-    ap not (sym (marked_alike host.store (changed host.store c) host.now o.mark (key_for o.path) (kind_of_path o.path)
-    (λ q e. kept_elsewhere host.store c hash is q (λ same. other (ap path_hash (key_is o.path q e).1 ∙ same)))))
+stale_elsewhere shared c hash o is other =
+    ap not (sym (marked_alike shared.store (changed shared.store c) shared.now o.mark (key_for o.path)
+    (kind_of_path o.path)
+    (λ q e. kept_elsewhere shared.store c hash is q (λ same. other (ap path_hash (key_is o.path q e).1 ∙ same)))))
 
 mark_alike : (s t : StoreValue) (now : ℕ) (key : Option Path) (p : ResourceKind)
     → ((q : Path) → key ≡ Some q → found_in t.resources q ≡ found_in s.resources q)
@@ -69,68 +70,72 @@ mark_alike s t now None Dynamic same = refl
 mark_alike s t now (Some q) Dynamic same = ap (mark_of now) (sym (same q refl))
 
 -- An observer that the change does not affect keeps its changed mark.
-mark_elsewhere : (host : ServerState) (c : Change) (hash : ℕ) (o : ObserverValue) → change_hash c ≡ Some hash
-    → is_concerned (cause.Path hash) o ≡ false → changed_mark host o ≡ changed_mark (host_changed host c) o
+mark_elsewhere : (shared : ServerState) (c : Change) (hash : ℕ) (o : ObserverValue) → change_hash c ≡ Some hash
+    → is_concerned (cause.Path hash) o ≡ false → changed_mark shared o ≡ changed_mark (shared_changed shared c) o
 unfolding changed_mark
-mark_elsewhere host c hash o is other =
+mark_elsewhere shared c hash o is other =
     let apart : path_hash o.path ≢ hash =
     λ same. both_ways (path_hash o.path == hash) other (eq-eqb (path_hash o.path) hash same) in
-    let same = mark_alike host.store (changed host.store c) host.now (key_for o.path) (kind_of_path o.path)
-    (λ q e. kept_elsewhere host.store c hash is q (λ same. apart (ap path_hash (key_is o.path q e).1 ∙ same))) in
-    ap (λ b. if b then Some (mark_of host.now (state_on host o.path)) else None)
-    (stale_elsewhere host c hash o is apart)
-    ∙ ap (λ (m : ℕ). if is_stale (host_changed host c) o then Some m else None) same
+    let same = mark_alike shared.store (changed shared.store c) shared.now (key_for o.path) (kind_of_path o.path)
+    (λ q e. kept_elsewhere shared.store c hash is q (λ same. apart (ap path_hash (key_is o.path q e).1 ∙ same))) in
+    ap (λ b. if b then Some (mark_of shared.now (state_on shared o.path)) else None)
+    (stale_elsewhere shared c hash o is apart)
+    ∙ ap (λ (m : ℕ). if is_stale (shared_changed shared c) o then Some m else None) same
 
-none_elsewhere : (host : ServerState) (c : Change) (hash : ℕ) (os : List ObserverValue) → change_hash c ≡ Some hash
-    → ObservesNone hash os → AllByRecursion (λ o. is_stale host o ≡ false) os
-    → find (is_stale (host_changed host c)) os ≡ None
-none_elsewhere host c hash [] is others none = refl
-none_elsewhere host c hash (o ∷ os) is others none =
-    rw (sym (stale_elsewhere host c hash o is others.0) ∙ none.0) (none_elsewhere host c hash os is others.1 none.1)
+none_elsewhere : (shared : ServerState) (c : Change) (hash : ℕ) (os : List ObserverValue) → change_hash c ≡ Some hash
+    → ObservesNone hash os → AllByRecursion (λ o. is_stale shared o ≡ false) os
+    → find (is_stale (shared_changed shared c)) os ≡ None
+none_elsewhere shared c hash [] is others none = refl
+none_elsewhere shared c hash (o ∷ os) is others none =
+    rw (sym (stale_elsewhere shared c hash o is others.0) ∙ none.0) (none_elsewhere shared c hash os is others.1 none.1)
 
-pub settled_elsewhere : (host : ServerState) (c : Change) (hash : ℕ) (v : SessionValue) → change_hash c ≡ Some hash
-    → ObservesNone hash v.observers → IsSettled host v → IsSettled (host_changed host c) v
-settled_elsewhere host c hash v is others =
-    settled_still host (host_changed host c) v (λ none. none)
-    (λ fresh. none_elsewhere host c hash v.observers is others (none_due (is_stale host) v.observers fresh))
+pub settled_elsewhere : (shared : ServerState) (c : Change) (hash : ℕ) (v : SessionValue) → change_hash c ≡ Some hash
+    → ObservesNone hash v.observers → IsSettled shared v → IsSettled (shared_changed shared c) v
+settled_elsewhere shared c hash v is others =
+    settled_still shared (shared_changed shared c) v (λ none. none)
+    (λ fresh. none_elsewhere shared c hash v.observers is others (none_due (is_stale shared) v.observers fresh))
 
 -- ---- recomputed marks
 
-pub but_changed : (host : ServerState) (c : Change) (hash : ℕ) (s : MarkedSession) → change_hash c ≡ Some hash
-    → IsMarked host s → IsMarkedBut (cause.Path hash) (host_changed host c) s
-but_changed host c hash s is marked =
+pub but_changed : (shared : ServerState) (c : Change) (hash : ℕ) (s : MarkedSession) → change_hash c ≡ Some hash
+    → IsMarked shared s → IsMarkedBut (cause.Path hash) (shared_changed shared c) s
+but_changed shared c hash s is marked =
     let os = s.session.observers in
-    ap (marks_anew (cause.Path hash) (host_changed host c) os) marked
-    ∙ anew_after (cause.Path hash) host (host_changed host c) os (λ o other. mark_elsewhere host c hash o is other)
+    ap (marks_anew (cause.Path hash) (shared_changed shared c) os) marked
+    ∙ anew_after (cause.Path hash) shared (shared_changed shared c) os
+    (λ o other. mark_elsewhere shared c hash o is other)
 
 -- The same for the marks of one connection, after a change or none.
-pub marked_after : (host : ServerState) (c : Change) (os : List ObserverValue) (marks : List (Option ℕ))
-    → AreMarked host os marks
-    → marks_after (change_hash c) (host_changed host c) os marks ≡ map (changed_mark (host_changed host c)) os
-marked_after host Nothing os marks marked = marked
-marked_after host (Put path format bytes) os marks marked =
+pub marked_after : (shared : ServerState) (c : Change) (os : List ObserverValue) (marks : List (Option ℕ))
+    → AreMarked shared os marks
+    → marks_after (change_hash c) (shared_changed shared c) os marks ≡ map (changed_mark (shared_changed shared c)) os
+marked_after shared Nothing os marks marked = marked
+marked_after shared (Put path format bytes) os marks marked =
     let c : Change = Put path format bytes in
     let hash = path_hash path in
-    ap (marks_anew (cause.Path hash) (host_changed host c) os) marked
-    ∙ anew_after (cause.Path hash) host (host_changed host c) os (λ o other. mark_elsewhere host c hash o refl other)
-marked_after host (Delete path) os marks marked =
+    ap (marks_anew (cause.Path hash) (shared_changed shared c) os) marked
+    ∙ anew_after (cause.Path hash) shared (shared_changed shared c) os
+    (λ o other. mark_elsewhere shared c hash o refl other)
+marked_after shared (Delete path) os marks marked =
     let c : Change = Delete path in
     let hash = path_hash path in
-    ap (marks_anew (cause.Path hash) (host_changed host c) os) marked
-    ∙ anew_after (cause.Path hash) host (host_changed host c) os (λ o other. mark_elsewhere host c hash o refl other)
+    ap (marks_anew (cause.Path hash) (shared_changed shared c) os) marked
+    ∙ anew_after (cause.Path hash) shared (shared_changed shared c) os
+    (λ o other. mark_elsewhere shared c hash o refl other)
 
-pub but_later : (host : ServerState) (later before : ℕ) (s : MarkedSession) → IsStore host.store → IsMarked host s
-    → IsMarkedBut (cause.Moment before) (at_moment host later) s
-but_later host later before s store marked =
+pub but_later : (shared : ServerState) (later before : ℕ) (s : MarkedSession) → IsStore shared.store → IsMarked shared s
+    → IsMarkedBut (cause.Moment before) (at_moment shared later) s
+but_later shared later before s store marked =
     let os = s.session.observers in
-    ap (marks_anew (cause.Moment before) (at_moment host later) os) marked
-    ∙ anew_after (cause.Moment before) host (at_moment host later) os (λ o other. mark_later host later o store other)
+    ap (marks_anew (cause.Moment before) (at_moment shared later) os) marked
+    ∙ anew_after (cause.Moment before) shared (at_moment shared later) os
+    (λ o other. mark_later shared later o store other)
 
 -- Current marks need no recomputation.
-pub but_none : (why : Cause) (host : ServerState) (s : MarkedSession) → IsMarked host s → IsMarkedBut why host s
-but_none why host s marked =
-    ap (marks_anew why host s.session.observers) marked ∙ anew_same why host s.session.observers
+pub but_none : (why : Cause) (shared : ServerState) (s : MarkedSession) → IsMarked shared s → IsMarkedBut why shared s
+but_none why shared s marked =
+    ap (marks_anew why shared s.session.observers) marked ∙ anew_same why shared s.session.observers
 
-pub marked_untouched : (why : Cause) (host : ServerState) (s : MarkedSession) → ConcernsNone why s.session.observers
-    → IsMarkedBut why host s → IsMarked host s
-marked_untouched why host s none but = sym (anew_unconcerned why host s.session.observers s.marks none) ∙ but
+pub marked_untouched : (why : Cause) (shared : ServerState) (s : MarkedSession) → ConcernsNone why s.session.observers
+    → IsMarkedBut why shared s → IsMarked shared s
+marked_untouched why shared s none but = sym (anew_unconcerned why shared s.session.observers s.marks none) ∙ but

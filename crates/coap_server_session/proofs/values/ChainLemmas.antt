@@ -215,31 +215,32 @@ none_observes hash (o ∷ os) none =
 -- ---- the loop that recomputes the marks of a chain, from its last observer on
 
 -- The marks of the observers after this one are recomputed, and nothing else has changed.
-pub record IsMarkedFrom (at : Option ℕ) (why : Cause) (host : ServerState) (old now : List Observer)
+pub record IsMarkedFrom (at : Option ℕ) (why : Cause) (shared : ServerState) (old now : List Observer)
     (flags : List Bool) : Type 0 where
   pub entries : map observer_value now ≡ map observer_value old
   pub links : map linked now ≡ map linked old
   pub tagged : AllByRecursion IsTagged now
-  pub marks : map mark_in now ≡ marks_from (next_index at) why host (map observer_value old) (map mark_in old)
+  pub marks : map mark_in now ≡ marks_from (next_index at) why shared (map observer_value old) (map mark_in old)
   pub flagged : AreFlagged flags (map mark_in now)
   pub within : next_index at ≤ length old
   pub concerned : (k : ℕ) (o : Linked) → at ≡ Some k → slice_get (map linked old) k ≡ Some o
       → concerns_path why o.path ≡ true
 
 -- The loop begins with the last observer of the chain.
-pub mark_first : (why : Cause) (host : ServerState) (chains : Chains) (xs : List Observer) (flags : List Bool)
+pub mark_first : (why : Cause) (shared : ServerState) (chains : Chains) (xs : List Observer) (flags : List Bool)
     → AreChainedTo (length xs) chains (map linked xs) → AllByRecursion IsTagged xs → AreFlagged flags (map mark_in xs)
-    → IsMarkedFrom (last_in why chains) why host xs xs flags
-mark_first why host chains xs flags all tagged flagged =
+    → IsMarkedFrom (last_in why chains) why shared xs xs flags
+mark_first why shared chains xs flags all tagged flagged =
     let is = all.last why in
     record {
       entries = refl;
       links = refl;
       tagged = tagged;
       marks =
-          sym (from_end (length xs) why host (map observer_value xs) (map mark_in xs)
+          sym (from_end (length xs) why shared (map observer_value xs) (map mark_in xs)
           (omega (arith, length-map xs observer_value)) (length-map xs mark_in ∙ sym (length-map xs observer_value)))
-          ∙ passed_over (next_index (last_in why chains)) (length xs) why host (map observer_value xs) (map mark_in xs)
+          ∙ passed_over (next_index (last_in why chains)) (length xs) why shared (map observer_value xs)
+          (map mark_in xs)
           is.within (others_unconcerned why (length xs) xs (last_in why chains) is);
       flagged = flagged;
       within = is.within;
@@ -247,15 +248,16 @@ mark_first why host chains xs flags all tagged flagged =
     }
 
 -- One iteration recomputes one more mark.
-pub mark_next : (k : ℕ) (why : Cause) (host : ServerState) (chains : Chains) (old now after : List Observer)
+pub mark_next : (k : ℕ) (why : Cause) (shared : ServerState) (chains : Chains) (old now after : List Observer)
     (before flags : List Bool) (x : Observer) (mark : Option ℕ)
-    → AreChainedTo (length old) chains (map linked old) → IsMarkedFrom (Some k) why host old now before
-    → x ≡ get_or now k x → mark ≡ changed_mark host (observer_value x)
+    → AreChainedTo (length old) chains (map linked old) → IsMarkedFrom (Some k) why shared old now before
+    → x ≡ get_or now k x → mark ≡ changed_mark shared (observer_value x)
     → map observer_value after ≡ map observer_value now → map linked after ≡ map linked now
     → AllByRecursion IsTagged after → map mark_in after ≡ slice_set (map mark_in now) k mark
     → AreFlagged flags (map mark_in after)
-    → (next_index (previous_in why (linked x)) ≤ k) × IsMarkedFrom (previous_in why (linked x)) why host old after flags
-mark_next k why host chains old now after before flags x mark all so_far read mark_is entries
+    → (next_index (previous_in why (linked x)) ≤ k)
+    × IsMarkedFrom (previous_in why (linked x)) why shared old after flags
+mark_next k why shared chains old now after before flags x mark all so_far read mark_is entries
     links tagged marks flagged =
     let os = map observer_value old in
     let ms = map mark_in old in
@@ -277,9 +279,9 @@ mark_next k why host chains old now after before flags x mark all so_far read ma
         tagged = tagged;
         marks =
             marks ∙ ap (λ (ns : List (Option ℕ)). slice_set ns k mark) so_far.marks
-            ∙ ap (set (marks_from (suc k) why host os ms) k) mark_is
-            ∙ one_set k why host os ms (observer_value x) entry it
-            ∙ passed_over (next_index (previous_in why (linked x))) k why host os ms is.within
+            ∙ ap (set (marks_from (suc k) why shared os ms) k) mark_is
+            ∙ one_set k why shared os ms (observer_value x) entry it
+            ∙ passed_over (next_index (previous_in why (linked x))) k why shared os ms is.within
             (others_unconcerned why k old (previous_in why (linked x)) is);
         flagged = flagged;
         within = omega (arith, is.within, so_far.within);
@@ -288,11 +290,11 @@ mark_next k why host chains old now after before flags x mark all so_far read ma
     )
 
 -- At the end, all affected marks are recomputed.
-pub all_marked : (why : Cause) (host : ServerState) (old now : List Observer) (flags : List Bool)
-    → IsMarkedFrom None why host old now flags
-    → map mark_in now ≡ marks_anew why host (map observer_value old) (map mark_in old)
+pub all_marked : (why : Cause) (shared : ServerState) (old now : List Observer) (flags : List Bool)
+    → IsMarkedFrom None why shared old now flags
+    → map mark_in now ≡ marks_anew why shared (map observer_value old) (map mark_in old)
 unfolding marks_from
-all_marked why host old now flags all = all.marks
+all_marked why shared old now flags all = all.marks
 
 -- An entry that is read again has the same path as before.
 pub same_path : (xs ys : List Observer) (i : ℕ) (x y : Observer) → map observer_value xs ≡ map observer_value ys

@@ -151,56 +151,58 @@ none_replaced p due left (o ∷ os) gone none =
     cond_both (due o) (left ++ os) (o ∷ first_becomes due left os) (λ xs. list_any p xs ≡ false)
     (λ _. none_joined p left os gone parts.1) (λ _. rw (parts.0, none_replaced p due left os gone parts.1) refl)
 
-none_notified : (host : ServerState) (v : SessionValue) (o : ObserverValue) → find (is_stale host) v.observers ≡ Some o
-    → AddsNone v (session_notified host v (Some o))
-none_notified host v o found =
-    let m : Message = notification_on host o in
+none_notified : (shared : ServerState) (v : SessionValue) (o : ObserverValue) → find (is_stale shared) v.observers
+    ≡ Some o
+    → AddsNone v (session_notified shared v (Some o))
+none_notified shared v o found =
+    let m : Message = notification_on shared o in
     let whole : Bool = is_whole (fit (limit_in v.link) m (bare_response m)) in
     none_with v v.frame (link_after v.link (call.Reply m)) _
-    (λ p none. none_replaced (λ x. p x.path) (is_stale host) _ v.observers
-    (left p none (goes_on (notification_of host.store host.now o.path o.format) && whole)) none)
+    (λ p none. none_replaced (λ x. p x.path) (is_stale shared) _ v.observers
+    (left p none (goes_on (notification_of shared.store shared.now o.path o.format) && whole)) none)
     (reply_held v.link m)
   where
     left : (p : Path → Bool) → list_any (λ x. p x.path) v.observers ≡ false → (stays : Bool)
-        → list_any (λ x. p x.path) (entry_left host o stays) ≡ false
-    left p none true = rw (found_none (λ x. p x.path) (is_stale host) v.observers o found none) refl
+        → list_any (λ x. p x.path) (entry_left shared o stays) ≡ false
+    left p none true = rw (found_none (λ x. p x.path) (is_stale shared) v.observers o found none) refl
     left p none false = refl
 
-none_once : (host : ServerState) (v : SessionValue) → AddsNone v (session_settled_once host v)
+none_once : (shared : ServerState) (v : SessionValue) → AddsNone v (session_settled_once shared v)
 unfolding session_settled_once next_held_in next_stale
-none_once host v =
-    elim (next_held_in host.now v)
-    as (λ due. next_held_in host.now v ≡ due → AddsNone v (session_settled_so host v due)) [
+none_once shared v =
+    elim (next_held_in shared.now v)
+    as (λ due. next_held_in shared.now v ≡ due → AddsNone v (session_settled_so shared v due)) [
       | Some e ↦ λ found.
-          let fewer = fewer_held v.link host.now e (some_where (session_ready v) _ e found) in
-          none_with v v.frame (link_sent v.link host.now e) v.observers (λ p none. none) (omega (arith, fewer))
+          let fewer = fewer_held v.link shared.now e (some_where (session_ready v) _ e found) in
+          none_with v v.frame (link_sent v.link shared.now e) v.observers (λ p none. none) (omega (arith, fewer))
       | None ↦ λ _.
-          (elim (next_stale host v) as (λ next. next_stale host v ≡ next → AddsNone v (session_notified host v next)) [
+          (elim (next_stale shared v) as (λ next. next_stale shared v ≡ next
+          → AddsNone v (session_notified shared v next)) [
             | None ↦ λ _. adds_none v
-            | Some o ↦ λ found. none_notified host v o (some_where (session_ready v) _ o found)
+            | Some o ↦ λ found. none_notified shared v o (some_where (session_ready v) _ o found)
           ] refl)
     ] refl
 
-none_within : (turns : ℕ) (host : ServerState) (v : SessionValue) → AddsNone v (session_settled_within turns host v)
+none_within : (turns : ℕ) (shared : ServerState) (v : SessionValue) → AddsNone v (session_settled_within turns shared v)
 unfolding session_settled_within
-none_within zero host v = adds_none v
-none_within (suc turns) host v =
-    adds_then v (session_settled_once host v) _ (none_once host v)
-    (none_within turns host (session_settled_once host v))
+none_within zero shared v = adds_none v
+none_within (suc turns) shared v =
+    adds_then v (session_settled_once shared v) _ (none_once shared v)
+    (none_within turns shared (session_settled_once shared v))
 
-pub settled_adds : (host : ServerState) (v : SessionValue) → AddsNone v (session_settled host v)
+pub settled_adds : (shared : ServerState) (v : SessionValue) → AddsNone v (session_settled shared v)
 unfolding session_settled
-settled_adds host v = none_within _ host v
+settled_adds shared v = none_within _ shared v
 
-pub held_adds : (host : ServerState) (v : SessionValue) → AddsNone v (settled_held host v)
-held_adds host v =
-    cond_both (length v.link.held == 0) v (session_settled host v) (AddsNone v) (λ _. adds_none v)
-    (λ _. settled_adds host v)
+pub held_adds : (shared : ServerState) (v : SessionValue) → AddsNone v (settled_held shared v)
+held_adds shared v =
+    cond_both (length v.link.held == 0) v (session_settled shared v) (AddsNone v) (λ _. adds_none v)
+    (λ _. settled_adds shared v)
 
 -- ---- other calls, after which the connection settles
 
-pub adds_settled : (host : ServerState) (v t : SessionValue) → AddsNone v t → AddsNone v (session_settled host t)
-adds_settled host v t adds = adds_then v t _ adds (settled_adds host t)
+pub adds_settled : (shared : ServerState) (v t : SessionValue) → AddsNone v t → AddsNone v (session_settled shared t)
+adds_settled shared v t adds = adds_then v t _ adds (settled_adds shared t)
 
 pub same_adds : (s : SessionValue) (frame : List ℕ) → AddsNone s (record s { frame = frame })
 same_adds s frame = record { observers = λ p none. none; held = omega arith }
@@ -296,46 +298,46 @@ none_filtered p keeps (o ∷ os) none =
     cond_both (keeps o) (o ∷ filter keeps os) (filter keeps os) (λ xs. list_any p xs ≡ false)
     (λ _. rw (parts.0, rest) refl) (λ _. rest)
 
-replied_last : (host : ServerState) (l : LinkValue) (others : List ObserverValue) (m : Message) (hold : Option Delay)
-    → AddsLastTo others (session_replied host l others m hold).observers
-replied_last host l others m None =
-    let a : Answer = answer_on host m in
+replied_last : (shared : ServerState) (l : LinkValue) (others : List ObserverValue) (m : Message) (hold : Option Delay)
+    → AddsLastTo others (session_replied shared l others m hold).observers
+replied_last shared l others m None =
+    let a : Answer = answer_on shared m in
     let observes : Bool = has_place l.limits.observers others a.watch in
     let response : Message = response_with_observe m.token observes a.response in
     let enters : Bool = observes && is_whole (fit (limit_in l) response (bare_response response)) in
-    last_with [] (link_after l (call.Reply response)) others _ (entered_last enters others (new_entry host m))
-replied_last host l others m (Some d) =
-    last_with [] (link_after l (hold_call d.by m.token (moment_after host.now d.seconds))) others
+    last_with [] (link_after l (call.Reply response)) others _ (entered_last enters others (new_entry shared m))
+replied_last shared l others m (Some d) =
+    last_with [] (link_after l (hold_call d.by m.token (moment_after shared.now d.seconds))) others
     others (λ hash none _. none)
 
-read_last : (host : ServerState) (v : SessionValue) (count : ℕ) (r : Result Message FormatFault)
-    → AddsLastTo v.observers (taking_read host v count r).session.observers
+read_last : (shared : ServerState) (v : SessionValue) (count : ℕ) (r : Result Message FormatFault)
+    → AddsLastTo v.observers (taking_read shared v count r).session.observers
 unfolding session_handled without_entry
-read_last host v count (Ok m) =
+read_last shared v count (Ok m) =
     let l : LinkValue = link_after v.link (call.Handle m) in
-    let hold : Option Delay = held_in l (delay_on host m) in
+    let hold : Option Delay = held_in l (delay_on shared m) in
     let others : List ObserverValue = without_entry m.token v.observers in
-    cond_both (asks_this v.link m) (session_replied host l others m hold) (session_with [] l v.observers)
+    cond_both (asks_this v.link m) (session_replied shared l others m hold) (session_with [] l v.observers)
     (λ w. AddsLastTo v.observers w.observers)
-    (λ _ hash none. replied_last host l others m hold hash
+    (λ _ hash none. replied_last shared l others m hold hash
     (none_filtered (observes_hash hash) (λ o. not (same_bytes o.token m.token)) v.observers none))
     (λ _. last_with [] l v.observers v.observers (λ hash none _. none))
-read_last host v count (Err e) =
+read_last shared v count (Err e) =
     last_with [] (link_after v.link (call.Reject reject.Format)) v.observers v.observers (λ hash none _. none)
 
-found_last : (host : ServerState) (v : SessionValue) (f : Framing) (what : FrameEventValue)
-    → AddsLastTo v.observers (taking_found host v f what).session.observers
-found_last host v f Nothing = λ hash none _. none
-found_last host v f (AFrame frame) = read_last host v f.taken (message_of frame)
-found_last host v f (AFault fault) =
+found_last : (shared : ServerState) (v : SessionValue) (f : Framing) (what : FrameEventValue)
+    → AddsLastTo v.observers (taking_found shared v f what).session.observers
+found_last shared v f Nothing = λ hash none _. none
+found_last shared v f (AFrame frame) = read_last shared v f.taken (message_of frame)
+found_last shared v f (AFault fault) =
     last_with [] (link_after v.link (call.Reject (reject_of (OfFrame fault)))) v.observers
     v.observers (λ hash none _. none)
 
-pub taking_adds_last : (host : ServerState) (v : SessionValue) (piece : List ℕ)
-    → AddsLast v (taking host v piece).session
+pub taking_adds_last : (shared : ServerState) (v : SessionValue) (piece : List ℕ)
+    → AddsLast v (taking shared v piece).session
 unfolding taking
-taking_adds_last host v piece =
+taking_adds_last shared v piece =
     let f : Framing = framing (session_max v) v.frame piece in
     let nothing : TakeOutcome = record { count = 0; handled = false; session = v; change = answer.Nothing } in
-    cond_both (session_takes v) (taking_found host v f f.finding) nothing (λ t. AddsLast v t.session)
-    (λ _. found_last host v f f.finding) (λ _ hash none _. none)
+    cond_both (session_takes v) (taking_found shared v f f.finding) nothing (λ t. AddsLast v t.session)
+    (λ _. found_last shared v f f.finding) (λ _ hash none _. none)

@@ -21,7 +21,7 @@ use Rattle.coap_model.proofs.world.EntryLemmas.{none_due}
 use Rattle.coap_model.proofs.world.SideLaws.{nothing_due_first}
 
 abbrev pub at_moment : ServerState → ℕ → ServerState
-at_moment host later = record host { now = later }
+at_moment shared later = record shared { now = later }
 
 -- ---- the earlier of two times
 
@@ -89,17 +89,17 @@ marked_so now later mark (Some r) numbered =
     let some = numbered r refl in
     rw (ne_eqb r.version 0 (λ e. omega (arith, e, some))) refl
 
-stale_so : (host : ServerState) (later : ℕ) (o : ObserverValue) → IsStore host.store → is_time_observer o ≡ false
-    → is_stale host o ≡ is_stale (at_moment host later) o
+stale_so : (shared : ServerState) (later : ℕ) (o : ObserverValue) → IsStore shared.store → is_time_observer o ≡ false
+    → is_stale shared o ≡ is_stale (at_moment shared later) o
 unfolding is_stale
-stale_so host later o store stored =
+stale_so shared later o store stored =
     let key : Option Path = key_for o.path in
-    let there = λ (now : ℕ). state_is_stored host.store now key (kind_of_path o.path)
+    let there = λ (now : ℕ). state_is_stored shared.store now key (kind_of_path o.path)
     (not-false (is_dynamic (kind_of_path o.path)) stored) in
     cc (
-      there host.now,
+      there shared.now,
       there later,
-      marked_so host.now later o.mark (stored_at host.store key) (λ r. stored_numbered host.store key r store),
+      marked_so shared.now later o.mark (stored_at shared.store key) (λ r. stored_numbered shared.store key r store),
     )
 
 -- A stored representation keeps its mark when the time changes, so its observers keep their changed marks.
@@ -110,27 +110,29 @@ mark_so now later (Some r) numbered =
     let some = numbered r refl in
     rw (ne_eqb r.version 0 (λ e. omega (arith, e, some))) refl
 
-pub mark_later : (host : ServerState) (later : ℕ) (o : ObserverValue) → IsStore host.store → is_time_observer o ≡ false
-    → changed_mark host o ≡ changed_mark (at_moment host later) o
+pub mark_later : (shared : ServerState) (later : ℕ) (o : ObserverValue) → IsStore shared.store → is_time_observer o
+    ≡ false
+    → changed_mark shared o ≡ changed_mark (at_moment shared later) o
 unfolding changed_mark
-mark_later host later o store stored =
+mark_later shared later o store stored =
     let key : Option Path = key_for o.path in
-    let there = λ (now : ℕ). state_is_stored host.store now key (kind_of_path o.path)
+    let there = λ (now : ℕ). state_is_stored shared.store now key (kind_of_path o.path)
     (not-false (is_dynamic (kind_of_path o.path)) stored) in
-    let same : mark_of host.now (state_on host o.path) ≡ mark_of later (state_on (at_moment host later) o.path) =
-    ap (mark_of host.now) (there host.now)
-    ∙ mark_so host.now later (stored_at host.store key) (λ r. stored_numbered host.store key r store)
+    let same : mark_of shared.now (state_on shared o.path) ≡ mark_of later (state_on (at_moment shared later) o.path) =
+    ap (mark_of shared.now) (there shared.now)
+    ∙ mark_so shared.now later (stored_at shared.store key) (λ r. stored_numbered shared.store key r store)
     ∙ ap (mark_of later) (sym (there later)) in
-    ap (λ b. if b then Some (mark_of host.now (state_on host o.path)) else None) (stale_so host later o store stored)
-    ∙ ap (λ (m : ℕ). if is_stale (at_moment host later) o then Some m else None) same
+    ap (λ b. if b then Some (mark_of shared.now (state_on shared o.path)) else
+    None) (stale_so shared later o store stored)
+    ∙ ap (λ (m : ℕ). if is_stale (at_moment shared later) o then Some m else None) same
 
-none_stale : (host : ServerState) (later : ℕ) (os : List ObserverValue) → IsStore host.store
-    → list_any is_time_observer os ≡ false → AllByRecursion (λ o. is_stale host o ≡ false) os
-    → find (is_stale (at_moment host later)) os ≡ None
-none_stale host later [] store stored none = refl
-none_stale host later (o ∷ os) store stored none =
+none_stale : (shared : ServerState) (later : ℕ) (os : List ObserverValue) → IsStore shared.store
+    → list_any is_time_observer os ≡ false → AllByRecursion (λ o. is_stale shared o ≡ false) os
+    → find (is_stale (at_moment shared later)) os ≡ None
+none_stale shared later [] store stored none = refl
+none_stale shared later (o ∷ os) store stored none =
     let parts = or_parts (is_time_observer o) (list_any is_time_observer os) stored in
-    rw (sym (stale_so host later o store parts.0) ∙ none.0) (none_stale host later os store parts.1 none.1)
+    rw (sym (stale_so shared later o store parts.0) ∙ none.0) (none_stale shared later os store parts.1 none.1)
 
 -- If an observer observes the time, no later second is before the next one.
 none_tells_time_before : (now later : ℕ) (observers : List ObserverValue) → now < later → later < 2 ^ 64
@@ -144,10 +146,10 @@ none_tells_time_before now later observers more fits before =
 
 -- ---- a connection
 
-pub stays_settled : (host : ServerState) (later : ℕ) (v : SessionValue) → IsStore host.store → IsSettled host v
-    → host.now < later → later < 2 ^ 64 → IsBefore later (due_on host.now v) → IsSettled (at_moment host later) v
-stays_settled host later v store settled more fits before =
-    let parts = before_both later (next_moment host.now v.link.held) (next_told host.now v.observers) before in
-    let stored = none_tells_time_before host.now later v.observers more fits parts.1 in
-    settled_still host (at_moment host later) v (λ none. not_due_later host.now later v.link.held none parts.0)
-    (λ fresh. none_stale host later v.observers store stored (none_due (is_stale host) v.observers fresh)) settled
+pub stays_settled : (shared : ServerState) (later : ℕ) (v : SessionValue) → IsStore shared.store → IsSettled shared v
+    → shared.now < later → later < 2 ^ 64 → IsBefore later (due_on shared.now v) → IsSettled (at_moment shared later) v
+stays_settled shared later v store settled more fits before =
+    let parts = before_both later (next_moment shared.now v.link.held) (next_told shared.now v.observers) before in
+    let stored = none_tells_time_before shared.now later v.observers more fits parts.1 in
+    settled_still shared (at_moment shared later) v (λ none. not_due_later shared.now later v.link.held none parts.0)
+    (λ fresh. none_stale shared later v.observers store stored (none_due (is_stale shared) v.observers fresh)) settled

@@ -93,37 +93,39 @@ announced_session s size f l is opened fit allowed f_is l_is =
 -- ---- a message
 
 -- The connection after a request, from its link and its entries.
-replied_as : (host : ServerState) (l : LinkValue) (others : List ObserverValue) (m : Message) (hold : Option Delay)
-    → session_with [] (link_replied host l l.limits.observers others m hold)
-    (entries_replied host l l.limits.observers others m hold) ≡ session_replied host l others m hold
-replied_as host l others m None = refl
-replied_as host l others m (Some seconds) = refl
+replied_as : (shared : ServerState) (l : LinkValue) (others : List ObserverValue) (m : Message) (hold : Option Delay)
+    → session_with [] (link_replied shared l l.limits.observers others m hold)
+    (entries_replied shared l l.limits.observers others m hold) ≡ session_replied shared l others m hold
+replied_as shared l others m None = refl
+replied_as shared l others m (Some seconds) = refl
 
-pub on_request : {T E : Type 0} (r : Result T E) (host : ServerState) (v : SessionValue) (m : Message)
+pub on_request : {T E : Type 0} (r : Result T E) (shared : ServerState) (v : SessionValue) (m : Message)
     (l after : LinkValue) (o p : ObserversValue) → asks_this v.link m ≡ true → l ≡ link_after v.link (call.Handle m)
     → o.room ≡ v.link.limits.observers → o.entries ≡ v.observers
-    → OnOk r (after ≡ link_replied host l o.room (without_entry m.token o.entries) m (held_in l (delay_on host m)))
+    → OnOk r (after ≡ link_replied shared l o.room (without_entry m.token o.entries) m (held_in l (delay_on shared m)))
     → OnOk r
-    (p.entries ≡ entries_replied host l o.room (without_entry m.token o.entries) m (held_in l (delay_on host m)))
-    → OnOk r ((frame : List ℕ) → session_with [] after p.entries ≡ session_handled host (record v { frame = frame }) m)
+    (p.entries ≡ entries_replied shared l o.room (without_entry m.token o.entries) m (held_in l (delay_on shared m)))
+    → OnOk r ((frame : List ℕ) → session_with [] after p.entries
+    ≡ session_handled shared (record v { frame = frame }) m)
 unfolding session_handled
-on_request (Ok x) host v m l after o p asks is room entries link_is p_is = λ frame.
+on_request (Ok x) shared v m l after o p asks is room entries link_is p_is = λ frame.
     let first : LinkValue = link_after v.link (call.Handle m) in
     let rooms : o.room ≡ first.limits.observers =
     room ∙ ap (λ (both : LimitValues × ℕ). both.0.observers)
     (sym (stays_so sizes_of (takes_messages v.link.phase) v.link _ refl)) in
-    cc (replied_as host first (without_entry m.token v.observers) m (held_in first (delay_on host m)))
-on_request (Err e) host v m l after o p asks is room entries link_is p_is = tt
+    cc (replied_as shared first (without_entry m.token v.observers) m (held_in first (delay_on shared m)))
+on_request (Err e) shared v m l after o p asks is room entries link_is p_is = tt
 
 -- A verdict other than `Request` is no request.
 pub no_request_told : (what : Verdict) → (what ≡ told.Request → ⊥) → is_request (verdict_value what) ≡ false
 no_request_told told.Request other = absurd (other refl)
 no_request_told what other = refl
 
-pub message_handled : (host : ServerState) (v : SessionValue) (m : Message) (l : LinkValue) → asks_this v.link m ≡ false
-    → l ≡ link_after v.link (call.Handle m) → session_with [] l v.observers ≡ session_handled host v m
+pub message_handled : (shared : ServerState) (v : SessionValue) (m : Message) (l : LinkValue) → asks_this v.link m
+    ≡ false
+    → l ≡ link_after v.link (call.Handle m) → session_with [] l v.observers ≡ session_handled shared v m
 unfolding session_handled
-message_handled host v m l other is = cc
+message_handled shared v m l other is = cc
 
 -- ---- an input slice
 
@@ -142,25 +144,25 @@ module _ (s : Inside) (is : IsSession s) (piece frame : List ℕ)
       (whole_itself s.framer.max (s.framer.kept ++ piece) frame whole.0 whole.1) bytes in
       omega (arith, some, length-take frame_count piece)
 
-  pub put_refused : (host : ServerState) (m : Message) → session_takes (session_value s) ≡ true
-      → message_of frame ≡ Ok m → IsPut (change_by host s.link m)
-      → RefusesPiece host (session_value s) piece (frame_count - 1)
+  pub put_refused : (shared : ServerState) (m : Message) → session_takes (session_value s) ≡ true
+      → message_of frame ≡ Ok m → IsPut (change_by shared s.link m)
+      → RefusesPiece shared (session_value s) piece (frame_count - 1)
   unfolding taking
-  put_refused host m takes read put =
+  put_refused shared m takes read put =
       let v : SessionValue = session_value s in
       let f : Framing = framing_of s.framer piece in
-      let whole : taking host v piece ≡ taking_read host v f.taken (Ok m) = cc (takes, is.greatest, found, read) in
+      let whole : taking shared v piece ≡ taking_read shared v f.taken (Ok m) = cc (takes, is.greatest, found, read) in
       record {
         takes = takes;
         last = omega (arith, ap (λ (t : TakeOutcome). t.count) whole, frame_takes_some);
         stores = rw whole put;
       }
 
-  pub kept_but_last : (host : ServerState) → session_takes (session_value s) ≡ true
+  pub kept_but_last : (shared : ServerState) → session_takes (session_value s) ≡ true
       → record (session_value s) { frame = (unread_after s.framer piece).kept }
-      ≡ (taking host (session_value s) (take (frame_count - 1) piece)).session
+      ≡ (taking shared (session_value s) (take (frame_count - 1) piece)).session
   unfolding framing taking
-  kept_but_last host takes =
+  kept_but_last shared takes =
       let but_last : List ℕ = without_last (taken_of s.framer piece) in
       let within : frame_count ≤ length piece = taken_within s.framer.max s.framer.kept piece is.framer.unfinished in
       let cut : but_last ≡ take (frame_count - 1) piece =
@@ -206,23 +208,24 @@ given_up_seen s l g o p g_is p_is =
     cc
 
 -- A session whose first stale observer, at this index, was notified.
-module _ (host : ServerState) (s : Inside) (index : ℕ) (l : LinkValue) (o : ObserversValue)
+module _ (shared : ServerState) (s : Inside) (index : ℕ) (l : LinkValue) (o : ObserversValue)
     (ready : session_ready (session_value s) ≡ true)
-    (first : first_index (is_stale host) s.observers.entries ≡ Some index)
+    (first : first_index (is_stale shared) s.observers.entries ≡ Some index)
     (link : (e : ObserverValue) → slice_get s.observers.entries index ≡ Some e
-    → l ≡ link_after s.link (call.Reply (notification_on host e)))
+    → l ≡ link_after s.link (call.Reply (notification_on shared e)))
     (entries : (e : ObserverValue) → slice_get s.observers.entries index ≡ Some e
-    → o.entries ≡ entries_notified host s.link s.observers.entries e) where
+    → o.entries ≡ entries_notified shared s.link s.observers.entries e) where
   abbrev pub session_is_notified : (e : ObserverValue) × (slice_get s.observers.entries index ≡ Some e)
   session_is_notified =
-      there_at s.observers.entries index (is_first (is_stale host) s.observers.entries index first).within
+      there_at s.observers.entries index (is_first (is_stale shared) s.observers.entries index first).within
 
-  next_is : next_stale host (session_value s) ≡ Some session_is_notified.0
+  next_is : next_stale shared (session_value s) ≡ Some session_is_notified.0
   next_is =
-      (found_ready host (session_value s) ready).1 ∙ (is_first (is_stale host) s.observers.entries index first).found
+      (found_ready shared (session_value s) ready).1
+      ∙ (is_first (is_stale shared) s.observers.entries index first).found
       ∙ session_is_notified.1
 
-  pub next_found : true ≡ is_some (next_stale host (session_value s))
+  pub next_found : true ≡ is_some (next_stale shared (session_value s))
   next_found = cc next_is
 
   pub notified_session : (g : FramerValue) (p : ObserversValue) → o.room ≡ s.observers.room → IsSession s
@@ -234,14 +237,14 @@ module _ (host : ServerState) (s : Inside) (index : ℕ) (l : LinkValue) (o : Ob
 
   pub notified_once : (g : FramerValue) (p : ObserversValue) → g ≡ framer_on l s.framer → p ≡ observers_left l o
       → record { frame = g.kept; link = l; observers = p.entries }
-      ≡ session_notified host (session_value s) (next_stale host (session_value s))
+      ≡ session_notified shared (session_value s) (next_stale shared (session_value s))
   notified_once g p g_is p_is =
       given_up_seen s l g o p g_is p_is
       ∙ ap (session_with s.framer.kept l) (entries session_is_notified.0 session_is_notified.1)
       ∙ ap (λ (k : LinkValue). session_with s.framer.kept k
-      (entries_notified host s.link s.observers.entries session_is_notified.0))
+      (entries_notified shared s.link s.observers.entries session_is_notified.0))
       (link session_is_notified.0 session_is_notified.1)
-      ∙ ap (session_notified host (session_value s)) (sym next_is)
+      ∙ ap (session_notified shared (session_value s)) (sym next_is)
 
 -- ---- pending entries
 
@@ -252,26 +255,27 @@ sent_sizes l now (Answer by token moment) =
 sent_sizes l now (Pong token) = refl
 
 -- A session whose first due entry was sent.
-module _ (host : ServerState) (s : Inside) (l : LinkValue) (ready : session_ready (session_value s) ≡ true)
-    (some : is_some (first_due host.now s.link.held) ≡ true)
-    (link : (e : PendingEntryValue) → first_due host.now s.link.held ≡ Some e → l ≡ link_sent s.link host.now e) where
-  abbrev pub due : (e : PendingEntryValue) × (first_due host.now s.link.held ≡ Some e)
-  due = there_is (first_due host.now s.link.held) some
+module _ (shared : ServerState) (s : Inside) (l : LinkValue) (ready : session_ready (session_value s) ≡ true)
+    (some : is_some (first_due shared.now s.link.held) ≡ true)
+    (link : (e : PendingEntryValue) → first_due shared.now s.link.held ≡ Some e → l
+    ≡ link_sent s.link shared.now e) where
+  abbrev pub due : (e : PendingEntryValue) × (first_due shared.now s.link.held ≡ Some e)
+  due = there_is (first_due shared.now s.link.held) some
 
-  held_is : next_held_in host.now (session_value s) ≡ Some due.0
-  held_is = (found_ready host (session_value s) ready).0 ∙ due.1
+  held_is : next_held_in shared.now (session_value s) ≡ Some due.0
+  held_is = (found_ready shared (session_value s) ready).0 ∙ due.1
 
   pub held_found : true
-      ≡ (is_some (next_held_in host.now (session_value s)) || is_some (next_stale host (session_value s)))
+      ≡ (is_some (next_held_in shared.now (session_value s)) || is_some (next_stale shared (session_value s)))
   held_found = cc held_is
 
   pub sent_session : (g : FramerValue) (p : ObserversValue) → IsSession s → g ≡ framer_on l s.framer
       → p ≡ observers_left l s.observers → IsSession (record { framer = g; link = l; observers = p })
   sent_session g p was =
-      given_up s l s.framer g s.observers p was (ap sizes_of (link due.0 due.1) ∙ sent_sizes s.link host.now due.0)
+      given_up s l s.framer g s.observers p was (ap sizes_of (link due.0 due.1) ∙ sent_sizes s.link shared.now due.0)
       refl was.framer refl
 
   pub sent_once : (g : FramerValue) (p : ObserversValue) → g ≡ framer_on l s.framer → p ≡ observers_left l s.observers
-      → record { frame = g.kept; link = l; observers = p.entries } ≡ session_settled_once host (session_value s)
+      → record { frame = g.kept; link = l; observers = p.entries } ≡ session_settled_once shared (session_value s)
   unfolding session_settled_once
   sent_once g p g_is p_is = given_up_seen s l g s.observers p g_is p_is ∙ cc (link due.0 due.1, held_is)

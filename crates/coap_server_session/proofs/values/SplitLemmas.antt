@@ -41,49 +41,49 @@ frame_is_back v piece frame is e =
 -- ---- the request that a take hands to the application
 
 -- A request of the application is handed over if the pending list has room.
-pub handed_late : (host : ServerState) (m : Message) (seconds : ℕ)
-    → delay_on host m ≡ Some (record { by = Application; seconds = seconds }) → (l : LinkValue)
-    → can_hold l ≡ is_handed (held_in l (delay_on host m))
-handed_late host m seconds delays l =
+pub handed_late : (shared : ServerState) (m : Message) (seconds : ℕ)
+    → delay_on shared m ≡ Some (record { by = Application; seconds = seconds }) → (l : LinkValue)
+    → can_hold l ≡ is_handed (held_in l (delay_on shared m))
+handed_late shared m seconds delays l =
     let d : Delay = record { by = Application; seconds = seconds } in
     elim (can_hold l) as (λ b. b ≡ is_handed (if b then Some d else None)) [ true ↦ refl | false ↦ refl ]
     ∙ ap (λ (delay : Option Delay). is_handed (held_in l delay)) (sym delays)
 
 -- A message that is no request is not handed over.
-pub message_not_handed : (host : ServerState) (l : LinkValue) (m : Message) → asks_this l m ≡ false
-    → false ≡ is_handed_over host l m
-message_not_handed host l m other = sym (and_left _ _ other)
+pub message_not_handed : (shared : ServerState) (l : LinkValue) (m : Message) → asks_this l m ≡ false
+    → false ≡ is_handed_over shared l m
+message_not_handed shared l m other = sym (and_left _ _ other)
 
-module _ (s : Inside) (is : IsSession s) (host : ServerState) (piece : List ℕ) where
-  pub handed_unready : session_takes (session_value s) ≡ false → handed host (session_value s) piece ≡ None
+module _ (s : Inside) (is : IsSession s) (shared : ServerState) (piece : List ℕ) where
+  pub handed_unready : session_takes (session_value s) ≡ false → handed shared (session_value s) piece ≡ None
   unfolding handed
   handed_unready takes = cc takes
 
   module _ (takes : session_takes (session_value s) ≡ true) where
-    pub handed_nothing : (framing_of s.framer piece).finding ≡ Nothing → handed host (session_value s) piece ≡ None
+    pub handed_nothing : (framing_of s.framer piece).finding ≡ Nothing → handed shared (session_value s) piece ≡ None
     unfolding handed
     handed_nothing found = cc (takes, is.greatest, found)
 
     pub handed_fault : (fault : _) → (framing_of s.framer piece).finding ≡ AFault fault
-        → handed host (session_value s) piece ≡ None
+        → handed shared (session_value s) piece ≡ None
     unfolding handed
     handed_fault fault found = cc (takes, is.greatest, found)
 
     module _ (frame : List ℕ) (found : (framing_of s.framer piece).finding ≡ AFrame frame) where
       handed_of_frame : (read : Result Message FormatFault) → message_of frame ≡ read
-          → handed host (session_value s) piece ≡ handed_read host (session_value s) frame read
+          → handed shared (session_value s) piece ≡ handed_read shared (session_value s) frame read
       unfolding handed
       handed_of_frame read reads = cc (takes, is.greatest, found, reads)
 
-      pub handed_bad : (e : FormatFault) → message_of frame ≡ Err e → handed host (session_value s) piece ≡ None
+      pub handed_bad : (e : FormatFault) → message_of frame ≡ Err e → handed shared (session_value s) piece ≡ None
       handed_bad e reads = handed_of_frame (Err e) reads
 
       module _ (m : Message) (reads : message_of frame ≡ Ok m) where
-        pub handed_flag : (b : Bool) → b ≡ is_handed_over host s.link m
-            → b ≡ is_some (handed host (session_value s) piece)
+        pub handed_flag : (b : Bool) → b ≡ is_handed_over shared s.link m
+            → b ≡ is_some (handed shared (session_value s) piece)
         handed_flag b same =
             same
-            ∙ elim (is_handed_over host s.link m) as (λ d. d ≡ is_some (if d then Some frame else None)) [
+            ∙ elim (is_handed_over shared s.link m) as (λ d. d ≡ is_some (if d then Some frame else None)) [
               | true ↦ refl
               | false ↦ refl
             ]

@@ -12,7 +12,7 @@ use Rattle.coap_server_session.specs.Prelude.{with_entry, is_whole, ObserverValu
 use Rattle.coap_server_session.specs.Prelude.{session_ready, session_takes, session_max, without_entry, new_entry}
 use Rattle.coap_server_session.specs.Prelude.{session_with, answer_on, Delay, delay_on, hold_call, held_in}
 use Rattle.coap_server_session.specs.Prelude.{session_replied, asks_this}
-use Rattle.coap_server_session.specs.Prelude.{session_handled, taking_read, taking_found, taking, host_changed}
+use Rattle.coap_server_session.specs.Prelude.{session_handled, taking_read, taking_found, taking, shared_changed}
 use Rattle.coap_server_session.specs.Prelude.{next_held_in, next_stale, session_settled, IsSettled, RefusesPiece}
 use Rattle.coap_server_session.specs.Prelude.{settled_held}
 use Rattle.std.proofs.lemmas.Bool.{eqb-true, and_parts, cond_both}
@@ -35,80 +35,82 @@ use Rattle.coap_server_session.proofs.values.SettleLemmas.{found_ready}
 -- ---- no observer is stale
 
 abbrev NoneStale : ServerState → List ObserverValue → Type 0
-NoneStale host os = AllByRecursion (λ o. is_stale host o ≡ false) os
+NoneStale shared os = AllByRecursion (λ o. is_stale shared o ≡ false) os
 
 -- If no observer is stale, a connection settles only if an entry is pending.
-settled_held_none : (host : ServerState) (v : SessionValue) → NoneStale host v.observers
-    → settled_held host v ≡ session_settled host v
-settled_held_none host v none =
-    cond_both (length v.link.held == 0) v (session_settled host v) (λ w. w ≡ session_settled host v)
-    (λ nothing. sym (settled_stays host v
-    (settled_quiet host v (none_held host.now v.link.held (omega (arith, eqb-true (length v.link.held) 0 nothing)))
-    (none_in (is_stale host) v.observers none))))
+settled_held_none : (shared : ServerState) (v : SessionValue) → NoneStale shared v.observers
+    → settled_held shared v ≡ session_settled shared v
+settled_held_none shared v none =
+    cond_both (length v.link.held == 0) v (session_settled shared v) (λ w. w ≡ session_settled shared v)
+    (λ nothing. sym (settled_stays shared v
+    (settled_quiet shared v (none_held shared.now v.link.held (omega (arith, eqb-true (length v.link.held) 0 nothing)))
+    (none_in (is_stale shared) v.observers none))))
     (λ _. refl)
 
 -- ---- a message
 
 -- The entry that a request adds is not stale.
-replied_none : (host : ServerState) (l : LinkValue) (others : List ObserverValue) (m : Message) (hold : Option Delay)
-    → NoneStale host others → NoneStale host (session_replied host l others m hold).observers
-replied_none host l others m None none =
-    let fresh : ObserverValue → Type 0 = λ o. is_stale host o ≡ false in
-    let a : Answer = answer_on host m in
+replied_none : (shared : ServerState) (l : LinkValue) (others : List ObserverValue) (m : Message) (hold : Option Delay)
+    → NoneStale shared others → NoneStale shared (session_replied shared l others m hold).observers
+replied_none shared l others m None none =
+    let fresh : ObserverValue → Type 0 = λ o. is_stale shared o ≡ false in
+    let a : Answer = answer_on shared m in
     let observes : Bool = has_place l.limits.observers others a.watch in
     let response : Message = response_with_observe m.token observes a.response in
     let enters : Bool = observes && is_whole (fit (limit_in l) response (bare_response response)) in
-    let told : enters ≡ true → is_stale host (new_entry host m) ≡ false = λ e.
+    let told : enters ≡ true → is_stale shared (new_entry shared m) ≡ false = λ e.
     let asks = (and_parts observes (is_whole (fit (limit_in l) response (bare_response response))) e).0 in
-    let may = may_watch host m (and_parts (asks_entry a.watch) (nat_lt (length others) l.limits.observers) asks).0 in
-    marked_now host (new_entry host m) may.representation may.there in
-    all_if fresh (is_open (link_after l (call.Reply response)).phase) (with_entry enters others (new_entry host m))
-    (all_entered fresh enters others (new_entry host m) none told)
-replied_none host l others m (Some d) none =
-    all_if (λ o. is_stale host o ≡ false)
-    (is_open (link_after l (hold_call d.by m.token (moment_after host.now d.seconds))).phase) others none
+    let may = may_watch shared m (and_parts (asks_entry a.watch) (nat_lt (length others) l.limits.observers) asks).0 in
+    marked_now shared (new_entry shared m) may.representation may.there in
+    all_if fresh (is_open (link_after l (call.Reply response)).phase) (with_entry enters others (new_entry shared m))
+    (all_entered fresh enters others (new_entry shared m) none told)
+replied_none shared l others m (Some d) none =
+    all_if (λ o. is_stale shared o ≡ false)
+    (is_open (link_after l (hold_call d.by m.token (moment_after shared.now d.seconds))).phase) others none
 
 -- ---- an input slice
 
-read_none : (host : ServerState) (v : SessionValue) (count : ℕ) (r : Result Message FormatFault)
-    → NoneStale host v.observers → NoneStale host (taking_read host v count r).session.observers
+read_none : (shared : ServerState) (v : SessionValue) (count : ℕ) (r : Result Message FormatFault)
+    → NoneStale shared v.observers → NoneStale shared (taking_read shared v count r).session.observers
 unfolding session_handled without_entry
-read_none host v count (Ok m) none =
+read_none shared v count (Ok m) none =
     let l : LinkValue = link_after v.link (call.Handle m) in
-    let hold : Option Delay = held_in l (delay_on host m) in
-    let fresh : ObserverValue → Type 0 = λ o. is_stale host o ≡ false in
-    cond_both (asks_this v.link m) (session_replied host l (without_entry m.token v.observers) m hold)
-    (session_with [] l v.observers) (λ w. NoneStale host w.observers)
-    (λ _. replied_none host l (without_entry m.token v.observers) m hold
+    let hold : Option Delay = held_in l (delay_on shared m) in
+    let fresh : ObserverValue → Type 0 = λ o. is_stale shared o ≡ false in
+    cond_both (asks_this v.link m) (session_replied shared l (without_entry m.token v.observers) m hold)
+    (session_with [] l v.observers) (λ w. NoneStale shared w.observers)
+    (λ _. replied_none shared l (without_entry m.token v.observers) m hold
     (all_filter fresh (λ o. not (same_bytes o.token m.token)) v.observers none))
     (λ _. all_if fresh (is_open l.phase) v.observers none)
-read_none host v count (Err e) none =
-    all_if (λ o. is_stale host o ≡ false)
+read_none shared v count (Err e) none =
+    all_if (λ o. is_stale shared o ≡ false)
     (is_open (link_after v.link (call.Reject reject.Format)).phase) v.observers none
 
-found_none : (host : ServerState) (v : SessionValue) (f : Framing) (what : FrameEventValue) → NoneStale host v.observers
-    → NoneStale host (taking_found host v f what).session.observers
-found_none host v f Nothing none = none
-found_none host v f (AFrame frame) none = read_none host v f.taken (message_of frame) none
-found_none host v f (AFault fault) none =
-    all_if (λ o. is_stale host o ≡ false) (is_open (link_after v.link (call.Reject (reject_of (OfFrame fault)))).phase)
+found_none : (shared : ServerState) (v : SessionValue) (f : Framing) (what : FrameEventValue)
+    → NoneStale shared v.observers
+    → NoneStale shared (taking_found shared v f what).session.observers
+found_none shared v f Nothing none = none
+found_none shared v f (AFrame frame) none = read_none shared v f.taken (message_of frame) none
+found_none shared v f (AFault fault) none =
+    all_if (λ o. is_stale shared o ≡ false) (is_open
+    (link_after v.link (call.Reject (reject_of (OfFrame fault)))).phase)
     v.observers none
 
 -- A connection that was settled has only its pending entries to settle, if the server state is unchanged.
-pub taking_settles_held : (host : ServerState) (v : SessionValue) (piece : List ℕ) → IsSettled host v
-    → settled_held host (taking host v piece).session ≡ session_settled host (taking host v piece).session
+pub taking_settles_held : (shared : ServerState) (v : SessionValue) (piece : List ℕ) → IsSettled shared v
+    → settled_held shared (taking shared v piece).session ≡ session_settled shared (taking shared v piece).session
 unfolding taking
-taking_settles_held host v piece settled =
+taking_settles_held shared v piece settled =
     let f : Framing = framing (session_max v) v.frame piece in
     let nothing : TakeOutcome = record { count = 0; handled = false; session = v; change = answer.Nothing } in
-    cond_both (session_takes v) (taking_found host v f f.finding) nothing
-    (λ t. settled_held host t.session ≡ session_settled host t.session)
+    cond_both (session_takes v) (taking_found shared v f f.finding) nothing
+    (λ t. settled_held shared t.session ≡ session_settled shared t.session)
     (λ takes.
     let ready = (and_parts (takes_messages v.link.phase) (session_ready v) takes).1 in
-    settled_held_none host _ (found_none host v f f.finding
-    (none_due (is_stale host) v.observers (sym ((found_ready host v ready).1) ∙ settled.1))))
-    (λ _. cond_both (length v.link.held == 0) v (session_settled host v) (λ w. w ≡ session_settled host v)
-    (λ _. sym (settled_stays host v settled)) (λ _. refl))
+    settled_held_none shared _ (found_none shared v f f.finding
+    (none_due (is_stale shared) v.observers (sym ((found_ready shared v ready).1) ∙ settled.1))))
+    (λ _. cond_both (length v.link.held == 0) v (session_settled shared v) (λ w. w ≡ session_settled shared v)
+    (λ _. sym (settled_stays shared v settled)) (λ _. refl))
 
 -- ---- allocation failed
 
@@ -127,34 +129,34 @@ before_whole M kept piece frame rest count whole taken =
 
 -- The effect of an input slice, from the result of `prefix_kind`.
 abbrev taking_begun : ServerState → SessionValue → List ℕ → StreamPrefix → TakeOutcome
-taking_begun host v piece b = taking_found host v (framing_at v.frame piece b) (framing_at v.frame piece b).finding
+taking_begun shared v piece b = taking_found shared v (framing_at v.frame piece b) (framing_at v.frame piece b).finding
 
-put_is_whole : (host : ServerState) (v : SessionValue) (piece : List ℕ) (b : StreamPrefix) (count : ℕ)
-    → (taking_begun host v piece b).count ≡ count + 1 → IsPut (taking_begun host v piece b).change
+put_is_whole : (shared : ServerState) (v : SessionValue) (piece : List ℕ) (b : StreamPrefix) (count : ℕ)
+    → (taking_begun shared v piece b).count ≡ count + 1 → IsPut (taking_begun shared v piece b).change
     → (frame : List ℕ) × (rest : List ℕ) × (b ≡ Whole frame rest) × (length piece - length rest ≡ count + 1)
-put_is_whole host v piece Unfinished count last puts = absurd puts
-put_is_whole host v piece (Faulty fault) count last puts = absurd puts
-put_is_whole host v piece (Whole frame rest) count last puts =
+put_is_whole shared v piece Unfinished count last puts = absurd puts
+put_is_whole shared v piece (Faulty fault) count last puts = absurd puts
+put_is_whole shared v piece (Whole frame rest) count last puts =
     (frame, rest, refl, sym (counted (message_of frame)) ∙ last)
   where
     counted : (r : Result Message FormatFault)
-        → (taking_read host v (length piece - length rest) r).count ≡ length piece - length rest
+        → (taking_read shared v (length piece - length rest) r).count ≡ length piece - length rest
     counted (Ok m) = refl
     counted (Err e) = refl
 
-taking_where_takes : (host : ServerState) (v : SessionValue) (piece : List ℕ) → session_takes v ≡ true
-    → taking host v piece ≡ taking_begun host v piece (prefix_kind (session_max v) (v.frame ++ piece))
+taking_where_takes : (shared : ServerState) (v : SessionValue) (piece : List ℕ) → session_takes v ≡ true
+    → taking shared v piece ≡ taking_begun shared v piece (prefix_kind (session_max v) (v.frame ++ piece))
 unfolding taking framing
-taking_where_takes host v piece takes = rw takes refl
+taking_where_takes shared v piece takes = rw takes refl
 
 -- Without its last byte, the message is not processed, and its bytes are kept.
-module _ (host : ServerState) (v : SessionValue) (piece : List ℕ) (count : ℕ)
-    (refuses : RefusesPiece host v piece count) where
+module _ (shared : ServerState) (v : SessionValue) (piece : List ℕ) (count : ℕ)
+    (refuses : RefusesPiece shared v piece count) where
   whole_piece : (frame : List ℕ) × (rest : List ℕ) × (prefix_kind (session_max v) (v.frame ++ piece) ≡ Whole frame rest)
       × (length piece - length rest ≡ count + 1)
   whole_piece =
-      let all = taking_where_takes host v piece refuses.takes in
-      put_is_whole host v piece (prefix_kind (session_max v) (v.frame ++ piece)) count
+      let all = taking_where_takes shared v piece refuses.takes in
+      put_is_whole shared v piece (prefix_kind (session_max v) (v.frame ++ piece)) count
       (sym (ap (λ (t : TakeOutcome). t.count) all) ∙ refuses.last)
       (subst (λ (t : TakeOutcome). IsPut t.change) all refuses.stores)
 
@@ -162,25 +164,26 @@ module _ (host : ServerState) (v : SessionValue) (piece : List ℕ) (count : ℕ
   pub refused_within : count + 1 ≤ length piece
   refused_within = let whole = whole_piece in omega (arith, whole.3)
 
-  front_taken : taking host v (take count piece) ≡ taking_begun host v (take count piece) Unfinished
+  front_taken : taking shared v (take count piece) ≡ taking_begun shared v (take count piece) Unfinished
   front_taken =
       let M : ℕ = session_max v in
       let whole = whole_piece in
-      taking_where_takes host v (take count piece) refuses.takes
-      ∙ ap (taking_begun host v (take count piece)) (before_whole M v.frame piece whole.0 whole.1 count whole.2 whole.3)
+      taking_where_takes shared v (take count piece) refuses.takes
+      ∙ ap (taking_begun shared v (take count piece))
+      (before_whole M v.frame piece whole.0 whole.1 count whole.2 whole.3)
 
-  pub refused_changes_nothing : (taking host v (take count piece)).change ≡ answer.Nothing
+  pub refused_changes_nothing : (taking shared v (take count piece)).change ≡ answer.Nothing
   refused_changes_nothing = ap (λ (t : TakeOutcome). t.change) front_taken
 
-  pub refused_stays_settled : IsSettled host v → IsSettled host (taking host v (take count piece)).session
+  pub refused_stays_settled : IsSettled shared v → IsSettled shared (taking shared v (take count piece)).session
   unfolding next_held_in next_stale
-  refused_stays_settled settled = subst (λ (t : TakeOutcome). IsSettled host t.session) (sym front_taken) settled
+  refused_stays_settled settled = subst (λ (t : TakeOutcome). IsSettled shared t.session) (sym front_taken) settled
 
   pub refused_kept : (P : SessionValue → Type 0) → ((frame : List ℕ) → P (record v { frame = frame }))
-      → P (taking host v (take count piece)).session
+      → P (taking shared v (take count piece)).session
   refused_kept P still = subst (λ (t : TakeOutcome). P t.session) (sym front_taken) (still _)
 
 -- ---- the server state
 
-pub host_stays : (host : ServerState) (c : Change) → changes c ≡ false → host_changed host c ≡ host
-host_stays host c quiet = ap (host_changed host) (nothing_changed c quiet)
+pub shared_stays : (shared : ServerState) (c : Change) → changes c ≡ false → shared_changed shared c ≡ shared
+shared_stays shared c quiet = ap (shared_changed shared) (nothing_changed c quiet)

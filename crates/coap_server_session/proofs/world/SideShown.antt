@@ -45,8 +45,8 @@ use Rattle.coap_model.proofs.world.SideLaws.{next_known, once_known, AreKnown, I
 use Rattle.coap_conn.specs.PendingEntries as held
 
 -- The server state of a store and a time.
-abbrev pub host_of : StoreValue → ℕ → ServerState
-host_of store now = record { store = store; now = now }
+abbrev pub shared_of : StoreValue → ℕ → ServerState
+shared_of store now = record { store = store; now = now }
 
 -- ---- state that depends on the phase
 
@@ -131,7 +131,7 @@ announced_shown rest s size is may =
 module _ (store : StoreValue) (now : ℕ) (small : now ≤ 18446744073709551615) (is : IsVersioned store) where
   replied_shown : (h : History) (os : List Observer) (m : Message) (hold : Option Delay) → IsHistory h
       → session_shown [] (side_replied store now h os m hold)
-      ≡ session_replied (host_of store now) (link_of h) (map observer_shown os) m hold
+      ≡ session_replied (shared_of store now) (link_of h) (map observer_shown os) m hold
   replied_shown h os m None history =
       let a = prompt_answer store now m in
       let observes = has_place h.limits.observers os a.watch in
@@ -140,7 +140,7 @@ module _ (store : StoreValue) (now : ℕ) (small : now ≤ 18446744073709551615)
       let entry = entry_for store now m in
       let watchable : enters ≡ true → IsWatchable store now (path_of m) =
       λ e. entry_watchable store now m (asks_to_enter a.watch (and_parts _ _ (and_parts observes _ e).0).0) in
-      let entered = entered_shown enters os entry (new_entry (host_of store now) m)
+      let entered = entered_shown enters os entry (new_entry (shared_of store now) m)
       (λ e. cc (mark_now store now (path_of m) small is (watchable e))) in
       shown_as [] (after h (call.Reply response)) _ (with_entry enters os entry)
       (after_link h (call.Reply response) tt history)
@@ -160,7 +160,7 @@ module _ (store : StoreValue) (now : ℕ) (small : now ≤ 18446744073709551615)
 
   -- A message that is processed.
   pub handled_shown : (rest : List ℕ) (s : Connection) (m : Message) → IsHistory s.history → handles s ≡ true
-      → session_shown [] (side_after store now s m) ≡ session_handled (host_of store now) (session_shown rest s) m
+      → session_shown [] (side_after store now s m) ≡ session_handled (shared_of store now) (session_shown rest s) m
   unfolding side_after session_handled
   handled_shown rest s m history e =
       let h = after s.history (call.Handle m) in
@@ -168,12 +168,12 @@ module _ (store : StoreValue) (now : ℕ) (small : now ≤ 18446744073709551615)
       let same : link_of h ≡ l = after_link s.history (call.Handle m) tt history in
       let hold = delay_of store now m in
       let held = elim hold as (λ o. held_for h o ≡ held_in (link_of h) o) [ None ↦ refl | Some d ↦ refl ] in
-      let host = host_of store now in
+      let shared = shared_of store now in
       let others = without_token m.token s.observers in
       let vs = without_entry m.token (map observer_shown s.observers) in
       let before : Bool → Connection =
       λ asks. if asks then side_replied store now h others m (held_for h hold) else with_history s h in
-      let afterwards : Bool → SessionValue = λ asks. if asks then session_replied host l vs m (held_in l hold)
+      let afterwards : Bool → SessionValue = λ asks. if asks then session_replied shared l vs m (held_in l hold)
       else session_with [] l (map observer_shown s.observers) in
       rw e (elim (asks_answer s m) as (λ asks. session_shown [] (before asks) ≡ afterwards asks) [
         | true ↦
@@ -183,7 +183,7 @@ module _ (store : StoreValue) (now : ℕ) (small : now ≤ 18446744073709551615)
       ])
 
 pub change_shown : (store : StoreValue) (now : ℕ) (s : Connection) (m : Message) → handles s ≡ true
-    → change_after store now s m ≡ change_by (host_of store now) (link_of s.history) m
+    → change_after store now s m ≡ change_by (shared_of store now) (link_of s.history) m
 unfolding change_after
 change_shown store now s m e = ap (λ b. cond (b && asks_answer s m) (prompt_answer store now m).change Nothing) e
 
@@ -202,7 +202,7 @@ sent_link h now (held.Pong token) is = after_link h (call.Due now) tt is
 module _ (store : StoreValue) (now : ℕ) (small : now ≤ 18446744073709551615) (is : IsVersioned store) where
   left_shown : (o : Observer) (stays : Bool) → IsKnown store o
       → (stays ≡ true → goes_on (notification store now o) ≡ true)
-      → map observer_shown (left_of store now o stays) ≡ entry_left (host_of store now) (observer_shown o) stays
+      → map observer_shown (left_of store now o stays) ≡ entry_left (shared_of store now) (observer_shown o) stays
   left_shown o true known on =
       let tells = tells_on_to_observer store now o (on refl) in
       cc (
@@ -213,19 +213,19 @@ module _ (store : StoreValue) (now : ℕ) (small : now ≤ 18446744073709551615)
 
   -- The tests of an observer and of its value agree.
   same_tests : (os : List Observer) → AreKnown store os
-      → TellTheSame (is_due store now) (is_stale (host_of store now)) os
+      → TellTheSame (is_due store now) (is_stale (shared_of store now)) os
   same_tests os known =
-      all_to (IsKnown store) (λ o. is_due store now o ≡ is_stale (host_of store now) (observer_shown o))
+      all_to (IsKnown store) (λ o. is_due store now o ≡ is_stale (shared_of store now) (observer_shown o))
       (λ o of. due_is_stale store now o of small is) os known
 
   next_shown : (rest : List ℕ) (s : Connection) → IsKnownSide store s
-      → option_map observer_shown (next_due store now s) ≡ next_stale (host_of store now) (session_shown rest s)
+      → option_map observer_shown (next_due store now s) ≡ next_stale (shared_of store now) (session_shown rest s)
   unfolding next_stale
   next_shown rest s known =
       elim (has_room s) as (λ b. option_map observer_shown (if b then find (is_due store now) s.observers else None)
-      ≡ (if b then find (is_stale (host_of store now)) (map observer_shown s.observers) else None)) [
+      ≡ (if b then find (is_stale (shared_of store now)) (map observer_shown s.observers) else None)) [
         | true ↦
-            found_shown (is_due store now) (is_stale (host_of store now)) s.observers
+            found_shown (is_due store now) (is_stale (shared_of store now)) s.observers
             (same_tests s.observers known.told)
         | false ↦ refl
       ]
@@ -233,10 +233,10 @@ module _ (store : StoreValue) (now : ℕ) (small : now ≤ 18446744073709551615)
   notified_shown : (rest : List ℕ) (s : Connection) (found : Option Observer) → IsKnownSide store s
       → ((o : Observer) → found ≡ Some o → IsKnown store o)
       → session_shown rest (notified store now s found)
-      ≡ session_notified (host_of store now) (session_shown rest s) (option_map observer_shown found)
+      ≡ session_notified (shared_of store now) (session_shown rest s) (option_map observer_shown found)
   notified_shown rest s None known told = refl
   notified_shown rest s (Some o) known told =
-      let stale = is_stale (host_of store now) in
+      let stale = is_stale (shared_of store now) in
       let m = notification_message o.token (notification store now o) in
       let on = goes_on (notification store now o) in
       let stays = on && is_whole (fit (limit_now s.history) m (bare_response m)) in
@@ -250,31 +250,32 @@ module _ (store : StoreValue) (now : ℕ) (small : now ≤ 18446744073709551615)
       )
 
   once_shown : (rest : List ℕ) (s : Connection) → IsKnownSide store s
-      → session_shown rest (settled_once store now s) ≡ session_settled_once (host_of store now) (session_shown rest s)
+      → session_shown rest (settled_once store now s)
+      ≡ session_settled_once (shared_of store now) (session_shown rest s)
   unfolding settled_once session_settled_once next_held_in
   once_shown rest s known =
       let v : SessionValue = session_shown rest s in
       there_or_not (next_held now s)
-      (λ found. session_shown rest (settled_so store now s found) ≡ session_settled_so (host_of store now) v found)
+      (λ found. session_shown rest (settled_so store now s found) ≡ session_settled_so (shared_of store now) v found)
       (λ none. notified_shown rest s (next_due store now s) known (next_known store now small is s known)
-      ∙ ap (session_notified (host_of store now) v) (next_shown rest s known))
+      ∙ ap (session_notified (shared_of store now) v) (next_shown rest s known))
       (λ e is. side_shown rest s _ _ s.observers (sent_goes_on s.history now e)
       (sent_link s.history now e known.is_history))
 
   within_shown : (turns : ℕ) (rest : List ℕ) (s : Connection) → IsKnownSide store s
       → session_shown rest (settled_within turns store now s)
-      ≡ session_settled_within turns (host_of store now) (session_shown rest s)
+      ≡ session_settled_within turns (shared_of store now) (session_shown rest s)
   unfolding settled_within session_settled_within
   within_shown zero rest s known = refl
   within_shown (suc turns) rest s known =
       within_shown turns rest (settled_once store now s) (once_known store now small is s known)
-      ∙ ap (session_settled_within turns (host_of store now)) (once_shown rest s known)
+      ∙ ap (session_settled_within turns (shared_of store now)) (once_shown rest s known)
 
   -- A connection settles as its value does.
   pub settled_shown : (rest : List ℕ) (s : Connection) → IsKnownSide store s
-      → session_shown rest (settled store now s) ≡ session_settled (host_of store now) (session_shown rest s)
+      → session_shown rest (settled store now s) ≡ session_settled (shared_of store now) (session_shown rest s)
   unfolding settled session_settled
   settled_shown rest s known =
       within_shown (length s.history.held + length s.observers) rest s known
-      ∙ ap (λ more. session_settled_within (length s.history.held + more) (host_of store now) (session_shown rest s))
+      ∙ ap (λ more. session_settled_within (length s.history.held + more) (shared_of store now) (session_shown rest s))
       (sym (length-map s.observers observer_shown))

@@ -83,19 +83,20 @@ ConcernsNone (cause.Moment before) observers = list_any is_time_observer observe
 
 -- The changed mark of an observer after a change: recomputed if the change may affect it, otherwise `mark`.
 abbrev pub mark_anew : Cause → ServerState → ObserverValue → Option ℕ → Option ℕ
-mark_anew why host o mark = if is_concerned why o then changed_mark host o else mark
+mark_anew why shared o mark = if is_concerned why o then changed_mark shared o else mark
 
 -- The changed marks of observers after a change, of which those are recomputed that the change may affect.
 unfoldable pub marks_anew : Cause → ServerState → List ObserverValue → List (Option ℕ) → List (Option ℕ)
-marks_anew why host [] marks = marks
-marks_anew why host (o ∷ os) [] = []
-marks_anew why host (o ∷ os) (mark ∷ marks) = mark_anew why host o mark ∷ marks_anew why host os marks
+marks_anew why shared [] marks = marks
+marks_anew why shared (o ∷ os) [] = []
+marks_anew why shared (o ∷ os) (mark ∷ marks) = mark_anew why shared o mark ∷ marks_anew why shared os marks
 
 -- The changed marks after a change of a path with this hash, or unchanged if there was none.
 abbrev pub marks_after : Option ℕ → ServerState → List ObserverValue → List (Option ℕ) → List (Option ℕ)
-marks_after None host observers marks = marks
-marks_after (Some hash) host observers marks = marks_anew (cause.Path hash) host observers marks
+marks_after None shared observers marks = marks
+marks_after (Some hash) shared observers marks = marks_anew (cause.Path hash) shared observers marks
 
 -- Holds if all changed marks are current after those are recomputed that the change may affect.
 abbrev pub IsMarkedBut : Cause → ServerState → MarkedSession → Type 0
-IsMarkedBut why host s = marks_anew why host s.session.observers s.marks ≡ map (changed_mark host) s.session.observers
+IsMarkedBut why shared s = marks_anew why shared s.session.observers s.marks
+    ≡ map (changed_mark shared) s.session.observers

@@ -24,10 +24,10 @@ first_index due [] = None
 first_index due (o ∷ os) = if due o then Some 0 else option_map (λ i. suc i) (first_index due os)
 
 -- Holds if `found` is the first stale observer, with the mark of the current state of its path.
-pub record IsFirstStale (host : ServerState) (observers : List ObserverValue) (found : StaleObserver) : Type 0 where
-  pub first : first_index (is_stale host) observers ≡ Some found.index
+pub record IsFirstStale (shared : ServerState) (observers : List ObserverValue) (found : StaleObserver) : Type 0 where
+  pub first : first_index (is_stale shared) observers ≡ Some found.index
   pub mark : (o : ObserverValue) → slice_get observers found.index ≡ Some o
-      → found.mark ≡ mark_of host.now (state_on host o.path)
+      → found.mark ≡ mark_of shared.now (state_on shared o.path)
 
 -- Holds if `found` is the first observer with a changed mark, with that mark.
 pub record IsFirstMarked (marks : List (Option ℕ)) (found : StaleObserver) : Type 0 where
@@ -39,12 +39,12 @@ pub record IsFirstMarked (marks : List (Option ℕ)) (found : StaleObserver) : T
 -- `true` if the response to a request has Observe: the request asks for an entry, and there are fewer than `room`
 -- others.
 abbrev pub is_observed : ServerState → ℕ → List ObserverValue → Message → Bool
-is_observed host room others m = has_place room others (answer_on host m).watch
+is_observed shared room others m = has_place room others (answer_on shared m).watch
 
 -- The response to a request that is answered at once.
 abbrev pub response_on : ServerState → ℕ → List ObserverValue → Message → Message
-response_on host room others m =
-    response_with_observe m.token (is_observed host room others m) (answer_on host m).response
+response_on shared room others m =
+    response_with_observe m.token (is_observed shared room others m) (answer_on shared m).response
 
 -- `true` if a response is sent whole.
 abbrev pub is_sent : LinkValue → Message → Bool
@@ -52,33 +52,34 @@ is_sent l m = is_whole (fit (limit_in l) m (bare_response m))
 
 -- The entries after a request that is answered at once. `others` are the entries with other tokens.
 abbrev pub entries_asked : ServerState → LinkValue → ℕ → List ObserverValue → Message → List ObserverValue
-entries_asked host l room others m =
-    with_entry (is_observed host room others m && is_sent l (response_on host room others m)) others (new_entry host m)
+entries_asked shared l room others m =
+    with_entry (is_observed shared room others m && is_sent l (response_on shared room others m)) others
+    (new_entry shared m)
 
 -- The link after a request: its response is sent at once, or is delayed.
 abbrev pub link_replied : ServerState → LinkValue → ℕ → List ObserverValue → Message → Option Delay → LinkValue
-link_replied host l room others m None = link_after l (call.Reply (response_on host room others m))
-link_replied host l room others m (Some d) = link_after l (hold_call d.by m.token (moment_after host.now d.seconds))
+link_replied shared l room others m None = link_after l (call.Reply (response_on shared room others m))
+link_replied shared l room others m (Some d) = link_after l (hold_call d.by m.token (moment_after shared.now d.seconds))
 
 -- The entries after a request. A request whose response is delayed has no entry.
 abbrev pub entries_replied : ServerState → LinkValue → ℕ → List ObserverValue → Message
     → Option Delay → List ObserverValue
-entries_replied host l room others m None = entries_asked host l room others m
-entries_replied host l room others m (Some d) = others
+entries_replied shared l room others m None = entries_asked shared l room others m
+entries_replied shared l room others m (Some d) = others
 
 -- ---- a notification (RFC 7641 section 4.2)
 
 -- The entries after a notification of `o`, the first stale observer among them.
 abbrev pub entries_notified : ServerState → LinkValue → List ObserverValue → ObserverValue → List ObserverValue
-entries_notified host l entries o =
-    first_becomes (is_stale host) (entry_left host o
-    (goes_on (notification_of host.store host.now o.path o.format) && is_sent l (notification_on host o))) entries
+entries_notified shared l entries o =
+    first_becomes (is_stale shared) (entry_left shared o
+    (goes_on (notification_of shared.store shared.now o.path o.format) && is_sent l (notification_on shared o))) entries
 
 -- ---- pending entries
 
 -- The connection after it settles, which it does only if an entry is pending.
 abbrev pub settled_held : ServerState → SessionValue → SessionValue
-settled_held host v = if length v.link.held == 0 then v else session_settled host v
+settled_held shared v = if length v.link.held == 0 then v else session_settled shared v
 
 -- ---- a stop
 

@@ -28,23 +28,23 @@ is_handed (Some d) = is_application d.by
 -- `true` if a message is a request that becomes a pending entry of the application. The engine does not answer it, and
 -- the pending list has room.
 abbrev pub is_handed_over : ServerState → LinkValue → Message → Bool
-is_handed_over host l m = asks_this l m && is_handed (held_in (link_after l (call.Handle m)) (delay_on host m))
+is_handed_over shared l m = asks_this l m && is_handed (held_in (link_after l (call.Handle m)) (delay_on shared m))
 
 -- A frame, if its message is handed to the application.
 abbrev pub handed_read : ServerState → SessionValue → List ℕ → Result Message FormatFault → Option (List ℕ)
-handed_read host v frame (Ok m) = if is_handed_over host v.link m then Some frame else None
-handed_read host v frame (Err e) = None
+handed_read shared v frame (Ok m) = if is_handed_over shared v.link m then Some frame else None
+handed_read shared v frame (Err e) = None
 
 -- The same, by the result of the framer.
 abbrev pub handed_found : ServerState → SessionValue → FrameEventValue → Option (List ℕ)
-handed_found host v Nothing = None
-handed_found host v (AFault fault) = None
-handed_found host v (AFrame frame) = handed_read host v frame (message_of frame)
+handed_found shared v Nothing = None
+handed_found shared v (AFault fault) = None
+handed_found shared v (AFrame frame) = handed_read shared v frame (message_of frame)
 
 -- The first frame that an input slice completes, if its message is handed to the application.
 unfoldable pub handed : ServerState → SessionValue → List ℕ → Option (List ℕ)
-handed host v piece =
-    if session_takes v then handed_found host v (framing (session_max v) v.frame piece).finding else None
+handed shared v piece =
+    if session_takes v then handed_found shared v (framing (session_max v) v.frame piece).finding else None
 
 -- The frame that the framer found, if it found one.
 abbrev pub found_frame : FrameEventValue → Option (List ℕ)

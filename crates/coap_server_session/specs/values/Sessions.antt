@@ -68,16 +68,16 @@ session_max v = v.link.own_max
 -- ---- the server state
 
 -- The server state at the time `now`, with an empty store and without applications.
-abbrev pub empty_host : (dynamic_max rep_max versions now : ℕ) → ServerState
-empty_host dynamic_max rep_max versions now = record {
+abbrev pub empty_shared : (dynamic_max rep_max versions now : ℕ) → ServerState
+empty_shared dynamic_max rep_max versions now = record {
   store =
       record { dynamic_max = dynamic_max; rep_max = rep_max; resources = []; versions = versions; applications = None };
   now = now;
 }
 
 -- The server state with these applications.
-abbrev pub host_with : ServerState → Option ApplicationsValue → ServerState
-host_with host applications = record host { store = record host.store { applications = applications } }
+abbrev pub shared_with : ServerState → Option ApplicationsValue → ServerState
+shared_with shared applications = record shared { store = record shared.store { applications = applications } }
 
 -- ---- marks
 
@@ -98,15 +98,15 @@ is_marked now mark (Some r) = mark_at now r == mark
 
 -- The state of a path in a server state, `None` if it is absent.
 abbrev pub state_on : ServerState → Path → Option Representation
-state_on host path = state_of host.store host.now path
+state_on shared path = state_of shared.store shared.now path
 
 -- `true` if an observer is stale: its path is absent, or the current state has another mark than the one sent last.
 unfoldable pub is_stale : ServerState → ObserverValue → Bool
-is_stale host o = not (is_marked host.now o.mark (state_on host o.path))
+is_stale shared o = not (is_marked shared.now o.mark (state_on shared o.path))
 
 -- The mark of the current state of a path, `None` if the path is absent.
 abbrev pub present_mark : ServerState → Path → Option ℕ
-present_mark host path = option_map (mark_at host.now) (state_on host path)
+present_mark shared path = option_map (mark_at shared.now) (state_on shared path)
 
 -- The mark of the current state if it differs from the mark `told`, 0 if the path is absent, otherwise `None`.
 abbrev pub untold_by : Option ℕ → ℕ → Option ℕ
@@ -115,15 +115,15 @@ untold_by (Some present) told = if present == told then None else Some present
 
 -- The changed mark of an observer: the mark of the current state if the observer is stale, otherwise `None`.
 unfoldable pub changed_mark : ServerState → ObserverValue → Option ℕ
-changed_mark host o = if is_stale host o then Some (mark_of host.now (state_on host o.path)) else None
+changed_mark shared o = if is_stale shared o then Some (mark_of shared.now (state_on shared o.path)) else None
 
 -- Holds if the changed marks of all observers are current.
 abbrev pub AreMarked : ServerState → List ObserverValue → List (Option ℕ) → Type 0
-AreMarked host observers marks = marks ≡ map (changed_mark host) observers
+AreMarked shared observers marks = marks ≡ map (changed_mark shared) observers
 
 -- Holds if the changed marks of a connection are current.
 abbrev pub IsMarked : ServerState → MarkedSession → Type 0
-IsMarked host s = AreMarked host s.session.observers s.marks
+IsMarked shared s = AreMarked shared s.session.observers s.marks
 
 -- ---- queries
 
@@ -169,11 +169,11 @@ without_entry token observers = filter (λ o. not (same_bytes o.token token)) ob
 
 -- The entry that a request adds. The current state of its path counts as sent.
 abbrev pub new_entry : ServerState → Message → ObserverValue
-new_entry host m = record {
+new_entry shared m = record {
   token = m.token;
   path = path_of m;
-  format = format_of (state_on host (path_of m));
-  mark = mark_of host.now (state_on host (path_of m));
+  format = format_of (state_on shared (path_of m));
+  mark = mark_of shared.now (state_on shared (path_of m));
 }
 
 -- The connection after a response to a request. `others` are the entries with other tokens. The entry is added if the
@@ -185,21 +185,22 @@ session_responded l others entry observes response =
 
 -- The connection after the response of an answer, with Observe if `observes` is `true`.
 abbrev pub session_answered_as : ServerState → LinkValue → List ObserverValue → Message → Answer → Bool → SessionValue
-session_answered_as host l others m a observes =
-    session_responded l others (new_entry host m) observes (response_with_observe m.token observes a.response)
+session_answered_as shared l others m a observes =
+    session_responded l others (new_entry shared m) observes (response_with_observe m.token observes a.response)
 
 -- The connection after the response of an answer, with Observe if the request asks for an entry and there is room for
 -- one.
 abbrev pub session_answered : ServerState → LinkValue → List ObserverValue → Message → Answer → SessionValue
-session_answered host l others m a = session_answered_as host l others m a (has_place l.limits.observers others a.watch)
+session_answered shared l others m a = session_answered_as shared l others m a
+    (has_place l.limits.observers others a.watch)
 
 -- The answer to a request that is answered at once.
 abbrev pub answer_on : ServerState → Message → Answer
-answer_on host m = prompt_answer host.store host.now m
+answer_on shared m = prompt_answer shared.store shared.now m
 
 -- The delay of the response to a request, if it is delayed.
 abbrev pub delay_on : ServerState → Message → Option Delay
-delay_on host m = delay_of host.store host.now m
+delay_on shared m = delay_of shared.store shared.now m
 
 -- The same delay, or `None` if the pending list is full.
 abbrev pub held_in : LinkValue → Option Delay → Option Delay
@@ -208,9 +209,9 @@ held_in l (Some d) = if can_hold l then Some d else None
 
 -- The connection after a request: its response is delayed, or was sent at once.
 abbrev pub session_replied : ServerState → LinkValue → List ObserverValue → Message → Option Delay → SessionValue
-session_replied host l others m None = session_answered host l others m (answer_on host m)
-session_replied host l others m (Some d) =
-    session_with [] (link_after l (hold_call d.by m.token (moment_after host.now d.seconds))) others
+session_replied shared l others m None = session_answered shared l others m (answer_on shared m)
+session_replied shared l others m (Some d) =
+    session_with [] (link_after l (hold_call d.by m.token (moment_after shared.now d.seconds))) others
 
 -- `true` if a message is a request that this connection answers.
 abbrev pub asks_this : LinkValue → Message → Bool
@@ -218,18 +219,18 @@ asks_this l m = is_request (react (standing_in l) m).verdict
 
 -- The connection after it processed a message.
 unfoldable pub session_handled : ServerState → SessionValue → Message → SessionValue
-session_handled host v m =
-    if asks_this v.link m then session_replied host (link_after v.link (call.Handle m))
-    (without_entry m.token v.observers) m (held_in (link_after v.link (call.Handle m)) (delay_on host m))
+session_handled shared v m =
+    if asks_this v.link m then session_replied shared (link_after v.link (call.Handle m))
+    (without_entry m.token v.observers) m (held_in (link_after v.link (call.Handle m)) (delay_on shared m))
     else session_with [] (link_after v.link (call.Handle m)) v.observers
 
 -- The change of the store that a message makes.
 abbrev pub change_by : ServerState → LinkValue → Message → Change
-change_by host l m = if asks_this l m then (answer_on host m).change else Change.Nothing
+change_by shared l m = if asks_this l m then (answer_on shared m).change else Change.Nothing
 
 -- The server state after a change of its store.
-abbrev pub host_changed : ServerState → Change → ServerState
-host_changed host change = record host { store = changed host.store change }
+abbrev pub shared_changed : ServerState → Change → ServerState
+shared_changed shared change = record shared { store = changed shared.store change }
 
 -- ---- input
 
@@ -247,36 +248,36 @@ session_rejected v fault = session_with [] (link_after v.link (call.Reject fault
 
 -- The effect of a frame, from its message or from the error of the parser. `count` bytes are accepted.
 abbrev pub taking_read : ServerState → SessionValue → ℕ → Result Message FormatFault → TakeOutcome
-taking_read host v count (Ok m) =
-    record { count = count; handled = true; session = session_handled host v m; change = change_by host v.link m }
-taking_read host v count (Err e) =
+taking_read shared v count (Ok m) =
+    record { count = count; handled = true; session = session_handled shared v m; change = change_by shared v.link m }
+taking_read shared v count (Err e) =
     record { count = count; handled = false; session = session_rejected v reject.Format; change = Change.Nothing }
 
 -- The effect of an input slice, from the result of the framer.
 abbrev pub taking_found : ServerState → SessionValue → Framing → FrameEventValue → TakeOutcome
-taking_found host v f Nothing =
+taking_found shared v f Nothing =
     record { count = f.taken; handled = false; session = record v { frame = f.kept }; change = Change.Nothing }
-taking_found host v f (AFault fault) = record {
+taking_found shared v f (AFault fault) = record {
   count = f.taken;
   handled = false;
   session = session_rejected v (reject_of (OfFrame fault));
   change = Change.Nothing;
 }
-taking_found host v f (AFrame frame) = taking_read host v f.taken (message_of frame)
+taking_found shared v f (AFrame frame) = taking_read shared v f.taken (message_of frame)
 
 -- The effect of an input slice. No byte is accepted if the connection does not accept bytes (`session_takes`).
 unfoldable pub taking : ServerState → SessionValue → List ℕ → TakeOutcome
-taking host v piece =
+taking shared v piece =
     if session_takes v
-    then taking_found host v (framing (session_max v) v.frame piece) (framing (session_max v) v.frame piece).finding
+    then taking_found shared v (framing (session_max v) v.frame piece) (framing (session_max v) v.frame piece).finding
     else record { count = 0; handled = false; session = v; change = Change.Nothing }
 
 -- Holds if allocation may fail for the representation that the first message of a slice stores. Then `count` bytes are
 -- accepted: all up to the end of that message but the last.
-pub record RefusesPiece (host : ServerState) (v : SessionValue) (piece : List ℕ) (count : ℕ) : Type 0 where
+pub record RefusesPiece (shared : ServerState) (v : SessionValue) (piece : List ℕ) (count : ℕ) : Type 0 where
   pub takes : session_takes v ≡ true
-  pub last : (taking host v piece).count ≡ count + 1
-  pub stores : IsPut (taking host v piece).change
+  pub last : (taking shared v piece).count ≡ count + 1
+  pub stores : IsPut (taking shared v piece).change
 
 -- ---- other calls
 
@@ -306,29 +307,29 @@ session_announced v size = session_with v.frame (link_after v.link (call.Announc
 
 -- The first stale observer, if the queue has room to notify it.
 unfoldable pub next_stale : ServerState → SessionValue → Option ObserverValue
-next_stale host v = if session_ready v then find (is_stale host) v.observers else None
+next_stale shared v = if session_ready v then find (is_stale shared) v.observers else None
 
 -- The entry of an observer after its notification: updated if it stays, otherwise removed.
 abbrev pub entry_left : ServerState → ObserverValue → Bool → List ObserverValue
-entry_left host o true = record o { mark = mark_of host.now (state_on host o.path) } ∷ []
-entry_left host o false = []
+entry_left shared o true = record o { mark = mark_of shared.now (state_on shared o.path) } ∷ []
+entry_left shared o false = []
 
 -- The connection after the notification `m` of an observer. The entry stays if `stays` is `true` and `m` is sent whole.
 abbrev pub session_notified_so : ServerState → SessionValue → ObserverValue → Message → Bool → SessionValue
-session_notified_so host v o m stays =
-    session_with v.frame (link_after v.link (call.Reply m)) (first_becomes (is_stale host)
-    (entry_left host o (stays && is_whole (fit (limit_in v.link) m (bare_response m)))) v.observers)
+session_notified_so shared v o m stays =
+    session_with v.frame (link_after v.link (call.Reply m)) (first_becomes (is_stale shared)
+    (entry_left shared o (stays && is_whole (fit (limit_in v.link) m (bare_response m)))) v.observers)
 
 -- The notification of an observer.
 abbrev pub notification_on : ServerState → ObserverValue → Message
-notification_on host o = notification_message o.token (notification_of host.store host.now o.path o.format)
+notification_on shared o = notification_message o.token (notification_of shared.store shared.now o.path o.format)
 
 -- The connection after the notification of an observer, if there is one.
 abbrev pub session_notified : ServerState → SessionValue → Option ObserverValue → SessionValue
-session_notified host v None = v
-session_notified host v (Some o) =
-    session_notified_so host v o (notification_on host o)
-    (goes_on (notification_of host.store host.now o.path o.format))
+session_notified shared v None = v
+session_notified shared v (Some o) =
+    session_notified_so shared v o (notification_on shared o)
+    (goes_on (notification_of shared.store shared.now o.path o.format))
 
 -- The pending entry that is due first, if the queue has room to send it.
 unfoldable pub next_held_in : ℕ → SessionValue → Option PendingEntryValue
@@ -343,23 +344,23 @@ link_sent l now (held.Pong token) = link_after l (call.Due now)
 
 -- The connection after one iteration of settling: a pending entry is sent before any observer is notified.
 abbrev pub session_settled_so : ServerState → SessionValue → Option PendingEntryValue → SessionValue
-session_settled_so host v None = session_notified host v (next_stale host v)
-session_settled_so host v (Some e) = session_with v.frame (link_sent v.link host.now e) v.observers
+session_settled_so shared v None = session_notified shared v (next_stale shared v)
+session_settled_so shared v (Some e) = session_with v.frame (link_sent v.link shared.now e) v.observers
 
 -- The connection after one iteration of settling.
 unfoldable pub session_settled_once : ServerState → SessionValue → SessionValue
-session_settled_once host v = session_settled_so host v (next_held_in host.now v)
+session_settled_once shared v = session_settled_so shared v (next_held_in shared.now v)
 
 -- The connection after this number of iterations.
 unfoldable pub session_settled_within : ℕ → ServerState → SessionValue → SessionValue
-session_settled_within zero host v = v
-session_settled_within (suc turns) host v = session_settled_within turns host (session_settled_once host v)
+session_settled_within zero shared v = v
+session_settled_within (suc turns) shared v = session_settled_within turns shared (session_settled_once shared v)
 
 -- The connection after it settled. Each iteration leaves fewer pending entries or fewer stale observers, so as many
 -- iterations suffice as there are entries and observers.
 unfoldable pub session_settled : ServerState → SessionValue → SessionValue
-session_settled host v = session_settled_within (length v.link.held + length v.observers) host v
+session_settled shared v = session_settled_within (length v.link.held + length v.observers) shared v
 
 -- Holds if nothing is left to settle: no pending entry is due and no observer is stale, or the queue has no room.
 abbrev pub IsSettled : ServerState → SessionValue → Type 0
-IsSettled host v = (next_held_in host.now v ≡ None) × (next_stale host v ≡ None)
+IsSettled shared v = (next_held_in shared.now v ≡ None) × (next_stale shared v ≡ None)

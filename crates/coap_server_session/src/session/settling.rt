@@ -21,30 +21,30 @@ impl Session {
     ///
     /// The changed marks of the observers are current.
     #[inline]
-    pub fn settle(&mut self, host: &ServerState)
-        requires { IsMarked host.now self.old }
-        ensures after { self.new.session ≡ session_settled host.entry.now self.old.session }
-        ensures settled { IsSettled host.entry.now self.new.session }
-        ensures marked { IsMarked host.entry.now self.new }
+    pub fn settle(&mut self, shared: &ServerState)
+        requires { IsMarked shared.now self.old }
+        ensures after { self.new.session ≡ session_settled shared.entry.now self.old.session }
+        ensures settled { IsSettled shared.entry.now self.new.session }
+        ensures marked { IsMarked shared.entry.now self.new }
         ensures split { self.new.split ≡ self.old.split }
     {
         if self.settle_bound() > 0 {
-            self.settle_each(host);
+            self.settle_each(shared);
         }
     }
 
     /// Settles the connection as `settle` does, in at most `more` iterations.
     // Never inlined, so that `settle` costs one comparison on a connection with nothing to send.
     #[inline(never)]
-    fn settle_each(&mut self, host: &ServerState)
-        requires { IsMarked host.now self.old }
-        ensures after { self.new.session ≡ session_settled host.entry.now self.old.session }
-        ensures settled { IsSettled host.entry.now self.new.session }
-        ensures marked { IsMarked host.entry.now self.new }
+    fn settle_each(&mut self, shared: &ServerState)
+        requires { IsMarked shared.now self.old }
+        ensures after { self.new.session ≡ session_settled shared.entry.now self.old.session }
+        ensures settled { IsSettled shared.entry.now self.new.session }
+        ensures marked { IsMarked shared.entry.now self.new }
         ensures split { self.new.split ≡ self.old.split }
     {
         for _ in 0..self.settle_bound() {
-            if !self.settle_once(host) {
+            if !self.settle_once(shared) {
                 return;
             }
         }
@@ -55,14 +55,14 @@ impl Session {
     /// # Preconditions
     ///
     /// The changed marks of all other observers are current.
-    pub fn mark_and_settle(&mut self, host: &ServerState, cause: Cause)
-        requires { IsMarkedBut cause host.now self.old }
-        ensures after { self.new.session ≡ session_settled host.entry.now self.old.session }
-        ensures marked { IsMarked host.entry.now self.new }
+    pub fn mark_and_settle(&mut self, shared: &ServerState, cause: Cause)
+        requires { IsMarkedBut cause shared.now self.old }
+        ensures after { self.new.session ≡ session_settled shared.entry.now self.old.session }
+        ensures marked { IsMarked shared.entry.now self.new }
         ensures split { self.new.split ≡ self.old.split }
     {
-        self.observers.mark(cause, host);
-        self.settle(host);
+        self.observers.mark(cause, shared);
+        self.settle(shared);
     }
 
     /// Settles the connection if an entry is pending. Use it when no observer is stale.
@@ -70,51 +70,51 @@ impl Session {
     /// # Preconditions
     ///
     /// The changed marks of the observers are current.
-    pub fn settle_if_pending(&mut self, host: &ServerState)
-        requires { IsMarked host.now self.old }
-        ensures after { self.new.session ≡ settled_held host.entry.now self.old.session }
-        ensures marked { IsMarked host.entry.now self.new }
+    pub fn settle_if_pending(&mut self, shared: &ServerState)
+        requires { IsMarked shared.now self.old }
+        ensures after { self.new.session ≡ settled_held shared.entry.now self.old.session }
+        ensures marked { IsMarked shared.entry.now self.new }
         ensures split { self.new.split ≡ self.old.split }
     {
         if self.link.pending() > 0 {
-            self.settle(host);
+            self.settle(shared);
         }
     }
 
     /// Sends the first due entry, or notifies the first stale observer if none is due. Returns `false` if there was
     /// neither, or if the queue has no room.
-    fn settle_once(&mut self, host: &ServerState) -> bool
-        requires { IsMarked host.now self.old }
-        ensures after { self.new.session ≡ session_settled_once host.entry.now self.old.session }
-        ensures found { result ≡ (is_some (next_held_in host.entry.now.now self.old.session)
-            || is_some (next_stale host.entry.now self.old.session)) }
-        ensures marked { IsMarked host.entry.now self.new }
+    fn settle_once(&mut self, shared: &ServerState) -> bool
+        requires { IsMarked shared.now self.old }
+        ensures after { self.new.session ≡ session_settled_once shared.entry.now self.old.session }
+        ensures found { result ≡ (is_some (next_held_in shared.entry.now.now self.old.session)
+            || is_some (next_stale shared.entry.now self.old.session)) }
+        ensures marked { IsMarked shared.entry.now self.new }
         ensures split { self.new.split ≡ self.old.split }
     {
         if !self.link.ready() {
             return false;
         }
-        if send_due(&mut self.link, host.now) {
+        if send_due(&mut self.link, shared.now) {
             discard_if_closed(&mut self.framer, &self.link, &mut self.observers);
             return true;
         }
-        self.notify_once(host)
+        self.notify_once(shared)
     }
 
     /// Notifies the first stale observer, and returns `true` if there was one. The queue must have room.
-    fn notify_once(&mut self, host: &ServerState) -> bool
+    fn notify_once(&mut self, shared: &ServerState) -> bool
         requires ready { IsReady self.old.session.link }
-        requires marked { IsMarked host.now self.old }
+        requires marked { IsMarked shared.now self.old }
         ensures after { self.new.session
-            ≡ session_notified host.entry.now self.old.session (next_stale host.entry.now self.old.session) }
-        ensures found { result ≡ is_some (next_stale host.entry.now self.old.session) }
-        ensures marked { IsMarked host.entry.now self.new }
+            ≡ session_notified shared.entry.now self.old.session (next_stale shared.entry.now self.old.session) }
+        ensures found { result ≡ is_some (next_stale shared.entry.now self.old.session) }
+        ensures marked { IsMarked shared.entry.now self.new }
         ensures split { self.new.split ≡ self.old.split }
     {
         let Some(stale) = self.observers.first_changed() else {
             return false;
         };
-        notify(&mut self.link, &mut self.observers, host, stale);
+        notify(&mut self.link, &mut self.observers, shared, stale);
         discard_if_closed(&mut self.framer, &self.link, &mut self.observers);
         true
     }
@@ -128,17 +128,17 @@ impl Session {
     ///
     /// At least `count` bytes are queued, the connection is settled, and the changed marks of the observers are
     /// current.
-    pub fn written_and_settled(&mut self, host: &ServerState, count: usize)
+    pub fn written_and_settled(&mut self, shared: &ServerState, count: usize)
         requires within { count ≤ length self.old.session.link.waiting }
-        requires settled { IsSettled host.now self.old.session }
-        requires marked { IsMarked host.now self.old }
-        ensures after { self.new.session ≡ session_settled host.entry.now (session_written self.old.session count) }
-        ensures marked { IsMarked host.entry.now self.new }
+        requires settled { IsSettled shared.now self.old.session }
+        requires marked { IsMarked shared.now self.old }
+        ensures after { self.new.session ≡ session_settled shared.entry.now (session_written self.old.session count) }
+        ensures marked { IsMarked shared.entry.now self.new }
     {
         let had_room = self.link.ready();
         self.written(count);
         if !had_room {
-            self.settle(host);
+            self.settle(shared);
         }
     }
 }

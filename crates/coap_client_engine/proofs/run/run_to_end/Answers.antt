@@ -9,7 +9,7 @@ loop-init g c = record {
   out = c.requires.out_works;
   err = c.requires.err_works;
   runs = record {
-    course = Begins c.now.result;
+    trace = Begins c.now.result;
     stands =
         began c.args.plan.now c.in-Ok.run' (g.W.Wire.given c.args.wire.now) (g.W.Wire.written c.args.wire.now)
         (g.O.Outlet.written c.args.out.now) (g.E.Outlet.written c.args.err.now)
@@ -36,12 +36,12 @@ loop-preserved g c =
     let after = seen (g.W.Wire.given c.turn.new.wire) (g.W.Wire.written c.turn.new.wire)
     (g.W.Wire.answers c.turn.new.wire) (g.C.Clock.moments c.now-in-loop.new.self) (g.O.Outlet.written c.turn.new.out)
     (g.E.Outlet.written c.turn.new.err) in
-    let course = Turns led.course c.now-in-loop.result in
+    let trace = Turns led.trace c.now-in-loop.result in
     let turning =
-    turn_made c.args.plan.now start before c.loop.run led.course led.stands led.ends (led.holds.between led.ends)
+    turn_made c.args.plan.now start before c.loop.run led.trace led.stands led.ends (led.holds.between led.ends)
     (record c.loop.run { moment = c.max.result }) c.now-in-loop.result (g.C.Clock.moments c.now-in-loop.new.self) refl
     refl refl refl c.max.ensures refl refl refl c.now-in-loop.ensures in
-    let went = c.in_ok-status.ensures.runs start now course turning led.ends tt in
+    let went = c.in_ok-status.ensures.runs start now trace turning led.ends tt in
     record {
       out =
           neither_first (g.O.Outlet.is_failed c.turn.new.out) (g.E.Outlet.is_failed c.turn.new.err)
@@ -49,8 +49,8 @@ loop-preserved g c =
       err =
           neither_second (g.O.Outlet.is_failed c.turn.new.out) (g.E.Outlet.is_failed c.turn.new.err)
           c.in_ok-status.ensures.output;
-      runs = as_many IsFlushed (turns_in led.course + 1) (c.loop.counter + 1) (ap (λ (n : ℕ). n + 1) led.holds.turns)
-          (subst (ExtendsTraceOn c.args.plan.now start after c.turn.new.self (IsFlushed (turns_in led.course + 1)))
+      runs = as_many IsFlushed (turns_in led.trace + 1) (c.loop.counter + 1) (ap (λ (n : ℕ). n + 1) led.holds.turns)
+          (subst (ExtendsTraceOn c.args.plan.now start after c.turn.new.self (IsFlushed (turns_in led.trace + 1)))
           c.in_default-2.is went);
     }
 
@@ -67,14 +67,14 @@ returns-in-Some-clause-run g c =
     let after = seen (g.W.Wire.given c.turn.new.wire) (g.W.Wire.written c.turn.new.wire)
     (g.W.Wire.answers c.turn.new.wire) (g.C.Clock.moments c.now-in-loop.new.self) (g.O.Outlet.written c.turn.new.out)
     (g.E.Outlet.written c.turn.new.err) in
-    let course = Turns led.course c.now-in-loop.result in
+    let trace = Turns led.trace c.now-in-loop.result in
     let turning =
-    turn_made c.args.plan.now start before c.loop.run led.course led.stands led.ends (led.holds.between led.ends)
+    turn_made c.args.plan.now start before c.loop.run led.trace led.stands led.ends (led.holds.between led.ends)
     (record c.loop.run { moment = c.max.result }) c.now-in-loop.result (g.C.Clock.moments c.now-in-loop.new.self) refl
     refl refl refl c.max.ensures refl refl refl c.now-in-loop.ensures in
-    let went = c.in_ok-status.ensures.runs start now course turning led.ends tt in
-    explained_of c.args.plan.now start after c.turn.new.self went.course went.stands
-    (few_turns (turns_in went.course) (turns_in led.course) c.loop.counter went.holds.turns
+    let went = c.in_ok-status.ensures.runs start now trace turning led.ends tt in
+    explained_of c.args.plan.now start after c.turn.new.self went.trace went.stands
+    (few_turns (turns_in went.trace) (turns_in led.trace) c.loop.counter went.holds.turns
     led.holds.turns c.loop-test.true)
     (record { status = c.in-Some.status; cause = c.turn.new.self.cause })
     (inl (went.ends ∙ c.in-Some.is, went.holds.written)) refl
@@ -87,7 +87,7 @@ returns-clause-run g c =
     (g.C.Clock.moments c.args.clock.now) (g.O.Outlet.written c.args.out.now) (g.E.Outlet.written c.args.err.now) in
     let now = seen (g.W.Wire.given c.loop.wire) (g.W.Wire.written c.loop.wire) (g.W.Wire.answers c.loop.wire)
     (g.C.Clock.moments c.loop.clock) (g.O.Outlet.written c.loop.out) (g.E.Outlet.written c.loop.err) in
-    let all : turns_in led.course ≡ most_turns =
-    turns_are (turns_in led.course) c.loop.counter led.holds.turns (omega arith) (omega arith) in
-    explained_of c.args.plan.now start now c.loop.run led.course led.stands (omega (arith, all))
+    let all : turns_in led.trace ≡ most_turns =
+    turns_are (turns_in led.trace) c.loop.counter led.holds.turns (omega arith) (omega arith) in
+    explained_of c.args.plan.now start now c.loop.run led.trace led.stands (omega (arith, all))
     (record { status = 4; cause = c.loop.run.cause }) (inr (led.ends, led.holds.between led.ends, all, refl)) refl

@@ -8,5 +8,5 @@ pub returns-else-may_observe : goal.returns-else-may_observe
 returns-else-may_observe c =
     let before = c.args.observers.now in
     let calm = none_observes c.in-Some.hash before.entries (sym c.may_observe.ensures ∙ c.if-may_observe.false) in
-    let none = anew_unconcerned (cause.Path c.in-Some.hash) c.args.host.now before.entries before.marks calm in
+    let none = anew_unconcerned (cause.Path c.in-Some.hash) c.args.shared.now before.entries before.marks calm in
     rw c.in-Some.is (ap (λ (ms : List (Option ℕ)). record before { marks = ms }) (sym none))

@@ -1,5 +1,5 @@
 use Rattle.std.proofs.Common.{sym, ap, subst, ◌∙◌, ◌||◌, nat_lt}
-use Rattle.coap_serve.specs.Prelude.{IsCourseFor, IsTakenWith, outlook_of, activity_after, course_of, has_written}
+use Rattle.coap_serve.specs.Prelude.{IsCourseFor, IsTakenWith, work_of, activity_after, course_of, has_written}
 use Rattle.coap_serve.specs.Prelude.{is_over_in, readiness, state_at, trace_by, visit_state}
 use Rattle.coap_serve.proofs.listener.PeerLemmas.{failed_read_is_a_part, read_failed, steps_are_a_part, write_reason}
 use Rattle.coap_serve.proofs.listener.SleepLemmas.{beside_heard, beside_served}
@@ -47,7 +47,7 @@ returns-clause-part g c =
       };
     })
     wrote.server (c.outcome.ensures ∙ ap (course_of c.write_once-wrote.result) (ap is_over_in
-    (sym c.outlook_at-work.ensures)))
+    (sym c.work_at-work.ensures)))
     heard.accepted wrote.accepted
     (c.after-activity.ensures ∙ ap (λ moved. activity_after c.args.second moved c.read_wire-heard.new.peer.activity)
     c.has_moved-moved.ensures
@@ -62,12 +62,12 @@ pub returns-then-failed-clause-kept : goal.returns-then-failed-clause-kept
 returns-then-failed-clause-kept g c = beside_heard c.args.index.id c.read_wire-heard.ensures.kept
 
 -- The connection stays at its index.
-pub outlook_at-requires : goal.outlook_at-requires
-outlook_at-requires g c = lies_still c.args.index.id c.args.index.at c.args.server.now.sessions
+pub work_at-requires : goal.work_at-requires
+work_at-requires g c = lies_still c.args.index.id c.args.index.at c.args.server.now.sessions
     c.read_wire-heard.new.server.sessions c.read_wire-heard.ensures.kept.keys c.requires.lies
 
-pub outlook_at-work-requires : goal.outlook_at-work-requires
-outlook_at-work-requires g c =
+pub work_at-work-requires : goal.work_at-work-requires
+work_at-work-requires g c =
     lies_still c.args.index.id c.args.index.at c.args.server.now.sessions c.write_once-wrote.new.server.sessions
     (c.write_once-wrote.ensures.kept.keys ∙ c.in_ok-taken.ensures.kept.keys ∙ c.read_wire-heard.ensures.kept.keys)
     c.requires.lies
@@ -95,7 +95,7 @@ pub returns-clause-reason : goal.returns-clause-reason
 returns-clause-reason g c =
     let wrote = c.write_once-wrote.ensures in
     rw c.outcome.ensures
-    (subst (λ over. IsCourseFor (course_of c.write_once-wrote.result over) (outlook_of c.write_once-wrote.new.server
-    c.args.index.id)) (ap is_over_in c.outlook_at-work.ensures)
+    (subst (λ over. IsCourseFor (course_of c.write_once-wrote.result over) (work_of c.write_once-wrote.new.server
+    c.args.index.id)) (ap is_over_in c.work_at-work.ensures)
     (write_reason c.args.may_write c.take_buffered.new.server c.args.index.id c.write_once-wrote.result wrote.server
     (λ none. (wrote.idle none).1)))

@@ -10,7 +10,7 @@ use Rattle.coap_serve.proofs.door.removal.drop_at.Goals as goal
 pub accepted-requires : goal.accepted-requires
 accepted-requires g c =
     let lies = lies_there c.requires.paired c.args.at (sym c.in-Some.ensures.entry) in
-    reason_left c.args.server.now.host.now (session_of c.in-Some.id c.args.server.now.sessions) c.args.reason
+    reason_left c.args.server.now.shared.now (session_of c.in-Some.id c.args.server.now.sessions) c.args.reason
     (sym (is_there_at c.in-Some.id c.args.at c.args.server.now.sessions lies))
     (rw (← c.in-Some.ensures.entry) at c.requires.reason)
 

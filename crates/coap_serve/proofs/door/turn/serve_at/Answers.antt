@@ -28,7 +28,7 @@ returns g c =
             accepted = part.accepted;
           })
           c.serve_peer.ensures.part);
-      wants = rw written c.serve_peer.ensures.wants;
+      interest = rw written c.serve_peer.ensures.interest;
       reason = rw written c.serve_peer.ensures.reason;
       kept = rw c.pair_mut-peer.ensures.value c.serve_peer.ensures.kept;
       peers = (c.serve_peer.new.peer, refl);

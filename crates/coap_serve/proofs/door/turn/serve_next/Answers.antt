@@ -60,7 +60,7 @@ returns-in-Open-clause-asleep g c =
     let now : slice_get c.serve_at.new.peers.entries c.args.at ≡ Some (at.0.0, p) =
     ap (λ xs. slice_get xs c.args.at) c.serve_at.ensures.peers.1 ∙ set_there es c.args.at p at.0.0 at.0.1 at.1 in
     let seen = looked_at readable writable c.serve_at.new.server c.serve_at.new.peers.entries c.args.at
-    c.in_ok-served.ensures.wants c.index-peer.ensures c.is_ready-is_ready.ensures in
+    c.in_ok-served.ensures.interest c.index-peer.ensures c.is_ready-is_ready.ensures in
     let entry : seen.0 ≡ (at.0.0, p) = cc (seen.1, now) in
     asleep_beside readable writable c.in_ok-served.served.affected.words c.args.at at.0.0 at.0.1 p kept
     c.requires.paired at.1 c.serve_at.ensures.peers.1

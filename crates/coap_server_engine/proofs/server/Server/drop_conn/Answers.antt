@@ -18,7 +18,7 @@ invariant_of-self c =
       server = dropped_server _ _ _ _ c.self.invariant.server c.in-Some.ensures.some removed;
       marked =
           rw c.shift_remove_index.ensures.entries
-          (all_remove (λ e. IsMarked c.self.inside.host e.1) es c.in-Some.at c.self.invariant.marked);
+          (all_remove (λ e. IsMarked c.self.inside.shared e.1) es c.in-Some.at c.self.invariant.marked);
       covered =
           rw removed (c.follow_removal.ensures (unmarked es) (length-map es unmarked_entry ∙ sym c.len.ensures.len)
           c.self.invariant.covered);

@@ -5,7 +5,7 @@ use Rattle.coap_server_engine.proofs.values.DeadlineLemmas.{waits_for_the_next}
 use Rattle.coap_server_engine.proofs.server.Server.next_deadline.Goals as goal
 
 pub earliest_deadline-requires : goal.earliest_deadline-requires
-earliest_deadline-requires c = c.self.invariant.covered.time c.self.inside.host.now
+earliest_deadline-requires c = c.self.invariant.covered.time c.self.inside.shared.now
 
 pub invariant_of-self : goal.invariant_of-self
 invariant_of-self c = record {

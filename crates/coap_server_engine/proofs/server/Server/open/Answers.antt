@@ -17,15 +17,15 @@ invariant_of-self-2 c =
     ap unmarked c.in-Ok-insert.ensures.entries ∙ inserted_unmarked es id c.in-Ok.session
     ∙ ap (λ (s : MarkedSession). insert_entry nat_eq (unmarked es) id s.session) c.in-Ok.ensures.value
     ∙ ap (λ (l : LimitValues). insert_entry nat_eq (unmarked es) id (new_session l)) c.limits.ensures in
-    let host = c.self.inside.host in
+    let shared = c.self.inside.shared in
     let none =
     ap (λ (s : MarkedSession). s.marks) c.in-Ok.ensures.value
-    ∙ sym (ap (λ (s : MarkedSession). map (changed_mark host) s.session.observers) c.in-Ok.ensures.value) in
+    ∙ sym (ap (λ (s : MarkedSession). map (changed_mark shared) s.session.observers) c.in-Ok.ensures.value) in
     record {
       server = opened_server _ _ c.self.invariant.server inserted (omega (arith, length-map es unmarked_entry));
       marked =
           rw c.in-Ok-insert.ensures.entries
-          (all_inserted (IsMarked host) es id c.in-Ok.session c.self.invariant.marked none);
+          (all_inserted (IsMarked shared) es id c.in-Ok.session c.self.invariant.marked none);
       covered = covered_opened _ id _ _ _ inserted c.self.invariant.covered;
     }
 

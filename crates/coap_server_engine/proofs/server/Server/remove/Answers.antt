@@ -8,10 +8,10 @@ pub settle_observers-requires : goal.settle_observers-requires
 settle_observers-requires c = record {
   covered = c.self.invariant.covered;
   settled =
-      untouched_by_removal c.self.inside.host _ _ _ _ c.in_ok-remove.ensures.ok c.hash_of-hash.ensures
+      untouched_by_removal c.self.inside.shared _ _ _ _ c.in_ok-remove.ensures.ok c.hash_of-hash.ensures
       c.self.invariant.server.settled;
   marked =
-      all_but_removed c.self.inside.host _ _ _ _ c.in_ok-remove.ensures.ok
+      all_but_removed c.self.inside.shared _ _ _ _ c.in_ok-remove.ensures.ok
       c.hash_of-hash.ensures c.self.invariant.marked;
 }
 

@@ -31,7 +31,7 @@ use Rattle.coap_server_engine.proofs.server.Server.take_request_at.Goals as goal
 
 pub take-requires : goal.take-requires
 take-requires c =
-    one_of_all (IsMarked c.self.inside.host) c.args.index.at _ _ c.self.invariant.marked c.index_mut.ensures.value
+    one_of_all (IsMarked c.self.inside.shared) c.args.index.at _ _ c.self.invariant.marked c.index_mut.ensures.value
 
 pub invariant_of-self : goal.invariant_of-self
 invariant_of-self c =
@@ -44,15 +44,15 @@ invariant_of-self c =
     let here = unmarked_at es at _ c.index_mut.ensures.value in
     let s = c.index_mut.result.now.session in
     let adds : AddsNone s new.session = subst (AddsNone s) (sym e.kept)
-    (refused_kept c.self.inside.host s c.args.piece.now _ e.refused (AddsNone s) (same_adds s)) in
+    (refused_kept c.self.inside.shared s c.args.piece.now _ e.refused (AddsNone s) (same_adds s)) in
     let server = refused_server v _ _ _ c.args.piece.now _ c.self.invariant.server lies
-    (unmarked_at es at _ c.index_mut.ensures.value) e.refused c.take.new.host new.session e.kept e.unchanged in
-    let written = subst (λ (fs : Entries). IsServer (record v { host = c.take.new.host; sessions = fs }))
+    (unmarked_at es at _ c.index_mut.ensures.value) e.refused c.take.new.shared new.session e.kept e.unchanged in
+    let written = subst (λ (fs : Entries). IsServer (record v { shared = c.take.new.shared; sessions = fs }))
     (sym (set_unmarked es at new new.session refl)) server in
     record {
       server = record { settled = written.settled; numbered = written.numbered; few = written.few };
       marked =
-          rw e.unchanged (all_written (IsMarked c.self.inside.host) es at new c.self.invariant.marked
+          rw e.unchanged (all_written (IsMarked c.self.inside.shared) es at new c.self.invariant.marked
           (rw e.unchanged at c.take.ensures.marked));
       covered =
           subst (AreCovered c.self.inside.sets) (sym (set_unmarked es at new new.session refl))
@@ -66,24 +66,24 @@ settle_after-requires c =
     let es = c.self.inside.sessions.entries in
     let at = c.args.index.at in
     let new = c.take.new.self in
-    let host = c.self.inside.host in
+    let shared = c.self.inside.shared in
     let others =
-    others_settled host _ at _ new.session c.in-Ok.taking.changed e.changed c.self.invariant.server.settled in
+    others_settled shared _ at _ new.session c.in-Ok.taking.changed e.changed c.self.invariant.server.settled in
     let here = unmarked_at es at _ c.index_mut.ensures.value in
     let s = c.index_mut.result.now.session in
-    let adds : AddsLast s new.session = subst (AddsLast s) (sym e.after) (taking_adds_last host s c.args.piece.now) in
+    let adds : AddsLast s new.session = subst (AddsLast s) (sym e.after) (taking_adds_last shared s c.args.piece.now) in
     record {
       within = omega (arith, length-written es at new, length-map es unmarked_entry, lies.within);
       covered =
           subst (AreCoveredBut at c.self.inside.sets) (sym (set_unmarked es at new new.session refl))
           (covered_taken c.self.inside.sets at _ s new.session here adds c.self.invariant.covered);
       others =
-          subst (AreOthersSettled c.in-Ok.taking.changed at c.take.new.host)
-          (sym (set_unmarked es at new new.session refl)) (rw e.host others);
+          subst (AreOthersSettled c.in-Ok.taking.changed at c.take.new.shared)
+          (sym (set_unmarked es at new new.session refl)) (rw e.shared others);
       marked =
-          rw e.host (marked_after_take host _ at es new c.in-Ok.taking.changed e.changed c.self.invariant.marked
-          (rw e.host at c.take.ensures.marked));
-      own = own_written (IsMarked c.take.new.host) es at new c.take.ensures.marked;
+          rw e.shared (marked_after_take shared _ at es new c.in-Ok.taking.changed e.changed c.self.invariant.marked
+          (rw e.shared at c.take.ensures.marked));
+      own = own_written (IsMarked c.take.new.shared) es at new c.take.ensures.marked;
     }
 
 pub index-session-requires : goal.index-session-requires
@@ -94,11 +94,11 @@ index-session-requires c =
     let at = c.args.index.at in
     let new = c.take.new.self in
     let settles : Entries → Entries = λ fs. if is_some c.in-Ok.taking.changed
-    then map (settled_entry c.take.new.host) fs else changed_at at (settled_held c.take.new.host) fs in
+    then map (settled_entry c.take.new.shared) fs else changed_at at (settled_held c.take.new.shared) fs in
     let entries = c.settle_after.ensures.after ∙ ap settles (set_unmarked es at new new.session refl) in
     let here = unmarked_at es at _ c.index_mut.ensures.value in
     within_unmarked _ _ _ (taken_lies _ c.args.index.id _ _ c.args.piece.now c.self.invariant.server lies here _ _ _ _
-    e.after e.host (ap is_some e.changed ∙ hash_where_changed _) entries)
+    e.after e.shared (ap is_some e.changed ∙ hash_where_changed _) entries)
 
 pub invariant_of-self-in-Ok : goal.invariant_of-self-in-Ok
 invariant_of-self-in-Ok c =
@@ -108,11 +108,11 @@ invariant_of-self-in-Ok c =
     let at = c.args.index.at in
     let new = c.take.new.self in
     let settles : Entries → Entries = λ fs. if is_some c.in-Ok.taking.changed
-    then map (settled_entry c.take.new.host) fs else changed_at at (settled_held c.take.new.host) fs in
+    then map (settled_entry c.take.new.shared) fs else changed_at at (settled_held c.take.new.shared) fs in
     let entries = c.settle_after.ensures.after ∙ ap settles (set_unmarked es at new new.session refl) in
     let here = unmarked_at es at _ c.index_mut.ensures.value in
     let taken = taken_server _ c.args.index.id _ _ c.args.piece.now c.self.invariant.server lies here _ _ _ _ e.after
-    e.host (ap is_some e.changed ∙ hash_where_changed _) entries in
+    e.shared (ap is_some e.changed ∙ hash_where_changed _) entries in
     record {
       server = record { settled = taken.settled; numbered = taken.numbered; few = taken.few };
       marked = c.settle_after.ensures.marked;
@@ -131,16 +131,16 @@ returns-in-Err c =
     let here = unmarked_at es at _ c.index_mut.ensures.value in
     let memory : Result Taken TakeFault = Err (taking.Memory c.in-Err.bytes) in
     let refuses = refuses_on _ id _ _ piece _ c.self.invariant.server lies here e.refused in
-    let written = refused_value _ _ _ _ piece _ c.self.invariant.server lies here e.refused c.take.new.host
+    let written = refused_value _ _ _ _ piece _ c.self.invariant.server lies here e.refused c.take.new.shared
     new.session e.kept e.unchanged in
     let kept = ap (λ (h : ServerState). h.store.applications) e.unchanged in
     let value =
     ap (λ (k : Option ApplicationsValue). record (server_value c.self.inside) {
       config = config_with c.self.inside.config k;
-      host = c.take.new.host;
+      shared = c.take.new.shared;
       sessions = unmarked (set_value_at es at new);
     }) kept
-    ∙ ap (λ (fs : Entries). record (server_value c.self.inside) { host = c.take.new.host; sessions = fs })
+    ∙ ap (λ (fs : Entries). record (server_value c.self.inside) { shared = c.take.new.shared; sessions = fs })
     (set_unmarked es at new new.session refl) ∙ written in
     rw (← c.self.view_is) (
       (refl, (λ _. tt), ((refuses, value), refused_take_shows memory _ _ id piece (refuses, value))),
@@ -171,7 +171,7 @@ returns-in-Ok c =
     let at = c.args.index.at in
     let new = c.take.new.self in
     let settles : Entries → Entries = λ fs. if is_some c.in-Ok.taking.changed
-    then map (settled_entry c.take.new.host) fs else changed_at at (settled_held c.take.new.host) fs in
+    then map (settled_entry c.take.new.shared) fs else changed_at at (settled_held c.take.new.shared) fs in
     let entries = c.settle_after.ensures.after ∙ ap settles (set_unmarked es at new new.session refl) in
     let here = unmarked_at es at _ c.index_mut.ensures.value in
     let taken : Result Taken TakeFault =
@@ -179,24 +179,24 @@ returns-in-Ok c =
     let takes =
     c.takes-takes.ensures ∙ ap session_takes (same_session _ _ _ (unmarked_at es at _ c.index.ensures) here) in
     let changed = ap is_some e.changed
-    ∙ hash_where_changed (session_taking c.self.inside.host c.index_mut.result.now.session piece).change in
+    ∙ hash_where_changed (session_taking c.self.inside.shared c.index_mut.result.now.session piece).change in
     let count = e.count ∙ sym (count_is _ id _ _ piece c.self.invariant.server lies here) in
-    let kept = ap (λ (h : ServerState). h.store.applications) e.host ∙ applications_stay c.self.inside.host _ in
+    let kept = ap (λ (h : ServerState). h.store.applications) e.shared ∙ applications_stay c.self.inside.shared _ in
     let ok =
     ap (λ (k : Option ApplicationsValue). record (server_value c.self.inside) {
       config = config_with c.self.inside.config k;
-      host = c.take.new.host;
+      shared = c.take.new.shared;
       sessions = unmarked c.settle_after.new.sessions.entries;
     }) kept
-    ∙ taken_value _ _ _ _ piece c.self.invariant.server lies here _ _ _ _ e.after e.host changed entries in
+    ∙ taken_value _ _ _ _ piece c.self.invariant.server lies here _ _ _ _ e.after e.shared changed entries in
     let handled = c.what_was_handled.ensures ∙ taken_handled _ _ _ _ piece c.self.invariant.server lies here _ _ _ _
-    e.after e.host changed entries _ _ _ _ takes e.handled
+    e.after e.shared changed entries _ _ _ _ takes e.handled
     (unmarked_at c.settle_after.new.sessions.entries at c.index-session.result.now c.index-session.ensures)
     (c.stop-stop.ensures ∙ ap stop_of c.phase.ensures) in
     let there = ap is_there (lies.found ∙ here) in
     let now = unmarked_at c.settle_after.new.sessions.entries at c.index-session.result.now c.index-session.ensures in
     let stop = c.stop-stop.ensures ∙ ap stop_of c.phase.ensures in
-    let asks = taken_request _ id _ _ piece c.self.invariant.server lies here _ _ _ _ e.after e.host changed entries
+    let asks = taken_request _ id _ _ piece c.self.invariant.server lies here _ _ _ _ e.after e.shared changed entries
     c.stop-stop.result _ now stop in
     let written = read_written es at _ new c.index_mut.ensures.value in
     let split = same_split (set_value_at es at new) c.settle_after.new.sessions.entries at new
@@ -211,7 +211,7 @@ returns-in-Ok c =
     ∙ asks in
     let alters = c.lent_if-changed.ensures
     ∙ changing_given (server_value c.self.inside) piece _ _ shown _ (c.is_some.ensures ∙ changed)
-    ∙ taken_change _ id _ _ piece c.self.invariant.server lies here _ _ _ _ e.after e.host changed entries in
+    ∙ taken_change _ id _ _ piece c.self.invariant.server lies here _ _ _ _ e.after e.shared changed entries in
     let shows = take_shows taken _ _ id piece count there ok in
     let adds = subst (AddsConcerned c.in-Ok.taking.changed c.args.affected.now.words c.settle_after.new.affected.words)
     (set_unmarked es at new new.session refl) c.settle_after.ensures.affected in

@@ -18,14 +18,17 @@ next_touched-requires c = record { from = omega arith; covered = c.self.invarian
 pub settle_touched-requires : goal.settle_touched-requires
 settle_touched-requires c =
     let store = rw (← c.self.view_is) at c.moment-before.ensures.store in
-    let before : c.moment-before.result ≡ c.self.inside.host.now =
+    let before : c.moment-before.result ≡ c.self.inside.shared.now =
     rw (c.moment-before.ensures.moment, ← c.self.view_is) in
     rw (c.keep_moment.ensures, c.move_to.ensures) (record {
       covered = c.next_touched.ensures.covered;
       settled =
-          rw before (untouched_by_moment c.self.inside.host c.args.now _ store (omega (arith, before)) c.ranges.now.fits
+          rw before (untouched_by_moment c.self.inside.shared c.args.now _ store (omega (
+            arith,
+            before,
+          )) c.ranges.now.fits
           c.self.invariant.server.settled);
-      marked = all_but_later c.self.inside.host c.args.now _ _ store c.self.invariant.marked;
+      marked = all_but_later c.self.inside.shared c.args.now _ _ store c.self.invariant.marked;
     })
 
 pub invariant_of-self : goal.invariant_of-self
@@ -48,18 +51,18 @@ returns-then-is_some-clause-shows c =
 all_stay : (c : Else-is_some) → let es = c.self.inside.sessions.entries in
     (unmarked es ≡ map (settled_entry c.move_to.new.self) (unmarked es)) × AreAllMarked c.move_to.new.self es
 all_stay c =
-    let host = c.self.inside.host in
+    let shared = c.self.inside.shared in
     let es = c.self.inside.sessions.entries in
     let why = cause.Moment c.moment-before.result in
     let store = rw (← c.self.view_is) at c.moment-before.ensures.store in
-    let before : c.moment-before.result ≡ host.now = rw (c.moment-before.ensures.moment, ← c.self.view_is) in
+    let before : c.moment-before.result ≡ shared.now = rw (c.moment-before.ensures.moment, ← c.self.view_is) in
     let none = there_is_none c.next_touched.result (sym c.is_some.ensures ∙ c.if-is_some.false) in
     let calm = subst (λ (o : Option ℕ). IfNone o (AreUntouched why c.args.now 0 (length es) es)) none
     c.next_touched.ensures.none in
-    let settled = untouched_by_moment host c.args.now _ store (omega (arith, before)) c.ranges.now.fits
+    let settled = untouched_by_moment shared c.args.now _ store (omega (arith, before)) c.ranges.now.fits
     c.self.invariant.server.settled in
-    rw c.move_to.ensures (none_touched why (at_moment host c.args.now) es (rw before settled)
-    (all_but_later host c.args.now _ es store c.self.invariant.marked) calm)
+    rw c.move_to.ensures (none_touched why (at_moment shared c.args.now) es (rw before settled)
+    (all_but_later shared c.args.now _ es store c.self.invariant.marked) calm)
 
 pub invariant_of-self-else-is_some : goal.invariant_of-self-else-is_some
 invariant_of-self-else-is_some c =
@@ -74,7 +77,7 @@ invariant_of-self-else-is_some c =
 pub returns-else-is_some : goal.returns-else-is_some
 returns-else-is_some c =
     let moved : Entries → ServerValue =
-    λ es. record (server_value c.self.inside) { host = c.move_to.new.self; sessions = es } in
+    λ es. record (server_value c.self.inside) { shared = c.move_to.new.self; sessions = es } in
     let ok : moved (unmarked c.self.inside.sessions.entries) ≡ server_ticked c.args.self.now c.args.now =
     rw (← c.self.view_is) (ap moved (all_stay c).0 ∙ rw c.move_to.ensures refl) in
     search (
@@ -85,7 +88,7 @@ returns-else-is_some c =
 
 pub returns-then-now-before : goal.returns-then-now-before
 returns-then-now-before c =
-    let before : c.moment-before.result ≡ c.self.inside.host.now =
+    let before : c.moment-before.result ≡ c.self.inside.shared.now =
     rw (c.moment-before.ensures.moment, ← c.self.view_is) in
     let ok : c.args.self.now ≡ server_ticked c.args.self.now c.args.now =
     rw (← c.self.view_is) (same_moment _ c.args.now c.self.invariant.server (omega (arith, before))) in

@@ -38,26 +38,27 @@ returns-in_err-write_parts-clause-marked g c =
 
 pub settle-requires : goal.settle-requires
 settle-requires g c =
-    let host = c.args.host.now in
-    rw c.written.ensures (one_of_all (IsMarked host) c.args.at _ _ c.requires.marked c.index_mut-session.ensures.value)
+    let shared = c.args.shared.now in
+    rw c.written.ensures (one_of_all (IsMarked shared) c.args.at _ _ c.requires.marked
+    c.index_mut-session.ensures.value)
 
 pub returns-clause-ok : goal.returns-clause-ok
 returns-clause-ok g c s here =
-    let host = c.args.host.now in
+    let shared = c.args.shared.now in
     let old = c.index_mut-session.result.now in
     let same = same_session _ _ s
     (unmarked_at c.args.sessions.now.entries c.args.at c.index_mut-session.result.now c.index_mut-session.ensures.value)
     here in
     let waits = ap (λ (u : SessionValue). u.link.waiting) same in
     let settles : c.settle.new.self.session
-    ≡ session_settled host (session_written old.session (length s.link.waiting)) =
+    ≡ session_settled shared (session_written old.session (length s.link.waiting)) =
     rw (c.settle.ensures.after, c.written.ensures, c.waiting-count.ensures, ← waits) refl in (
-      written_unmarked (λ u. session_settled host (session_written u (length s.link.waiting)))
+      written_unmarked (λ u. session_settled shared (session_written u (length s.link.waiting)))
           c.args.sessions.now.entries c.args.at old _ c.index_mut-session.ensures.value settles,
       rw (c.parts.ensures, waits) at c.in_ok-write_parts.ensures.ok,
     )
 
 pub returns-clause-marked : goal.returns-clause-marked
 returns-clause-marked g c =
-    all_written (IsMarked c.args.host.now) c.args.sessions.now.entries c.args.at _
+    all_written (IsMarked c.args.shared.now) c.args.sessions.now.entries c.args.at _
     c.requires.marked c.settle.ensures.marked

@@ -16,19 +16,20 @@ returns-in_err-release-clause-marked c =
 
 pub settle-requires : goal.settle-requires
 settle-requires c =
-    let host = c.args.host.now in
-    c.in_ok-release.ensures.marked host
-    (one_of_all (IsMarked host) c.args.at _ _ c.requires.marked c.index_mut-session.ensures.value)
+    let shared = c.args.shared.now in
+    c.in_ok-release.ensures.marked shared
+    (one_of_all (IsMarked shared) c.args.at _ _ c.requires.marked c.index_mut-session.ensures.value)
 
 pub returns-clause-ok : goal.returns-clause-ok
 returns-clause-ok c =
-    let host = c.args.host.now in
-    written_unmarked (λ s. session_settled host (session_released s)) c.args.sessions.now.entries c.args.at _ _
-    c.index_mut-session.ensures.value (c.settle.ensures.after ∙ ap (session_settled host) c.in_ok-release.ensures.after)
+    let shared = c.args.shared.now in
+    written_unmarked (λ s. session_settled shared (session_released s)) c.args.sessions.now.entries c.args.at _ _
+    c.index_mut-session.ensures.value (c.settle.ensures.after
+    ∙ ap (session_settled shared) c.in_ok-release.ensures.after)
 
 pub returns-clause-marked : goal.returns-clause-marked
 returns-clause-marked c =
-    all_written (IsMarked c.args.host.now) c.args.sessions.now.entries c.args.at _
+    all_written (IsMarked c.args.shared.now) c.args.sessions.now.entries c.args.at _
     c.requires.marked c.settle.ensures.marked
 
 pub returns-in_err-release-clause-answer : goal.returns-in_err-release-clause-answer

@@ -15,51 +15,51 @@ note-requires c = c.requires.covered.many
 
 pub settle_if_pending-requires : goal.settle_if_pending-requires
 settle_if_pending-requires c =
-    subst (λ (o : Option MarkedSession). IfSome o (IsMarked c.args.host.now)) c.index_mut.ensures.value c.requires.own
+    subst (λ (o : Option MarkedSession). IfSome o (IsMarked c.args.shared.now)) c.index_mut.ensures.value c.requires.own
 
 pub returns-in-None : goal.returns-in-None
 returns-in-None c =
-    let host = c.args.host.now in
+    let shared = c.args.shared.now in
     let es = c.args.sessions.now.entries in
     let e = c.settle_if_pending.ensures in
     rw c.in-None.is (record {
       splits = splits_written es c.args.at c.index_mut.result.now _ c.index_mut.ensures.value e.split;
-      after = written_unmarked (settled_held host) es c.args.at _ _ c.index_mut.ensures.value e.after;
-      marked = all_written (IsMarked host) es c.args.at _ (rw c.in-None.is at c.requires.marked) e.marked;
+      after = written_unmarked (settled_held shared) es c.args.at _ _ c.index_mut.ensures.value e.after;
+      marked = all_written (IsMarked shared) es c.args.at _ (rw c.in-None.is at c.requires.marked) e.marked;
       affected = record { kept = λ i outside. outside; covers = tt };
       covered =
-          covered_changed_by _ c.args.at (settled_held host) _ _ (held_adds host)
-          (written_unmarked (settled_held host) es c.args.at _ _ c.index_mut.ensures.value e.after)
+          covered_changed_by _ c.args.at (settled_held shared) _ _ (held_adds shared)
+          (written_unmarked (settled_held shared) es c.args.at _ _ c.index_mut.ensures.value e.after)
           (c.note.ensures _ (unmarked_at es c.args.at _ c.index.ensures) c.requires.covered);
     })
 
 pub settle-requires : goal.settle-requires
 settle-requires c =
-    subst (λ (o : Option MarkedSession). IfSome o (IsMarked c.args.host.now))
+    subst (λ (o : Option MarkedSession). IfSome o (IsMarked c.args.shared.now))
     c.index_mut-in-Some.ensures.value c.requires.own
 
 pub settle_observers-requires : goal.settle_observers-requires
 settle_observers-requires c =
-    let host = c.args.host.now in
+    let shared = c.args.shared.now in
     let es = c.args.sessions.now.entries in
     let why = cause.Path c.in-Some.hash in
     let now = c.settle.new.self in
     let e = c.settle.ensures in
-    let others = others_untouched host c.args.at c.in-Some.hash _ _ _
+    let others = others_untouched shared c.args.at c.in-Some.hash _ _ _
     (unmarked_at es c.args.at _ c.index_mut-in-Some.ensures.value) e.after (rw c.in-Some.is at c.requires.others) in
     record {
       covered =
-          covered_one_marked _ host c.args.at es _ now c.index_mut-in-Some.ensures.value e.after
+          covered_one_marked _ shared c.args.at es _ now c.index_mut-in-Some.ensures.value e.after
           (c.note.ensures _ (unmarked_at es c.args.at _ c.index.ensures) c.requires.covered);
-      settled = subst (UnaffectedAreSettled why host) (sym (set_unmarked es c.args.at now now.session refl)) others;
+      settled = subst (UnaffectedAreSettled why shared) (sym (set_unmarked es c.args.at now now.session refl)) others;
       marked =
-          all_written (IsMarkedBut why host) es c.args.at now (rw c.in-Some.is at c.requires.marked)
-          (but_none why host now e.marked);
+          all_written (IsMarkedBut why shared) es c.args.at now (rw c.in-Some.is at c.requires.marked)
+          (but_none why shared now e.marked);
     }
 
 pub returns-in-Some : goal.returns-in-Some
 returns-in-Some c =
-    let host = c.args.host.now in
+    let shared = c.args.shared.now in
     let es = c.args.sessions.now.entries in
     let now = c.settle.new.self in
     let e = c.settle_observers.ensures in
@@ -70,14 +70,14 @@ returns-in-Some c =
       covers = λ i s at outside. covered.paths c.in-Some.hash c.of_path.result.now c.of_path.ensures i s at
           (c.join.ensures.outside i outside).1;
     } in
-    let all = all_settle host c.args.at c.in-Some.hash _ _ _
+    let all = all_settle shared c.args.at c.in-Some.hash _ _ _
     (unmarked_at es c.args.at _ c.index_mut-in-Some.ensures.value) c.settle.ensures.after in
     rw c.in-Some.is (record {
       affected = affected;
       splits =
           e.splits ∙ splits_written es c.args.at c.index_mut-in-Some.result.now now c.index_mut-in-Some.ensures.value
           c.settle.ensures.split;
-      after = e.after ∙ ap (map (settled_entry host)) (set_unmarked es c.args.at now now.session refl) ∙ all;
+      after = e.after ∙ ap (map (settled_entry shared)) (set_unmarked es c.args.at now now.session refl) ∙ all;
       marked = e.marked;
       covered = e.covered;
     })

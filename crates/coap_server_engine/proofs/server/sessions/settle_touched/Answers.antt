@@ -10,7 +10,7 @@ pub loop-at-init : goal.loop-at-init
 loop-at-init c = (
   omega arith,
   (
-    (none_settled c.args.host.now (unmarked c.args.sessions.now.entries), c.requires.marked),
+    (none_settled c.args.shared.now (unmarked c.args.sessions.now.entries), c.requires.marked),
     (refl, c.requires.covered),
   ),
 )
@@ -20,15 +20,15 @@ next_touched-requires c = record { from = c.loop-at.invariant.0; covered = c.loo
 
 -- The connections before the one that was found are settled.
 up_to_found : (c : After-index_mut)
-    → AreUpTo c.in-Some.at c.args.cause c.args.host.now c.args.sessions.now.entries c.loop-at.sessions.entries
+    → AreUpTo c.in-Some.at c.args.cause c.args.shared.now c.args.sessions.now.entries c.loop-at.sessions.entries
 up_to_found c =
     let e = c.in-Some.ensures in
-    passed c.loop-at.from c.in-Some.at c.args.cause c.args.host.now c.args.sessions.now.entries
+    passed c.loop-at.from c.in-Some.at c.args.cause c.args.shared.now c.args.sessions.now.entries
     c.loop-at.sessions.entries e.from (omega (arith, e.within)) c.loop-at.invariant.1.0 c.requires.settled e.some
 
 pub mark_and_settle-requires : goal.mark_and_settle-requires
 mark_and_settle-requires c =
-    next_but c.in-Some.at c.args.cause c.args.host.now c.loop-at.sessions.entries _
+    next_but c.in-Some.at c.args.cause c.args.shared.now c.loop-at.sessions.entries _
     (up_to_found c).1 c.index_mut.ensures.value
 
 pub loop-at-preserved : goal.loop-at-preserved
@@ -38,11 +38,11 @@ loop-at-preserved c =
     let e = c.mark_and_settle.ensures in (
       omega (arith, c.in-Some.ensures.within, length-written es c.in-Some.at after),
       (
-        one_more c.in-Some.at c.args.cause c.args.host.now c.args.sessions.now.entries es _ after
+        one_more c.in-Some.at c.args.cause c.args.shared.now c.args.sessions.now.entries es _ after
             (up_to_found (goal.at.loop-at-preserved c).After-index_mut) c.index_mut.ensures.value e.after e.marked,
         (
           splits_written es c.in-Some.at _ after c.index_mut.ensures.value e.split ∙ c.loop-at.invariant.1.1.0,
-          covers_one_marked c.args.cause _ c.args.host.now c.in-Some.at es _ after c.index_mut.ensures.value
+          covers_one_marked c.args.cause _ c.args.shared.now c.in-Some.at es _ after c.index_mut.ensures.value
               e.after c.in-Some.ensures.covered,
         ),
       ),
@@ -61,7 +61,7 @@ loop-at-smaller c =
 pub returns : goal.returns
 returns c =
     let es = c.loop-at.sessions.entries in
-    let up = passed c.loop-at.from (length es) c.args.cause c.args.host.now c.args.sessions.now.entries es
+    let up = passed c.loop-at.from (length es) c.args.cause c.args.shared.now c.args.sessions.now.entries es
     c.loop-at.invariant.0 (omega arith) c.loop-at.invariant.1.0 c.requires.settled c.in_default.ensures.none in
-    let all = none_left (length es) c.args.cause c.args.host.now c.args.sessions.now.entries es refl up in
+    let all = none_left (length es) c.args.cause c.args.shared.now c.args.sessions.now.entries es refl up in
     record { after = all.0; marked = all.1; splits = c.loop-at.invariant.1.1.0; covered = c.in_default.ensures.covered }

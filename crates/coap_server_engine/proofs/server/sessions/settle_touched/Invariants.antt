@@ -7,7 +7,7 @@ use Rattle.coap_server_engine.proofs.server.sessions.settle_touched.Given as goa
 -- has all connections that the change may concern.
 abbrev pub invariant-loop-at : goal.invariant-loop-at
 invariant-loop-at l =
-    (l.from ≤ length l.sessions.entries) × (AreUpTo l.from l.cause l.host l.fn.sessions.entries l.sessions.entries
+    (l.from ≤ length l.sessions.entries) × (AreUpTo l.from l.cause l.shared l.fn.sessions.entries l.sessions.entries
     × ((splits_of l.sessions.entries ≡ splits_of l.fn.sessions.entries)
     × Covers l.cause l.set.words (unmarked l.sessions.entries)))
 

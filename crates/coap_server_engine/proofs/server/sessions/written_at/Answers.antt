@@ -5,25 +5,25 @@ use Rattle.coap_server_engine.proofs.server.sessions.written_at.Goals as goal
 
 pub written_and_settled-requires : goal.written_and_settled-requires
 written_and_settled-requires c =
-    let host = c.args.host.now in
+    let shared = c.args.shared.now in
     let es = c.args.sessions.now.entries in
     let here = c.index_mut.ensures.value in
     record {
       within =
           subst (λ (o : Option SessionValue). IfSome o (λ s. c.args.count ≤ length s.link.waiting))
           (unmarked_at es c.args.at _ here) c.requires.waiting;
-      settled = one_of_all (IsSettled host) c.args.at _ _ c.requires.settled (unmarked_at es c.args.at _ here);
-      marked = one_of_all (IsMarked host) c.args.at es _ c.requires.marked here;
+      settled = one_of_all (IsSettled shared) c.args.at _ _ c.requires.settled (unmarked_at es c.args.at _ here);
+      marked = one_of_all (IsMarked shared) c.args.at es _ c.requires.marked here;
     }
 
 pub returns : goal.returns
 returns c =
-    let host = c.args.host.now in
+    let shared = c.args.shared.now in
     let es = c.args.sessions.now.entries in
     let e = c.written_and_settled.ensures in
     record {
       after =
-          written_unmarked (λ s. session_settled host (session_written s c.args.count)) es c.args.at _ _
+          written_unmarked (λ s. session_settled shared (session_written s c.args.count)) es c.args.at _ _
           c.index_mut.ensures.value e.after;
-      marked = all_written (IsMarked host) es c.args.at _ c.requires.marked e.marked;
+      marked = all_written (IsMarked shared) es c.args.at _ c.requires.marked e.marked;
     }

@@ -4,7 +4,7 @@ use Rattle.coap_server_session.proofs.observer.Observer.present.Goals as goal
 
 pub returns-then-self : goal.returns-then-self
 returns-then-self c =
-    sym (built_in_mark c.args.host.now c.args.self.now.path (sym c.requires.built_in ∙ c.if-self.true))
+    sym (built_in_mark c.args.shared.now c.args.self.now.path (sym c.requires.built_in ∙ c.if-self.true))
 
 pub mark-requires : goal.mark-requires
 mark-requires c = not_not _ (sym c.requires.built_in ∙ c.if-self.false)

@@ -5,5 +5,5 @@ use Rattle.coap_server_session.proofs.observer.Observer.present_by.Goals as goal
 
 pub returns-then-eq : goal.returns-then-eq
 returns-then-eq c =
-    c.requires.present ∙ ap (present_mark c.args.host.now)
+    c.requires.present ∙ ap (present_mark c.args.shared.now)
     (sym ((keys_equal c.args.self.now.path c.args.known.now).0 (sym c.if-eq.ensures)))

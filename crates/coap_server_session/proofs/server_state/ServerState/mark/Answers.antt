@@ -12,13 +12,15 @@ by_version now None = refl
 by_version now (Some r) = refl
 
 -- The mark of a created resource is its version.
-mark_is : (host : ServerState) (path : Path) (version : Option ℕ) → is_path path ≡ true
-    → is_dynamic (kind_of_path path) ≡ true → version ≡ option_map (λ r. r.version) (found_in host.store.resources path)
-    → option_map (λ v. if v == 0 then host.now else v) version ≡ present_mark host path
-mark_is host path version is dynamic found =
-    ap (option_map (λ v. if v == 0 then host.now else v)) found
-    ∙ by_version host.now (found_in host.store.resources path)
-    ∙ ap (option_map (mark_at host.now)) (sym (state_stored host.store host.now path is (place_dynamic _ dynamic)))
+mark_is : (shared : ServerState) (path : Path) (version : Option ℕ) → is_path path ≡ true
+    → is_dynamic (kind_of_path path) ≡ true → version
+    ≡ option_map (λ r. r.version) (found_in shared.store.resources path)
+    → option_map (λ v. if v == 0 then shared.now else v) version ≡ present_mark shared path
+mark_is shared path version is dynamic found =
+    ap (option_map (λ v. if v == 0 then shared.now else v)) found
+    ∙ by_version shared.now (found_in shared.store.resources path)
+    ∙ ap (option_map (mark_at shared.now)) (sym (state_stored shared.store shared.now path is
+    (place_dynamic _ dynamic)))
 
 pub returns-then-version-eq0 : goal.returns-then-version-eq0
 returns-then-version-eq0 c =

@@ -14,18 +14,19 @@ invariant_of-self c =
     })
 
 pub settle-requires : goal.settle-requires
-settle-requires c = rw c.mark.ensures (subst (IsMarkedBut c.args.cause c.args.host.now) (sym c.self.view_is) c.requires)
+settle-requires c = rw c.mark.ensures (subst (IsMarkedBut c.args.cause c.args.shared.now) (sym c.self.view_is)
+    c.requires)
 
 pub returns : goal.returns
 returns c =
-    let host = c.args.host.now in
+    let shared = c.args.shared.now in
     let s = c.self.inside in
     let with_observers : ObserversValue → SessionValue =
     λ o. record { frame = s.framer.kept; link = s.link; observers = o.entries } in
     record {
       after =
-          c.settle.ensures.after ∙ ap (λ (o : ObserversValue). session_settled host (with_observers o)) c.mark.ensures
-          ∙ ap (λ (m : MarkedSession). session_settled host m.session) c.self.view_is;
+          c.settle.ensures.after ∙ ap (λ (o : ObserversValue). session_settled shared (with_observers o)) c.mark.ensures
+          ∙ ap (λ (m : MarkedSession). session_settled shared m.session) c.self.view_is;
       marked = c.settle.ensures.marked;
       split = c.settle.ensures.split ∙ ap (λ (m : MarkedSession). m.split) c.self.view_is;
     }

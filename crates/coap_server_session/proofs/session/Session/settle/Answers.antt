@@ -7,14 +7,14 @@ use Rattle.coap_server_session.proofs.session.Session.settle.Goals as goal
 pub returns-else-settle_bound-gt0 : goal.returns-else-settle_bound-gt0
 unfolding session_settled session_settled_within
 returns-else-settle_bound-gt0 c =
-    let host = c.args.host.now in
+    let shared = c.args.shared.now in
     let v = c.args.self.now.session in
     let none : length v.link.held + length v.observers ≡ 0 =
     omega (arith, c.settle_bound.ensures, c.if-settle_bound-gt0.false) in
-    let after = sym (ap (λ (n : ℕ). session_settled_within n host v) none) in
+    let after = sym (ap (λ (n : ℕ). session_settled_within n shared v) none) in
     record {
       after = after;
-      settled = subst (IsSettled host) (sym after) (settled_is_settled host v);
+      settled = subst (IsSettled shared) (sym after) (settled_is_settled shared v);
       marked = c.requires;
       split = refl;
     }

@@ -5,5 +5,5 @@ use Rattle.coap_server_session.proofs.session.Session.settle_each.Given as goal
 -- The remaining iterations lead to the same value as all iterations from the start.
 abbrev pub invariant-loop : goal.invariant-loop
 invariant-loop l =
-    (session_settled_within (l.end - l.counter) l.host l.self.session ≡ session_settled l.host l.fn.self.session)
-    × (IsMarked l.host l.self × (l.self.split ≡ l.fn.self.split))
+    (session_settled_within (l.end - l.counter) l.shared l.self.session ≡ session_settled l.shared l.fn.self.session)
+    × (IsMarked l.shared l.self × (l.self.split ≡ l.fn.self.split))

@@ -12,16 +12,16 @@ use Rattle.coap_model.proofs.OptionLemmas.{there_is_none}
 
 pub returns-then-not-ready : goal.returns-then-not-ready
 returns-then-not-ready c =
-    let host = c.args.host.now in
+    let shared = c.args.shared.now in
     let v = c.args.self.now.session in
     let unready = ap (λ (m : MarkedSession). session_ready m.session) (sym c.self.view_is)
     ∙ ready_is c.self.inside.link c.ready.result c.ready.ensures ∙ c.if-not-ready.true in
-    let settled = settled_unready host v unready in
+    let settled = settled_unready shared v unready in
     record {
-      after = sym (stays_once host v settled);
+      after = sym (stays_once shared v settled);
       found =
           ap (λ (o : Option ObserverValue). is_some o) (sym settled.1)
-          ∙ ap (λ (e : Option PendingEntryValue). is_some e || is_some (next_stale host v)) (sym settled.0);
+          ∙ ap (λ (e : Option PendingEntryValue). is_some e || is_some (next_stale shared v)) (sym settled.0);
       marked = c.requires;
       split = refl;
     }
@@ -31,55 +31,56 @@ pub invariant_of-self : goal.invariant_of-self
 invariant_of-self c =
     let ready = ready_is c.self.inside.link c.ready.result c.ready.ensures ∙ c.if-not-ready.false in
     let some = sym c.send_due.ensures.found ∙ c.if-send_due.true in
-    sent_session c.args.host.now c.self.inside _ ready some c.send_due.ensures.sent c.discard_if_closed.new.framer
+    sent_session c.args.shared.now c.self.inside _ ready some c.send_due.ensures.sent c.discard_if_closed.new.framer
     c.discard_if_closed.new.observers c.self.invariant c.discard_if_closed.ensures.framer
     c.discard_if_closed.ensures.observers
 
 pub returns-then-send_due : goal.returns-then-send_due
 returns-then-send_due c =
-    let host = c.args.host.now in
+    let shared = c.args.shared.now in
     let s = c.self.inside in
     let ready = ready_is s.link c.ready.result c.ready.ensures ∙ c.if-not-ready.false in
     let some = sym c.send_due.ensures.found ∙ c.if-send_due.true in
     record {
       after =
-          sent_once host s _ ready some c.send_due.ensures.sent c.discard_if_closed.new.framer
+          sent_once shared s _ ready some c.send_due.ensures.sent c.discard_if_closed.new.framer
           c.discard_if_closed.new.observers c.discard_if_closed.ensures.framer c.discard_if_closed.ensures.observers
-          ∙ ap (λ (m : MarkedSession). session_settled_once host m.session) c.self.view_is;
+          ∙ ap (λ (m : MarkedSession). session_settled_once shared m.session) c.self.view_is;
       found =
-          held_found host s _ ready some c.send_due.ensures.sent
-          ∙ ap (λ (m : MarkedSession). is_some (next_held_in host.now m.session) || is_some (next_stale host m.session))
+          held_found shared s _ ready some c.send_due.ensures.sent
+          ∙ ap (λ (m : MarkedSession). is_some (next_held_in shared.now m.session)
+          || is_some (next_stale shared m.session))
           c.self.view_is;
       marked =
-          left_marked_by host c.send_due.new.link s.observers c.discard_if_closed.new.observers
-          c.discard_if_closed.ensures.observers (subst (IsMarked host) (sym c.self.view_is) c.requires);
+          left_marked_by shared c.send_due.new.link s.observers c.discard_if_closed.new.observers
+          c.discard_if_closed.ensures.observers (subst (IsMarked shared) (sym c.self.view_is) c.requires);
       split =
           ap (λ (f : FramerValue). f.spent) c.discard_if_closed.ensures.framer
           ∙ ap (λ (m : MarkedSession). m.split) c.self.view_is;
     }
 
 pub notify_once-requires-clause-marked : goal.notify_once-requires-clause-marked
-notify_once-requires-clause-marked c = subst (IsMarked c.args.host.now) (sym c.self.view_is) c.requires
+notify_once-requires-clause-marked c = subst (IsMarked c.args.shared.now) (sym c.self.view_is) c.requires
 
 -- No pending entry is due.
 pub returns : goal.returns
 unfolding session_settled_once
 returns c =
-    let host = c.args.host.now in
+    let shared = c.args.shared.now in
     let s = c.self.inside in
     let v : SessionValue = session_value s in
     let ready = ready_is s.link c.ready.result c.ready.ensures ∙ c.if-not-ready.false in
-    let quiet = there_is_none (first_due host.now s.link.held) (sym c.send_due.ensures.found ∙ c.if-send_due.false) in
-    let none = (found_ready host v ready).0 ∙ quiet in
+    let quiet = there_is_none (first_due shared.now s.link.held) (sym c.send_due.ensures.found ∙ c.if-send_due.false) in
+    let none = (found_ready shared v ready).0 ∙ quiet in
     let same = c.send_due.ensures.silent quiet in
-    let settles : session_settled_once host v ≡ session_notified host v (next_stale host v) =
-    ap (session_settled_so host v) none in
+    let settles : session_settled_once shared v ≡ session_notified shared v (next_stale shared v) =
+    ap (session_settled_so shared v) none in
     let notifies : LinkValue → SessionValue =
-    λ l. session_notified host (record v { link = l }) (next_stale host (record v { link = l })) in
+    λ l. session_notified shared (record v { link = l }) (next_stale shared (record v { link = l })) in
     record {
       after =
           c.notify_once.ensures.after ∙ ap notifies same ∙ sym settles
-          ∙ ap (λ (m : MarkedSession). session_settled_once host m.session) c.self.view_is;
+          ∙ ap (λ (m : MarkedSession). session_settled_once shared m.session) c.self.view_is;
       found = rw (← c.self.view_is, none) (rw same at c.notify_once.ensures.found);
       marked = c.notify_once.ensures.marked;
       split = c.notify_once.ensures.split ∙ ap (λ (m : MarkedSession). m.split) c.self.view_is;

@@ -86,7 +86,8 @@ returns-in-Err-handle-clause-refused c =
     let takes =
     ap (λ (m : MarkedSession). session_takes m.session) c.self.view_is ∙ sym c.takes.ensures ∙ c.if-not-takes.false in
     rw (← c.self.view_is, c.next_frame-framed.ensures.framed.taken)
-    (put_refused s c.self.invariant c.args.piece.now c.in-Ok-Some.frame.bytes.now found c.args.host.now c.in-Ok.message
+    (put_refused s c.self.invariant c.args.piece.now c.in-Ok-Some.frame.bytes.now found c.args.shared.now
+    c.in-Ok.message
     takes (sym c.in-Ok.ensures) c.in-Err-handle.ensures.put)
 
 pub returns-in-Err-handle-clause-kept : goal.returns-in-Err-handle-clause-kept
@@ -103,10 +104,10 @@ returns-in-Err-handle-clause-kept c =
       c.next_frame-framed.ensures.framed.taken,
       ← c.self.view_is,
     )
-    (kept_but_last s c.self.invariant c.args.piece.now c.in-Ok-Some.frame.bytes.now found c.args.host.now takes)
+    (kept_but_last s c.self.invariant c.args.piece.now c.in-Ok-Some.frame.bytes.now found c.args.shared.now takes)
 
 pub handle-requires-clause-marked : goal.handle-requires-clause-marked
-handle-requires-clause-marked c = subst (IsMarked c.args.host.now) (sym c.self.view_is) c.requires
+handle-requires-clause-marked c = subst (IsMarked c.args.shared.now) (sym c.self.view_is) c.requires
 
 -- ---- the request for the application
 
@@ -114,7 +115,7 @@ pub returns-then-not-takes-clause-handed : goal.returns-then-not-takes-clause-ha
 returns-then-not-takes-clause-handed c =
     let takes =
     ap (λ (m : MarkedSession). session_takes m.session) c.self.view_is ∙ sym c.takes.ensures ∙ c.if-not-takes.true in
-    rw (← c.self.view_is, handed_unready c.self.inside c.self.invariant c.args.host.now c.args.piece.now takes)
+    rw (← c.self.view_is, handed_unready c.self.inside c.self.invariant c.args.shared.now c.args.piece.now takes)
     (ap (λ (t : TakeOutcome). t.handed) c.without_message.ensures)
 
 pub returns-then-not-takes-clause-frame : goal.returns-then-not-takes-clause-frame
@@ -135,7 +136,7 @@ returns-in-Ok-None-clause-handed c =
     ap (λ (m : MarkedSession). session_takes m.session) c.self.view_is ∙ sym c.takes.ensures ∙ c.if-not-takes.false in
     rw (
       ← c.self.view_is,
-      handed_nothing c.self.inside c.self.invariant c.args.host.now c.args.piece.now takes
+      handed_nothing c.self.inside c.self.invariant c.args.shared.now c.args.piece.now takes
           (none_found (goal.at.returns-in-Ok-None-clause-handed c).In-Ok-None),
     ) (ap (λ (t : TakeOutcome). t.handed) c.without_message-in-Ok-None.ensures)
 
@@ -159,7 +160,7 @@ returns-in-Err-clause-handed c =
     ap (λ (m : MarkedSession). session_takes m.session) c.self.view_is ∙ sym c.takes.ensures ∙ c.if-not-takes.false in
     rw (
       ← c.self.view_is,
-      handed_fault c.self.inside c.self.invariant c.args.host.now c.args.piece.now takes c.in-Err.fault
+      handed_fault c.self.inside c.self.invariant c.args.shared.now c.args.piece.now takes c.in-Err.fault
           (fault_found (goal.at.returns-in-Err-clause-handed c).In-Err),
     ) (ap (λ (t : TakeOutcome). t.handed) c.without_message-in-Err.ensures)
 
@@ -179,7 +180,7 @@ returns-in-Err-parse-clause-handed c =
     ap (λ (m : MarkedSession). session_takes m.session) c.self.view_is ∙ sym c.takes.ensures ∙ c.if-not-takes.false in
     rw (
       ← c.self.view_is,
-      handed_bad c.self.inside c.self.invariant c.args.host.now c.args.piece.now takes c.in-Ok-Some.frame.bytes.now
+      handed_bad c.self.inside c.self.invariant c.args.shared.now c.args.piece.now takes c.in-Ok-Some.frame.bytes.now
           (frame_found (goal.at.returns-in-Err-parse-clause-handed c).In-Ok-Some) _
           (sym c.parse.ensures ∙ c.in-Err-parse.is),
     ) (ap (λ (t : TakeOutcome). t.handed) c.without_message-in-Err-parse.ensures)
@@ -198,7 +199,7 @@ returns-in-Ok-handle-clause-handed c =
     let takes =
     ap (λ (m : MarkedSession). session_takes m.session) c.self.view_is ∙ sym c.takes.ensures ∙ c.if-not-takes.false in
     rw (← c.self.view_is)
-    (handed_flag c.self.inside c.self.invariant c.args.host.now c.args.piece.now takes c.in-Ok-Some.frame.bytes.now
+    (handed_flag c.self.inside c.self.invariant c.args.shared.now c.args.piece.now takes c.in-Ok-Some.frame.bytes.now
     (frame_found (goal.at.returns-in-Ok-handle-clause-handed c).In-Ok-Some) c.in-Ok.message (sym c.in-Ok.ensures) _
     c.in-Ok-handle.ensures.handed)
 

@@ -10,16 +10,17 @@ settle-requires c = rw c.written.ensures c.requires.marked
 pub returns-then-not-had_room : goal.returns-then-not-had_room
 returns-then-not-had_room c = record {
   after =
-      c.settle.ensures.after ∙ ap (λ (m : MarkedSession). session_settled c.args.host.now m.session) c.written.ensures;
+      c.settle.ensures.after ∙ ap (λ (m : MarkedSession). session_settled c.args.shared.now m.session)
+      c.written.ensures;
   marked = c.settle.ensures.marked;
 }
 
 pub returns-else-not-had_room : goal.returns-else-not-had_room
 returns-else-not-had_room c =
-    let host = c.args.host.now in
+    let shared = c.args.shared.now in
     let v = c.args.self.now.session in
     let had_room = ap (λ (m : MarkedSession). session_ready m.session) (sym c.self.view_is)
     ∙ ready_is c.self.inside.link c.ready-had_room.result c.ready-had_room.ensures ∙ c.if-not-had_room.false in
-    let settled = settled_stays host (session_written v c.args.count)
-    (settled_where_room host v c.args.count had_room c.requires.settled) in
+    let settled = settled_stays shared (session_written v c.args.count)
+    (settled_where_room shared v c.args.count had_room c.requires.settled) in
     rw c.written.ensures (record { after = sym settled; marked = c.requires.marked })

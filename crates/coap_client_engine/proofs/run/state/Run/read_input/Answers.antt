@@ -6,7 +6,7 @@ use Rattle.coap_client_engine.proofs.RunLemmas.{answers_so, rest_is_empty, heard
 use Rattle.coap_client_engine.proofs.run.state.Run.read_input.Goals as goal
 
 pub returns-in-Some-clause-runs : goal.returns-in-Some-clause-runs
-returns-in-Some-clause-runs g c = λ plan start now course stands goes fresh.
+returns-in-Some-clause-runs g c = λ plan start now trace stands goes fresh.
     let read = c.read-got.ensures in
     let got = c.read-got.result in
     let after : Run = record c.read-got.new.self { cause = Some (Stopped c.in-Some.reason) } in
@@ -14,11 +14,11 @@ returns-in-Some-clause-runs g c = λ plan start now course stands goes fresh.
     answers_so
     (ExtendsTraceOn plan start (with_wire (g.W.Wire.given c.read-got.new.wire) (g.W.Wire.written c.read-got.new.wire)
     (g.W.Wire.answers c.read-got.new.wire) (g.E.Outlet.written c.stopped.new.err) now) after
-    (IsHeard (turns_in course)))
+    (IsHeard (turns_in trace)))
     (Some 3) c.stopped.result c.stopped.ensures.ended c.stopped.ensures.told
     (λ told.
     heard_on plan start (with_wire (g.W.Wire.given c.args.wire.now) (g.W.Wire.written c.args.wire.now)
-    (g.W.Wire.answers c.args.wire.now) (g.E.Outlet.written c.args.err.now) now) c.args.self.now course stands
+    (g.W.Wire.answers c.args.wire.now) (g.E.Outlet.written c.args.err.now) now) c.args.self.now trace stands
     after got (g.W.Wire.given c.read-got.new.wire) (g.W.Wire.written c.read-got.new.wire)
     (g.E.Outlet.written c.stopped.new.err) (g.W.Wire.answers c.read-got.new.wire)
     goes fresh none read.count read.client read.kept.0 read.kept.1 read.kept.2 read.kept.3 read.kept.4
@@ -26,12 +26,12 @@ returns-in-Some-clause-runs g c = λ plan start now course stands goes fresh.
     (Some c.in-Some.reason) (c.in-Some.ensures ∙ ap (λ (p : Phase). stop_behind p got) c.phase.ensures) refl told)
 
 pub returns-in-None-clause-runs : goal.returns-in-None-clause-runs
-returns-in-None-clause-runs g c = λ plan start now course stands goes fresh.
+returns-in-None-clause-runs g c = λ plan start now trace stands goes fresh.
     let read = c.read-got.ensures in
     let got = c.read-got.result in
     let none = rest_is_empty c.args.self.now.rest (sym c.is_empty.ensures ∙ c.if-not-is_empty.false) in
     heard_on plan start (with_wire (g.W.Wire.given c.args.wire.now) (g.W.Wire.written c.args.wire.now)
-    (g.W.Wire.answers c.args.wire.now) (g.E.Outlet.written c.args.err.now) now) c.args.self.now course stands
+    (g.W.Wire.answers c.args.wire.now) (g.E.Outlet.written c.args.err.now) now) c.args.self.now trace stands
     c.read-got.new.self got (g.W.Wire.given c.read-got.new.wire) (g.W.Wire.written c.read-got.new.wire)
     (g.E.Outlet.written c.args.err.now) (g.W.Wire.answers c.read-got.new.wire)
     goes fresh none read.count read.client read.kept.0 read.kept.1 read.kept.2 read.kept.3 read.kept.4

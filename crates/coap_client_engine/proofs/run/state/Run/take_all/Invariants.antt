@@ -9,9 +9,9 @@ abbrev pub invariant-loop : goal.invariant-loop
 invariant-loop g l = record {
   out : g.O.Outlet.is_failed l.out ≡ false;
   err : g.E.Outlet.is_failed l.err ≡ false;
-  runs : (start now : RunDevices) (course : RunTrace)
+  runs : (start now : RunDevices) (trace : RunTrace)
       → IsAtTrace l.plan start (with_outlets (g.O.Outlet.written l.fn.out) (g.E.Outlet.written l.fn.err) now) l.fn.self
-      course → status_in course ≡ None → IsReady course
+      trace → status_in trace ≡ None → IsReady trace
       → ExtendsTraceOn l.plan start (with_outlets (g.O.Outlet.written l.out) (g.E.Outlet.written l.err) now) l.self
-      (IsAsked (turns_in course)) None × (l.counter + length l.self.rest ≤ length l.fn.self.rest);
+      (IsAsked (turns_in trace)) None × (l.counter + length l.self.rest ≤ length l.fn.self.rest);
 }

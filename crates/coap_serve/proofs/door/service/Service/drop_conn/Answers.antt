@@ -8,7 +8,7 @@ use Rattle.coap_serve.proofs.door.service.Service.drop_conn.Goals as goal
 pub accepted-requires : goal.accepted-requires
 accepted-requires g c =
     let sessions = c.args.self.now.server.sessions in
-    work_left c.args.self.now.server.host.now (session_of c.args.id sessions)
+    work_left c.args.self.now.server.shared.now (session_of c.args.id sessions)
     (sym (is_there_at c.args.id _ sessions c.in-Some.ensures.at))
 
 pub invariant_of-self : goal.invariant_of-self

@@ -71,8 +71,9 @@ returns-clause-turn g c =
       };
       waits =
           c.at_most_a_second.ensures
-          ∙ ap (λ i. short_wait i c.visit.new.self.server.host.now c.visit.new.self.peers.entries c.wait_within.result)
-          idle ∙ ap (λ w. short_wait v.idle c.visit.new.self.server.host.now c.visit.new.self.peers.entries w)
+          ∙ ap (λ i. short_wait i c.visit.new.self.server.shared.now c.visit.new.self.peers.entries
+          c.wait_within.result)
+          idle ∙ ap (λ w. short_wait v.idle c.visit.new.self.server.shared.now c.visit.new.self.peers.entries w)
           (c.wait_within.ensures ∙ ap (λ limit. wait_within limit c.in_ok-next.next) c.limit_for-limit.ensures);
       second = c.visit.ensures.times.0 ∙ second;
       idle = idle;

@@ -1,0 +1,78 @@
+-- The numbers of tokens, and the frames of events.
+use Rattle.std.proofs.Common.{◌≡◌, ℕ, ◌+◌, ◌-◌, ◌*◌, ◌≤◌, Bool, true, false, List, [], ◌∷◌, ◌++◌, length, Option, Some}
+use Rattle.std.proofs.Common.{None, Result, Ok, Err, sym, ap, ◌∙◌, arith}
+use Rattle.std.specs.Prelude.{fold}
+use Rattle.std.proofs.lemmas.Bool.Decides.{nat_tests}
+use Rattle.std.proofs.lemmas.List.Sums.{fold-append}
+use Rattle.coap_wire.specs.Message.{Message}
+use Rattle.coap_wire.specs.Recognition.{first_critical}
+use Rattle.coap_wire.specs.Uint.{uint_of}
+use Rattle.coap_wire.specs.declared.fault.FormatFault.{FormatFault}
+use Rattle.coap_client_engine.specs.ClientValues.{ClientEventValue, answer_told, Response, Notification}
+use Rattle.coap_client_engine.specs.EventViews.{heard_value}
+use Rattle.coap_client_engine.specs.declared.client.Received.{Received}
+use Rattle.coap_client_engine.specs.declared.client.Received.TheVariants as heard
+use Rattle.c_calls.specs.ClientEvents.{token_number}
+
+-- ---- tokens
+
+shifted : (k : ℕ) (low : List ℕ) → length low ≡ 4 → fold (λ n b. 256 * n + b) k low ≡ k * 4294967296 + uint_of low
+shifted k [] is = absurd (omega (arith, is))
+shifted k (a ∷ []) is = absurd (omega (arith, is))
+shifted k (a ∷ b ∷ []) is = absurd (omega (arith, is))
+shifted k (a ∷ b ∷ c ∷ []) is = absurd (omega (arith, is))
+shifted k (a ∷ b ∷ c ∷ d ∷ []) is = omega arith
+shifted k (a ∷ b ∷ c ∷ d ∷ e ∷ es) is = absurd (omega (arith, is))
+
+-- A number in two parts, of which the second has 4 bytes unless the first is empty.
+pub uint_in_two : (high low : List ℕ) → length high ≡ length high + length low - 4
+    → uint_of (high ++ low) ≡ uint_of high * 4294967296 + uint_of low
+uint_in_two [] low is = omega arith
+uint_in_two (x ∷ xs) low is =
+    fold-append (λ n b. 256 * n + b) 0 (x ∷ xs) low ∙ shifted (uint_of (x ∷ xs)) low (omega (arith, is))
+
+pub token_short : (bytes : List ℕ) → length bytes ≤ 8 → token_number bytes ≡ uint_of bytes
+token_short bytes short = grind (arith, nat_tests)
+
+-- ---- the frames of responses
+
+told_response : (n m : Message) (token : List ℕ) (last : Bool) (critical : Option ℕ)
+    → answer_told n token last critical ≡ Response m → n ≡ m
+told_response n m token last (Some number) is = absurd cc
+told_response n m token true None is = cc
+told_response n m token false None is = absurd cc
+
+told_notification : (n m : Message) (token : List ℕ) (last : Bool) (critical : Option ℕ)
+    → answer_told n token last critical ≡ Notification m → n ≡ m
+told_notification n m token last (Some number) is = absurd cc
+told_notification n m token true None is = absurd cc
+told_notification n m token false None is = cc
+
+some_told : (e f : ClientEventValue) → Some e ≡ Some f → e ≡ f
+some_told e f is = cc
+
+-- The frame of a response has its message.
+pub heard_response : (h : Received) (read : Result Message FormatFault) (m : Message)
+    → Some (Response m) ≡ heard_value h read → read ≡ Ok m
+heard_response heard.Nothing read m is = absurd cc
+heard_response heard.Ready read m is = absurd cc
+heard_response (heard.Answer last) (Ok n) m is =
+    ap Ok (told_response n m n.token last (first_critical n.options) (some_told _ _ (sym is)))
+heard_response (heard.Answer last) (Err e) m is = absurd cc
+heard_response (heard.Pong custody) (Ok n) m is = absurd cc
+heard_response (heard.Pong custody) (Err e) m is = absurd cc
+heard_response heard.Stranger read m is = absurd cc
+heard_response (heard.Stopped why) read m is = absurd cc
+
+-- So does that of a notification.
+pub heard_notification : (h : Received) (read : Result Message FormatFault) (m : Message)
+    → Some (Notification m) ≡ heard_value h read → read ≡ Ok m
+heard_notification heard.Nothing read m is = absurd cc
+heard_notification heard.Ready read m is = absurd cc
+heard_notification (heard.Answer last) (Ok n) m is =
+    ap Ok (told_notification n m n.token last (first_critical n.options) (some_told _ _ (sym is)))
+heard_notification (heard.Answer last) (Err e) m is = absurd cc
+heard_notification (heard.Pong custody) (Ok n) m is = absurd cc
+heard_notification (heard.Pong custody) (Err e) m is = absurd cc
+heard_notification heard.Stranger read m is = absurd cc
+heard_notification (heard.Stopped why) read m is = absurd cc

@@ -1,5 +1,0 @@
-use Rattle.coap_c.proofs.ServerLemmas.{reports_empty}
-use Rattle.coap_c.proofs.polling.dachreup_server_next_output.Goals as goal
-
-pub returns-in_default-clause-output : goal.returns-in_default-clause-output
-returns-in_default-clause-output c = reports_empty _ _ _ c.take_server.ensures.empty

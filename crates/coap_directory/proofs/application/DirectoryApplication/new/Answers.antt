@@ -1,5 +1,0 @@
-use Rattle.coap_directory.proofs.AnswerLemmas.{begun}
-use Rattle.coap_directory.proofs.application.DirectoryApplication.new.Goals as goal
-
-pub returns : goal.returns
-returns g c = record { begins = begun _ }

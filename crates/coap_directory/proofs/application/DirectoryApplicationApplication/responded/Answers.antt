@@ -1,7 +1,0 @@
-use Rattle.coap_server_engine.specs.values.Exchanges.{AnswersMore}
-use Rattle.coap_directory.specs.Answers.{ResultGiven}
-use Rattle.coap_directory.proofs.application.DirectoryApplicationApplication.responded.Goals as goal
-
-pub returns : goal.returns
-unfolding AnswersMore
-returns g c = λ earlier all. ResultGiven earlier _ _ _ all

@@ -1,5 +1,0 @@
-use Rattle.coap_explain.proofs.explainer.events.tick.Goals as goal
-
-pub returns-in-Err-clause-line : goal.returns-in-Err-clause-line
-returns-in-Err-clause-line c =
-    rw (← c.in-Err.ensures.answer) c.refusal_line.ensures

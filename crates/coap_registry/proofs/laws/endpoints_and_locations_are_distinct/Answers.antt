@@ -1,5 +1,0 @@
-use Rattle.coap_registry.proofs.ReachedLemmas.{distinct}
-use Rattle.coap_registry.proofs.laws.endpoints_and_locations_are_distinct.Goals as goal
-
-pub returns : goal.returns
-returns c = distinct

@@ -1,0 +1,332 @@
+-- The text of a lookup in a reached directory is in link format.
+use Rattle.std.proofs.Common.{◌≡◌, ℕ, ◌+◌, ◌-◌, ◌<◌, ◌^◌, Bool, true, false, cond, ◌&&◌, ◌||◌, List, [], ◌∷◌, ◌++◌}
+use Rattle.std.proofs.Common.{length, drop, map, filter, nat_eq, nat_lt, nat_le, codes}
+use Rattle.std.proofs.Common.{Option, Some, None, unwrap_or, Result, Ok, Err, refl, ap, sym, subst, ◌∙◌, arith, is_none}
+use Rattle.std.specs.List.{list_all, flat_map}
+use Rattle.std.specs.Option.{option_map_or}
+use Rattle.std.specs.Cmp.Lexicographic.{pointwise}
+use Rattle.std.proofs.lemmas.Bool.{and_from, eqb-false, ltb-true, ltb-false}
+use Rattle.std.proofs.lemmas.List.Concat.{flat_map-cons}
+use Rattle.coap_wire.specs.Message.{CoapOption, Message}
+use Rattle.directory_links.specs.Characters.{is_target_char}
+use Rattle.directory_links.specs.Links.{Attribute, Link, is_attribute, is_link, Writes}
+use Rattle.directory_links.specs.Reading.{links_from}
+use Rattle.directory_links.proofs.ParseLaws.{from_ok}
+use Rattle.directory_links.proofs.SoundLaws.{links_sound}
+use Rattle.directory_registry.specs.IndexViews.{Each}
+use Rattle.directory_registry.specs.Registrations.{RegistrationValue, RegistryValue, found, place_of}
+use Rattle.directory_registry.specs.Registrations.{next_location}
+use Rattle.directory_registry.specs.Registrations.{registered, attributed, updated}
+use Rattle.directory_registry.specs.Registrations.{expired, removed}
+use Rattle.directory_registry.specs.Matching.{CriterionValue, is_selected_endpoint}
+use Rattle.directory_registry.specs.Lookups.{PageValue, ListingValue, started, endpoint_link}
+use Rattle.directory_registry.specs.Results.{endpoints_found, links_of_registration, resources_found, part_of}
+use Rattle.directory_registry.proofs.ReachedLemmas.{Entry, each_kept, each_without}
+use Rattle.directory_registry.proofs.LookupLemmas.{endpoints_listed, resources_listed}
+use Rattle.directory_core.specs.Requests.{named, is_repeated, repeats_parameter, lifetime_in}
+use Rattle.directory_core.specs.Parameters.{is_base, is_limited, endpoint_type}
+use Rattle.directory_core.specs.Conditions.{has_link_format}
+use Rattle.directory_core.specs.declared.refusal.Refusal.{Refusal}
+use Rattle.directory_core.specs.declared.refusal.Refusal.TheVariants as refusal
+use Rattle.directory_core.specs.Changes.{◌>>=◌, or_refused, refused, only_if, key_with, base_with, identified}
+use Rattle.directory_core.specs.Changes.{attributes_in, registered_attributes, links_in, prepared, registering}
+use Rattle.directory_core.specs.Changes.{renewed_lifetime, renewed_base, renewing, update_parts, attributes_after}
+use Rattle.directory_core.specs.Changes.{attributes_at_location, updating_with}
+use Rattle.directory_core.specs.Changes.{updating, listed}
+use Rattle.directory_core.specs.Replies.{DirectoryValue}
+use Rattle.directory_core.specs.Endpoints.{ReachedDirectory}
+use Rattle.directory_core.proofs.AttributeLemmas.{each_joined, each_merged, type_attribute}
+use Rattle.directory_core.proofs.LinkFormatLemmas.{all_joined, all_split, base_target, IsWritable}
+use Rattle.directory_core.proofs.LinkFormatLemmas.{endpoint_writable, links_writable}
+use Rattle.directory_core.proofs.ReachedLemmas.{bound, not_refused, test_held, same_value, attributes_valid}
+use Rattle.directory_core.proofs.ReachedLemmas.{registering_kept, updating_kept, reached_kept}
+
+-- ---- parts of requests
+
+base_held : (o : Option (List ℕ)) (base : List ℕ) → base_with o ≡ Some base → list_all is_target_char base ≡ true
+base_held None base h = absurd cc
+base_held (Some b) base h = by (is_base b) refl h
+  where
+    by : (is : Bool) → is_base b ≡ is → cond is (Some b) None ≡ Some base → list_all is_target_char base ≡ true
+    by true e k =
+        let same : b ≡ base = cc in
+        ap (list_all is_target_char) (sym same) ∙ base_target b e
+    by false e k = absurd cc
+
+identified_base : (os : List CoapOption) (parts : List ℕ × ℕ × List ℕ) → identified os ≡ Ok parts
+    → list_all is_target_char parts.2 ≡ true
+unfolding identified
+identified_base os parts h = by (has_link_format os) (repeats_parameter os) h
+  where
+    Goal : Type 0
+    Goal = list_all is_target_char parts.2 ≡ true
+
+    rest : Result (List ℕ × ℕ × List ℕ) Refusal
+    rest =
+        or_refused refusal.Endpoint (key_with (named (codes "d") os) (named (codes "ep") os)) >>= λ key.
+        or_refused refusal.Lifetime (lifetime_in (named (codes "lt") os)) >>= λ lifetime.
+        or_refused refusal.Base (base_with (named (codes "base") os)) >>= λ base.
+        Ok (key, lifetime, base)
+
+    by : (format twice : Bool) → cond format (cond twice (Err refusal.Repeated) rest) (Err refusal.Format) ≡ Ok parts
+        → Goal
+    by false twice k = absurd cc
+    by true true k = absurd cc
+    by true false k =
+        bound (or_refused refusal.Endpoint (key_with (named (codes "d") os) (named (codes "ep") os))) _ parts Goal k
+        (λ key i k2.
+        bound (or_refused refusal.Lifetime (lifetime_in (named (codes "lt") os))) _ parts Goal k2 (λ lifetime j k3.
+        bound (or_refused refusal.Base (base_with (named (codes "base") os))) _ parts Goal k3 (λ base l last.
+        let this = ap (λ (p : List ℕ × ℕ × List ℕ). p.2) (same_value _ parts last) in
+        ap (list_all is_target_char) (sym this)
+        ∙ base_held (named (codes "base") os) base
+        (not_refused refusal.Base (base_with (named (codes "base") os)) base l))))
+
+read_links : (r : Result (List Link) ℕ) (links : List Link) → refused refusal.Links r ≡ Ok links → r ≡ Ok links
+read_links (Ok given) links h = cc
+read_links (Err e) links h = absurd cc
+
+links_held : (payload : List ℕ) (links : List Link) → links_in payload ≡ Ok links → list_all is_link links ≡ true
+unfolding links_in
+links_held payload links h =
+    bound (refused refusal.Links (links_from payload)) _ links (list_all is_link links ≡ true) h (λ read i last.
+    let same = (test_held (list_all is_limited read) refusal.Target read links last).1 in
+    let writes = links_sound payload read (from_ok payload read (read_links (links_from payload) read i)) in
+    ap (list_all is_link) (sym same) ∙ writes.each)
+
+renewal_base : (os : List CoapOption) (parts : Option ℕ × Option (List ℕ)) (base : List ℕ) → renewing os ≡ Ok parts
+    → list_all is_target_char base ≡ true → list_all is_target_char (unwrap_or parts.1 base) ≡ true
+unfolding renewing
+renewal_base os parts base h before = by (is_repeated (codes "lt") os || is_repeated (codes "base") os) h
+  where
+    Goal : Type 0
+    Goal = list_all is_target_char (unwrap_or parts.1 base) ≡ true
+
+    rest : Result (Option ℕ × Option (List ℕ)) Refusal
+    rest =
+        renewed_lifetime (named (codes "lt") os) >>= λ lifetime.
+        renewed_base (named (codes "base") os) >>= λ base.
+        only_if (is_none (named (codes "ep") os) && is_none (named (codes "d") os)) refusal.Key (lifetime, base)
+
+    given : (o : Option (List ℕ)) (b : Option (List ℕ)) → renewed_base o ≡ Ok b
+        → list_all is_target_char (unwrap_or b base) ≡ true
+    given None b k =
+        let this : None ≡ b = cc in
+        subst (λ (x : Option (List ℕ)). list_all is_target_char (unwrap_or x base) ≡ true) this before
+    given (Some text) b k = is (is_base text) refl k
+      where
+        is : (t : Bool) → is_base text ≡ t → cond t (Ok (Some text)) (Err refusal.Base) ≡ Ok b
+            → list_all is_target_char (unwrap_or b base) ≡ true
+        is true e l =
+            let this : Some text ≡ b = cc in
+            subst (λ (x : Option (List ℕ)). list_all is_target_char (unwrap_or x base) ≡ true) this (base_target text e)
+        is false e l = absurd cc
+
+    by : (twice : Bool) → cond twice (Err refusal.Repeated) rest ≡ Ok parts → Goal
+    by true k = absurd cc
+    by false k =
+        bound (renewed_lifetime (named (codes "lt") os)) _ parts Goal k (λ lifetime i k2.
+        bound (renewed_base (named (codes "base") os)) _ parts Goal k2 (λ b j last.
+        let this = (test_held (is_none (named (codes "ep") os) && is_none (named (codes "d") os)) refusal.Key
+        (lifetime, b) parts last).1 in
+        subst (λ (p : Option ℕ × Option (List ℕ)). list_all is_target_char (unwrap_or p.1 base) ≡ true) this
+        (given (named (codes "base") os) b j)))
+
+-- ---- registrations that can be written
+
+abbrev IsWritableEntry : Entry → Type 0
+IsWritableEntry e = IsWritable e.1
+
+prepared_writable : (now : ℕ) (m : Message) (made : List ℕ × RegistrationValue) (number : ℕ) → prepared now m ≡ Ok made
+    → number < 2 ^ 64 → IsWritable (record made.1 { number = number })
+unfolding prepared
+prepared_writable now m made number h small =
+    bound (identified m.options) _ made Goal h (λ parts i h2.
+    bound (registered_attributes m.options) _ made Goal h2 (λ attributes j h3.
+    bound (links_in m.payload) _ made Goal h3 (λ links l last.
+    let this = same_value _ made last in
+    bound (attributes_in m.options) _ attributes Goal j (λ list k few.
+    let all = (test_held (nat_le (length (list ++ endpoint_type ∷ [])) 64) refusal.Many (list ++ endpoint_type ∷ [])
+    attributes few).1 in
+    subst (λ (x : List ℕ × RegistrationValue). IsWritable (record x.1 { number = number })) this (record {
+      small = small;
+      base = identified_base m.options parts i;
+      attributes = ap (list_all is_attribute) (sym all)
+          ∙ each_joined list (endpoint_type ∷ []) (attributes_valid m.options list k) type_attribute;
+      links = links_held m.payload links l;
+    })))))
+  where
+    Goal : Type 0
+    Goal = IsWritable (record made.1 { number = number })
+
+-- The registrations can be written, and the next location has a number of 64 bits.
+record AreWritable (v : RegistryValue) : Type 0 where
+  next : v.next < 2 ^ 64
+  each : Each IsWritableEntry v.entries
+
+found_writable : (es : List Entry) (key : List ℕ) (r : RegistrationValue) → found es key ≡ Some r
+    → Each IsWritableEntry es → IsWritable r
+found_writable [] key r there all = absurd cc
+found_writable (e ∷ es) key r there all = by (pointwise nat_eq key e.0) there (λ h. found_writable es key r h all.1)
+  where
+    by : (b : Bool) → cond b (Some e.1) (found es key) ≡ Some r → (found es key ≡ Some r → IsWritable r) → IsWritable r
+    by true h rest =
+        let this : e.1 ≡ r = cc in
+        subst IsWritable this all.0
+    by false h rest = rest h
+
+small_place : (v : RegistryValue) (key : List ℕ) (number : ℕ) → AreWritable v → place_of v key ≡ Some number
+    → number < 2 ^ 64
+small_place v key number is h =
+    by (found v.entries key) refl (nat_lt (length v.entries) v.limit) (nat_eq v.next (2 ^ 64 - 1)) h
+  where
+    by : (o : Option RegistrationValue) → found v.entries key ≡ o → (room last : Bool)
+        → option_map_or (λ (r : RegistrationValue). Some r.number) o (cond room (cond last None (Some v.next)) None)
+        ≡ Some number → number < 2 ^ 64
+    by (Some r) e room last k =
+        let this : r.number ≡ number = cc in
+        subst (λ (n : ℕ). n < 2 ^ 64) this (found_writable v.entries key r e is.each).small
+    by None e false last k = absurd cc
+    by None e true true k = absurd cc
+    by None e true false k =
+        let this : v.next ≡ number = cc in
+        subst (λ (n : ℕ). n < 2 ^ 64) this is.next
+
+one_more : (n : ℕ) → n < 2 ^ 64 → nat_eq n (2 ^ 64 - 1) ≡ false → n + 1 < 2 ^ 64
+one_more n below e = by (nat_lt (n + 1) (2 ^ 64)) refl
+  where
+    by : (b : Bool) → nat_lt (n + 1) (2 ^ 64) ≡ b → n + 1 < 2 ^ 64
+    by true h = ltb-true (n + 1) (2 ^ 64) h
+    by false h =
+        let over = ltb-false (n + 1) (2 ^ 64) h in
+        absurd (eqb-false n (2 ^ 64 - 1) e (omega (arith, below, over)))
+
+small_next : (next number : ℕ) → next < 2 ^ 64 → number < 2 ^ 64 → next_location next number < 2 ^ 64
+small_next next number h k = by (nat_lt number next) (nat_eq number (2 ^ 64 - 1)) refl
+  where
+    by : (below last : Bool) → nat_eq number (2 ^ 64 - 1) ≡ last
+        → cond below next (cond last number (number + 1)) < 2 ^ 64
+    by true last e = h
+    by false true e = k
+    by false false e = one_more number k e
+
+registering_next : (v : RegistryValue) (now : ℕ) (m : Message) (x : ℕ × RegistryValue) → registering v now m ≡ Ok x
+    → AreWritable v → x.1.next < 2 ^ 64
+unfolding registering registered
+registering_next v now m x h is =
+    bound (prepared now m) _ x Goal h (λ made i h2.
+    bound (or_refused refusal.Full (place_of v made.0)) _ x Goal h2 (λ number j last.
+    let this = ap (λ (y : ℕ × RegistryValue). y.1.next) (same_value _ x last) in
+    let place = not_refused refusal.Full (place_of v made.0) number j in
+    subst (λ (n : ℕ). n < 2 ^ 64) this (small_next v.next number is.next (small_place v made.0 number is place))))
+  where
+    Goal : Type 0
+    Goal = x.1.next < 2 ^ 64
+
+updating_next : (v : RegistryValue) (now number : ℕ) (m : Message) → v.next ≡ (updating v now number m).1.next
+unfolding updating updated attributed
+updating_next v now number m = by (nat_eq (length m.payload) 0) result
+  where
+    result : Result ((Option ℕ × Option (List ℕ)) × Option (List Attribute)) Refusal
+    result =
+        update_parts m.options >>= λ x.
+        attributes_after (attributes_at_location v number) x.1 >>= λ attributes.
+        Ok (x.0, attributes)
+
+    by : (empty : Bool) (r : Result ((Option ℕ × Option (List ℕ)) × Option (List Attribute)) Refusal)
+        → v.next ≡ (cond empty (updating_with v now number r) (Err refusal.Payload, v)).1.next
+    by false r = refl
+    by true (Err error) = refl
+    by true (Ok (times, None)) = refl
+    by true (Ok (times, Some attributes)) = refl
+
+registering_writable : (v : RegistryValue) (now : ℕ) (m : Message) (x : ℕ × RegistryValue) → registering v now m ≡ Ok x
+    → AreWritable v → AreWritable x.1
+registering_writable v now m x h is = record {
+  next = registering_next v now m x h is;
+  each = registering_kept IsWritableEntry v now m x
+      (λ made number i place. prepared_writable now m made number i (small_place v made.0 number is place)) h is.each;
+}
+
+updating_writable : (v : RegistryValue) (now number : ℕ) (m : Message) → AreWritable v
+    → AreWritable (updating v now number m).1
+updating_writable v now number m is = record {
+  next = subst (λ (n : ℕ). n < 2 ^ 64) (updating_next v now number m) is.next;
+  each = updating_kept IsWritableEntry now m (λ parts list is key r writable. (
+    record {
+      small = writable.small;
+      base = renewal_base m.options parts r.base is.renews writable.base;
+      attributes = writable.attributes;
+      links = writable.links;
+    },
+    record {
+      small = writable.small;
+      base = writable.base;
+      attributes = each_merged r.attributes list writable.attributes (attributes_valid m.options list is.gives);
+      links = writable.links;
+    },
+  )) v number is.each;
+}
+
+reached_writable : (d : DirectoryValue) → ReachedDirectory d → AreWritable d.registry
+unfolding expired removed
+reached_writable =
+    reached_kept AreWritable registering_writable updating_writable
+    (λ v number is. record { next = is.next; each = each_without IsWritableEntry number v.entries is.each })
+    (λ v now is. record {
+      next = is.next;
+      each = each_kept IsWritableEntry
+          (λ e. nat_lt now e.1.deadline) v.entries is.each;
+    })
+    (λ limit. record { next = omega arith; each = tt })
+
+-- ---- results
+
+endpoints_writable : (criteria : List CriterionValue) (es : List Entry) → Each IsWritableEntry es
+    → list_all is_link (map endpoint_link (filter (is_selected_endpoint criteria) (map (λ e. e.1) es))) ≡ true
+endpoints_writable criteria [] all = refl
+endpoints_writable criteria (e ∷ es) all =
+    by (is_selected_endpoint criteria e.1) (endpoints_writable criteria es all.1)
+  where
+    others : List RegistrationValue
+    others = filter (is_selected_endpoint criteria) (map (λ e. e.1) es)
+
+    by : (b : Bool) → list_all is_link (map endpoint_link others) ≡ true
+        → list_all is_link (map endpoint_link (cond b (e.1 ∷ others) others)) ≡ true
+    by true rest = and_from (is_link (endpoint_link e.1)) (list_all is_link (map endpoint_link others))
+        (endpoint_writable e.1 all.0) rest
+    by false rest = rest
+
+resources_writable : (criteria : List CriterionValue) (es : List Entry) → Each IsWritableEntry es
+    → list_all is_link (flat_map (links_of_registration criteria) (map (λ e. e.1) es)) ≡ true
+resources_writable criteria [] all = refl
+resources_writable criteria (e ∷ es) all =
+    ap (list_all is_link) (flat_map-cons (links_of_registration criteria) e.1 (map (λ e. e.1) es))
+    ∙ all_joined is_link (links_of_registration criteria e.1)
+    (flat_map (links_of_registration criteria) (map (λ e. e.1) es)) (links_writable criteria e.1 all.0)
+    (resources_writable criteria es all.1)
+
+part_writable : (page : PageValue) (links : List Link) → list_all is_link links ≡ true
+    → list_all is_link (part_of page links) ≡ true
+part_writable page links h =
+    (all_split is_link page.count (drop page.skip links) (all_split is_link page.skip links h).1).0
+
+pub endpoints_written : (d : DirectoryValue) → ReachedDirectory d → (criteria : List CriterionValue) (l : ListingValue)
+    (page : PageValue) (limit : ℕ) (text : List ℕ)
+    → (listed d.registry true criteria (started l page limit)).text ≡ Some text
+    → Writes text (part_of page (endpoints_found criteria d.registry))
+endpoints_written d reached criteria l page limit text h = record {
+  each = part_writable page (endpoints_found criteria d.registry)
+      (endpoints_writable criteria d.registry.entries (reached_writable d reached).each);
+  text = sym (endpoints_listed d.registry criteria l page limit text h);
+}
+
+pub resources_written : (d : DirectoryValue) → ReachedDirectory d → (criteria : List CriterionValue) (l : ListingValue)
+    (page : PageValue) (limit : ℕ) (text : List ℕ)
+    → (listed d.registry false criteria (started l page limit)).text ≡ Some text
+    → Writes text (part_of page (resources_found criteria d.registry))
+resources_written d reached criteria l page limit text h = record {
+  each = part_writable page (resources_found criteria d.registry)
+      (resources_writable criteria d.registry.entries (reached_writable d reached).each);
+  text = sym (resources_listed d.registry criteria l page limit text h);
+}

@@ -1,0 +1,12 @@
+use Rattle.std.proofs.Common.{◌==◌, ◌&&◌, length, rules, tests}
+use Rattle.std.proofs.lemmas.Iterator.Consumers.{YieldsList-from_first}
+use Rattle.std.proofs.lemmas.Iterator.Search.{any_from_yields_List}
+use Rattle.coap_wire.specs.OptionNumbers as numbers
+use Rattle.directory_core.specs.Prelude.{CoapOption, coap_option}
+use Rattle.directory_core.proofs.conditions.matches_any.Goals as goal
+
+pub returns : goal.returns
+returns c =
+    any_from_yields_List (λ (o : CoapOption). o.number == numbers.if_match && length o.value == 0) _ _ _
+    c.any.ensures.ran
+    (YieldsList-from_first coap_option (λ os. os) _ c.known.ensures) (λ x b q k. search (rules, tests))

@@ -1,0 +1,26 @@
+use Rattle.std.proofs.Common.{List, sym, ◌∙◌, ap, map}
+use Rattle.directory_registry.specs.Prelude.{Attribute, attribute_of, with_bytes, attributes_text, resolved_attribute}
+use Rattle.directory_registry.proofs.ListingLemmas.{one_attribute, no_attribute}
+use Rattle.directory_registry.proofs.results.push_attributes.Goals as goal
+
+pub loop-attribute-preserved : goal.loop-attribute-preserved
+loop-attribute-preserved c =
+    record {
+      goes = tt;
+      ends = tt;
+      so_far =
+          one_attribute c.loop-attribute.listing c.push_attribute.new.listing c.args.base.now
+          (attribute_of c.in-Some.attribute) c.next.new.self c.push_attribute.ensures
+          ∙ ap (λ (left : List Attribute).
+          with_bytes c.loop-attribute.listing (attributes_text (map (resolved_attribute c.args.base.now) left)))
+          (sym c.in-Some.ensures.steps)
+          ∙ c.loop-attribute.invariant.so_far;
+    }
+
+pub returns : goal.returns
+returns c =
+    no_attribute c.loop-attribute.listing c.args.base.now
+    ∙ ap (λ (left : List Attribute).
+    with_bytes c.loop-attribute.listing (attributes_text (map (resolved_attribute c.args.base.now) left)))
+    (sym c.in-None.ensures.steps.0)
+    ∙ c.loop-attribute.invariant.so_far

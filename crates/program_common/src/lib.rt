@@ -1,0 +1,14 @@
+//! The parts that the programs `coap-server` and `coap-client` share: their arguments, files, messages on standard
+//! error, and exit statuses.
+//!
+//! The meaning of the arguments is in `coap_command_line`, and sockets are in `coap_sockets`. The programs themselves
+//! are in `program_server` and `program_client`. Continue with `program.rt`.
+#![tactic(auto)]
+
+mod files;
+mod program;
+mod standard;
+
+pub use files::{FileError, read_whole};
+pub use program::{ENDED, FAULT, Program, USAGE};
+pub use standard::occupy_standard_descriptors;

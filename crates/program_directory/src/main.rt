@@ -1,0 +1,204 @@
+//! The program `coap-directory`: a CoRE resource directory (RFC 9176) for CoAP over TCP (RFC 8323).
+//!
+//! The function `coap_command_line::directory_words` defines its arguments. The program listens at an address.
+//! The server hands the requests below `/rd` and `/rd-lookup` to a `Directory` (`application.rt`), which
+//! answers each at once.
+#![tactic(auto)]
+
+ghost use Rattle.std.specs.Prelude.{[], IfOk, IsErr};
+ghost use Rattle.program_directory.specs.Answers.{Answers};
+
+mod application;
+mod laws;
+
+use application::DirectoryApplication;
+use coap_command_line::{DirectoryPlan, directory_reason, directory_words, entries_in};
+use coap_io::{Clock, Outlet};
+use coap_model::{Config, Starts};
+use coap_print::LogLevel;
+use coap_serve::{Clocks, ServiceConfig, serve_door_with};
+use coap_server_engine::{IoFault, Monitor, NoMonitor};
+use coap_sockets::{RunClock, SocketDoor, SocketWire, SystemClock};
+use coap_wire::LARGEST_SENT_MESSAGE;
+use directory_core::Directory;
+use program_common::{FAULT, Program, occupy_standard_descriptors};
+use program_server_common::{ServerRecord, finish, monitor_of, open_record, print_listen_fault};
+use std::alloc::{AllocError, Global};
+use std::net::{Net, SocketAddr};
+use std::process::ExitCode;
+use std::rt::{Env, Files};
+use std::time;
+
+/// Name of the program, for its messages.
+const PROGRAM: Program = Program {
+    name: "coap-directory",
+};
+
+/// Entry points of a directory (RFC 9176 section 4.3), in the form of the option `--application` of `coap-server`.
+const ENTRIES: [&str; 3] = [
+    "/rd;get,post,put,delete;rt=\"core.rd\";ct=40",
+    "/rd-lookup/ep;get,post,put,delete;rt=\"core.rd-lookup-ep\";ct=40",
+    "/rd-lookup/res;get,post,put,delete;rt=\"core.rd-lookup-res\";ct=40",
+];
+
+/// Returns the directory of a plan, whose clock starts now.
+///
+/// # Errors
+///
+/// Returns `AllocError` if allocation fails.
+fn directory_of<'a, R: time::Clock + AllocGlobal>(
+    rt: &'a R,
+    plan: &DirectoryPlan,
+) -> Result<DirectoryApplication<RunClock<'a, R>>, AllocError>
+    // The application has answered nothing.
+    ensures { IfOk result (λ a. Answers [] a.directory) }
+{
+    let directory = Directory::new(rt.alloc(), plan.registrations, LARGEST_SENT_MESSAGE)?;
+    Ok(DirectoryApplication::new(directory, RunClock::start(rt)))
+}
+
+/// Returns the configuration of a plan for a server that starts at this time, with the entry points of a directory. The
+/// result is `None` if a limit is out of its range or allocation fails.
+fn config_of(alloc: Global, plan: &DirectoryPlan, now: u64) -> Option<ServiceConfig> {
+    let config = Config::builder()
+        .connections(plan.connections)
+        .starts(Starts::at(now))
+        .build()
+        .ok()?;
+    let applications = entries_in(alloc, &ENTRIES).ok()?;
+    Some(ServiceConfig {
+        config,
+        applications: Some(applications),
+        idle: if plan.idle == 0 {
+            None
+        } else {
+            Some(plan.idle)
+        },
+    })
+}
+
+/// Listens at the address of a plan, writes one line that says so to standard error, and serves the connections that
+/// clients open. Returns an exit status only after an error. The file of a record is created before the server listens,
+/// and its header is written afterwards.
+fn run<'a>(
+    rt: &'a (impl Print + Eprint + Files + Net + time::Clock + AllocGlobal),
+    plan: &'a DirectoryPlan,
+) -> u8 {
+    let mut clock = SystemClock::new(rt);
+    let (Some(config), Ok(directory)) = (
+        config_of(rt.alloc(), plan, clock.now()),
+        directory_of(rt, plan),
+    ) else {
+        return PROGRAM.print_fault(rt, "no memory", FAULT);
+    };
+    let record = match open_record(rt, &PROGRAM, plan.record.as_deref(), plan.record_limit) {
+        Ok(record) => record,
+        Err(status) => return status,
+    };
+    let address = SocketAddr::new(plan.address, plan.port);
+    let connections = config.config.connections();
+    let mut door = match SocketDoor::listen(rt, rt.alloc(), address, connections) {
+        Ok(door) => door,
+        Err(fault) => return print_listen_fault(rt, &PROGRAM, fault, address),
+    };
+    let _ = eprintln!(rt;
+        "coap-directory: listening on {}",
+        door.address().unwrap_or(address)
+    );
+    match serve(rt, &mut door, clock, config, plan.log, directory, record) {
+        Ok(()) => unreachable!(),
+        Err(fault) => PROGRAM.print_fault(rt, fault, FAULT),
+    }
+}
+
+/// Serves the connections of a listener, with a record, and with a log of this level. With a log, the listener wakes
+/// up each second.
+fn serve<'a, R: Net + time::Clock + AllocGlobal, O: Outlet + Drop>(
+    rt: &'a R,
+    door: &mut SocketDoor<'a, R>,
+    clock: SystemClock<'a, R>,
+    config: ServiceConfig,
+    level: LogLevel,
+    directory: DirectoryApplication<RunClock<'a, R>>,
+    record: Option<ServerRecord<'_, O>>,
+) -> Result<(), IoFault>
+    ensures { IsErr result }
+{
+    if level != LogLevel::Nothing {
+        door.wake_each_second();
+    }
+    let troubles = door.troubles();
+    let monitor = monitor_of(
+        rt,
+        &PROGRAM,
+        level,
+        &config.config,
+        &ENTRIES,
+        troubles,
+        record,
+    );
+    let Ok(mut monitor) = monitor else {
+        return Err(IoFault::Memory);
+    };
+    let served = if Monitor::<SocketWire>::listens(&monitor) {
+        serve_with(rt, door, clock, config, directory, &mut monitor)
+    } else {
+        // A request then costs a twentieth less.
+        serve_with(rt, door, clock, config, directory, &mut NoMonitor)
+    };
+    finish(monitor, None);
+    served
+}
+
+/// Serves the connections of a listener. The monitor receives the calls that the server accepts.
+fn serve_with<'a, R: Net + time::Clock + AllocGlobal, M: Monitor<SocketWire>>(
+    rt: &'a R,
+    door: &mut SocketDoor<'a, R>,
+    clock: SystemClock<'a, R>,
+    config: ServiceConfig,
+    directory: DirectoryApplication<RunClock<'a, R>>,
+    monitor: &mut M,
+) -> Result<(), IoFault>
+    ensures { IsErr result }
+{
+    let mut directory = directory;
+    let mut clocks = Clocks {
+        time: clock,
+        uptime: config.idle.map(|_| RunClock::start(rt)),
+    };
+    let served = serve_door_with(
+        rt.alloc(),
+        door,
+        &mut clocks,
+        config,
+        &mut directory,
+        monitor,
+    );
+    // After a failed allocation, the lines of the last turn still wait.
+    monitor.turn_ended();
+    served
+}
+
+/// Runs the program with its arguments, and returns the exit status.
+fn start(rt: &(impl Print + Eprint + Env + Files + Net + time::Clock + AllocGlobal)) -> u8 {
+    let words = match PROGRAM.words(rt) {
+        Ok(words) => words,
+        Err(status) => return status,
+    };
+    match directory_words(rt.alloc(), &words) {
+        Ok(plan) => run(rt, &plan),
+        Err(fault) => {
+            let reason = directory_reason(rt.alloc(), &words, &fault).unwrap_or(None);
+            PROGRAM.refuse(rt, &fault, reason.as_ref())
+        }
+    }
+}
+
+fn main(rt: HostRuntime) -> ExitCode {
+    let (_first, _second, _third) = (
+        occupy_standard_descriptors(&rt),
+        occupy_standard_descriptors(&rt),
+        occupy_standard_descriptors(&rt),
+    );
+    ExitCode::from(start(&rt))
+}

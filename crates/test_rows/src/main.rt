@@ -1,0 +1,153 @@
+//! Executes rows of text from standard input on values of all layers, from messages to servers, clients and the command
+//! lines of the programs. Prints a result line for each row. The rows are those of `tests/vectors/rows`.
+//!
+//! A row that begins with `= ` creates the value that the following rows use: `= frame 1152`. Every other row is an
+//! event. Its bytes are hex digits, or absent. The result line of a row has the result, followed by the state of the
+//! value. A row that would violate a `requires` is not executed, and its result is `refused`. The result is `strange`
+//! if the row is malformed, and has the word `memory` if allocation fails.
+//!
+//! Results are written as `Debug` prints them where it can. The modules of tests/harness/layers convert them.
+//!
+//! `row_words.rt` parses the words of a row, and `row_line.rt` writes the result line. `layer.rt` has the trait of a
+//! value on which rows are played. Most other modules are a layer, with the events of its rows.
+//!
+//! One function creates a value and plays the rows of its layer (`play_rows`). So no type has the values of all layers:
+//! the proof of such a type, and of a function that drops it, is long. The layers are one crate, since each proof loads
+//! the statements of all libraries below. That costs as much as most of the functions here.
+#![tactic(auto)]
+
+mod application;
+mod asked;
+mod board;
+mod client;
+mod command_line;
+mod config;
+mod directory;
+mod door;
+mod frame;
+mod joined;
+mod layer;
+mod limits;
+mod link;
+mod log;
+mod plain;
+mod print;
+mod queue;
+mod row_line;
+mod row_words;
+mod run;
+mod script;
+mod serve;
+mod stdio;
+mod store;
+mod target;
+mod wire;
+mod wires;
+
+use coap_client_engine::Client;
+use coap_conn::{Link, OutQueue};
+use coap_frame::Framer;
+use coap_model::Config;
+use coap_server_engine::Server;
+use coap_store::Store;
+use directory_core::Directory;
+use joined::ClientServerPair;
+use layer::Layer;
+use plain::Plain;
+use row_line::RowLine;
+use row_words::cut;
+use std::io;
+use std::io::Read;
+use std::process::ExitCode;
+
+/// Maximum number of bytes that a row names.
+const ROOM: usize = 4_194_304;
+
+/// Capacity of a result line, in bytes: `ROOM` bytes as hex digits, and some words.
+const LINE_ROOM: usize = 8_454_144;
+
+/// Capacity for the input, in bytes. One allocation reserves it, so that the number of allocations before the first row
+/// does not depend on the rows.
+const ROWS_ROOM: usize = 67_108_864;
+
+/// Exit status if the rows cannot be read or allocation for them fails.
+const FAULT: u8 = 3;
+
+/// Creates a value. Prints `memory` if allocation failed, `refused` if a word of the opening row is out of range, and
+/// otherwise an empty line. Then executes each row on the value, and prints its result line, or `nothing` without a
+/// value.
+fn play_rows<L: Layer, R: Print + AllocGlobal>(
+    rt: &R,
+    words: &str,
+    rows: &str,
+    bytes: &mut Vec<u8>,
+    told: &mut RowLine,
+) {
+    let mut opened = L::opened(rt.alloc(), words);
+    match &opened {
+        Some(Ok(_)) => {}
+        Some(Err(_)) => told.word("memory"),
+        None => told.word("refused"),
+    }
+    told.write_line(&mut io::writer(rt));
+    for row in rows.lines() {
+        match &mut opened {
+            Some(Ok(value)) => value.play(rt.alloc(), row, bytes, told),
+            _ => told.word("nothing"),
+        }
+        told.write_line(&mut io::writer(rt));
+    }
+}
+
+/// Creates the value that an opening row names, and plays the rows after it.
+fn play<R: Print + AllocGlobal>(
+    rt: &R,
+    opening: &str,
+    rows: &str,
+    bytes: &mut Vec<u8>,
+    told: &mut RowLine,
+) {
+    let (layer, words) = cut(opening);
+    match layer {
+        "frame" => play_rows::<Framer, R>(rt, words, rows, bytes, told),
+        "queue" => play_rows::<OutQueue, R>(rt, words, rows, bytes, told),
+        "link" => play_rows::<Link, R>(rt, words, rows, bytes, told),
+        "store" => play_rows::<Store, R>(rt, words, rows, bytes, told),
+        "serve" => play_rows::<Server, R>(rt, words, rows, bytes, told),
+        "directory" => play_rows::<Directory, R>(rt, words, rows, bytes, told),
+        "client" => play_rows::<Client, R>(rt, words, rows, bytes, told),
+        "joined" => play_rows::<ClientServerPair, R>(rt, words, rows, bytes, told),
+        "stdio" => play_rows::<Config, R>(rt, words, rows, bytes, told),
+        _ => play_rows::<Plain, R>(rt, layer, rows, bytes, told),
+    }
+}
+
+/// Plays each opening row of a text with the rows after it.
+fn play_all<R: Print + AllocGlobal>(rt: &R, text: &str, bytes: &mut Vec<u8>, told: &mut RowLine) {
+    let text = text.strip_prefix("= ").unwrap_or(text);
+    for section in text.split("\n= ") {
+        let (opening, rows) = section.split_once('\n').unwrap_or((section, ""));
+        play(rt, opening, rows, bytes, told);
+    }
+}
+
+/// Reads the rows and executes them, or returns `None` if input cannot be read or allocation fails. The result line has
+/// its capacity from the start, so that a later allocation failure is that of a row.
+fn read_and_play(rt: &(impl Input + Print + AllocGlobal)) -> Option<()> {
+    let mut text = Vec::with_capacity(rt.alloc(), ROWS_ROOM).ok()?;
+    rt.reader().read_to_end(&mut text).ok()?;
+    let mut bytes = Vec::with_capacity(rt.alloc(), ROOM).ok()?;
+    let mut told = RowLine::new(rt.alloc(), LINE_ROOM).ok()?;
+    let rows = str::from_utf8(&text).ok()?;
+    if !rows.is_empty() {
+        play_all(rt, rows, &mut bytes, &mut told);
+    }
+    Some(())
+}
+
+fn main(rt: HostRuntime) -> ExitCode {
+    match read_and_play(&rt) {
+        Some(()) => ExitCode::SUCCESS,
+        None => ExitCode::from(FAULT),
+    }
+}
