@@ -6,7 +6,7 @@
  * program: see MEMORY), memcpy, memmove and memset.
  *
  * Each exported call is proved to do what its contract states (crates/c_calls). Not proved: the inline functions of
- * this header, and what the C program does.
+ * this header, and what the C program does. The header is for C99 or later, and for C++98 or later.
  *
  * WHAT THE PROGRAM MUST GUARANTEE
  *
@@ -34,6 +34,7 @@
  *
  * Each call returns DACHREUP_OK if it succeeds, otherwise a value of enum dachreup_error. A call that fails leaves the
  * handle and its outputs as they were, unless it says otherwise. Every call with a handle can return DACHREUP_EMPTY.
+ * In C++, keep a result in a dachreup_result: it converts to no enum.
  *
  * MEMORY
  *
@@ -156,7 +157,7 @@ enum dachreup_error {
     DACHREUP_ANNOUNCE_TOO_LARGE = 177 /* above 1,048,576 bytes */
 };
 
-/* Returns what is wrong, such as "no connection has the id". */
+/* Returns what is wrong, such as "no such connection or resource". */
 static inline const char *dachreup_error_text(dachreup_result result);
 
 /* Returns DACHREUP_VERSION. */
@@ -174,7 +175,8 @@ struct dachreup_span {
 /* Returns the span of these bytes. */
 static inline struct dachreup_span dachreup_span_of(const void *bytes, size_t count);
 
-/* Two spans whose bytes follow each other: the layout of two `struct iovec`. */
+/* Two spans whose bytes follow each other: the layout of two `struct iovec`. The first one is empty only if both are.
+   This is tested, not proved. */
 struct dachreup_parts {
     struct dachreup_span first;
     struct dachreup_span second;
@@ -240,9 +242,24 @@ DACHREUP_MUST_USE static inline dachreup_result
 dachreup_message_path(const void *frame, size_t length, char *path, size_t room,
                       size_t *path_length);
 
+/* Numbers of options (RFC 7252 section 5.10, RFC 7641 section 2). An odd number is critical. */
+enum dachreup_number {
+    DACHREUP_NUMBER_IF_MATCH = 1,
+    DACHREUP_NUMBER_URI_HOST = 3,
+    DACHREUP_NUMBER_ETAG = 4,
+    DACHREUP_NUMBER_IF_NONE_MATCH = 5,
+    DACHREUP_NUMBER_OBSERVE = 6,
+    DACHREUP_NUMBER_URI_PORT = 7,
+    DACHREUP_NUMBER_URI_PATH = 11,
+    DACHREUP_NUMBER_CONTENT_FORMAT = 12,
+    DACHREUP_NUMBER_URI_QUERY = 15,
+    DACHREUP_NUMBER_ACCEPT = 17
+};
+
 /*
  * Reads the next one of encoded options. *at and *number are 0 before the first call. Sets *number to the number of the
- * option, *value to its value, which lies in `options`, and moves *at to the next option.
+ * option, such as one of enum dachreup_number, and *value to its value, which lies in `options`. Moves *at to the next
+ * option.
  * Returns DACHREUP_NO_MORE at the end or at a payload marker, and DACHREUP_OPTION_MALFORMED.
  */
 DACHREUP_MUST_USE static inline dachreup_result
@@ -278,12 +295,15 @@ struct dachreup_server {
 /*
  * Configuration of a server. Sizes are in bytes. With 0, `max_message`, `max_sent`, `queue`, `outstanding` and
  * `connections` have their defaults, and `pending`, `observers`, `dynamic_max` and `rep_max` mean none.
+ *
+ * The pending entries of a connection are delayed responses, delayed Pongs, and requests that the application has not
+ * answered. A request that would exceed `pending` gets 5.03. So with 0, no request reaches the application.
  */
 struct dachreup_settings {
     size_t max_message; /* largest message accepted: 1,152 to 1,048,576; 0: 65,536 */
     size_t max_sent;    /* largest message sent: 1,152 to 65,536; 0: 65,536 */
     size_t queue;       /* output queue of a connection: max_sent to 4,194,304; 0: 131,072 */
-    size_t pending;     /* delayed responses and Pongs of a connection: at most 256 */
+    size_t pending;     /* pending entries of a connection: at most 256 */
     size_t observers;   /* observers of a connection: at most 256 */
     size_t outstanding; /* outstanding requests of a connection: 1 to 256; 0: 16 */
     size_t connections; /* connections: 1 to 256; 0: 16 */
@@ -312,9 +332,9 @@ struct dachreup_took {
     size_t bytes;     /* bytes accepted from the start of the input */
     uint32_t handled; /* enum dachreup_handled; after DACHREUP_HANDLED_STOPPED no more messages are accepted */
     uint32_t reason;  /* enum dachreup_reason of a stop, otherwise 0 */
-    uint32_t memory;  /* 1: an allocation failed, otherwise 0 */
+    uint32_t memory;  /* 1: an allocation failed, and the call returned DACHREUP_OK; otherwise 0 */
     /* The request that the application answers, if the accepted bytes end with one: one encoded message, otherwise
-       count 0. */
+       count 0. The span is lent: copy the bytes that you pass to a call on this server. */
     struct dachreup_span request;
     /* The request that stored or deleted a resource, if the accepted bytes end with one, otherwise count 0.
        dachreup_message_path writes its path. No other resource has changed. */
@@ -327,14 +347,17 @@ struct dachreup_status {
     uint32_t reason;   /* enum dachreup_reason of a release or a stop, otherwise 0 */
     size_t kept;       /* bytes kept of an unfinished message */
     size_t waiting;    /* bytes queued for writing */
-    size_t pending;    /* pending responses and Pongs */
+    size_t pending;    /* pending entries: responses, Pongs and requests */
     size_t observers;  /* observers */
     uint32_t peer_max; /* largest message that the peer accepts */
-    uint32_t finished; /* 1 if nothing more will be written: the program may close the connection */
+    /* 1 if nothing more will be written: the program may close the connection, and call dachreup_server_drop. Until
+       then, it counts as one of `connections`. */
+    uint32_t finished;
 };
 
 /*
- * Makes a server without connections and resources. The handle owns it until dachreup_server_free.
+ * Makes a server without connections. The handle owns it until dachreup_server_free. It has four built-in resources:
+ * the root, /.well-known/core, /time and /async. A program can neither store these nor answer requests for them.
  * Returns DACHREUP_MEMORY, DACHREUP_OCCUPIED, or the first setting out of range (32 to 40).
  */
 DACHREUP_MUST_USE dachreup_result
@@ -360,13 +383,19 @@ dachreup_applications_new(struct dachreup_applications *applications, uint32_t d
 
 /*
  * Adds an entry: the application answers requests at the paths that begin with the segments of `path`, unless another
- * entry has more of them. Bit n of `methods` is the method with code 0.n, such as 1 << DACHREUP_POST. The engine
- * answers other methods. `attributes` are those of the link in /.well-known/core, such as "rt=\"core.rd\"", or empty.
+ * entry has more of them. Bit n of `methods` is the method with code 0.n, such as 1 << DACHREUP_POST: DACHREUP_POST
+ * alone would be GET. The engine answers other methods. `attributes` are those of the link in /.well-known/core, such
+ * as "rt=\"core.rd\"", or empty. The engine also answers every request at a built-in path, even if an entry has it.
  * Returns DACHREUP_MEMORY, DACHREUP_NOT_A_PATH or DACHREUP_APPLICATION_...
  *
- * The engine answers unrecognised critical options with 4.02. The application checks the other options: the whole path
- * and Uri-Query (4.04), If-Match and If-None-Match (4.12), Accept (4.06) and Content-Format (4.15). It responds with
- * 4.02 to one of the critical options that it does not support (RFC 7252 sections 5.4.1 and 5.10).
+ * Seven critical options reach the application: If-Match, Uri-Host, If-None-Match, Uri-Port, Uri-Path, Uri-Query and
+ * Accept. The engine answers Proxy-Uri and Proxy-Scheme with 5.05, and other critical options with 4.02. Critical ones
+ * are also answered with 4.02 if they have an invalid length, or are repeated and may not be. All elective options
+ * reach the application.
+ *
+ * The application checks the options: the whole path and Uri-Query (4.04), If-Match and If-None-Match (4.12), Accept
+ * (4.06) and Content-Format (4.15). It responds with 4.02 to one of the critical options that it does not support (RFC
+ * 7252 sections 5.4.1 and 5.10).
  */
 DACHREUP_MUST_USE static inline dachreup_result
 dachreup_applications_add(struct dachreup_applications *applications, const char *path,
@@ -398,7 +427,7 @@ dachreup_server_open(struct dachreup_server *server, uint64_t *id);
  * offers the other bytes again. No byte is accepted if the queue has no room for a message of max_sent bytes, or if
  * the connection accepts no more messages. Sets *took in every case.
  * If took->memory is 1, the bytes before the last one of a message were accepted, and the message was not processed.
- * The program may offer its last byte again.
+ * The result is DACHREUP_OK. The program may offer the last byte again.
  * Returns DACHREUP_NO_SUCH.
  */
 DACHREUP_MUST_USE static inline dachreup_result
@@ -411,9 +440,12 @@ dachreup_server_take(struct dachreup_server *server, uint64_t id, const void *pi
  * Another call that concerns the connection may make it yielded too: a take that accepts nothing, or written with 0.
  * Returns DACHREUP_NO_MORE if there is no such connection.
  *
- * Repeat it after calls that can queue bytes (open, take, respond, tick, put, remove, ended, release, announce), and
- * write the bytes of each id. Between, make only calls that move bytes: otherwise there may be no end. If the transport
- * accepts none or only a part of the bytes, wait until it is writable.
+ * Repeat it after calls that can queue bytes (open, take, respond, tick, put, put_at, remove, remove_at, ended,
+ * release, announce), and write the bytes of each id. Between, make only calls that move bytes: otherwise there may be
+ * no end.
+ *
+ * If the transport accepts none or only a part of the bytes, keep the id. Call dachreup_server_parts with it once the
+ * transport is writable. Without a further change, such as a part that was written, the id is not yielded again.
  */
 DACHREUP_MUST_USE dachreup_result
 dachreup_server_next_output(struct dachreup_server *server, uint64_t *id);
@@ -454,8 +486,9 @@ dachreup_server_next_deadline(struct dachreup_server *server, uint64_t *seconds)
 
 /*
  * Stores a representation at a path, notifies the observers, and sets *version. `path` is the segments with slashes
- * between them, such as "sensors/1", not encoded. `format` is a Content-Format, or a number above 65,535 for none.
- * Each put notifies the observers, also with equal bytes.
+ * between them, such as "sensors/1", not encoded. It has no slash at the start or the end: "/a" is an empty segment and
+ * "a". `format` is a Content-Format, or a number above 65,535 for none. Each put notifies the observers, also with
+ * equal bytes.
  * Returns DACHREUP_MEMORY, _NOT_A_PATH, _TOO_LARGE, _LIMIT, _BAD_PATH or _VERSIONS_SPENT.
  */
 DACHREUP_MUST_USE static inline dachreup_result
@@ -540,7 +573,8 @@ struct dachreup_client {
     void *at;
 };
 
-/* Limits of a client. Sizes are in bytes; the ranges and the meaning of 0 are those of struct dachreup_settings. */
+/* Limits of a client. Sizes are in bytes; the ranges and the meaning of 0 are those of struct dachreup_settings.
+   `observers` does not limit the observations of the client: `outstanding` does. */
 struct dachreup_limits {
     size_t max_message;
     size_t max_sent;
@@ -569,11 +603,12 @@ enum dachreup_method { DACHREUP_GET = 1, DACHREUP_POST = 2, DACHREUP_PUT = 3, DA
 
 /* Flags of a request, joined with |. */
 enum dachreup_flag {
-    DACHREUP_OBSERVE = 1, /* registers as an observer */
+    DACHREUP_OBSERVE = 1, /* registers as an observer: only with DACHREUP_GET, which no call checks */
     DACHREUP_PLAIN = 2    /* sends no Uri-Host */
 };
 
-/* Properties of a request besides its URI and its payload. */
+/* Properties of a request besides its URI and its payload. Begin with DACHREUP_REQUEST: the format 0 of a zeroed struct
+   is text/plain. */
 struct dachreup_request {
     uint32_t method;         /* enum dachreup_method */
     uint32_t flags;          /* enum dachreup_flag */
@@ -657,7 +692,11 @@ dachreup_client_parts(struct dachreup_client *client, struct dachreup_parts *par
 DACHREUP_MUST_USE dachreup_result
 dachreup_client_written(struct dachreup_client *client, size_t count);
 
-/* Records the end of the input. Returns DACHREUP_EMPTY alone. */
+/*
+ * Records the end of the input. Outstanding requests, observations and Pings end without an event. The program may
+ * close the connection if `phase` is DACHREUP_PHASE_STOPPED or DACHREUP_PHASE_RELEASING, and `waiting` is 0.
+ * Returns DACHREUP_EMPTY alone.
+ */
 DACHREUP_MUST_USE dachreup_result
 dachreup_client_ended(struct dachreup_client *client);
 
@@ -895,105 +934,108 @@ static inline struct dachreup_settings dachreup_settings_at(size_t resources, ui
     return settings;
 }
 
-/* Returns an address that is not NULL, also of no bytes. */
-static inline const uint8_t *dachreup_raw_bytes(const void *bytes) {
-    return (const uint8_t *)(bytes ? bytes : "");
+/* Returns the address, or in place of NULL with a length of 0 another one. */
+static inline const uint8_t *dachreup_raw_bytes(const void *bytes, size_t length) {
+    return (const uint8_t *)(bytes || length ? bytes : "");
 }
 
-static inline const char *dachreup_raw_text(const char *text) {
-    return text ? text : "";
+static inline const char *dachreup_raw_text(const char *text, size_t length) {
+    return text || length ? text : "";
 }
 
 static inline dachreup_result dachreup_message_read(const void *frame, size_t length,
                                                     struct dachreup_message *message) {
-    return dachreup_raw_message_read(dachreup_raw_bytes(frame), length, message);
+    return dachreup_raw_message_read(dachreup_raw_bytes(frame, length), length, message);
 }
 
 static inline dachreup_result dachreup_message_path(const void *frame, size_t length, char *path, size_t room,
                                                     size_t *path_length) {
     char none = 0;
-    return dachreup_raw_message_path(dachreup_raw_bytes(frame), length, path ? path : &none, room, path_length);
+    return dachreup_raw_message_path(dachreup_raw_bytes(frame, length), length, path || room ? path : &none, room,
+                                     path_length);
 }
 
 static inline dachreup_result dachreup_option_next(const void *options, size_t length, size_t *at, uint32_t *number,
                                                    struct dachreup_span *value) {
-    return dachreup_raw_option_next(dachreup_raw_bytes(options), length, at, number, value);
+    return dachreup_raw_option_next(dachreup_raw_bytes(options, length), length, at, number, value);
 }
 
 static inline dachreup_result dachreup_option_write(uint8_t *options, size_t room, size_t *length, uint32_t *last,
                                                     uint32_t number, const void *value, size_t value_length) {
     uint8_t none = 0;
-    return dachreup_raw_option_write(options ? options : &none, room, length, last, number, dachreup_raw_bytes(value),
-                                     value_length);
+    return dachreup_raw_option_write(options || room ? options : &none, room, length, last, number,
+                                     dachreup_raw_bytes(value, value_length), value_length);
 }
 
 static inline dachreup_result dachreup_message_write(const struct dachreup_message *message, uint8_t *buffer,
                                                      size_t room, size_t *length) {
     uint8_t none = 0;
-    return dachreup_raw_message_write(message->code, dachreup_raw_bytes(message->token.at), message->token.count,
-                                      dachreup_raw_bytes(message->options.at), message->options.count,
-                                      dachreup_raw_bytes(message->payload.at), message->payload.count,
-                                      buffer ? buffer : &none, room, length);
+    const struct dachreup_span token = message->token, options = message->options, payload = message->payload;
+    return dachreup_raw_message_write(message->code, dachreup_raw_bytes(token.at, token.count), token.count,
+                                      dachreup_raw_bytes(options.at, options.count), options.count,
+                                      dachreup_raw_bytes(payload.at, payload.count), payload.count,
+                                      buffer || room ? buffer : &none, room, length);
 }
 
 static inline dachreup_result dachreup_applications_add(struct dachreup_applications *applications, const char *path,
                                                         size_t path_length, uint32_t methods, const char *attributes,
                                                         size_t attributes_length) {
-    return dachreup_raw_applications_add(applications, dachreup_raw_text(path), path_length, methods,
-                                         dachreup_raw_text(attributes), attributes_length);
+    return dachreup_raw_applications_add(applications, dachreup_raw_text(path, path_length), path_length, methods,
+                                         dachreup_raw_text(attributes, attributes_length), attributes_length);
 }
 
 static inline dachreup_result dachreup_server_take(struct dachreup_server *server, uint64_t id, const void *piece,
                                                    size_t length, struct dachreup_took *took) {
-    return dachreup_raw_server_take(server, id, dachreup_raw_bytes(piece), length, took);
+    return dachreup_raw_server_take(server, id, dachreup_raw_bytes(piece, length), length, took);
 }
 
 static inline dachreup_result dachreup_server_respond(struct dachreup_server *server, uint64_t id, const void *response,
                                                       size_t length, uint32_t *reply) {
     uint32_t unwanted = 0;
-    return dachreup_raw_server_respond(server, id, dachreup_raw_bytes(response), length, reply ? reply : &unwanted);
+    return dachreup_raw_server_respond(server, id, dachreup_raw_bytes(response, length), length,
+                                       reply ? reply : &unwanted);
 }
 
 static inline dachreup_result dachreup_server_put(struct dachreup_server *server, const char *path, size_t path_length,
                                                   uint32_t format, const void *bytes, size_t length,
                                                   uint64_t *version) {
     uint64_t unwanted = 0;
-    return dachreup_raw_server_put(server, dachreup_raw_text(path), path_length, format, dachreup_raw_bytes(bytes),
-                                   length, version ? version : &unwanted);
+    return dachreup_raw_server_put(server, dachreup_raw_text(path, path_length), path_length, format,
+                                   dachreup_raw_bytes(bytes, length), length, version ? version : &unwanted);
 }
 
 static inline dachreup_result dachreup_server_state(struct dachreup_server *server, const char *path,
                                                     size_t path_length, struct dachreup_state *state) {
-    return dachreup_raw_server_state(server, dachreup_raw_text(path), path_length, state);
+    return dachreup_raw_server_state(server, dachreup_raw_text(path, path_length), path_length, state);
 }
 
 static inline dachreup_result dachreup_server_remove(struct dachreup_server *server, const char *path,
                                                      size_t path_length) {
-    return dachreup_raw_server_remove(server, dachreup_raw_text(path), path_length);
+    return dachreup_raw_server_remove(server, dachreup_raw_text(path, path_length), path_length);
 }
 
 static inline dachreup_result dachreup_server_put_at(struct dachreup_server *server, const void *segments,
                                                      size_t segments_length, uint32_t format, const void *bytes,
                                                      size_t length, uint64_t *version) {
     uint64_t unwanted = 0;
-    return dachreup_raw_server_put_at(server, dachreup_raw_bytes(segments), segments_length, format,
-                                      dachreup_raw_bytes(bytes), length, version ? version : &unwanted);
+    return dachreup_raw_server_put_at(server, dachreup_raw_bytes(segments, segments_length), segments_length, format,
+                                      dachreup_raw_bytes(bytes, length), length, version ? version : &unwanted);
 }
 
 static inline dachreup_result dachreup_server_state_at(struct dachreup_server *server, const void *segments,
                                                        size_t segments_length, struct dachreup_state *state) {
-    return dachreup_raw_server_state_at(server, dachreup_raw_bytes(segments), segments_length, state);
+    return dachreup_raw_server_state_at(server, dachreup_raw_bytes(segments, segments_length), segments_length, state);
 }
 
 static inline dachreup_result dachreup_server_remove_at(struct dachreup_server *server, const void *segments,
                                                         size_t segments_length) {
-    return dachreup_raw_server_remove_at(server, dachreup_raw_bytes(segments), segments_length);
+    return dachreup_raw_server_remove_at(server, dachreup_raw_bytes(segments, segments_length), segments_length);
 }
 
 static inline dachreup_result dachreup_target(const char *uri, size_t length, char *host, size_t room,
                                               struct dachreup_place *place) {
     char none = 0;
-    return dachreup_raw_target(dachreup_raw_text(uri), length, host ? host : &none, room, place);
+    return dachreup_raw_target(dachreup_raw_text(uri, length), length, host || room ? host : &none, room, place);
 }
 
 static inline dachreup_result dachreup_client_send(struct dachreup_client *client,
@@ -1001,14 +1043,15 @@ static inline dachreup_result dachreup_client_send(struct dachreup_client *clien
                                                    size_t uri_length, const void *payload, size_t payload_length,
                                                    uint64_t *token) {
     uint64_t unwanted = 0;
-    return dachreup_raw_client_send(client, request, dachreup_raw_text(uri), uri_length, dachreup_raw_bytes(payload),
-                                    payload_length, token ? token : &unwanted);
+    return dachreup_raw_client_send(client, request, dachreup_raw_text(uri, uri_length), uri_length,
+                                    dachreup_raw_bytes(payload, payload_length), payload_length,
+                                    token ? token : &unwanted);
 }
 
 static inline dachreup_result dachreup_client_cancel(struct dachreup_client *client,
                                                      const struct dachreup_request *request, const char *uri,
                                                      size_t uri_length, uint64_t token) {
-    return dachreup_raw_client_cancel(client, request, dachreup_raw_text(uri), uri_length, token);
+    return dachreup_raw_client_cancel(client, request, dachreup_raw_text(uri, uri_length), uri_length, token);
 }
 
 static inline dachreup_result dachreup_client_ping(struct dachreup_client *client, uint32_t custody, uint64_t *token) {
@@ -1018,7 +1061,7 @@ static inline dachreup_result dachreup_client_ping(struct dachreup_client *clien
 
 static inline dachreup_result dachreup_client_take(struct dachreup_client *client, const void *piece, size_t length,
                                                    struct dachreup_event *event) {
-    return dachreup_raw_client_take(client, dachreup_raw_bytes(piece), length, event);
+    return dachreup_raw_client_take(client, dachreup_raw_bytes(piece, length), length, event);
 }
 
 #ifdef __cplusplus

@@ -42,7 +42,7 @@ static int to_server(void) {
     struct dachreup_parts parts;
     struct dachreup_took took;
     while (!dachreup_client_parts(&client, &parts) && parts.first.count + parts.second.count) {
-        uint8_t byte = parts.first.count ? *parts.first.at : *parts.second.at;
+        uint8_t byte = *parts.first.at;
         do
             if (dachreup_server_take(&server, id, &byte, 1, &took))
                 return 1;
@@ -58,10 +58,9 @@ static int to_client(size_t size) {
     struct dachreup_parts parts;
     static uint8_t bytes[1 << 16];
     while (!dachreup_server_parts(&server, id, &parts) && parts.first.count + parts.second.count) {
-        const struct dachreup_span *part = parts.first.count ? &parts.first : &parts.second;
-        size_t count = part->count < size ? part->count : size;
+        size_t count = parts.first.count < size ? parts.first.count : size;
         struct dachreup_event event;
-        memcpy(bytes, part->at, count);
+        memcpy(bytes, parts.first.at, count);
         if (dachreup_client_take(&client, bytes, count, &event) || event.bytes == 0)
             return 1;
         if (event.kind)
@@ -179,7 +178,7 @@ static int wraps(void) {
         for (size_t at = 0; at < sizeof payload; at++)
             payload[at] = (uint8_t)(number + at / 7);
         if (dachreup_client_send(&client, &put, TEXT("coap+tcp://h/a"), payload, sizeof payload, &token) ||
-            dachreup_client_parts(&client, &parts))
+            dachreup_client_parts(&client, &parts) || parts.first.count == 0)
             return 2;
         wrapped += parts.first.count && parts.second.count;
         whole = parts.first.count + parts.second.count;

@@ -1,5 +1,6 @@
-/* The parts of the header that are C: results, texts, settings, and pointers that may be NULL. Run by
-   tests/system/c_library.py, which also compiles it as C++17. Prints each check that fails. */
+/* The parts of the header that are C: results, texts, settings, and pointers that may be NULL. Also the options that
+   reach the application, and the parts of the queued bytes. Run by tests/system/c_library.py, which also compiles it as
+   C++17. Prints each check that fails. */
 #include "c_checks.h"
 #include <dachreup.h>
 #include <string.h>
@@ -49,6 +50,19 @@ static void texts(void) {
 }
 
 /* ---- NULL with a length of 0, and outputs that are not wanted ---- */
+
+/* NULL is replaced only if the length is 0, and no other address is. */
+static void replaced(void) {
+    static const char text[1] = {'a'};
+    check("NULL of 0 bytes", dachreup_raw_bytes(NULL, 0) != NULL, 1);
+    check("NULL of a byte", dachreup_raw_bytes(NULL, 1) == NULL, 1);
+    check("0 bytes", dachreup_raw_bytes(csm, 0) == csm, 1);
+    check("bytes", dachreup_raw_bytes(csm, 2) == csm, 1);
+    check("NULL of an empty text", dachreup_raw_text(NULL, 0) != NULL, 1);
+    check("NULL of a text", dachreup_raw_text(NULL, 1) == NULL, 1);
+    check("an empty text", dachreup_raw_text(text, 0) == text, 1);
+    check("a text", dachreup_raw_text(text, 1) == text, 1);
+}
 
 static void null_messages(void) {
     static const uint8_t root[2] = {0x00, 0x01};
@@ -207,6 +221,101 @@ static void client_zeros(void) {
     dachreup_client_free(&client);
 }
 
+/* ---- options that reach the application, and the parts of the queued bytes ---- */
+
+/* Makes a server whose application answers POST at /b and below /time, with a connection that has been opened. */
+static uint64_t application(size_t pending, size_t queue) {
+    struct dachreup_settings settings = zeros();
+    struct dachreup_applications entries = {0};
+    struct dachreup_took took;
+    uint64_t id = 0;
+    settings.pending = pending;
+    settings.max_message = settings.max_sent = 1152;
+    settings.queue = queue;
+    check("entries", dachreup_applications_new(&entries, 5), 0);
+    check("entry", dachreup_applications_add(&entries, "b", 1, 1 << DACHREUP_POST, NULL, 0), 0);
+    check("built in", dachreup_applications_add(&entries, "time", 4, 1 << DACHREUP_POST, NULL, 0), 0);
+    check("new", dachreup_server_new_for(&server, &settings, &entries), 0);
+    check("open", dachreup_server_open(&server, &id), 0);
+    check("CSM", dachreup_server_take(&server, id, csm, 2, &took), 0);
+    return id;
+}
+
+/* Returns the code of the response to a POST at a path, with an option of `length` bytes that occurs `times` times. If
+   the application answers the request, returns 0. */
+static uint32_t posted(size_t pending, const char *path, uint32_t number, size_t length, int times) {
+    uint64_t id = application(pending, 4096);
+    struct dachreup_message message = dachreup_message_of(DACHREUP_CODE(0, 2), dachreup_span_of("t", 1));
+    struct dachreup_parts parts = {{NULL, 0}, {NULL, 0}};
+    struct dachreup_took took;
+    uint8_t options[64], bytes[128];
+    size_t size = 0, all = 0;
+    uint32_t last = 0, code = 0;
+    while (number < DACHREUP_NUMBER_URI_PATH && times-- > 0)
+        check("before", dachreup_option_write(options, sizeof options, &size, &last, number, "\0\0\0", length), 0);
+    check("path", dachreup_option_write(options, sizeof options, &size, &last, DACHREUP_NUMBER_URI_PATH, path,
+                                        strlen(path)), 0);
+    while (number >= DACHREUP_NUMBER_URI_PATH && times-- > 0)
+        check("after", dachreup_option_write(options, sizeof options, &size, &last, number, "x\0\0", length), 0);
+    message.options = dachreup_span_of(options, size);
+    check("write", dachreup_message_write(&message, bytes, sizeof bytes, &all), 0);
+    check("parts", dachreup_server_parts(&server, id, &parts), 0);
+    check("written", dachreup_server_written(&server, id, parts.first.count), 0);
+    check("take", dachreup_server_take(&server, id, bytes, all, &took), 0);
+    check("all bytes", (uint32_t)took.bytes, (uint32_t)all);
+    check("parts", dachreup_server_parts(&server, id, &parts), 0);
+    if (parts.first.count && !dachreup_message_read(parts.first.at, parts.first.count, &message))
+        code = message.code;
+    check("a request or a response", took.request.count == all, code == 0);
+    dachreup_server_free(&server);
+    return code;
+}
+
+static void options(void) {
+    const uint32_t bad = DACHREUP_CODE(4, 2), proxy = DACHREUP_CODE(5, 5);
+    check("If-Match", posted(1, "b", DACHREUP_NUMBER_IF_MATCH, 2, 2), 0);
+    check("Uri-Host", posted(1, "b", DACHREUP_NUMBER_URI_HOST, 1, 1), 0);
+    check("If-None-Match", posted(1, "b", DACHREUP_NUMBER_IF_NONE_MATCH, 0, 1), 0);
+    check("Uri-Port", posted(1, "b", DACHREUP_NUMBER_URI_PORT, 2, 1), 0);
+    check("Uri-Path", posted(1, "b", DACHREUP_NUMBER_URI_PATH, 1, 2), 0);
+    check("Uri-Query", posted(1, "b", DACHREUP_NUMBER_URI_QUERY, 1, 2), 0);
+    check("Accept", posted(1, "b", DACHREUP_NUMBER_ACCEPT, 2, 1), 0);
+    check("ETag", posted(1, "b", DACHREUP_NUMBER_ETAG, 3, 2), 0);
+    check("Observe", posted(1, "b", DACHREUP_NUMBER_OBSERVE, 0, 1), 0);
+    check("three of Content-Format", posted(1, "b", DACHREUP_NUMBER_CONTENT_FORMAT, 0, 3), 0);
+    check("an unknown elective option", posted(1, "b", 1000, 1, 1), 0);
+    check("Proxy-Uri", posted(1, "b", 35, 1, 1), proxy);
+    check("Proxy-Scheme", posted(1, "b", 39, 1, 1), proxy);
+    for (uint32_t number = 9; number < 65536; number = number < 60 ? number + 2 : 2 * number + 1)
+        if (number != 11 && number != 15 && number != 17 && number != 35 && number != 39)
+            check("another critical option", posted(1, "b", number, 0, 1), bad);
+    check("an invalid length", posted(1, "b", DACHREUP_NUMBER_IF_NONE_MATCH, 1, 1), bad);
+    check("two of them", posted(1, "b", DACHREUP_NUMBER_ACCEPT, 0, 2), bad);
+    check("no pending entries", posted(0, "b", DACHREUP_NUMBER_URI_PATH, 1, 1), DACHREUP_CODE(5, 3));
+    check("a built-in path", posted(1, "time", DACHREUP_NUMBER_URI_QUERY, 1, 1), DACHREUP_CODE(4, 5));
+    check("below it", posted(1, "time", DACHREUP_NUMBER_URI_PATH, 1, 1), 0);
+}
+
+/* The first part is not empty if bytes are queued, also if they wrap. */
+static void wrapped(void) {
+    static const uint8_t get[3] = {0x01, 0x01, 0x01};
+    struct dachreup_parts parts = {{NULL, 0}, {NULL, 0}};
+    struct dachreup_took took;
+    uint64_t id = application(0, 1300);
+    uint32_t wraps = 0;
+    for (size_t turn = 0; turn < 2000; turn++) {
+        check("GET", dachreup_server_take(&server, id, get, 3, &took), 0);
+        check("parts", dachreup_server_parts(&server, id, &parts), 0);
+        check("a first part", parts.first.count > 0, 1);
+        wraps += parts.second.count > 0;
+        check("written", dachreup_server_written(&server, id, parts.first.count - (turn % 3 == 0)), 0);
+        check("parts", dachreup_server_parts(&server, id, &parts), 0);
+        check("the rest", parts.first.count > 0, parts.first.count + parts.second.count > 0);
+    }
+    check("wraps", wraps > 10, 1);
+    dachreup_server_free(&server);
+}
+
 /* Start values that repeat no ETag after a start in a later second. */
 static void starts(void) {
     struct dachreup_settings usual = DACHREUP_SETTINGS(3), settings = dachreup_settings_at(3, 0);
@@ -230,12 +339,15 @@ static void starts(void) {
 
 int main(void) {
     texts();
+    replaced();
     null_messages();
     null_servers();
     null_clients();
     server_defaults();
     server_zeros();
     client_zeros();
+    options();
+    wrapped();
     starts();
     return failed;
 }

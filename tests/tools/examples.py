@@ -10,14 +10,15 @@
   types, imports. A block of TESTS can also be the body of a test, as in a comment. Those of TUTORIAL are whole files of
   a crate, which tests/system/tutorial.py proves.
 - The blocks marked `c` of docs/EMBEDDING_C.md are together the body of a function with the parameters of C_FUNCTION. A
-  C compiler must accept it without a warning, with the header. Without a compiler, this is skipped.
+  C compiler must accept it without a warning, with the header. The literal blocks of man/dachreup.3 likewise. Without a
+  compiler, this is skipped.
 - The `for` line of docs/EMBEDDING.md must list `coap_serve` and all crates below it.
 
 A last line such as `send(rt, &mut client)` means the body of the function `send` of the same file, if `rt` and
 `client` are its parameters.
 
 Indentation of a whole block does not count. The script also checks itself on SAMPLES. The last line is 'N passed, M
-failed'. Each block, each test, each sample, the list of crates and the function in C counts once.
+failed'. Each block, each test, each sample, the list of crates and each function in C counts once.
 """
 
 import glob
@@ -47,8 +48,9 @@ TUTORIAL = "docs/TUTORIAL.md"
 COPIED = re.compile(r"^ *for \w+ in ([\w ]+); do", re.M)
 
 
-# The document with blocks in C, and the function around them.
-C_DOCUMENT = "docs/EMBEDDING_C.md"
+# The document with blocks in C and the manual with literal blocks in C, and the function around them.
+C_DOCUMENT, C_MANUAL = "docs/EMBEDDING_C.md", "man/dachreup.3"
+LITERAL = re.compile(r"^\.Bd -literal[^\n]*\n(.*?)^\.Ed$", re.S | re.M)
 C_FUNCTION = """#include <dachreup.h>
 #include <stdio.h>
 #include <time.h>
@@ -172,11 +174,18 @@ def document_blocks():
                 yield path, source, plain(code)
 
 
-def c_errors():
+def c_blocks(path):
+    """Returns the blocks in C of the document or of the manual."""
+    if path == C_MANUAL:
+        return LITERAL.findall(read(path))
+    return [code for language, _, code in FENCED.findall(read(path)) if language == "c"]
+
+
+def c_errors(path):
     """Returns the output of the compiler for the blocks in C, or `None` if there is no compiler."""
     if not shutil.which(COMPILER[0]):
         return None
-    blocks = [code for language, _, code in FENCED.findall(read(C_DOCUMENT)) if language == "c"]
+    blocks = c_blocks(path)
     if not blocks:
         return "no blocks in C\n"
     done = subprocess.run(COMPILER, input=C_FUNCTION % "\n".join(blocks), capture_output=True, text=True)
@@ -216,12 +225,13 @@ def main():
     if not is_complete:
         print(f"docs/EMBEDDING.md: the line `for` has {' '.join(copied)}, and not {' '.join(below)}")
     passed, failed = passed + is_complete, failed + (not is_complete)
-    errors = c_errors()
-    passed, failed = passed + (errors == ""), failed + bool(errors)
-    if errors is None:
-        print(f"{SKIPPED}the listings of {C_DOCUMENT}: there is no C compiler")
-    elif errors:
-        print(f"{C_DOCUMENT}: the listings do not compile:\n{errors}", end="")
+    for path in (C_DOCUMENT, C_MANUAL):
+        errors = c_errors(path)
+        passed, failed = passed + (errors == ""), failed + bool(errors)
+        if errors is None:
+            print(f"{SKIPPED}the listings of {path}: there is no C compiler")
+        elif errors:
+            print(f"{path}: the listings do not compile:\n{errors}", end="")
     print(f"{passed} passed, {failed} failed")
     return min(failed, 1)
 

@@ -24,8 +24,9 @@ RENAMED = {"config.Dynamic": "DYNAMIC_MAX", "config.Representation": "REP_MAX", 
            "announce.NoRoom": "QUEUE_FULL", "request.NoRoom": "QUEUE_FULL", "response.NoRoom": "QUEUE_FULL",
            "send.NoRoom": "QUEUE_FULL"}
 
-# A variant that no call from C has.
-UNNAMED = ("config.Turns",)
+# A variant that no call from C has, and options that the header does not name.
+UNNAMED = ("config.Turns", *(f"option.{it}" for it in ("location_path", "max_age", "location_query", "proxy_uri",
+                                                       "proxy_scheme", "size1")))
 
 # Constants that no definition numbers by a variant, and whose number no program of these tests compares with that of a
 # call.
@@ -59,6 +60,8 @@ def spec_numbers():
     found += [(f"event.{variant}", int(number), (f"EVENT_{snake(variant)}",))
               for variant, number in re.findall(r"^ShowsEvent \(Some \(?event\.(\w+).*? =\s+Is\w+ (\d) ",
                                                 text("c_calls/specs/ClientEvents.antt"), re.M)]
+    found += [(f"option.{name}", int(number), (f"NUMBER_{name.upper()}",))
+              for name, number in re.findall(r"^(\w+) = (\d+)$", text("coap_wire/specs/OptionNumbers.antt"), re.M)]
     found += [(f"method.{variant}", int(number), (snake(variant),))
               for number, variant in re.findall(r"n == (\d) then Some method\.(\w+)",
                                                 text("c_calls/specs/RequestTexts.antt"))]
@@ -107,7 +110,7 @@ def check_texts(checks):
     header = pathlib.Path(HEADER).read_text(encoding="utf-8")
     version = pathlib.Path(f"{ROOT}/VERSION").read_text(encoding="utf-8").strip()
     checks.same("version of the header", re.findall(r'#define DACHREUP_VERSION "(.*)"', header), [version])
-    for words in (["gcc", "-std=c99", "-x", "c"], [*C, "-x", "c"], ["g++", "-std=c++11", "-x", "c++"], CPP):
+    for words in (["gcc", "-std=c99", "-x", "c"], [*C, "-x", "c"], ["g++", "-std=c++98", "-x", "c++"], CPP):
         compiles = run([*words, "-fsyntax-only", *STRICT, "-Wshadow", HEADER])
         checks.same(f"header by {' '.join(words)}", (compiles.returncode, compiles.stderr), (0, b""))
     for path in sorted(pathlib.Path(EXAMPLES).glob("*.c")):
