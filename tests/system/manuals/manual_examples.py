@@ -22,8 +22,8 @@ SHARED = "dachreup"
 SHARED_SECTIONS = ["NAME", "DESCRIPTION", "LOG", "REASONS", "SILENT CONNECTIONS", "SCRIPTS", "RECORD FILES",
                    "DIAGNOSTICS", "SEE ALSO", "STANDARDS"]
 
-# Timeouts in seconds: of an example, which may listen or wait, and of one of the client with a server that responds.
-# The longest of these observes for ten seconds.
+# Timeouts in seconds: of an example, which may listen or wait, and of one that ends by itself. The longest of these
+# observes for ten seconds.
 EXAMPLE_LASTS = 1
 ANSWERED_LASTS = 30
 
@@ -54,16 +54,17 @@ def check_form(checks, manual, sections=SECTIONS):
 def check_references(checks):
     """Checks that each manual refers to that of section 7, and that one to each. Sections that a manual names in
     another one exist there."""
-    manuals = {}
+    manuals, shared = {}, (SHARED, "7")
     for path in glob.glob(os.path.join(ROOT, "man", "*.[137]")):
         name, _, number = os.path.basename(path).rpartition(".")
-        manuals[name] = Manual(name, number)
-    for name, manual in manuals.items():
-        referred = set(re.findall(r"(?m)^\.Xr (\S+) \d", manual.text))
-        checks.same("%s: missing references" % name, sorted((manuals.keys() if name == SHARED else {SHARED})
-                                                            - referred - {name}), [])
-        for section, other in re.findall(r"([A-Z][A-Z ]+[A-Z]) in\n\.Xr (\S+) \d", manual.text):
-            checks.same("%s: the section %s of %s" % (name, section, other), section in manuals[other].sections, True)
+        manuals[name, number] = Manual(name, number)
+    for page, manual in manuals.items():
+        referred = set(re.findall(r"(?m)^\.Xr (\S+) (\d)", manual.text))
+        wanted = set(manuals) if page == shared else {shared}
+        checks.same("%s(%s): missing references" % page, sorted(wanted - referred - {page}), [])
+        for section, *other in re.findall(r"([A-Z][A-Z ]+[A-Z]) in\n\.Xr (\S+) (\d)", manual.text):
+            checks.same("%s(%s): the section %s of %s(%s)" % (*page, section, *other),
+                        section in manuals[tuple(other)].sections, True)
 
 
 def check_sentences(checks, manual):
@@ -167,7 +168,7 @@ def check_record(checks, shared, programs):
     starts = re.search(r"--starts \S+", header[1])[0]
     command = "coap-server --stdio -d 100 %s --record monday" % starts
     with tempfile.TemporaryDirectory() as folder:
-        checks.same("a record", play(command, folder, programs)[0], 0)
+        checks.same("a record", play(command, folder, programs, ANSWERED_LASTS)[0], 0)
         path = os.path.join(folder, "monday")
         with open(path, encoding="utf-8") as file:
             lines = file.read().splitlines()
@@ -185,6 +186,7 @@ def check_record(checks, shared, programs):
         with open(path, "a", encoding="utf-8") as file:
             file.write("tick 17")
         replay = "coap-server --script monday -d 100"
-        checks.same("a record with a part of a line", play(replay, folder, programs)[0], USAGE)
-        checks.same("the repair %r" % repair, play(repair.replace("FILE", "monday"), folder, programs), (0, "", ""))
-        checks.same("a repaired record", play(replay, folder, programs)[0], 0)
+        checks.same("a record with a part of a line", play(replay, folder, programs, ANSWERED_LASTS)[0], USAGE)
+        repaired = play(repair.replace("FILE", "monday"), folder, programs, ANSWERED_LASTS)
+        checks.same("the repair %r" % repair, repaired, (0, "", ""))
+        checks.same("a repaired record", play(replay, folder, programs, ANSWERED_LASTS)[0], 0)
