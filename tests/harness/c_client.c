@@ -396,18 +396,10 @@ static size_t waiting(void) {
 
 /* Writes all queued bytes. Checks the last ones. */
 static void drained(const char *what, const char *bytes, size_t length) {
-    static uint8_t all[1024];
     struct dachreup_parts parts;
     check("parts", dachreup_client_parts(&client, &parts), 0);
-    size_t count = parts.first.count + parts.second.count;
-    if (count < length || count > sizeof all) {
-        check(what, (uint32_t)count, (uint32_t)length);
-        return;
-    }
-    memcpy(all, parts.first.at, parts.first.count);
-    memcpy(all + parts.first.count, parts.second.at, parts.second.count);
-    check(what, (uint32_t)memcmp(all + count - length, bytes, length), 0);
-    check("written", dachreup_client_written(&client, count), 0);
+    check_end(what, &parts, bytes, length);
+    check("written", dachreup_client_written(&client, parts.first.count + parts.second.count), 0);
 }
 
 /* A program that gives up requests, an observation and a Ping. Responses that come later are a stranger's. */

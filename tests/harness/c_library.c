@@ -226,17 +226,9 @@ static void take(const char *what, uint64_t id, const uint8_t *bytes, size_t len
 
 /* Checks that the last bytes queued are these. */
 static void queued(const char *what, uint64_t id, const char *bytes, size_t length) {
-    static uint8_t all[256];
     struct dachreup_parts parts = {{0}, {0}};
     check(what, dachreup_server_parts(&server, id, &parts), 0);
-    size_t count = parts.first.count + parts.second.count;
-    if (count < length || count > sizeof all) {
-        check(what, (uint32_t)count, (uint32_t)length);
-        return;
-    }
-    memcpy(all, parts.first.at, parts.first.count);
-    memcpy(all + parts.first.count, parts.second.at, parts.second.count);
-    check(what, (uint32_t)memcmp(all + count - length, bytes, length), 0);
+    check_end(what, &parts, bytes, length);
 }
 
 /* POST /a is answered by the application, GET /a by the engine. */
