@@ -58,8 +58,7 @@ do not count as passed. If a clause rejects one, the run fails until its first l
 
 Edits of different functions go into one copy of the crate, called a round. A round is checked once, on top of the
 incremental data of earlier checks. These are the data of the crate's own check in out/incremental. If there are none,
---all proves the crate first, and keeps the data there. Otherwise a folder of this run is used. The first round of the
-crate fills it from scratch, and the second one completes it.
+a folder of this run is used. The first round of the crate fills it from scratch, and the second one completes it.
 
 An edit is rejected if a goal of a function that it changes is not proved; this goal is printed. Two kinds of errors do
 not count:
@@ -128,9 +127,9 @@ class Plan:
     by_tests: list = field(default_factory=list)
     typed: list = field(default_factory=list)
 
-    def run(self, is_proved_first):
+    def run(self):
         """Tries the edits, and returns the verdict on each."""
-        verdicts = judge(self.control + self.by_clauses, is_proved_first)
+        verdicts = judge(self.control + self.by_clauses)
         return {**verdicts, **judge_by_rows(self.by_rows), **judge_by_tests(self.by_tests)}
 
 
@@ -244,7 +243,7 @@ def main(words):
     print(f"{quoting - unquoted} of {quoting} edits quote a clause{told_of}", flush=True)
     if plan.control:
         print("The edits named harmless_ are a control, and must be reported as NOT REFUSED.", flush=True)
-    verdicts = plan.run(is_proved_first="--all" in modes)
+    verdicts = plan.run()
     failed, result = conclude(plan, verdicts, unquoted + untyped + miscounted)
     if is_recorded and not unquoted + untyped + miscounted:
         changes.record(commit, passed_crates(verdicts))

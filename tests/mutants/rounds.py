@@ -91,9 +91,6 @@ def try_round(name, kept, is_own, edits):
     except (BadEdit, OSError, shutil.Error) as why:
         # A smaller round may need fewer resources.
         return Outcome([], edits, str(why) or repr(why))
-    if not edits:
-        is_proved = any(it.startswith("logic=proved") for it in lines)
-        return Outcome([], [], "" if is_proved else f"{name} is not proved: {lines[-1:]}")
     judged = any(it.startswith(("logic=not-proved", "logic=proved", "only=")) for it in lines)
     if not judged:
         return Outcome([], edits,
@@ -128,8 +125,6 @@ class Work:
 
     crate: str
     rounds: list
-    # Whether the crate is proved first if it has no incremental data, by a round without edits. Its data are then kept.
-    is_proved_first: bool
     kept: str = ""
     # Number of further rounds that run in turn on the folder itself.
     in_turn: int = 0
@@ -140,14 +135,9 @@ class Work:
         if self.kept:
             return
         self.kept = f"{ROOT}/crates/{self.crate}/out/incremental"
-        if os.path.isdir(self.kept) and os.listdir(self.kept):
-            return
-        if self.is_proved_first:
-            self.rounds.insert(0, [])
-            self.in_turn = 1
-        else:
+        if not os.path.isdir(self.kept) or not os.listdir(self.kept):
             self.kept, self.in_turn = f"{room}/{self.crate}", IN_TURN
-        os.makedirs(self.kept, exist_ok=True)
+            os.makedirs(self.kept)
 
     def may_start(self):
         return self.rounds and not (self.in_turn and self.is_busy)
@@ -177,14 +167,14 @@ def verdicts_of(one, outcome):
     return found
 
 
-def judge(edits, is_proved_first):
+def judge(edits):
     """Tries all edits, with rounds in parallel, and returns for each whether it was rejected."""
     verdicts, running = {}, {}
     with (tempfile.TemporaryDirectory(prefix="edits-", ignore_cleanup_errors=True) as room,
           ThreadPoolExecutor(PROCESSORS) as pool):
         # A static library comes last, because a build of its archive may run beside and keep what it proves.
         names = sorted(dict.fromkeys(it.crate for it in edits), key=lambda it: (is_static(it), -size_of(it)))
-        works = [Work(it, rounds_of([edit for edit in edits if edit.crate == it]), is_proved_first) for it in names]
+        works = [Work(it, rounds_of([edit for edit in edits if edit.crate == it])) for it in names]
         while running or any(it.rounds for it in works):
             for work in works:
                 while len(running) < PROCESSORS and work.may_start():
@@ -196,8 +186,6 @@ def judge(edits, is_proved_first):
                 (work, one, is_own), outcome = running.pop(done), done.result()
                 if is_own:
                     work.is_busy, work.in_turn = False, work.in_turn - (not outcome.bad)
-                if outcome.bad and not one:
-                    raise SystemExit(f"{outcome.bad}\n0 passed, 1 failed")
                 verdicts |= verdicts_of(one, outcome)
                 work.rounds += left_of(one, outcome)
     return verdicts
