@@ -1,6 +1,6 @@
 # Proves, builds, runs, tests and measures. Requires Rattle's toolchain (`rt`) and Python 3. `make test` installs
-# Debian's dpkg-dev, g++, gcc, haproxy, libc6-dev, libcoap3-bin, libcoap3-dev, libmosquitto-dev, lintian, mandoc,
-# mosquitto, mosquitto-clients, openssl, pkg-config, prometheus, socat, systemd, tshark and valgrind, if they are
+# Debian's dpkg-dev, fish, g++, gcc, haproxy, libc6-dev, libcoap3-bin, libcoap3-dev, libmosquitto-dev, lintian, mandoc,
+# mosquitto, mosquitto-clients, openssl, pkg-config, prometheus, socat, systemd, tshark, valgrind and zsh, if they are
 # missing. `make bench` installs gcc, gnuplot-nox, haproxy, libc6-dev, libcoap3-bin and valgrind. `make lib` needs
 # binutils, `make gateway` gcc and libmosquitto-dev too, and `make deb` dpkg-dev too.
 
@@ -14,11 +14,11 @@
 PREFIX ?= /usr/local
 DESTDIR ?=
 
-# Folder of the completions of bash below the prefix.
-COMPLETIONS = share/bash-completion/completions
+# Programs of `make all`.
+PROGRAMS = coap-server coap-client coap-explain coap-directory
 
 # Proves every crate and builds the programs.
-all: bin/coap-server bin/coap-client bin/coap-explain bin/coap-directory
+all: $(PROGRAMS:%=bin/%)
 
 SOURCES := $(shell find crates -name out -prune -o -type f -print) crates.txt
 
@@ -94,16 +94,15 @@ bench: bin/coap-server bin/coap-directory bin/libdachreup.a bin/coap-mqtt
 try:
 	python3 tests/vectors/demo.py --try
 
-# Installs the output of `make all`. Builds nothing, so that another user can run it.
+# Installs the output of `make all`, and completions of bash, zsh and fish. Builds nothing in this folder, so that
+# another user can run it.
 install:
-	@test -x bin/coap-server -a -x bin/coap-client -a -x bin/coap-explain -a -x bin/coap-directory || \
-	    { echo "Run 'make all' first: bin/ does not have all programs." >&2; exit 1; }
-	install -D -m 0755 -t "$(DESTDIR)$(PREFIX)/bin" bin/coap-server bin/coap-client bin/coap-explain bin/coap-directory
-	install -D -m 0644 -t "$(DESTDIR)$(PREFIX)/share/man/man1" \
-	    man/coap-server.1 man/coap-client.1 man/coap-explain.1 man/coap-directory.1
+	@for name in $(PROGRAMS); do test -x bin/$$name || \
+	    { echo "Run 'make all' first: bin/ does not have all programs." >&2; exit 1; }; done
+	install -D -m 0755 -t "$(DESTDIR)$(PREFIX)/bin" $(PROGRAMS:%=bin/%)
+	install -D -m 0644 -t "$(DESTDIR)$(PREFIX)/share/man/man1" $(PROGRAMS:%=man/%.1)
 	install -D -m 0644 -t "$(DESTDIR)$(PREFIX)/share/man/man7" man/dachreup.7
-	install -D -m 0644 -t "$(DESTDIR)$(PREFIX)/$(COMPLETIONS)" \
-	    $(addprefix install/completions/,coap-server coap-client coap-explain coap-directory)
+	install/completions.py "$(DESTDIR)$(PREFIX)/share" $(PROGRAMS)
 	install -D -m 0644 install/coap-server.service.in "$(DESTDIR)$(PREFIX)/lib/systemd/system/coap-server.service"
 	sed -i 's|@PREFIX@|$(PREFIX)|g' "$(DESTDIR)$(PREFIX)/lib/systemd/system/coap-server.service"
 	install -D -m 0644 -t "$(DESTDIR)$(PREFIX)/share/doc/coap-server/examples" install/haproxy.cfg
@@ -123,35 +122,31 @@ install-lib:
 install-gateway:
 	install -D -m 0755 -t "$(DESTDIR)$(PREFIX)/bin" bin/coap-mqtt
 	install -D -m 0644 -t "$(DESTDIR)$(PREFIX)/share/man/man1" man/coap-mqtt.1
-	install -D -m 0644 -t "$(DESTDIR)$(PREFIX)/$(COMPLETIONS)" install/completions/coap-mqtt
+	install/completions.py "$(DESTDIR)$(PREFIX)/share" coap-mqtt
 	install -D -m 0644 install/coap-mqtt.service.in "$(DESTDIR)$(PREFIX)/lib/systemd/system/coap-mqtt@.service"
 	sed -i 's|@PREFIX@|$(PREFIX)|g' "$(DESTDIR)$(PREFIX)/lib/systemd/system/coap-mqtt@.service"
 	install -D -m 0644 -t "$(DESTDIR)$(PREFIX)/share/doc/coap-mqtt/examples" install/mosquitto.conf
 
 # Removes the files that `make install` installed, and leaves the directories.
 uninstall:
-	rm -f "$(DESTDIR)$(PREFIX)/bin/coap-server" "$(DESTDIR)$(PREFIX)/bin/coap-client"
-	rm -f "$(DESTDIR)$(PREFIX)/bin/coap-explain"
-	rm -f "$(DESTDIR)$(PREFIX)/share/man/man1/coap-server.1" "$(DESTDIR)$(PREFIX)/share/man/man1/coap-client.1"
-	rm -f "$(DESTDIR)$(PREFIX)/share/man/man1/coap-explain.1"
-	rm -f "$(DESTDIR)$(PREFIX)/bin/coap-directory" "$(DESTDIR)$(PREFIX)/share/man/man1/coap-directory.1"
-	rm -f "$(DESTDIR)$(PREFIX)/share/man/man7/dachreup.7"
-	for name in coap-server coap-client coap-explain coap-directory coap-mqtt; do \
-	    rm -f "$(DESTDIR)$(PREFIX)/$(COMPLETIONS)/$$name"; \
+	for name in $(PROGRAMS) coap-mqtt; do \
+	    rm -f "$(DESTDIR)$(PREFIX)/bin/$$name" "$(DESTDIR)$(PREFIX)/share/man/man1/$$name.1" \
+	        "$(DESTDIR)$(PREFIX)/share/bash-completion/completions/$$name" \
+	        "$(DESTDIR)$(PREFIX)/share/zsh/site-functions/_$$name" \
+	        "$(DESTDIR)$(PREFIX)/share/fish/vendor_completions.d/$$name.fish"; \
 	done
+	rm -f "$(DESTDIR)$(PREFIX)/share/man/man7/dachreup.7"
 	rm -f "$(DESTDIR)$(PREFIX)/lib/systemd/system/coap-server.service"
 	rm -f "$(DESTDIR)$(PREFIX)/share/doc/coap-server/examples/haproxy.cfg"
 	rm -f "$(DESTDIR)$(PREFIX)/lib/libdachreup.a" "$(DESTDIR)$(PREFIX)/lib/pkgconfig/dachreup.pc"
 	rm -f "$(DESTDIR)$(PREFIX)/include/dachreup.h" "$(DESTDIR)$(PREFIX)/share/man/man3/dachreup.3"
-	rm -f "$(DESTDIR)$(PREFIX)/bin/coap-mqtt" "$(DESTDIR)$(PREFIX)/share/man/man1/coap-mqtt.1"
 	rm -f "$(DESTDIR)$(PREFIX)/lib/systemd/system/coap-mqtt@.service"
 	rm -f "$(DESTDIR)$(PREFIX)/share/doc/coap-mqtt/examples/mosquitto.conf"
 
 # Builds the Debian packages of the output of `make all`, `make lib` and `make gateway`:
 # bin/NAME_VERSION_ARCHITECTURE.deb for the names dachreup, libdachreup-dev and dachreup-mqtt.
 deb: all lib gateway
-	install/debian/build bin/coap-server bin/coap-client bin/coap-explain bin/coap-directory \
-	    bin/libdachreup.a bin/coap-mqtt bin
+	install/debian/build $(PROGRAMS:%=bin/%) bin/libdachreup.a bin/coap-mqtt bin
 
 clean:
 	rm -rf bin crates/*/out

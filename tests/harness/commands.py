@@ -1,16 +1,7 @@
-"""Runs of commands that end by themselves, files of text, and completions by bash."""
+"""Runs of commands that end by themselves, and files of text."""
 
 import os
 import subprocess
-
-# Completes the last of the words after the script. Outside of a completion, `compopt` fails and does nothing.
-COMPLETE = """
-. "$1"
-shift
-COMP_WORDS=("$@") COMP_CWORD=$(($# - 1))
-$(complete -p "$1" | sed 's/.* -F \\([^ ]*\\) .*/\\1/') 2> /dev/null
-printf '%s\\n' "${COMPREPLY[@]}"
-"""
 
 # Timeout of each command in seconds.
 LIMIT = 300
@@ -31,9 +22,3 @@ def read(*parts):
 def write(text, path):
     with open(path, "w", encoding="utf-8") as file:
         file.write(text)
-
-
-def completions(script, words, folder):
-    """Returns the completions of the last word of a command line."""
-    status, said = run(["bash", "--norc", "-c", COMPLETE, "bash", script, *words], cwd=folder)
-    return said.splitlines() if status == 0 and said.strip() else []

@@ -67,6 +67,14 @@ def free_port(host=LOCAL, others=()):
                 raise
 
 
+@contextlib.contextmanager
+def closed_port():
+    """Yields a port of this machine at which no program listens, and none can."""
+    with socket.socket() as taken:
+        taken.bind((LOCAL, 0))
+        yield taken.getsockname()[1]
+
+
 def line_of(stream):
     """Returns the next line that a program writes. At a timeout or at the end, returns the bytes so far with a
     remark."""

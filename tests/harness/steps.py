@@ -134,6 +134,7 @@ STEPS = [
     *parts(["python3", "tests/system/mqtt.py", MQTT], [(50, 8), (60, 12), (90, 15), (120, 30)], (GATEWAY,)),
     Step(["python3", "tests/system/hostile.py", SERVER], 8, 1),
     Step(["python3", "tests/system/flood.py", SERVER], 4, 1),
+    Step(["python3", "tests/system/options.py", *PROGRAMS], 12, 7),
     Step(["python3", "tests/system/manuals.py", *PROGRAMS], 15, 1),
     Step(["python3", "tests/system/install.py", *PROGRAMS], 4, 1, (ARCHIVE,)),
     Step(["python3", "tests/system/package.py", *PROGRAMS], 55, 46, (ARCHIVE, ROOT_RIGHTS)),

@@ -18,6 +18,7 @@ sys.path.insert(0, os.path.join(os.path.dirname(os.path.abspath(__file__)), ".."
 import messages  # noqa: E402
 from checks import Checks  # noqa: E402
 from directory_peers import CSM, DELETE, GET, LINK_FORMAT, NODE, POST, SENSORS, request  # noqa: E402
+from option_table import recorded  # noqa: E402
 from peers import LIMIT, LOCAL, Server, free_port, line_of, read_to_end, started  # noqa: E402
 from records import Record, record_in, replay, said_by, until  # noqa: E402
 
@@ -65,6 +66,8 @@ def check_record(checks, program, server, explain):
         words = record.options()
         entries = [it for before, it in zip(words, words[1:]) if before == "--application"]
         checks.same("the entries in the header", entries, ENTRIES)
+        names = [it.name for it in recorded("coap-server")]
+        checks.same("the options in the header", list(dict.fromkeys(words[::2])), names)
         checks.same("the command in the header", record.command(), ["--script", name, *words])
         checks.same("the replay", replay(server, record.command()), (0, got, b""))
         done = subprocess.run([explain, name], stdin=subprocess.DEVNULL, capture_output=True, timeout=LIMIT)
@@ -138,14 +141,7 @@ def check_idle(checks, program, server, explain):
         checks.same("the busy connection stays", (codes.count(0x45), RELEASE in codes), (9, False))
 
 
-def check_clash(checks, program, server, explain):
-    """Checks a limit without a record."""
-    done = subprocess.run([program, "--record-limit", "9"], capture_output=True, text=True, timeout=LIMIT)
-    checks.same("the status of a limit alone", done.returncode, 1)
-    checks.same("its reason", "--record-limit can be used only with --record" in done.stderr, True)
-
-
-CHECKS = [check_record, check_output, check_limit, check_log, check_idle, check_clash]
+CHECKS = [check_record, check_output, check_limit, check_log, check_idle]
 
 
 def main(program, server, explain, *named):

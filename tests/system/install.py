@@ -1,5 +1,5 @@
-"""Installs the programs, their manuals, the systemd unit, the configuration of HAProxy and the C library into temporary
-folders, and uninstalls them.
+"""Installs the programs, their manuals and completions, the systemd unit, the configuration of HAProxy and the C
+library into temporary folders, and uninstalls them.
 
     tests/system/install.py bin/coap-server bin/coap-client bin/coap-explain bin/coap-directory [bin/libdachreup.a]
 
@@ -29,6 +29,10 @@ FRONT = "share/doc/coap-server/examples/haproxy.cfg"
 
 SHARED = "share/man/man7/dachreup.7"
 
+# Completions of a program.
+COMPLETIONS = ["share/bash-completion/completions/%s", "share/zsh/site-functions/_%s",
+               "share/fish/vendor_completions.d/%s.fish"]
+
 # The files of the C library, each with its source. The pkg-config file differs from its source.
 LIBRARY = {
     "lib/libdachreup.a": "bin/libdachreup.a",
@@ -48,7 +52,7 @@ def wanted_files(has_library):
     files = {"bin/%s" % name: 0o755 for name in PROGRAMS}
     files.update({name: 0o644 for name in LIBRARY if has_library})
     files.update({"share/man/man1/%s.1" % name: 0o644 for name in PROGRAMS})
-    files.update({"share/bash-completion/completions/%s" % name: 0o644 for name in PROGRAMS})
+    files.update({path % name: 0o644 for name in PROGRAMS for path in COMPLETIONS})
     files.update({UNIT: 0o644, FRONT: 0o644, SHARED: 0o644})
     return files
 

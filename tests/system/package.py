@@ -22,7 +22,7 @@ from built_packages import check_packages  # noqa: E402
 from checks import Checks  # noqa: E402
 from installed_packages import check_lives, hindrance  # noqa: E402
 from package_files import PROGRAMS  # noqa: E402
-from package_sources import check_completion, check_copyright, check_scripts, check_versions  # noqa: E402
+from package_sources import check_copyright, check_scripts, check_versions  # noqa: E402
 from packages import alone, install  # noqa: E402
 from workspace import ROOT  # noqa: E402
 
@@ -40,7 +40,6 @@ PACKAGES = {
 def check(programs, archive):
     checks = Checks()
     check_versions(checks, programs)
-    check_completion(checks, programs)
     check_copyright(checks)
     check_scripts(checks)
     with tempfile.TemporaryDirectory() as folder:

@@ -29,7 +29,7 @@ NARROW = [
 ]
 
 # Endings of files that are left out of these, and folders without sources.
-LEFT_OUT, MADE = {".md", ".svg"}, {"__pycache__", "out"}
+LEFT_OUT, MADE = {".md", ".svg", ".tsv"}, {"__pycache__", "out"}
 
 FUNCTION = re.compile(r"^ *(?:pub(?:\([a-z ]+\))? )?(?:const )?(?:extern \S+ )?fn \w+", re.M)
 # A line that may be longer.

@@ -57,9 +57,6 @@ def check_files(checks):
             (["--connection", "1", name], (0, b"     1  opened\n", b"")),
             ([folder], (3, b"", faults("cannot read").encode())),
             ([name + "x"], (3, b"", faults("cannot open %sx" % name).encode())),
-            (["--connection", "0", name], (1, b"", faults(
-                "bad value for --connection",
-                "--connection takes the number of a connection from 1 to 18446744073709551615, not 0").encode())),
             ([b"\xff"], (1, b"", faults("words that are not UTF-8").encode())),
         ):
             done = subprocess.run([EXPLAIN, *words], stdin=subprocess.DEVNULL, capture_output=True, timeout=LIMIT)

@@ -16,11 +16,10 @@ GOOD_NUMBERS = ["65536", "065536", "00000000000000065536"]
 BAD_NUMBERS = ["000000000000000065536", "+65536", " 65536", "65536 ", "0x10000", ""]
 
 BAD_OPTIONS = [
-    ["--idle", "4294967296"], ["--idle", "x"], ["--idle", "-1"], ["--metrics", ""], ["--health", ""],
-    ["--health", "a/.."], ["--health", "shared"], ["--health", "shared/health"], ["--health", "time"],
-    ["--health", "time/health"],
-    ["--health", "async"], ["--health", ".well-known"], ["--health", ".well-known/core"], ["--prefix", "health"],
-    ["--prefix", "health/a"], ["--prefix", "a/b", "--health", "a"],
+    ["--idle", "x"], ["--idle", "-1"], ["--health", "a/.."], ["--health", "shared"], ["--health", "shared/health"],
+    ["--health", "time"], ["--health", "time/health"], ["--health", "async"], ["--health", ".well-known"],
+    ["--health", ".well-known/core"], ["--prefix", "health"], ["--prefix", "health/a"],
+    ["--prefix", "a/b", "--health", "a"],
 ]
 
 

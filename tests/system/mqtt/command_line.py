@@ -1,23 +1,19 @@
-"""Checks the options of coap-mqtt, its manual with its example, and its completions."""
+"""Checks the options of coap-mqtt, and its manual with its example."""
 
 import os
 import re
 import socket
-import tempfile
 
-from commands import completions
-from gateway_checks import accepts, run, write_file
+from gateway_checks import accepts, run
 from gateways import soon
+from option_checks import Program, check_program
 from peers import LOCAL, free_port, started
 from workspace import ROOT
 
 BAD_OPTIONS = [
-    ["-p", "0"], ["-p", "65536"], ["-p", "x"], ["-p", "1", "-p", "1"], ["-A", "localhost"], ["-d", "0"],
-    ["-d", "1001"], ["--id", "65536"], ["--id", "-1"], ["--log", "4"], ["--stale", "x"], ["--prefix", ""],
-    ["--prefix", "a/.."], ["--prefix", "$a"], ["--prefix", "time"], ["--prefix", ".well-known/core"],
-    ["--max-sent", "1"], ["--queue", "1152"], ["--pending", "0"], ["--connections", "257"], ["--cert", "x"],
-    ["--password-file", "x"], ["--username", "x", "--password-file", "/no"], ["--unknown"],
-    ["--in-flight", "131071"], ["--reread", "10081"], ["word"], ["--broker-port", "0"], ["--broker-host", ""],
+    ["-p", "x"], ["-p", "1", "-p", "1"], ["-A", "localhost"], ["--id", "-1"], ["--stale", "x"], ["--prefix", "a/.."],
+    ["--prefix", "$a"], ["--prefix", "time"], ["--prefix", ".well-known/core"], ["--queue", "1152"],
+    ["--username", "x", "--password-file", "/no"], ["--unknown"], ["word"],
 ]
 
 
@@ -36,23 +32,15 @@ def check_options(checks, program):
         checks.same("a port in use", (done.returncode, "cannot listen" in done.stderr), (3, True))
 
 
-def check_manual(checks, program):
-    """Compares the manual with the options, and checks its form."""
-    manual, helped = f"{ROOT}/man/coap-mqtt.1", run([program, "--help"]).stdout
-    linted = run(["mandoc", "-Tlint", "-Wall", manual])
+def check_table_of_options(checks, program):
+    """Compares the command line with the table of options."""
+    check_program(checks, Program("coap-mqtt", program, 0))
+
+
+def check_manual(checks, _):
+    """Checks the form of the manual."""
+    linted = run(["mandoc", "-Tlint", "-Wall", f"{ROOT}/man/coap-mqtt.1"])
     checks.same("mandoc", [it for it in linted.stdout.splitlines() if "not found" not in it], [])
-    with open(manual, encoding="utf-8") as file:
-        text = file.read()
-    items = "\n".join(re.findall(r"(?m)^\.It (Fl .*)$", text))
-    described = {"-" + it for it in re.findall(r"(?:Fl |, Fl )(-?[\w-]+)", items)}
-    long_ones = set(re.findall(r"(--[\w-]+)", helped.partition("CoAP:")[2])) - {"--cafile)"}
-    options = set(re.findall(r"(?m)^ +(-\w)", helped)) | long_ones
-    checks.same("options of --help and of the manual", sorted(options ^ described), [])
-    plain = " ".join(re.sub(r"(?m)^\.\w+ ?", "", text).split())
-    for name, default in re.findall(r"(?m)^ +(-[\w-]+)[ ,].*\(default (\S+?)[,)]", helped):
-        about = plain.partition(f"Fl {name[1:]} ")[2] if f"Fl {name[1:]} " in plain else plain
-        texts = (default, f"{int(default):,}" if default.isdigit() else default)
-        checks.same(f"default of {name}", any(it in about for it in texts), True)
 
 
 def check_example(checks, program):
@@ -77,31 +65,3 @@ def check_example(checks, program):
         checks.same("the broker listens", soon(lambda: accepts(broker), True), True)
         done = run(["bash", "-eu", "-c", script], env=own)
     checks.same("the example", (done.returncode, done.stdout.rstrip()), (0, "".join(shown)))
-
-
-# Words of a command line, and the completions of the last one.
-COMPLETED = [
-    (["--st"], ["--stale"]), (["--stale", ""], ["serve", "refuse"]), (["--stale", "=", "r"], ["refuse"]),
-    (["--log", ""], ["0", "1", "2", "3"]), (["--cafile", "on"], ["one file", "one.txt"]),
-    (["--password-file", "=", "t"], ["two"]), (["--broker-port", "8"], ["8883"]), (["--id", ""], []),
-    (["--health", ""], ["health", "none"]), (["--metrics", "on"], ["one file", "one.txt"]), (["--idle", ""], []),
-]
-
-
-def check_completion(checks, program):
-    """Compares the words that bash completes with --help."""
-    script, helped = f"{ROOT}/install/completions/coap-mqtt", run([program, "--help"]).stdout
-    options = [it for it in re.findall(r"(?m)^ +(-\w)?(?:, )? *(--[\w-]+)? ?([A-Z]+)? +\w", helped) if any(it)]
-    with tempfile.TemporaryDirectory(prefix="coap-mqtt-") as folder:
-        for name in ("one file", "one.txt", "two"):
-            write_file(f"{folder}/{name}", "")
-        wanted = sorted(it for short, long, _ in options for it in (short, long) if it)
-        checks.same("the options", (sorted(completions(script, ["coap-mqtt", "-"], folder)), len(wanted)),
-                    (wanted, 29))
-        for option, value in ((short or long, value) for short, long, value in options if value):
-            got = completions(script, ["coap-mqtt", option, ""], folder)
-            checks.same(f"{option} has no options as its value, and files if it is one",
-                        (set(got) & set(wanted), "two" in got), (set(), value == "FILE"))
-        for words, found in COMPLETED:
-            checks.same(f"completed: {words}", sorted(completions(script, ["coap-mqtt", *words], folder)),
-                        sorted(found))

@@ -37,7 +37,8 @@ def check_unit(checks, _):
 
 
 INSTALLED = {"bin/coap-mqtt": 0o755, "share/man/man1/coap-mqtt.1": 0o644,
-             "share/bash-completion/completions/coap-mqtt": 0o644,
+             "share/bash-completion/completions/coap-mqtt": 0o644, "share/zsh/site-functions/_coap-mqtt": 0o644,
+             "share/fish/vendor_completions.d/coap-mqtt.fish": 0o644,
              "lib/systemd/system/coap-mqtt@.service": 0o644, "share/doc/coap-mqtt/examples/mosquitto.conf": 0o644}
 
 

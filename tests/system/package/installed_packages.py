@@ -30,8 +30,8 @@ TITLES = {
 
 # Folders in which the installation may create files, folders and links.
 PLACES = ["/etc", "/usr/bin", "/usr/include", "/usr/lib/systemd", LIBRARIES + "/pkgconfig",
-          "/usr/share/bash-completion", "/usr/share/doc", "/usr/share/lintian", "/usr/share/man", "/var/lib/dpkg/info",
-          "/var/lib/systemd"]
+          "/usr/share/bash-completion", "/usr/share/doc", "/usr/share/fish", "/usr/share/lintian", "/usr/share/man",
+          "/usr/share/zsh", "/var/lib/dpkg/info", "/var/lib/systemd"]
 
 # Arguments of the server after its address and port.
 STORES = ["-d", "100"]

@@ -39,6 +39,16 @@ LIBRARIES = "/usr/lib/@TRIPLET@"
 
 ARCHIVE = LIBRARIES + "/libdachreup.a"
 
+# Completions of a program, in the folders of Debian's packages.
+COMPLETIONS = ["/usr/share/bash-completion/completions/%s", "/usr/share/zsh/vendor-completions/_%s",
+               "/usr/share/fish/vendor_completions.d/%s.fish"]
+
+
+def completions(*programs):
+    """Returns the files with the completions of programs."""
+    return {path % program: (0o644, None) for program in programs for path in COMPLETIONS}
+
+
 # Installed files of each package, each with its mode, and with its source if it is a copy.
 FILES = {NAME: {
     "/usr/bin/coap-server": (0o755, None),
@@ -50,10 +60,7 @@ FILES = {NAME: {
     "/usr/share/man/man1/coap-explain.1.gz": (0o644, None),
     "/usr/share/man/man1/coap-directory.1.gz": (0o644, None),
     "/usr/share/man/man7/dachreup.7.gz": (0o644, None),
-    "/usr/share/bash-completion/completions/coap-server": (0o644, "install/completions/coap-server"),
-    "/usr/share/bash-completion/completions/coap-client": (0o644, "install/completions/coap-client"),
-    "/usr/share/bash-completion/completions/coap-explain": (0o644, "install/completions/coap-explain"),
-    "/usr/share/bash-completion/completions/coap-directory": (0o644, "install/completions/coap-directory"),
+    **completions(*PROGRAMS),
     "/usr/share/doc/dachreup/changelog.gz": (0o644, None),
     "/usr/share/doc/dachreup/copyright": (0o644, "install/debian/copyright"),
     "/usr/share/doc/dachreup/README.Debian": (0o644, "install/debian/dachreup.README.Debian"),
@@ -72,7 +79,7 @@ FILES = {NAME: {
 }, GATEWAY: {
     "/usr/bin/coap-mqtt": (0o755, None),
     "/usr/share/man/man1/coap-mqtt.1.gz": (0o644, None),
-    "/usr/share/bash-completion/completions/coap-mqtt": (0o644, "install/completions/coap-mqtt"),
+    **completions("coap-mqtt"),
     GATEWAY_UNIT: (0o644, None),
     GATEWAY_OPTIONS: (0o644, "install/debian/coap-mqtt.default"),
     "/usr/share/doc/dachreup-mqtt/changelog.gz": (0o644, None),

@@ -1,10 +1,10 @@
-"""Checks the sources of the packages: versions, completions, the copyright and the maintainer scripts."""
+"""Checks the sources of the packages: versions, the copyright and the maintainer scripts."""
 
 import os
 import re
 import tempfile
 
-from commands import completions, read, run, write
+from commands import read, run, write
 from package_files import LIBRARY, NAME, PROGRAMS, version
 from workspace import ROOT, crates, listed
 
@@ -36,42 +36,6 @@ SCRIPT_CALLS = [
     ("dachreup-mqtt.postrm", ["purge"], ["systemctl --system daemon-reload"]),
 ]
 
-# Words before a completed word, the beginning of that word, and the expected completions.
-COMPLETED = [
-    (["coap-server", "-A"], "", ["0.0.0.0", "127.0.0.1"]),
-    (["coap-server", "-p"], "", ["5683"]),
-    (["coap-server", "--script"], "on", ["one file", "one.txt"]),
-    (["coap-server", "--script", "="], "on", ["one file", "one.txt"]),
-    (["coap-server", "--script"], "=", ["one file", "one.txt", "two"]),
-    (["coap-server"], "--max", ["--max-message", "--max-sent"]),
-    (["coap-server", "--log"], "", ["0", "1", "2", "3"]),
-    (["coap-server", "--idle"], "", []),
-    (["coap-server", "--starts"], "", []),
-    (["coap-server", "--record"], "on", ["one file", "one.txt"]),
-    (["coap-server", "--record", "="], "t", ["two"]),
-    (["coap-server", "--record-limit"], "", []),
-    (["coap-server"], "--rec", ["--record", "--record-limit"]),
-    (["coap-client", "-m"], "p", ["put", "post"]),
-    (["coap-client", "--log"], "", ["0", "1", "2", "3"]),
-    (["coap-client", "--log", "="], "2", ["2"]),
-    (["coap-client", "-m", "get"], "", ["coap+tcp://"]),
-    (["coap-client", "-f"], "on", ["one file", "one.txt"]),
-    (["coap-client", "-o"], "t", ["two"]),
-    (["coap-client", "coap+tcp", ":"], "//", []),
-    (["coap-explain"], "on", ["one file", "one.txt"]),
-    (["coap-explain"], "--c", ["--connection"]),
-    (["coap-explain", "--connection"], "", []),
-    (["coap-explain", "--connection", "="], "", []),
-    (["coap-explain", "--connection", "1"], "t", ["two"]),
-    (["coap-directory"], "--reg", ["--registrations"]),
-    (["coap-directory", "--registrations", "="], "", []),
-    (["coap-directory", "--log"], "", ["0", "1", "2", "3"]),
-    (["coap-directory", "--idle"], "", []),
-    (["coap-directory", "--record"], "on", ["one file", "one.txt"]),
-    (["coap-directory", "--record-limit"], "", []),
-    (["coap-directory"], "--rec", ["--record", "--record-limit"]),
-]
-
 
 def check_versions(checks, programs):
     """Checks that the programs, both changelogs, the comparison, the header and the record in the manual dachreup(7)
@@ -87,38 +51,6 @@ def check_versions(checks, programs):
                 re.findall(r'(?m)^#define DACHREUP_VERSION "(.*)"$', read(ROOT, "include/dachreup.h")), [version()])
     checks.same("version in the record of the manual",
                 re.findall(r"(?m)^# Record of coap\\-server (\S+),", read(ROOT, "man/dachreup.7")), [version()])
-
-
-def check_completion(checks, programs):
-    """Compares the completed words with `--help` and with the manual of the client."""
-    with tempfile.TemporaryDirectory() as folder:
-        for name in ("one file", "one.txt", "two"):
-            write("", os.path.join(folder, name))
-        for name, program in zip(PROGRAMS, programs):
-            script = os.path.join(ROOT, "install/completions", name)
-            helped = re.findall(r"(?m)^ +(?:(-\w)(?:, )?)?(--[\w-]+)?(?: <(\S+)>)?  ",
-                                run([program, "--help"])[1].partition("Options:\n")[2])
-            options = {option for short, long, _ in helped for option in (short, long) if option}
-            checks.same("%s: the options of --help are found" % name,
-                        len(options) > (4 if name in ("coap-explain", "coap-directory") else 10), True)
-            checks.same("%s: completed options" % name, sorted(completions(script, [name, "-"], folder)),
-                        sorted(options))
-            for option, value in ((short or long, value) for short, long, value in helped if value):
-                got = completions(script, [name, option, ""], folder)
-                checks.same("%s %s: completed options as its value" % (name, option), sorted(options & set(got)), [])
-                checks.same("%s %s: completed files as its value" % (name, option), "one.txt" in got, value == "FILE")
-            for before, word, wanted in COMPLETED:
-                if before[0] == name:
-                    checks.same("completed: %s" % " ".join([*before, word]),
-                                sorted(completions(script, [*before, word], folder)), sorted(wanted))
-    script = os.path.join(ROOT, "install/completions/coap-client")
-    methods = re.search(r"Method: ([\w, ]+?) \[", run([programs[1], "--help"])[1])[1]
-    checks.same("completed methods", completions(script, ["coap-client", "-m", ""], ROOT), re.split(", | or ", methods))
-    formats = re.findall(r"(?m)^\.Dq (\w+/\S+)\n\(\d+\)", read(ROOT, "man/coap-client.1"))
-    checks.same("the manual has content formats", len(formats) > 1, True)
-    for option in ("-t", "-A"):
-        checks.same("completed content formats, %s" % option, completions(script, ["coap-client", option, ""], ROOT),
-                    formats)
 
 
 def check_copyright(checks):

@@ -3,7 +3,7 @@
 import errno
 import socket
 
-from checked_arguments import LEVEL
+from checked_arguments import allowed
 
 
 def hindrance_v6():
@@ -25,13 +25,10 @@ REFUSED, REFUSED_V6, UNKNOWN = (
 # The arguments of coap-client, the status, and the text after the program's name; None is a text of clap.
 CLIENT_WORDS = [
     ([], 1, None), (["coap+tcp://h/", "coap+tcp://h/"], 1, None), (["-x", "coap+tcp://h/"], 1, None),
-    (["-O", "1,a", "-O", "2,b", "coap+tcp://h/"], 1, None),
     (["-x", "--help"], 1, None), (["coap+tcp://h/", "coap+tcp://h/", "-V"], 1, None), (["--version=x"], 1, None),
     (["--idle", "1", "coap+tcp://h/"], 1, None),
     (["-f", "/nothing/here", "-m", "put", "coap+tcp://h/"], 3, "cannot open /nothing/here"),
     (["-f", "/", "coap+tcp://h/"], 3, "cannot read"),
-    (["-f", "/dev/zero", "coap+tcp://h/"], 1,
-     "bad value for -f\ncoap-client: -f takes a file of at most 1048576 bytes"),
     (["-o", "/nothing/here", "coap+tcp://127.0.0.1:1/"], 3, REFUSED),
     (["coap+tcp://127.0.0.1:1/"], 3, REFUSED),
     (["-f", "-", "-m", "put", "-t", "application/cbor", "coap+tcp://[::1]:1/a"], 3, REFUSED_V6),
@@ -65,39 +62,23 @@ TARGETS = [
     (["coap+tcp://h" + "/a" * 17], 7, MANY), (["coap+tcp://h?" + "&" * 16], 7, MANY),
 ]
 
-# The arguments of coap-client, the name of the bad option, the values that it takes, and the one that was given.
-FORMAT, EXTRA = ("a number from 0 to 65535 or a name such as application/json",
-                 "a number from 0 to 65535, a comma and at most 1034 bytes (hexadecimal after 0x)")
-METHOD = "get, put, post or delete"
+# The arguments of coap-client, the name of the bad option, and the value that was given.
 CLIENT_VALUES = [
-    (["-m", "GET", "coap+tcp://h/"], "-m", METHOD, "GET"), (["-m", "", "coap+tcp://h/"], "-m", METHOD, "an empty text"),
-    (["-B", "0", "coap+tcp://h/"], "-B", "1 to 4294967295 seconds", "0"),
-    (["-B", "4294967296", "coap+tcp://h/"], "-B", "1 to 4294967295 seconds", "4294967296"),
-    (["-s", "4294967296", "coap+tcp://h/"], "-s", "0 to 4294967295 seconds", "4294967296"),
-    (["-t", "65536", "coap+tcp://h/"], "-t", FORMAT, "65536"), (["-t", "json", "coap+tcp://h/"], "-t", FORMAT, "json"),
-    (["-A", "json", "coap+tcp://h/"], "-A", FORMAT, "json"),
-    (["-O", "1", "coap+tcp://h/"], "-O", EXTRA, "1"), (["-O", "65536,a", "coap+tcp://h/"], "-O", EXTRA, "65536,a"),
-    (["-O", "1,0x0", "coap+tcp://h/"], "-O", EXTRA, "1,0x0"),
-    (["-O", "1," + "a" * 1035, "coap+tcp://h/"], "-O", EXTRA,
-     "1," + "a" * (1019 - len("-O takes , not " + EXTRA)) + "..."),
-    (["--log", "4", "coap+tcp://h/"], "--log", LEVEL, "4"), (["--log=\x7f", "coap+tcp://h/"], "--log", LEVEL, "\\x7f"),
-    # The first bad value in the order of the usage line, also if options exclude each other.
-    (["-e", "x", "-f", "y", "-B", "0", "coap+tcp://h/"], "-B", "1 to 4294967295 seconds", "0"),
-    (["--log", "x", "-O", "1", "coap+tcp://h/"], "-O", EXTRA, "1"),
-    (["--log", "x", "-e", "x", "-f", "y", "coap+tcp://h/"], "--log", LEVEL, "x"),
+    (["-m", "GET", "coap+tcp://h/"], "-m", "GET"),
+    (["-t", "json", "coap+tcp://h/"], "-t", "json"), (["-A", "json", "coap+tcp://h/"], "-A", "json"),
+    (["-O", "1", "coap+tcp://h/"], "-O", "1"), (["-O", "1,0x0", "coap+tcp://h/"], "-O", "1,0x0"),
+    (["-O", "1," + "a" * 1035, "coap+tcp://h/"], "-O",
+     "1," + "a" * (1019 - len("-O takes , not " + allowed("coap-client", "-O"))) + "..."),
+    (["--log=\x7f", "coap+tcp://h/"], "--log", "\\x7f"),
+    # A bad value comes before options that exclude each other.
+    (["-e", "x", "-f", "y", "-B", "0", "coap+tcp://h/"], "-B", "0"),
+    (["--log", "x", "-e", "x", "-f", "y", "coap+tcp://h/"], "--log", "x"),
 ]
 
 # The arguments of coap-client, and the options that exclude each other.
 CLIENT_CLASHES = [
-    (["-e", "x", "-f", "y", "coap+tcp://h/"], "-e and -f cannot be used together"),
-    (["-s", "1", "-m", "put", "coap+tcp://h/"], "-s cannot be used with -m put, only with -m get"),
     (["-m", "delete", "-s", "0", "coap+tcp://h/"], "-s cannot be used with -m delete, only with -m get"),
     (["-s", "1", "-m", "post", "-e", "x", "-f", "y", "coap+tcp://h/"], "-e and -f cannot be used together"),
 ]
 
-CLIENT_HELP = (
-    b"A CoAP client over TCP (RFC 8323)\n\nUsage: coap-client [OPTIONS] <URI>\n\nArguments:\n",
-    ["<URI>", "-m <METHOD>", "-e <TEXT>", "-f <FILE>", "-o <FILE>", "-t <FORMAT>", "-A <FORMAT>", "-s <SECONDS>",
-     "-B <SECONDS>", "-O <NUM,TEXT>"]
-    + ["-U", "-w", "--log <LEVEL>", "-h, --help", "-V, --version"],
-)
+CLIENT_HELP = b"A CoAP client over TCP (RFC 8323)\n\nUsage: coap-client [OPTIONS] <URI>\n\nArguments:\n"

@@ -8,6 +8,7 @@ import tempfile
 import time
 
 from greeted_peers import GET_ROOT, GREETED, PEER_SETTINGS, ask
+from option_table import recorded
 from peers import LIMIT, LOCAL, Server, free_port, line_of, read_bytes, started
 from records import Record, record_in, replay, until
 
@@ -32,8 +33,8 @@ def check_header(checks, server):
                 checks.same(f"the header for the name {name!r}", it.read().decode().partition("open\n")[0], text)
         name = f"{folder}/record"
         subprocess.run([server, "--stdio", "--record", name], input=b"", stdout=subprocess.DEVNULL, timeout=LIMIT)
-        usual = ["-d", "0", "--max-message", "65536", "--max-sent", "65536", "--queue", "131072", "--pending", "16",
-                 "--observers", "16", "--connections", "16", "--starts", "0,0,0"]
+        # Without entries of an application.
+        usual = [word for it in recorded("coap-server") if it.default for word in (it.name, it.default)]
         checks.same("default options, and a name with slashes", (record_in(name).options(), record_in(name).command()),
                     (usual, ["--script", name, *usual]))
         name = f"{folder}/turns"
