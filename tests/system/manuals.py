@@ -1,4 +1,4 @@
-"""Compares the manuals with the programs and their sources: form, options, ranges, defaults, statuses, lines and
+"""Compares the manuals with the programs, their sources and install/options.tsv: form, options, statuses, lines and
 examples.
 
     tests/system/manuals.py bin/coap-server bin/coap-client bin/coap-explain bin/coap-directory
@@ -8,7 +8,6 @@ The script needs Debian's packages mandoc and socat, and installs the missing on
 
 import contextlib
 import os
-import socket
 import subprocess
 import sys
 import tempfile
@@ -21,20 +20,18 @@ from manual_examples import (  # noqa: E402
     check_sentences, check_signal,
 )
 from manual_lines import (  # noqa: E402
-    URI, check_causes, check_faults, check_hindrances, check_lines, check_log, check_printed, check_reasons,
+    check_causes, check_faults, check_hindrances, check_lines, check_log, check_printed, check_reasons,
     check_statuses, client_faults, directory_faults, explain_faults, server_faults,
 )
 from manual_options import (  # noqa: E402
-    check_clashes, check_defaults, check_formats, check_options, check_order, check_ranges, check_targets, check_values,
+    check_formats, check_options, check_refusals, check_synopsis, check_targets,
 )
 from manual_pages import Manual  # noqa: E402
 from manual_sources import SOURCES, source_of  # noqa: E402
 from packages import install  # noqa: E402
+from peers import closed_port  # noqa: E402
 
 PACKAGES = {"mandoc": "mandoc", "socat": "socat"}
-
-# An address of no machine (RFC 5737). The directory ends at once, because it cannot listen there.
-FOREIGN = "203.0.113.1"
 
 
 @contextlib.contextmanager
@@ -44,14 +41,6 @@ def named_programs(**programs):
         for name, program in programs.items():
             os.symlink(program, os.path.join(folder, "coap-%s" % name))
         yield folder
-
-
-@contextlib.contextmanager
-def closed_port():
-    """Yields a port of this machine at which no program listens, and none can."""
-    with socket.socket() as taken:
-        taken.bind(("127.0.0.1", 0))
-        yield taken.getsockname()[1]
 
 
 def check_shared(checks, shared, programs):
@@ -68,32 +57,27 @@ def check(server, client, explain, directory):
     checks, shared = Checks(), Manual(SHARED, 7)
     with closed_port() as port, named_programs(server=server, client=client, explain=explain,
                                                directory=directory) as programs:
-        for name, program, faults, more in (
-            ("coap-server", server, server_faults(port), ["--stdio"]),
-            ("coap-client", client, client_faults(port), [URI % port]),
-            ("coap-explain", explain, explain_faults(port), ["-"]),
-            ("coap-directory", directory, directory_faults(port), ["-A", FOREIGN]),
+        for name, program, faults in (
+            ("coap-server", server, server_faults(port)),
+            ("coap-client", client, client_faults(port)),
+            ("coap-explain", explain, explain_faults(port)),
+            ("coap-directory", directory, directory_faults(port)),
         ):
             manual = Manual(name)
             source = source_of(SOURCES[name])
             check_form(checks, manual)
-            check_options(checks, manual, program)
-            check_order(checks, manual, program, more)
-            checks.same("%s: ranges are found" % name, check_ranges(checks, manual, program, more) > 0, True)
-            check_defaults(checks, manual,
-                           source_of(["coap_command_line/src/arguments/%s.rt" % name.removeprefix("coap-")]))
+            check_synopsis(checks, manual)
+            check_options(checks, manual)
+            check_refusals(checks, manual)
             check_statuses(checks, manual, source)
             check_lines(checks, manual, source)
             check_printed(checks, manual, shared)
-            check_values(checks, manual, program, more)
             check_sentences(checks, manual)
             check_faults(checks, manual, program, faults)
             check_examples(checks, manual, programs)
-        check_formats(checks, Manual("coap-client"), client, [URI % port])
+        check_options(checks, Manual("coap-mqtt"))
+        check_formats(checks, Manual("coap-client"))
         check_hindrances(checks, Manual("coap-client"))
-        check_clashes(checks, Manual("coap-client"), r"-\w|, only")
-        check_clashes(checks, Manual("coap-server"), r"--")
-        check_clashes(checks, Manual("coap-directory"), r"--record-limit")
         check_targets(checks, Manual("coap-client"), client)
         check_signal(checks, server)
         check_causes(checks, Manual("coap-client"))

@@ -44,14 +44,13 @@ class Manual:
         return found
 
     def options(self):
-        """Returns the described options: name, name of the value or nothing, and description."""
+        """Returns the items that describe options: the names, each with the name of its value or nothing, and the
+        text."""
         found = []
         for words, lines in self.items("DESCRIPTION"):
-            text = " ".join(line for line in lines if not line.startswith("."))
-            for part in " ".join(words).split(" , "):
-                flag, name, *value = part.split()
-                assert flag == "Fl", words
-                found.append(("-" + name, " ".join(value[1:]), text))
+            parts = [part.split() for part in " ".join(words).split(" , ")]
+            assert all(it[0] == "Fl" for it in parts), words
+            found.append(([("-" + name, " ".join(value[1:])) for _, name, *value in parts], flowing(lines)))
         return found
 
     def called_with(self):
@@ -96,12 +95,18 @@ def plain(words):
             is_joined = True
         elif word in ("Ar", "Fl", "No"):
             macro = word
-        elif word in (",", ";", ":", ")"):
+        elif word in (",", ";", ":", ")", "."):
             text += word
         else:
             text += ("" if is_joined else " ") + {"Ar": "{}", "Fl": "-" + word}.get(macro, word.replace("\\-", "-"))
             is_joined = False
     return text
+
+
+def flowing(lines):
+    """Returns lines as one text, without macros but with the names of options."""
+    return " ".join(plain(re.sub(r"^\.(?!Fl |Ar |No )\w+ ?|^\.", "", it).split()) if it.startswith(".") else it
+                    for it in lines)
 
 
 def nested_items(lines):
