@@ -9,10 +9,13 @@
   whole items of this file, in their order, with their comments and attributes: functions, `impl` blocks to their end,
   types, imports. A block of TESTS can also be the body of a test, as in a comment. Those of TUTORIAL are whole files of
   a crate, which tests/system/tutorial.py proves.
+- A block marked `rust signatures` names files, and has signatures of functions in them, with other comments. Those of a
+  trait are all that it has, in their order. `{ .. }` after one means that the method has a default.
 - The blocks marked `c` of docs/EMBEDDING_C.md are together the body of a function with the parameters of C_FUNCTION. A
   C compiler must accept it without a warning, with the header. The literal blocks of man/dachreup.3 likewise. Without a
   compiler, this is skipped.
-- The `for` line of docs/EMBEDDING.md must list `coap_serve` and all crates below it.
+- The line `server=` of docs/EMBEDDING.md must list `coap_serve` and all crates below it, the line `client=` the others
+  that `coap_client` needs.
 
 A last line such as `send(rt, &mut client)` means the body of the function `send` of the same file, if `rt` and
 `client` are its parameters.
@@ -34,7 +37,10 @@ from checks import SKIPPED  # noqa: E402
 from workspace import ROOT, crates  # noqa: E402
 
 TESTS = "crates/test_proved/src/examples.rt"
-SOURCES = [TESTS, "crates/test_proved/src/examples/*.rt", "crates/example_*/src/*.rt"]
+SOURCES = [TESTS, "crates/test_proved/src/**/*.rt", "crates/example_*/src/*.rt", "crates/coap_io/src/polled.rt"]
+
+# The word before the files of a block with signatures.
+SIGNATURES = "signatures "
 
 TEST = re.compile(r"#\[test\]\nfn (\w+)\(.*?\{\n(.*?)^\}", re.S | re.M)
 # A function with its name, its parameters and its body.
@@ -44,8 +50,11 @@ CALL = re.compile(r"^    (\w+)\(([^()]*)\)\n(?=\})", re.M)
 FENCED = re.compile(r"^``` ?(\w*) *([^\n]*)\n(.*?)^```$", re.S | re.M)
 # The document whose blocks are files.
 TUTORIAL = "docs/TUTORIAL.md"
-# The crates that a repository of its own copies.
-COPIED = re.compile(r"^ *for \w+ in ([\w ]+); do", re.M)
+# The crates that a repository of its own copies, for a server and for a client.
+COPIED = re.compile(r'^ *(?:server|client)="([\w ]+)"', re.M)
+# A trait with its name and its methods; a type or a function in a trait or elsewhere, up to its clauses or its body.
+TRAIT = re.compile(r"^pub trait (\w+).*? \{\n(.*?)^\}", re.S | re.M)
+SIGNATURE = re.compile(r"\b(?:pub )?(?:type|fn) \w[^;]*?(?=;| \{$| \{ \.\. \}$|\s+(?:requires|ensures)\b)", re.S | re.M)
 
 
 # The document with blocks in C and the manual with literal blocks in C, and the function around them.
@@ -104,6 +113,32 @@ SAMPLES = [
     (f"{ONE}\n\nlet c = 1;", False),
 ]
 
+# A trait, signatures that it has, and others.
+TRAIT_SAMPLE = '''/// A trait.
+pub trait A {
+    ghost told: { Self → List ℕ };
+
+    /// Does it.
+    fn one(
+        &mut self,
+        b: B,
+    ) -> u8
+        ensures within { result ≤ 8 };
+
+    fn two(&self) -> bool {
+        true
+    }
+}
+'''
+SIGNED = [
+    ("pub trait A {\n    // Other.\n    fn one(&mut self, b: B) -> u8;\n\n    fn two(&self) -> bool { .. }\n}", True),
+    ("pub trait A {\n    fn one(&mut self, b: B) -> u8;\n    fn two(&self) -> bool;\n}", False),
+    ("pub trait A {\n    fn one(&mut self, b: B) -> u8;\n}", False),
+    ("fn one(&mut self, b: B) -> u8;", True),
+    ("fn one(&mut self, c: B) -> u8;", False),
+    ("pub trait B {\n}", False),
+]
+
 
 def read(path):
     """Returns the text of a file of the repository."""
@@ -149,6 +184,28 @@ def is_whole(code, source):
     return bool(shown) and all(it in left for it in shown)
 
 
+def signatures(code):
+    """Returns the signatures in a source, in one line each."""
+    code = re.sub(r"^ *//.*\n", "", code, flags=re.M)
+    return [re.sub(r"(?<=\() | (?=\))|, (?=\))|,(?=\))", "", " ".join(it.split())) for it in SIGNATURE.findall(code)]
+
+
+def trait_methods(code):
+    """Returns the methods of each trait in a source by its name, each as its signature and whether it has a default."""
+    found = {}
+    for name, body in TRAIT.findall(re.sub(r"^ *//.*\n", "", code, flags=re.M)):
+        members = re.findall(r"^    (?:type|fn) .*?(?=^    (?:type|fn|ghost) |\Z)", body, re.S | re.M)
+        found[name] = [(*signatures(it), bool(re.search(r"(?:^| )\{(?: \.\. \})?$", it, re.M))) for it in members]
+    return found
+
+
+def are_signatures(code, source):
+    """Returns true if a source has the signatures, and its traits of these names have no others."""
+    shown, traits = signatures(code), trait_methods(source)
+    return bool(shown) and set(shown) <= set(signatures(source)) \
+        and all(traits.get(name) == methods for name, methods in trait_methods(code).items())
+
+
 def tests():
     """Returns the body of each test, by the name of the test."""
     found = TEST.findall(continued(TESTS))
@@ -172,6 +229,14 @@ def document_blocks():
         for language, source, code in FENCED.findall(read(path)):
             if language == "rust" and path != TUTORIAL:
                 yield path, source, plain(code)
+
+
+def is_in(source, code, bodies):
+    """Returns true if the source that a block names has its code. `bodies` are those of the tests."""
+    if source.startswith(SIGNATURES):
+        return are_signatures(code, "\n".join(map(read, files(*source.split()[1:]))))
+    is_whole_in = source in files(*SOURCES) and is_whole(code, read(source))
+    return is_whole_in or source == TESTS and code in bodies.values()
 
 
 def c_blocks(path):
@@ -207,24 +272,24 @@ def main():
         passed, failed = passed + (name not in unused), failed + (name in unused)
         if name in unused:
             print(f"{TESTS}: no documentation comment shows {name}")
-    sources = {path: read(path) for path in files(*SOURCES)}
     for path, source, code in document_blocks():
-        if source in sources and (is_whole(code, sources[source]) or source == TESTS and code in bodies.values()):
+        if is_in(source, code, bodies):
             passed += 1
         else:
             failed += 1
             named = source or "that the block must name"
             print(f"{path}: these are no whole items of the source {named}:\n{textwrap.indent(code, '    ')}")
-    for code, wanted in SAMPLES:
-        passed, failed = passed + (is_whole(code, SAMPLE) == wanted), failed + (is_whole(code, SAMPLE) != wanted)
-        if is_whole(code, SAMPLE) != wanted:
-            print(f"sample, {'whole' if wanted else 'not whole'}:\n{textwrap.indent(code, '    ')}")
-    copied = [f"coap_{it}" for one in COPIED.findall(read("docs/EMBEDDING.md")) for it in one.split()]
-    below = [*crates()["coap_serve"], "coap_serve"]
-    is_complete = sorted(copied) == sorted(below)
-    if not is_complete:
-        print(f"docs/EMBEDDING.md: the line `for` has {' '.join(copied)}, and not {' '.join(below)}")
-    passed, failed = passed + is_complete, failed + (not is_complete)
+    for is_right, sample, samples in ((is_whole, SAMPLE, SAMPLES), (are_signatures, TRAIT_SAMPLE, SIGNED)):
+        for code, wanted in samples:
+            passed, failed = passed + (is_right(code, sample) == wanted), failed + (is_right(code, sample) != wanted)
+            if is_right(code, sample) != wanted:
+                print(f"sample, {'right' if wanted else 'wrong'}:\n{textwrap.indent(code, '    ')}")
+    copied = [sorted(it.split()) for it in COPIED.findall(read("docs/EMBEDDING.md"))]
+    server, client = ({it, *crates()[it]} for it in ("coap_serve", "coap_client"))
+    wanted = [sorted(it.removeprefix("coap_") for it in one) for one in (server, client - server)]
+    if copied != wanted:
+        print(f"docs/EMBEDDING.md: the lines `server=` and `client=` have {copied}, and not {wanted}")
+    passed, failed = passed + (copied == wanted), failed + (copied != wanted)
     for path in (C_DOCUMENT, C_MANUAL):
         errors = c_errors(path)
         passed, failed = passed + (errors == ""), failed + bool(errors)
