@@ -6,12 +6,14 @@
 
 - The gateway: reads its values with coap-client.
 - The observer: observes coap-server, and libcoap's server.
-- The actuator, which answers requests: passes it lines of messages, and compares the lines that it prints.
+- The actuator, which answers requests: passes it lines of messages, and compares the lines that it prints. The command
+  of docs/EMBEDDING.md must print what the page shows.
 
 The sensor is a file of this script. Each wait has a timeout.
 """
 
 import os
+import re
 import signal
 import subprocess
 import sys
@@ -22,6 +24,7 @@ import packages  # noqa: E402
 from checks import Checks  # noqa: E402
 from message_syntax import digits  # noqa: E402
 from peers import LIMIT, LOCAL, Server, client, free_port, line_of, started  # noqa: E402
+from workspace import ROOT  # noqa: E402
 
 
 # Lines of the client of an actuator, and the line that the actuator prints for each.
@@ -143,6 +146,14 @@ def check_actuator(checks, program):
     checks.same("the actuator refuses other text", (status, lines, "not hexadecimal" in said), (1, [], True))
 
 
+def check_document(checks, program):
+    """Checks what the command of the document prints."""
+    with open(f"{ROOT}/docs/EMBEDDING.md", encoding="utf-8") as file:
+        block = re.search(r"^    \$ (printf .*) \| example_actuator\n((?:    .*\n)+)", file.read(), re.M)
+    ran = subprocess.run(f"{block[1]} | {program}", shell=True, capture_output=True, timeout=LIMIT, text=True)
+    checks.same("the command of docs/EMBEDDING.md", (ran.returncode, ran.stdout.split()), (0, block[2].split()))
+
+
 def check_end(checks, gateway, sensor):
     """Checks that the gateway ends if the sensor cannot be read."""
     os.remove(sensor.name)
@@ -153,6 +164,7 @@ def check_end(checks, gateway, sensor):
 def main(program, observer, actuator, server, client_program):
     checks = Checks()
     check_actuator(checks, actuator)
+    check_document(checks, actuator)
     checks.same("packages can be installed", packages.install({"coap-server-notls": "libcoap3-bin"}), True)
     check_observer(checks, observer, server)
     with tempfile.TemporaryDirectory(prefix="embedding-") as folder:

@@ -15,13 +15,13 @@
   C compiler must accept it without a warning, with the header. The literal blocks of man/dachreup.3 likewise. Without a
   compiler, this is skipped.
 - The line `server=` of docs/EMBEDDING.md must list `coap_serve` and all crates below it, the line `client=` the others
-  that `coap_client` needs.
+  that `coap_client` needs. Its lines of examples must be in crates.txt.
 
 A last line such as `send(rt, &mut client)` means the body of the function `send` of the same file, if `rt` and
 `client` are its parameters.
 
 Indentation of a whole block does not count. The script also checks itself on SAMPLES. The last line is 'N passed, M
-failed'. Each block, each test, each sample, the list of crates and each function in C counts once.
+failed'. Each block, each test, each sample, both lists of crates and each function in C counts once.
 """
 
 import glob
@@ -52,6 +52,8 @@ FENCED = re.compile(r"^``` ?(\w*) *([^\n]*)\n(.*?)^```$", re.S | re.M)
 TUTORIAL = "docs/TUTORIAL.md"
 # The crates that a repository of its own copies, for a server and for a client.
 COPIED = re.compile(r'^ *(?:server|client)="([\w ]+)"', re.M)
+# A line of crates.txt.
+LISTED = re.compile(r"^    (example_\w+: .*)$", re.M)
 # A trait with its name and its methods; a type or a function in a trait or elsewhere, up to its clauses or its body.
 TRAIT = re.compile(r"^pub trait (\w+).*? \{\n(.*?)^\}", re.S | re.M)
 SIGNATURE = re.compile(r"\b(?:pub )?(?:type|fn) \w[^;]*?(?=;| \{$| \{ \.\. \}$|\s+(?:requires|ensures)\b)", re.S | re.M)
@@ -290,6 +292,9 @@ def main():
     if copied != wanted:
         print(f"docs/EMBEDDING.md: the lines `server=` and `client=` have {copied}, and not {wanted}")
     passed, failed = passed + (copied == wanted), failed + (copied != wanted)
+    unlisted = set(LISTED.findall(read("docs/EMBEDDING.md"))) - set(read("crates.txt").splitlines())
+    passed, failed = passed + (not unlisted), failed + bool(unlisted)
+    print("".join(f"docs/EMBEDDING.md: crates.txt has no line '{it}'\n" for it in unlisted), end="")
     for path in (C_DOCUMENT, C_MANUAL):
         errors = c_errors(path)
         passed, failed = passed + (errors == ""), failed + bool(errors)
