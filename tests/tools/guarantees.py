@@ -1,5 +1,5 @@
 #!/usr/bin/env python3
-"""Checks the names in docs/GUARANTEES.md and docs/MODEL.md, and renders the tables of the first:
+"""Checks the names in documents, and renders the tables of docs/GUARANTEES.md:
 
     tests/tools/guarantees.py          a line for each name that does not exist
     tests/tools/guarantees.py --write  also renders the tables of docs/GUARANTEES.md
@@ -12,7 +12,7 @@ docs/guarantees.tsv has a claim in a line, with tabs between these columns:
   below crates/;
 - the limits of the claim.
 
-The text of the documents has these names:
+The text of docs/GUARANTEES.md and docs/MODEL.md has these names:
 
 - `crate::function` or `crate::Type::function` (`clause`, `clause`), also as a list: crate: `function`, `Type::function`
   (`clause`);
@@ -21,8 +21,10 @@ The text of the documents has these names:
 - `name` or `Type::name`: each word occurs in the sources, the definitions, or the tests of the programs;
 - `tests/..` and other paths of files; [`name`](FILE), where the file of definitions defines the name.
 
-The script also checks itself on SAMPLES. The last line is 'N passed, M failed', where N counts claims without an error,
-documents, and samples.
+In the documents of NAMED, only `name` and `Type::name` are checked, the latter also in blocks of text. The libraries that
+docs/GUARANTEES.md trusts must be those of crates.txt from outside. The worked example of docs/MODEL.md must have the
+bytes of the rows EXAMPLE. The script also checks itself on SAMPLES. The last line is 'N passed, M failed', where N
+counts claims without an error, documents, and samples.
 """
 
 import functools
@@ -36,12 +38,15 @@ TESTS = os.path.dirname(os.path.dirname(os.path.abspath(__file__)))
 sys.path[:0] = [f"{TESTS}/harness", f"{TESTS}/mutants"]
 import edit_files  # noqa: E402
 from conformance import GENERATED, quoted_clauses, read, table, wrong_definitions  # noqa: E402
+from message_syntax import digits  # noqa: E402
 from places import block_name  # noqa: E402
 from quotes import Quotes  # noqa: E402
 from workspace import ROOT, crates, listed  # noqa: E402
 
 DATA = "docs/guarantees.tsv"
 CLAIMS, MODEL = "docs/GUARANTEES.md", "docs/MODEL.md"
+NAMED = [f"docs/{it}.md" for it in ("ARCHITECTURE", "DECISIONS", "EMBEDDING", "EMBEDDING_C", "GLOSSARY")]
+EXAMPLE = "tests/vectors/rows/serve/observers.rows", "= a notification between two responses "
 COLUMNS = ["Part", "Crate", "Claim", "Shown by", "Limits"]
 
 Claim = namedtuple("Claim", "line part crate claim shown_by limits")
@@ -159,13 +164,46 @@ def wrong_text(text):
         yield from wrong_definitions(f"`{name}` ({file})")
 
 
+def wrong_names(text):
+    """Yields each name in a document that the sources do not have."""
+    blocks = re.findall(r"^```text\n(.*?)^```$", text, re.M | re.S)
+    names = [*NAME.findall(re.sub(r"^```.*?^```$", "", text, flags=re.M | re.S)),
+             *(it for block in blocks for it in re.findall(r"\w+::\w+", block))]
+    yield from (f"no {it} in the sources" for name in names for it in name.split("::") if it not in words_of_sources())
+
+
+def wrong_trusted(text):
+    """Yields each library that the document or crates.txt names alone."""
+    named = re.search(r"^- The contracts \(.*", text, re.M)
+    used = {it for uses in listed().values() for it in uses if it not in listed()}
+    yield from (f"{it} is trusted, or used, and not both" for it in sorted(used ^ set(NAME.findall(named[0]))))
+
+
+def wrong_example(text):
+    """Yields an error if the worked example has other bytes than its rows."""
+    rows = read(EXAMPLE[0]).partition(EXAMPLE[1])[2].partition("\n= ")[0]
+    wanted = [digits("+".join(re.findall(it, rows, re.M))) for it in (r"^in 1 (.*) => ", r"^drain 1 => out 1 (.*)$")]
+    example = text.partition("### Worked example")[2].partition("\n## ")[0]
+    events, queued = zip(*(it.split("|")[1:3] for it in example.splitlines() if it.startswith("| `")))
+    shown = ["".join(re.findall(form, "".join(cells))) for form, cells in
+             ((r"`Took 1 ([0-9a-f]+)", events), (r"`([0-9a-f]{6,})`", queued))]
+    if shown != wanted:
+        yield f"the worked example has {shown}, not {wanted}"
+
+
 def wrong_document(document, claims):
     """Yields the errors in a document."""
     text = read(document) or ""
     if rendered(text, claims) != text:
         yield "its tables are not up to date: run this script with --write"
+    if document in NAMED:
+        yield from wrong_names(GENERATED.sub("", text))
+        return
     yield from wrong_text(GENERATED.sub("", text))
+    if document == MODEL:
+        yield from wrong_example(text)
     if document == CLAIMS:
+        yield from wrong_trusted(text)
         promises = PROMISE.findall(text)
         if not promises:
             yield "no promises"
@@ -191,7 +229,7 @@ def main(words):
     passed = 0
     if "--write" in words:
         write(CLAIMS, claims)
-    for document in (CLAIMS, MODEL):
+    for document in (CLAIMS, MODEL, *NAMED):
         faults = [f"{document}: {it}" for it in wrong_document(document, claims)]
         wrong, passed = wrong + faults, passed + (not faults)
     for sample in SAMPLES:

@@ -5,10 +5,11 @@
 
 A link to a file is relative to its document. If it has an anchor, the document that it leads to must have the heading.
 A code span that begins with a folder of the repository is a path, such as `tests/tools/links.py`. It must exist, unless
-it has a word of ANY, which stands for any name, or a sign such as `*`. Links to other hosts are not followed. Each
-document must be the target of a link in another one, except README.md. docs/TESTING.md must name the script of each
-step of the gate, except those in tests/tools. The script also checks itself on SAMPLES. The last line is
-'N passed, M failed'; each link, each path, each document, each script and each sample counts once.
+it has a word of ANY, which stands for any name, or a sign such as `*`. Links to other hosts are not followed. A command
+`make` in code must name targets of the Makefile. Each document must be the target of a link in another one, except
+README.md. docs/TESTING.md must name the script of each step of the gate, except those in tests/tools. The script also
+checks itself on SAMPLES. The last line is 'N passed, M failed'; each link, each path, each target of a document, each
+document, each script and each sample counts once.
 """
 
 import glob
@@ -24,6 +25,8 @@ FENCED = re.compile(r"^ *```.*?^ *```$", re.S | re.M)
 SPAN = re.compile(r"`([^`\n]+)`")
 LINK = re.compile(r"\]\(([^()\s]+)\)")
 HEADING = re.compile(r"^#+ +(.*)$", re.M)
+# A line of code with a command `make`, and its targets.
+MAKE = re.compile(r"(?:^|&& |sudo )make((?: [a-z-]+)+)")
 
 # Folders of the repository whose paths are checked. Others have files that are made.
 FOLDERS = "bench|docs|examples|gateway|include|install|man|tests|crates|\\.ci"
@@ -55,6 +58,13 @@ def named(text):
     yield from ((it, False) for it in SPAN.findall(text)
                 if PATH.fullmatch(it) and not it.startswith(MADE) and not ANY.intersection(re.split(r"[/.]", it)))
     yield from ((it, True) for it in LINK.findall(SPAN.sub("", text)) if not re.match(r"\w+:", it))
+
+
+def made(text):
+    """Returns the targets of the commands `make` in the code of a document."""
+    fenced = [line for it in FENCED.findall(text) for line in it.splitlines()]
+    code = [*fenced, *SPAN.findall(text), *re.findall(r"^    (.*)", text, re.M)]
+    return {target for it in code for targets in MAKE.findall(it) for target in targets.split()}
 
 
 def target_of(document, name, is_link):
@@ -100,6 +110,12 @@ def main():
             else:
                 failed += 1
                 print(f"{document}: {name} does not exist")
+    with open(f"{ROOT}/Makefile", encoding="utf-8") as file:
+        targets = set(re.search(r"^\.PHONY: (.*)$", file.read(), re.M)[1].split())
+    for document, text in texts.items():
+        absent = made(text) - targets
+        passed, failed = passed + len(made(text) & targets), failed + len(absent)
+        print("".join(f"{document}: the Makefile has no target {it}\n" for it in sorted(absent)), end="")
     for document in texts:
         passed, failed = passed + (document in linked), failed + (document not in linked)
         if document not in linked:

@@ -1,10 +1,12 @@
 #!/usr/bin/env python3
-"""Checks that docs/PERFORMANCE.md has the targets of the scripts in bench: tests/tools/targets.py
+"""Checks that documents have the numbers of sources, and docs/PERFORMANCE.md the targets of bench:
+
+    tests/tools/targets.py
 
 An entry of TARGETS has a script, a line of it that sets targets, and texts of the document, in which N is any number.
 The script must have the line, and the document the texts: so whoever changes one must change the other. In a script,
-each name of a target must be in an entry. The last line is 'N passed, M failed'; each entry and each script counts
-once.
+each name of a target must be in an entry. An entry of NUMBERS has a source, a text of it, a document and a text of it,
+likewise. The last line is 'N passed, M failed'; each entry and each script counts once.
 """
 
 import os
@@ -51,6 +53,73 @@ TARGETS = [
     ("directory", "SIZES, SAMPLE, AT_MOST = (1_000, 10_000), 20, 1.3", ["the target is 1.3"]),
 ]
 
+BUILDER, CONFIGS = "crates/coap_model/src/config/builder.rt", "crates/coap_model/specs/Configs.antt"
+LIMITS, SIZES = "crates/coap_conn/specs/Limits.antt", "crates/coap_wire/src/sizes.rt"
+PROXY, UNIT = "install/haproxy.cfg", "install/coap-server.service.in"
+REQUEST, PATH = "crates/coap_store/src/request.rt", "crates/coap_path/src/path.rt"
+READ = "crates/coap_io/src/read_buffer.rt"
+COMPARISON, DEPLOYING, GATEWAYS = "docs/COMPARISON.md", "docs/DEPLOYING.md", "docs/GATEWAYS.md"
+ARCHITECTURE, DECISIONS, GUARANTEES = "docs/ARCHITECTURE.md", "docs/DECISIONS.md", "docs/GUARANTEES.md"
+MODEL, TESTING = "docs/MODEL.md", "docs/TESTING.md"
+
+NUMBERS = [
+    (BUILDER, "connections: 16,", COMPARISON, "| Connections of one server | 16 | 256 |"),
+    (CONFIGS, "c.connections ≤ 256", COMPARISON, "| Connections of one server | 16 | 256 |"),
+    (BUILDER, "dynamic_max: 0,", COMPARISON, "embedding program create | 0 | 1,000 |"),
+    (CONFIGS, "c.dynamic_max ≤ 1000", COMPARISON, "embedding program create | 0 | 1,000 |"),
+    (SIZES, "LARGEST_MESSAGE: usize = 1_048_576;", COMPARISON, "| Message accepted (bytes) | 65,536 | 1,048,576 |"),
+    (SIZES, "LARGEST_SENT_MESSAGE: usize = 65_536;", COMPARISON, "| Message sent (bytes) | 65,536 | 65,536 |"),
+    (SIZES, "DEFAULT_QUEUE: usize = 131_072;", COMPARISON, "connection (bytes) | 131,072 | 4,194,304 |"),
+    (SIZES, "LARGEST_QUEUE: usize = 4_194_304;", COMPARISON, "connection (bytes) | 131,072 | 4,194,304 |"),
+    ("crates/coap_conn/src/limits/builder.rt", "            pending: 16,\n            observers: 16,", COMPARISON,
+     "| Observers, and pending responses, of a connection | 16 each | 256 each |"),
+    (LIMITS, "l.pending ≤ 256", COMPARISON, "of a connection | 16 each | 256 each |"),
+    (LIMITS, "l.observers ≤ 256", COMPARISON, "of a connection | 16 each | 256 each |"),
+    ("crates/coap_wire/src/token.rt", "MAX_TOKEN: usize = 64;", COMPARISON, "| Token (bytes) | 64 | 64 |"),
+    ("crates/coap_path/src/applications.rt", "MAX_ENTRIES: usize = 16;", COMPARISON, "for up to 16 prefixes"),
+    (PROXY, "sc0_conn_cur gt 32 }", DEPLOYING, "| 32 connections of a source, and 100 in 10 s |"),
+    (PROXY, "sc0_conn_rate gt 100 }", DEPLOYING, "| 32 connections of a source, and 100 in 10 s |"),
+    (PROXY, "conn_rate(10s)", DEPLOYING, "| 32 connections of a source, and 100 in 10 s |"),
+    (PROXY, "timeout client 10s", DEPLOYING, "| `timeout client`, `inspect-delay` | 10 s |"),
+    (PROXY, "inspect-delay 10s", DEPLOYING, "| `timeout client`, `inspect-delay` | 10 s |"),
+    (PROXY, "timeout tunnel 15m", DEPLOYING, "| `timeout tunnel` | 15 min |"),
+    (PROXY, "tcp-ut 1m", DEPLOYING, "| `tcp-ut` | 1 min |"),
+    (PROXY, "default-server maxconn 255 ", DEPLOYING, "| `maxconn` of a server | 255 |"),
+    (PROXY, "timeout queue 10s", DEPLOYING, "wait up to 10 s (`timeout queue`)"),
+    (PROXY, "inter 2s fastinter 500ms fall 3", DEPLOYING, "| the check | every 2 s |"),
+    (PROXY, "    maxconn 2000", DEPLOYING, "for `maxconn 2000`"),
+    (PROXY, "hard-stop-after 30s", DEPLOYING, "for 30 s (`hard-stop-after`)"),
+    (UNIT, "LimitNOFILE=512", DEPLOYING, "the unit allows 512"),
+    (UNIT, "RestartSec=5s", DEPLOYING, "systemd restarts it after 5 s"),
+    ("install/coap-mqtt.service.in", "MemoryMax=512M", GATEWAYS, "The unit allows 512 MiB"),
+    ("crates/program_server_common/src/planned.rt", "REP_MAX: usize = 65_000;", DEPLOYING, "of at most 65,000 bytes"),
+    ("crates/coap_model/src/config.rt", "VERSIONS_A_SECOND: u64 = 65_536;", DEPLOYING, "since 1970 times 65,536"),
+    (BUILDER, "MAX_TURNS: u64 = 1_000_000_000_000;", DEPLOYING, "10^12 by default"),
+    (BUILDER, "MAX_TURNS: u64 = 1_000_000_000_000;", GUARANTEES, "(`--turns`, at most 1,000,000,000,000)"),
+    ("crates/coap_client_engine/src/run.rt", "TURNS: u64 = 1_000_000_000_000;", GUARANTEES,
+     "`run_client` with status 4 after 1,000,000,000,000"),
+    ("crates/coap_wire/src/builder.rt", "MAX_OPTIONS: usize = 40;", GUARANTEES, "at most 40 options"),
+    ("crates/coap_wire/src/token.rt", "MAX_TOKEN: usize = 64;", GUARANTEES, "tokens of at most 64 bytes"),
+    (READ, "READ_SIZE: usize = 16_384;", ARCHITECTURE, "a read buffer of 16,384 bytes"),
+    (READ, "READ_SIZE: usize = 16_384;", ARCHITECTURE, "reads up to 16,384 bytes"),
+    (SIZES, "BASE_MESSAGE_SIZE: usize = 1_152;", MODEL, "before it the size is 1,152 bytes"),
+    (PATH, "MAX_SEGMENTS: usize = 16;", MODEL, "at most 16 segments and 255 bytes"),
+    (PATH, "MAX_BYTES: usize = 255;", MODEL, "at most 16 segments and 255 bytes"),
+    (REQUEST, "MAX_DIGITS: usize = 4;", MODEL, "not 1 to 4 digits of at most 3,600"),
+    (REQUEST, "MAX_SECONDS: u16 = 3600;", MODEL, "not 1 to 4 digits of at most 3,600"),
+    (REQUEST, "USUAL_SECONDS: u32 = 5;", MODEL, "after that many seconds, by default 5"),
+    ("crates/coap_request/src/target.rt", "DEFAULT_PORT: u16 = 5_683;", MODEL, "port 5683 by default"),
+    (CONFIGS, "c.dynamic_max ≤ 1000", DECISIONS, "at most 1,000 paths"),
+    (PATH, "MAX_BYTES: usize = 255;", DECISIONS, "A `PathKey` has 255 bytes"),
+    ("crates/coap_sockets/src/door.rt", "for _ in 0..64 {", DECISIONS, "at most a mebibyte"),
+    ("crates/coap_sockets/src/door.rt", "WRITES_BEFORE_READS: usize = 8;", DECISIONS, "more than eight ready sockets"),
+    ("crates/directory_core/src/attributes.rt", "MAX_ATTRIBUTES: usize = 64;", DECISIONS, "at most 64 attributes"),
+    ("tests/mutants/mutants.py", "MOST_IN_GATE = 50", TESTING, "at most 50 mutants"),
+    ("tests/mutants/mutants.py", "MOST_CRATES = 8", TESTING, "of the 8 crates changed last"),
+    ("tests/mutants/changes.py", "MOST_COMMITS = 200", TESTING, "more than 200 commits back"),
+    ("tests/system/mqtt_soak.py", "WRITES, SECONDS = 200_000,", TESTING, "200,000 writes through gateways"),
+]
+
 # Words of the names of targets in these scripts, as words between underscores.
 WORDS = re.compile(r"^([A-Z][A-Z0-9_, ]*) = ", re.M)
 OF_TARGETS = {"TARGET", "TARGETS", "SHARES", "VARIES", "TIMES", "EACH", "TICK", "MORE", "COPIED", "ROOM", "ALONE",
@@ -75,6 +144,11 @@ def wrong(script, line, texts):
                 if not re.search(pattern, read(DOCUMENT)))
 
 
+def wrong_number(source, line, document, text):
+    """Yields each text of an entry of NUMBERS that the source or the document does not have."""
+    yield from (f"{path}: no '{it}'" for path, it in ((source, line), (document, text)) if it not in read(path))
+
+
 def unlisted(script):
     """Returns the names of targets in a script that are in no entry."""
     listed = " ".join(line for other, line, _ in TARGETS if other == script)
@@ -85,8 +159,7 @@ def unlisted(script):
 
 def main():
     passed = failed = 0
-    for entry in TARGETS:
-        lines = list(wrong(*entry))
+    for lines in [*(list(wrong(*it)) for it in TARGETS), *(list(wrong_number(*it)) for it in NUMBERS)]:
         passed, failed = passed + (not lines), failed + bool(lines)
         print("".join(f"{it}\n" for it in lines), end="")
     for script in dict.fromkeys(it for it, _, _ in TARGETS):
