@@ -7,7 +7,8 @@ The script needs Debian's packages haproxy, openssl and libcoap3-bin, and instal
 
 The configuration is the file itself with replacements: pairs of texts, of which the first must be in the file exactly
 once. The replacements adapt the parts that require root, the ports and the certificate. Each check also replaces the
-numbers that it names, with shorter times or smaller counts. The rest is as installed.
+numbers that it names, with shorter times or smaller counts. The rest is as installed. The commands of
+docs/DEPLOYING.md are run too, with stand-ins for systemd.
 
 With --broken, each entry of BROKEN adds one replacement to the configuration of its check. The entry passes if that
 check fails.
@@ -24,6 +25,7 @@ sys.path[:0] = [os.path.join(HERE, "..", "harness"), os.path.join(HERE, "haproxy
 import messages  # noqa: E402
 from balancing import check_drained, check_four, check_full, check_killed, check_stuck  # noqa: E402
 from checks import Checks  # noqa: E402
+from documented import check_documented  # noqa: E402
 from greedy_sources import check_places, check_rate, check_silent  # noqa: E402
 from libcoap_over_tls import check_file, check_libcoap  # noqa: E402
 from packages import install  # noqa: E402
@@ -36,6 +38,7 @@ PACKAGES = {"haproxy": "haproxy", "openssl": "openssl", "coap-client-openssl": "
 CHECKS = [
     check_file, check_libcoap, check_tls, check_constrained, check_certified, check_silent, check_places, check_rate,
     check_idle, check_alive, check_unread, check_full, check_killed, check_drained, check_stuck, check_four,
+    check_documented,
 ]
 
 # The lines of the check of a server in the configuration.

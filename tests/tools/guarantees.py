@@ -21,9 +21,9 @@ The text of docs/GUARANTEES.md and docs/MODEL.md has these names:
 - `name` or `Type::name`: each word occurs in the sources, the definitions, or the tests of the programs;
 - `tests/..` and other paths of files; [`name`](FILE), where the file of definitions defines the name.
 
-In the documents of NAMED, only `name` and `Type::name` are checked, the latter also in blocks of text. The libraries that
-docs/GUARANTEES.md trusts must be those of crates.txt from outside. The worked example of docs/MODEL.md must have the
-bytes of the rows EXAMPLE. The script also checks itself on SAMPLES. The last line is 'N passed, M failed', where N
+In the documents of NAMED, only `name` and `Type::name` are checked, the latter also in blocks of text. The libraries
+that docs/GUARANTEES.md trusts must be those of crates.txt from outside. The worked example of docs/MODEL.md must have
+the bytes of the rows EXAMPLE. The script also checks itself on SAMPLES. The last line is 'N passed, M failed', where N
 counts claims without an error, documents, and samples.
 """
 
@@ -45,7 +45,9 @@ from workspace import ROOT, crates, listed  # noqa: E402
 
 DATA = "docs/guarantees.tsv"
 CLAIMS, MODEL = "docs/GUARANTEES.md", "docs/MODEL.md"
-NAMED = [f"docs/{it}.md" for it in ("ARCHITECTURE", "DECISIONS", "EMBEDDING", "EMBEDDING_C", "GLOSSARY")]
+NAMED = ["CONTRIBUTING.md", *(f"docs/{it}.md" for it in (
+    "ARCHITECTURE", "DECISIONS", "DEPLOYING", "EMBEDDING", "EMBEDDING_C", "GATEWAYS", "GLOSSARY", "PERFORMANCE",
+    "QUICKSTART"))]
 EXAMPLE = "tests/vectors/rows/serve/observers.rows", "= a notification between two responses "
 COLUMNS = ["Part", "Crate", "Claim", "Shown by", "Limits"]
 
@@ -131,10 +133,10 @@ def rendered(text, claims):
 
 @functools.cache
 def words_of_sources():
-    """Returns all words of the sources, the definitions, and the harness of the tests."""
-    patterns = ["crates/*/src/**/*.rt", "crates/*/specs/**/*.antt", "tests/harness/*.[ch]",
-                "tests/system/**/*.py", "include/*.h"]
-    words = {*crates(), "rt"}
+    """Returns all words of the sources, the definitions, the proofs, and the harness of the tests."""
+    patterns = ["crates/*/src/**/*.rt", "crates/*/specs/**/*.antt", "crates/*/proofs/**/*.antt", "tests/harness/*.[ch]",
+                "tests/system/**/*.py", "include/*.h", "gateway/mqtt/*.c"]
+    words = {*crates(), "rt", "HANDLES"}
     for path in (it for one in patterns for it in glob.glob(f"{ROOT}/{one}", recursive=True)):
         with open(path, encoding="utf-8") as it:
             words |= set(re.findall(r"\w+", it.read()))
@@ -169,7 +171,8 @@ def wrong_names(text):
     blocks = re.findall(r"^```text\n(.*?)^```$", text, re.M | re.S)
     names = [*NAME.findall(re.sub(r"^```.*?^```$", "", text, flags=re.M | re.S)),
              *(it for block in blocks for it in re.findall(r"\w+::\w+", block))]
-    yield from (f"no {it} in the sources" for name in names for it in name.split("::") if it not in words_of_sources())
+    words = (it for name in names for it in name.split("::") if not it.startswith("_") and not it.endswith("_"))
+    yield from (f"no {it} in the sources" for it in words if it not in words_of_sources())
 
 
 def wrong_trusted(text):

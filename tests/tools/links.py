@@ -8,8 +8,8 @@ A code span that begins with a folder of the repository is a path, such as `test
 it has a word of ANY, which stands for any name, or a sign such as `*`. Links to other hosts are not followed. A command
 `make` in code must name targets of the Makefile. Each document must be the target of a link in another one, except
 README.md. docs/TESTING.md must name the script of each step of the gate, except those in tests/tools. The script also
-checks itself on SAMPLES. The last line is 'N passed, M failed'; each link, each path, each target of a document, each
-document, each script and each sample counts once.
+checks itself on SAMPLES. The last line is 'N passed, M failed'; each link, path, target of a document, document, script
+and sample counts once.
 """
 
 import glob
