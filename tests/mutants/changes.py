@@ -203,6 +203,16 @@ def differing(runs):
     return sorted(found, key=changed_at, reverse=True)
 
 
+def retyped(runs):
+    """Returns the crates whose edits may have other types than in their last runs: those that differ in an edit, or
+    whose code or specifications differ, or those of a crate below."""
+    below = crates()
+    coded = {it: {crate_of(file) for file in files_since(it) if "/proofs/" not in file} for it in set(runs.values())}
+    edited = {it: {crate for crate, _ in edits_since(it)} for it in set(runs.values())}
+    return {it for it in below
+            if it not in runs or it in edited[runs[it]] or not coded[runs[it]].isdisjoint([it, *below[it]])}
+
+
 def unchanged_head():
     """Returns the commit of HEAD, or an empty text if files of crates or tests differ from it."""
     head = git("rev-parse", "HEAD")

@@ -39,7 +39,8 @@ last run is more than 200 commits back. A crate without one counts as different.
 In every mode, checks are made of all edits. First, the first line must quote a clause of the function that it names
 (tests/mutants/quotes.py has the forms). That function must be one that the edit changes, or one that names a constant
 that the edit changes. The table of layers in docs/TESTING.md must have the numbers of edits. Second, every edit must be
-well typed. For this check, all edits of a crate are put into one copy of the crate, or a few. A function that several
+well typed; the gate leaves out the crates that have the types of their last runs. For this check, all edits of a crate
+are put into one copy of the crate, or a few. A function that several
 edits change has an edited copy for each. The copy of the crate also gets one type error, so that the compiler reports
 all type errors and proves nothing.
 
@@ -144,14 +145,18 @@ def in_turn_from_each(edits, changed, files):
     return [it for one in zip_longest(*order.values()) for it in one if it]
 
 
-def gate_edits(edits):
-    """Returns the edits that the gate tries: of the MOST_CRATES crates that differ from their last runs and were
-    changed last, up to MOST_IN_GATE edits."""
+def last_runs():
+    """Returns the commit of the last run of each crate that had one. Ends the run if one is too old or unknown."""
     try:
-        runs = changes.last_runs()
+        return changes.last_runs()
     except changes.BadRun as why:
         raise SystemExit(f"{changes.LAST_RUNS} {why}: run `make mutants`, and commit that file\n"
                          "0 passed, 1 failed") from None
+
+
+def gate_edits(edits, runs):
+    """Returns the edits that the gate tries after these runs: of the MOST_CRATES crates that differ from theirs and
+    were changed last, up to MOST_IN_GATE edits."""
     every = {it.crate for it in edits}
     names = [it for it in changes.differing(runs) if it in every]
     tried = names[:MOST_CRATES]
@@ -172,14 +177,18 @@ def planned(modes, names, whole):
     if not alone - {"--control"}:
         plan.control = control
     if not alone:
-        rejected = [it for it in whole if it.layer in ("clause", "open")]
-        plan.by_clauses = rejected if modes or names else gate_edits([it for it in rejected if it.layer == "clause"])
+        plan.by_clauses = [it for it in whole if it.layer in ("clause", "open")]
     if "--all" in modes or "--rows" in modes:
         plan.by_rows = [it for it in whole if it.layer == "rows"]
     if "--all" in modes or "--tests" in modes:
         plan.by_tests = [it for it in whole if it.layer in PROGRAMS]
     if not alone - {"--types"}:
         plan.typed = whole + [it for it in control if it.detected_by != "does not compile"]
+    if not modes and not names:
+        runs = last_runs()
+        plan.by_clauses = gate_edits([it for it in plan.by_clauses if it.layer == "clause"], runs)
+        retyped = changes.retyped(runs)
+        plan.typed = [it for it in plan.typed if it.layer == "control" or it.crate in retyped]
     return plan
 
 
