@@ -24,7 +24,8 @@ that can report one, at each of its limits and with enough memory:
 
     takes_the_greatest.rows of frame, queue, link, store, serve, door and run
     serve/stores_the_greatest.rows, serve/maximum_limits.rows, stdio/serves_the_greatest.rows
-    client/the_greatest.rows, calls/announces.rows, script/a_mebibyte.rows, words/greatest_words.rows, target/long.rows
+    client/the_greatest.rows, client/announces.rows, calls/announces.rows, script/a_mebibyte.rows
+    words/greatest_words.rows, target/long.rows
 
 tests/system/alloc_failures.py does the same for the programs.
 

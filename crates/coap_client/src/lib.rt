@@ -17,8 +17,8 @@
 #![tactic(auto)]
 
 pub use coap_client_engine::{
-    Awaited, Cause, Client, ClientFault, Event, Refusal, RunEnd, Taken, explain, run_client,
-    run_to_end,
+    Awaited, Cause, Client, ClientAnnounceFault, ClientFault, Event, Refusal, RunEnd, Taken,
+    explain, run_client, run_to_end,
 };
 pub use coap_command_line::{WordsFault, client_reason, client_words, server_reason, server_words};
 pub use coap_conn::{
@@ -34,7 +34,8 @@ pub use coap_wire::{Code, MessageRef, OptionRef, Token, TokenRef};
 /// Theorems over all clients.
 pub mod laws {
     pub use coap_client_engine::laws::{
-        forgotten_tokens_stay_forgotten, limits_are_kept, messages_are_those_spelled,
-        queued_messages_fit_limit, segmentation_is_irrelevant, tokens_are_given_once,
+        forgotten_tokens_stay_forgotten, last_announced_size_applies, limits_are_kept,
+        messages_are_those_spelled, queued_messages_fit_limit, segmentation_is_irrelevant,
+        tokens_are_given_once,
     };
 }

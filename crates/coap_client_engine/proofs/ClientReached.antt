@@ -1,6 +1,6 @@
 -- Properties of a client after accepted calls, and the state of the client after one more call.
 use Rattle.std.proofs.Common.{◌≡◌, ℕ, ◌≤◌, Bool, true, false, cond, List, [], ◌∷◌, ◌++◌, length, map, take, Some, None}
-use Rattle.std.proofs.Common.{Option, Result, Ok, Err, refl, sym, ap, subst, ◌∙◌, arith}
+use Rattle.std.proofs.Common.{Option, Result, Ok, Err, refl, sym, ap, subst, ◌∙◌, arith, nat_lt, if◌then◌else◌}
 use Rattle.coap_client_engine.specs.Prelude.{nat_le, Message, message_of, StreamFault, OfFrame, Format, Stream}
 use Rattle.coap_client_engine.specs.Prelude.{frame_then}
 use Rattle.coap_client_engine.specs.Prelude.{fault_bytes, FormatFault, Framing, FrameEventValue, Nothing, AFrame}
@@ -12,23 +12,27 @@ use Rattle.coap_client_engine.specs.Prelude.{request_of, cancel_of, ClientValue,
 use Rattle.coap_client_engine.specs.Prelude.{taking_read}
 use Rattle.coap_client_engine.specs.Prelude.{taking_found, taking, is_cut, client_written, client_ended, client_sent}
 use Rattle.coap_client_engine.specs.Prelude.{client_cancelled, client_pinged, client_forgotten, client_released}
-use Rattle.coap_client_engine.specs.Prelude.{ClientCall, Took, Sent, Cancelled, Pinged, Forgot, Released, Wrote, Ended}
-use Rattle.coap_client_engine.specs.Prelude.{ClientStep, Handles, Faults, Requests, Cancels, Pings, Forgets, Releases}
+use Rattle.coap_client_engine.specs.Prelude.{client_announced, announce_refusal, may_announce, ClientAnnounceFault}
+use Rattle.coap_client_engine.specs.Prelude.{ClientCall, Took, Sent, Cancelled, Pinged, Forgot, Released, Announced}
+use Rattle.coap_client_engine.specs.Prelude.{Wrote, Ended, ClientStep, Handles, Faults, Requests, Cancels, Pings}
+use Rattle.coap_client_engine.specs.Prelude.{Forgets, Releases, Announces, size_by, size_in}
 use Rattle.coap_client_engine.specs.Prelude.{Writes, is_none, is_open, may_forget, release, release_refusal, SendFault}
 use Rattle.coap_client_engine.specs.Prelude.{standing_now, stop, with_effect, ReleasedHere}
 use Rattle.coap_client_engine.specs.Prelude.{Ends, taken_by, stream_in, new_fault, steps_by, after_steps, client_after}
 use Rattle.coap_client_engine.specs.Prelude.{handles, takes, event_by, event_of, IsAccepted, AreAccepted, kept_after}
 use Rattle.coap_client_engine.specs.Prelude.{client_of}
 use Rattle.std.proofs.lemmas.Bool.{and_parts, cond_both}
+use Rattle.std.proofs.lemmas.Bool.Decides.{nat_tests}
 use Rattle.std.proofs.lemmas.List.{nil_from_length, take_all}
 use Rattle.coap_conn.specs.Calls as call
 use Rattle.coap_conn.specs.declared.phase.SendFault.TheVariants.{NotOpen}
 use Rattle.coap_conn.proofs.LinkLemmas.{new_shown, shows, shown_after}
+use Rattle.coap_conn.proofs.AnnounceLaws.{own_stays, announced_after}
 use Rattle.coap_client_engine.specs.ClientWorld as client
 use Rattle.coap_frame.proofs.FrontLaws.{front, front_whole, added_by, added_front, front_kept}
-use Rattle.coap_client_engine.proofs.ClientSteps.{stream_stays, stream_first, stream_rest_unfinished, client_first}
-use Rattle.coap_client_engine.proofs.ClientSteps.{client_same, client_step, client_more, by_calls, AddsTo, take_adds}
-use Rattle.coap_client_engine.proofs.ClientSteps.{empty_take_stream, empty_take_steps}
+use Rattle.coap_client_engine.proofs.ClientSteps.{size_with_call, stream_stays, stream_first, stream_rest_unfinished}
+use Rattle.coap_client_engine.proofs.ClientSteps.{client_first, client_same, client_step, client_more, by_calls, AddsTo}
+use Rattle.coap_client_engine.proofs.ClientSteps.{take_adds, empty_take_stream, empty_take_steps}
 
 -- ---- steps
 
@@ -47,6 +51,9 @@ step_limits h (Pings custody) = limits_if _ h _ refl
 step_limits h (Forgets token) = limits_if (may_forget (link_of h) token) h _ refl
 step_limits h Releases =
     limits_if (is_none (release_refusal (link_of h))) h (after h call.Release) (limits_if (is_open h.phase) h _ refl)
+step_limits h (Announces size) =
+    limits_if (is_none (announce_refusal (link_of h) size)) h (after h (call.Announce size))
+    (limits_if (may_announce (link_of h) size) h _ refl)
 step_limits h (Writes n) = refl
 step_limits h (Ends cut) = limits_if (takes_messages h.phase) h _ refl
 
@@ -104,6 +111,29 @@ pub release_step : (h : History) → release_refusal (link_of h) ≡ None → cl
 unfolding client.step
 release_step h none = ap (λ (r : Option SendFault). cond (is_none r) (after h call.Release) h) none
 
+-- An announcement that is not refused is sent, keeps the phase, and the size is not below the current one.
+pub announce_sent : (l : LinkValue) (size : ℕ) → announce_refusal l size ≡ None
+    → (may_announce l size ≡ true) × (l.own_max ≤ size)
+announce_sent l size none = (grind (arith, nat_tests), grind (arith, nat_tests))
+
+pub announce_phase : (h : History) (size : ℕ) → (after h (call.Announce size)).phase ≡ h.phase
+announce_phase h size = phase_if (may_announce (link_of h) size) h _ refl
+
+pub announce_step : (h : History) (size : ℕ) → announce_refusal (link_of h) size ≡ None
+    → client.step h (Announces size) ≡ after h (call.Announce size)
+unfolding client.step
+announce_step h size none =
+    ap (λ (r : Option ClientAnnounceFault). cond (is_none r) (after h (call.Announce size)) h) none
+
+larger_size : (own size : ℕ) → own ≤ size → size ≡ (if nat_lt own size then size else own)
+larger_size own size within = grind (arith, nat_tests)
+
+announce_size : (h : History) (size : ℕ) → announce_refusal (link_of h) size ≡ None
+    → (after h (call.Announce size)).own_max ≡ size_by (Announced size) h.own_max
+announce_size h size none =
+    let may = announce_sent (link_of h) size none in
+    ap (λ (k : History). k.own_max) (announced_after h size may.0) ∙ larger_size h.own_max size may.1
+
 -- If no message is accepted, no bytes are buffered.
 kept_none : (h : History) (rest : List ℕ) → takes_messages h.phase ≡ false → kept_after h rest ≡ []
 kept_none h rest e = rw e refl
@@ -156,6 +186,7 @@ record IsTaken (h : History) (taken : ClientTakeOutcome) (n : ℕ) (ss : List Cl
   client : taken.client ≡ left (after_steps h ss) added.rest
   is_history : IsHistory (after_steps h ss)
   live : takes_messages (after_steps h ss).phase ≡ true → added.fault ≡ None
+  size : (after_steps h ss).own_max ≡ h.own_max
 
 true_false : (b : Bool) → b ≡ false → b ≡ true → ⊥
 true_false true e now = absurd cc
@@ -179,6 +210,7 @@ module _ (h : History) (is : IsHistory h) (live : takes_messages h.phase ≡ tru
             (sym (kept_none (after h (call.Reject r)) rest over));
         is_history = now.is_history;
         live = λ takes. absurd (true_false _ over takes);
+        size = own_stays h (call.Reject r) refl;
       }
 
   taken_message : (count : ℕ) (m : Message) → IsTaken h (taking_read (client_shown h kept) count (Ok m)) count
@@ -195,6 +227,7 @@ module _ (h : History) (is : IsHistory h) (live : takes_messages h.phase ≡ tru
             (sym (nil_if (takes_messages (after h (call.Handle m)).phase)));
         is_history = now.is_history;
         live = λ takes. refl;
+        size = own_stays h (call.Handle m) refl;
       }
 
   taken_read : (count : ℕ) (frame : List ℕ) (r : Result Message FormatFault)
@@ -211,6 +244,7 @@ module _ (h : History) (is : IsHistory h) (live : takes_messages h.phase ≡ tru
     client = ap (λ (k : List ℕ). record { frame = k; link = link_of h }) (all ∙ sym (kept_all h (kept ++ bytes) live));
     is_history = is;
     live = λ takes. refl;
+    size = refl;
   }
 
   taken_found : (f : Framing) (found : FrameEventValue) → (found ≡ Nothing → f.kept ≡ kept ++ bytes)
@@ -221,11 +255,13 @@ module _ (h : History) (is : IsHistory h) (live : takes_messages h.phase ≡ tru
 
 -- ---- the state after accepted calls
 
--- The history satisfies its invariant. If messages are accepted, the stream has no fault.
+-- The history satisfies its invariant. If messages are accepted, the stream has no fault. The size of the largest
+-- message that is accepted is the one announced last.
 pub record CallsReach (limits : LimitValues) (tokens : ℕ) (calls : List ClientCall) : Type 0 where
   pub is_history : IsHistory (client_after limits tokens calls)
   pub live : takes_messages (client_after limits tokens calls).phase ≡ true
       → (stream_in limits.max_message calls).fault ≡ None
+  pub size : (client_after limits tokens calls).own_max ≡ size_in limits.max_message calls
 
 -- The client after calls.
 pub after_of : (limits : LimitValues) (tokens : ℕ) (calls : List ClientCall)
@@ -244,6 +280,10 @@ module _ (limits : LimitValues) (tokens : ℕ) (calls : List ClientCall) where
   abbrev calls_stream : Stream
   calls_stream = stream_in limits.max_message calls
 
+  -- The size of the largest message that is accepted before the call.
+  abbrev size_before : ℕ
+  size_before = size_in limits.max_message calls
+
   -- ---- a call that takes no byte and makes one step
 
   step_left : (c : ClientCall) (s : ClientStep) → steps_by max_taken calls c ≡ s ∷ [] → taken_by c ≡ []
@@ -254,22 +294,31 @@ module _ (limits : LimitValues) (tokens : ℕ) (calls : List ClientCall) where
       (client_step limits tokens calls c s one)
       ∙ ap (λ (u : Stream). left (client.step h s) u.rest) (stream_stays max_taken calls c none)
 
+  -- The size after a call that leaves this history.
+  size_reached : (c : ClientCall) (k : History) → client_after limits tokens (calls ++ c ∷ []) ≡ k
+      → CallsReach limits tokens calls → k.own_max ≡ size_by c h.own_max
+      → (client_after limits tokens (calls ++ c ∷ [])).own_max ≡ size_in limits.max_message (calls ++ c ∷ [])
+  size_reached c k now before size =
+      ap (λ (g : History). g.own_max) now ∙ size ∙ ap (size_by c) before.size ∙ sym (size_with_call max_taken calls c)
+
   bare_call_reached : (c : ClientCall) (s : ClientStep) (k : History) → steps_by max_taken calls c ≡ s ∷ []
       → taken_by c ≡ [] → client.step h s ≡ k → CallsReach limits tokens calls → IsHistory k
-      → (takes_messages k.phase ≡ true → takes_messages h.phase ≡ true) → CallsReach limits tokens (calls ++ c ∷ [])
-  bare_call_reached c s k one none makes before is from =
+      → (takes_messages k.phase ≡ true → takes_messages h.phase ≡ true) → k.own_max ≡ size_by c h.own_max
+      → CallsReach limits tokens (calls ++ c ∷ [])
+  bare_call_reached c s k one none makes before is from size =
       let now : client_after limits tokens (calls ++ c ∷ []) ≡ k = client_step limits tokens calls c s one ∙ makes in
       record {
         is_history = subst IsHistory (sym now) is;
         live = λ takes. ap (λ (u : Stream). u.fault) (stream_stays max_taken calls c none)
             ∙ before.live (from (subst (λ (g : History). takes_messages g.phase ≡ true) now takes));
+        size = size_reached c k now before size;
       }
 
   same_reached : (c : ClientCall) (s : ClientStep) (k : History) → steps_by max_taken calls c ≡ s ∷ [] → taken_by c ≡ []
       → client.step h s ≡ k → CallsReach limits tokens calls → IsHistory k → k.phase ≡ h.phase
-      → CallsReach limits tokens (calls ++ c ∷ [])
-  same_reached c s k one none makes before is same =
-      bare_call_reached c s k one none makes before is (λ takes. sym (ap takes_messages same) ∙ takes)
+      → k.own_max ≡ size_by c h.own_max → CallsReach limits tokens (calls ++ c ∷ [])
+  same_reached c s k one none makes before is same size =
+      bare_call_reached c s k one none makes before is (λ takes. sym (ap takes_messages same) ∙ takes) size
 
   -- ---- a take
 
@@ -285,15 +334,16 @@ module _ (limits : LimitValues) (tokens : ℕ) (calls : List ClientCall) where
           is_history = subst IsHistory (sym now) before.is_history;
           live = λ takes. ap (λ (u : Stream). u.fault) (empty_take_stream max_taken calls)
               ∙ before.live (subst (λ (g : History). takes_messages g.phase ≡ true) now takes);
+          size = size_reached (Took []) h now before refl;
         }
 
     -- At least one byte of a slice is accepted.
     module _ (piece : List ℕ) (does : handles h ≡ true) where
       abbrev found_of_piece : Framing
-      found_of_piece = framing limits.max_message calls_stream.rest piece
+      found_of_piece = framing size_before calls_stream.rest piece
 
       abbrev taken : List ℕ
-      taken = front limits.max_message calls_stream.rest piece
+      taken = front size_before calls_stream.rest piece
 
       abbrev added : Stream
       added = added_by calls_stream.rest taken found_of_piece.finding
@@ -310,13 +360,13 @@ module _ (limits : LimitValues) (tokens : ℕ) (calls : List ClientCall) where
       found_adds : AddsTo max_taken calls taken added
       found_adds =
           take_adds max_taken calls taken added stream_has_no_fault
-          (added_front max_taken calls_stream.rest piece (stream_rest_unfinished max_taken calls stream_has_no_fault))
+          (added_front size_before calls_stream.rest piece (stream_rest_unfinished max_taken calls stream_has_no_fault))
 
       found_taken : IsTaken h (taking_found (client_shown h calls_stream.rest) found_of_piece found_of_piece.finding)
           found_of_piece.taken (steps_found found_of_piece.finding) added
       found_taken =
           taken_found h before.is_history takes_now calls_stream.rest taken found_of_piece found_of_piece.finding
-          (front_kept max_taken calls_stream.rest piece)
+          (front_kept size_before calls_stream.rest piece)
 
       found_steps : steps_by max_taken calls (Took taken) ≡ steps_found found_of_piece.finding
       found_steps = found_adds.steps ∙ added_steps calls_stream.rest taken found_of_piece.finding
@@ -329,6 +379,7 @@ module _ (limits : LimitValues) (tokens : ℕ) (calls : List ClientCall) where
         is_history = subst IsHistory (sym found_after) found_taken.is_history;
         live = λ takes. ap (λ (u : Stream). u.fault) found_adds.stream
             ∙ found_taken.live (subst (λ (g : History). takes_messages g.phase ≡ true) found_after takes);
+        size = size_reached (Took taken) after_found found_after before found_taken.size;
       }
 
       found_left : client_of limits tokens (after_take taken) ≡ left after_found added.rest
@@ -344,16 +395,15 @@ module _ (limits : LimitValues) (tokens : ℕ) (calls : List ClientCall) where
           ap (λ (v : ClientValue). taking v piece)
           (after_of limits tokens calls ∙ ap (client_shown h) (kept_all h calls_stream.rest takes_now))
           ∙ ap (λ (b : Bool). cond b
-          (taking_found (client_shown h calls_stream.rest) (framing h.limits.max_message calls_stream.rest piece)
-          (framing h.limits.max_message calls_stream.rest piece).finding)
+          (taking_found (client_shown h calls_stream.rest) (framing h.own_max calls_stream.rest piece)
+          (framing h.own_max calls_stream.rest piece).finding)
           (record { count = 0; client = client_shown h calls_stream.rest; event = None })) does
-          ∙ ap (λ (l : LimitValues). taking_found (client_shown h calls_stream.rest)
-          (framing l.max_message calls_stream.rest piece) (framing l.max_message calls_stream.rest piece).finding)
-          (limits_same limits tokens calls)
+          ∙ ap (λ (n : ℕ). taking_found (client_shown h calls_stream.rest) (framing n calls_stream.rest piece)
+          (framing n calls_stream.rest piece).finding) before.size
 
-      takes_is : (other : List ℕ) → takes limits tokens calls other ≡ (framing max_taken calls_stream.rest other).taken
+      takes_is : (other : List ℕ) → takes limits tokens calls other ≡ (framing size_before calls_stream.rest other).taken
       unfolding takes
-      takes_is other = ap (λ (b : Bool). cond b (framing max_taken calls_stream.rest other).taken 0) does
+      takes_is other = ap (λ (b : Bool). cond b (framing size_before calls_stream.rest other).taken 0) does
 
       front_is_taken : take (takes limits tokens calls piece) piece ≡ taken
       front_is_taken = ap (λ (n : ℕ). take n piece) (takes_is piece)
@@ -362,7 +412,7 @@ module _ (limits : LimitValues) (tokens : ℕ) (calls : List ClientCall) where
       unfolding IsAccepted
       front_is_accepted =
           takes_is taken
-          ∙ front_whole max_taken calls_stream.rest piece (stream_rest_unfinished max_taken calls stream_has_no_fault)
+          ∙ front_whole size_before calls_stream.rest piece (stream_rest_unfinished max_taken calls stream_has_no_fault)
 
   -- The definitions give the accepted bytes and the event, and the remaining state is the client after the call.
   pub record IsTakenAndTold (piece bytes : List ℕ) : Type 0 where
@@ -372,7 +422,7 @@ module _ (limits : LimitValues) (tokens : ℕ) (calls : List ClientCall) where
     pub accepted : IsAccepted limits tokens calls (Took bytes)
 
   told_front : (before : CallsReach limits tokens calls) (piece : List ℕ) (does : handles h ≡ true)
-      → IsTakenAndTold piece (front limits.max_message calls_stream.rest piece)
+      → IsTakenAndTold piece (front size_before calls_stream.rest piece)
   unfolding event_of
   told_front before piece does = record {
     count =
@@ -390,7 +440,7 @@ module _ (limits : LimitValues) (tokens : ℕ) (calls : List ClientCall) where
   -- No byte is accepted if there is no room or no message is accepted.
   takes_nothing : (piece : List ℕ) → handles h ≡ false → takes limits tokens calls piece ≡ 0
   unfolding takes
-  takes_nothing piece not = ap (λ (b : Bool). cond b (framing max_taken calls_stream.rest piece).taken 0) not
+  takes_nothing piece not = ap (λ (b : Bool). cond b (framing size_before calls_stream.rest piece).taken 0) not
 
   taking_without_room : (piece : List ℕ) → handles h ≡ false → taking (client_of limits tokens calls) piece
       ≡ record { count = 0; client = client_of limits tokens calls; event = None }
@@ -398,7 +448,7 @@ module _ (limits : LimitValues) (tokens : ℕ) (calls : List ClientCall) where
   taking_without_room piece not =
       let v : ClientValue = client_of limits tokens calls in
       ap (λ (b : Bool). cond b
-      (taking_found v (framing h.limits.max_message v.frame piece) (framing h.limits.max_message v.frame piece).finding)
+      (taking_found v (framing h.own_max v.frame piece) (framing h.own_max v.frame piece).finding)
       (record { count = 0; client = v; event = None })) not
 
   empty_take_left : client_of limits tokens (after_take []) ≡ client_of limits tokens calls
@@ -437,7 +487,7 @@ module _ (limits : LimitValues) (tokens : ℕ) (calls : List ClientCall) where
   take_is_reached : (bytes : List ℕ) (does : Bool) → handles h ≡ does → CallsReach limits tokens calls
       → takes limits tokens calls bytes ≡ length bytes → CallsReach limits tokens (after_take bytes)
   take_is_reached bytes true e before all =
-      let whole : front limits.max_message calls_stream.rest bytes ≡ bytes = sym (front_is_taken before bytes e)
+      let whole : front size_before calls_stream.rest bytes ≡ bytes = sym (front_is_taken before bytes e)
       ∙ ap (λ (n : ℕ). take n bytes) all ∙ take_all (length bytes) bytes (omega arith) in
       subst (λ (bs : List ℕ). CallsReach limits tokens (after_take bs)) whole (found_piece_reached before bytes e)
   take_is_reached bytes false e before all =
@@ -452,35 +502,43 @@ module _ (limits : LimitValues) (tokens : ℕ) (calls : List ClientCall) where
       let m : Message = request_of method target extras in
       let now = shown_after h (call.Request m extras.observe) tt before.is_history in
       same_reached (Sent method target extras) (Requests m extras.observe) _ refl refl refl before
-      now.is_history (asking_phase h _ _)
+      now.is_history (asking_phase h _ _) (own_stays h (call.Request m extras.observe) refl)
   call_reached (Cancelled token target extras) before none =
       let m : Message = cancel_of target extras in
       let now = shown_after h (call.Cancel token m) tt before.is_history in
       same_reached (Cancelled token target extras) (Cancels token m) _ refl refl refl before
-      now.is_history (cancel_phase h token m)
+      now.is_history (cancel_phase h token m) (own_stays h (call.Cancel token m) refl)
   call_reached (Pinged custody) before none =
       let now = shown_after h (call.Ping custody) tt before.is_history in
       same_reached (Pinged custody) (Pings custody) _ refl refl refl before now.is_history (asking_phase h _ _)
+      (own_stays h (call.Ping custody) refl)
   call_reached (Forgot token) before may =
       let now = shown_after h (call.Forget token) tt before.is_history in
       same_reached (Forgot token) (Forgets token) _ refl refl refl before now.is_history (forget_phase h token)
+      (own_stays h (call.Forget token) refl)
   call_reached Released before none =
       let now = shown_after h call.Release tt before.is_history in
       bare_call_reached Released Releases (after h call.Release) refl refl (release_step h none) before now.is_history
-      (λ takes. absurd (true_false _ (release_over h (release_open h none)) takes))
+      (λ takes. absurd (true_false _ (release_over h (release_open h none)) takes)) (own_stays h call.Release refl)
+  call_reached (Announced size) before none =
+      let now = shown_after h (call.Announce size) tt before.is_history in
+      same_reached (Announced size) (Announces size) (after h (call.Announce size)) refl refl
+      (announce_step h size none) before now.is_history (announce_phase h size) (announce_size h size none)
   call_reached (Wrote n) before few =
       let now = shown_after h (call.Written n) few before.is_history in
-      same_reached (Wrote n) (Writes n) _ refl refl refl before now.is_history refl
+      same_reached (Wrote n) (Writes n) _ refl refl refl before now.is_history refl refl
   call_reached Ended before none =
       let cut : Bool = is_cut calls_stream.rest in
       let now = shown_after h (call.End cut) tt before.is_history in
       bare_call_reached Ended (Ends cut) _ refl refl refl before now.is_history
-      (λ takes. absurd (true_false _ (end_over h cut) takes))
+      (λ takes. absurd (true_false _ (end_over h cut) takes)) (own_stays h (call.End cut) refl)
 
 no_call_reached : (limits : LimitValues) (tokens : ℕ) → CallsReach limits tokens []
+unfolding size_in
 no_call_reached limits tokens = record {
   is_history = subst IsHistory (sym (client_first limits tokens)) (new_shown Client limits tokens _ refl).is_history;
   live = λ takes. ap (λ (u : Stream). u.fault) (stream_first limits.max_message);
+  size = ap (λ (h : History). h.own_max) (client_first limits tokens);
 }
 
 -- The state after any accepted calls.
@@ -562,6 +620,15 @@ module _ (limits : LimitValues) (tokens : ℕ) (calls : List ClientCall) (before
       (sym (kept_none k rest_so_far (release_over now (release_open now none))))
       ∙ ap (λ (g : History). left g rest_so_far) (sym (release_step now none))
       ∙ sym (step_left limits tokens calls Released Releases refl refl)
+
+  pub announced_left : (size : ℕ) → announce_refusal (link_of now) size ≡ None
+      → client_announced (client_of limits tokens calls) size ≡ client_of limits tokens (calls ++ Announced size ∷ [])
+  unfolding steps_by
+  announced_left size none =
+      same_left (Announced size) (Announces size) (after now (call.Announce size)) _ refl refl
+      (announce_step now size none) (announce_phase now size)
+      (shows (client_of limits tokens calls).link _ (call.Announce size) tt refl now
+      (record { is_history = before.is_history; same = client_link })).same
 
   pub wrote_left : (n : ℕ) → n ≤ length (client_of limits tokens calls).link.waiting
       → client_written (client_of limits tokens calls) n ≡ client_of limits tokens (calls ++ Wrote n ∷ [])

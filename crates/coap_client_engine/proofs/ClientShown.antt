@@ -1,6 +1,7 @@
 -- If the clauses of a call hold for the value of a client, `ClientShows` holds for the client after the call.
 use Rattle.std.proofs.Common.{◌≡◌, ℕ, ◌≤◌, Bool, true, false, cond, List, [], ◌∷◌, ◌++◌, length, take, Option, Some}
-use Rattle.std.proofs.Common.{None, Result, Ok, Err, refl, sym, ap, subst, ◌∙◌}
+use Rattle.std.proofs.Common.{None, Result, Ok, Err, refl, sym, ap, subst, ◌∙◌, arith}
+use Rattle.std.proofs.lemmas.Bool.Decides.{nat_tests}
 use Rattle.coap_client_engine.specs.Prelude.{IfOk, OnOk, Message, RefusedBy, else_refusal, new_refusal, asking_refusal}
 use Rattle.coap_client_engine.specs.Prelude.{observation_refusal, cancel_refusal, next_token, with_token, TooBig}
 use Rattle.coap_client_engine.specs.Prelude.{RequestFault, Client, LimitValues, LinkValue, asking_in, link_of}
@@ -10,6 +11,8 @@ use Rattle.coap_client_engine.specs.Prelude.{has_long_extra, ClientValue, Client
 use Rattle.coap_client_engine.specs.Prelude.{client_written}
 use Rattle.coap_client_engine.specs.Prelude.{client_ended, client_sent, client_cancelled, client_pinged, send_refusal}
 use Rattle.coap_client_engine.specs.Prelude.{client_forgotten, client_released, may_forget, release_refusal}
+use Rattle.coap_client_engine.specs.Prelude.{client_announced, announce_refusal, Announced, is_open, free_in, fits}
+use Rattle.coap_client_engine.specs.Prelude.{limit_in, own_csm}
 use Rattle.coap_client_engine.specs.Prelude.{cancelling_refusal, ping_refusal, ClientCall, Took, Sent, Cancelled}
 use Rattle.coap_client_engine.specs.Prelude.{Pinged, Forgot, Released}
 use Rattle.std.specs.Prelude.{is_ok}
@@ -20,7 +23,8 @@ use Rattle.coap_conn.proofs.LinkLemmas.{new_shown}
 use Rattle.coap_client_engine.proofs.ClientSteps.{stream_first, client_first, accepted_no_call, accepted_with_call}
 use Rattle.coap_client_engine.proofs.ClientReached.{limits_same, CallsReach, accepted_reach, after_of, client_link}
 use Rattle.coap_client_engine.proofs.ClientReached.{IsTakenAndTold, takes_and_tells, sent_left, cancelled_left}
-use Rattle.coap_client_engine.proofs.ClientReached.{pinged_left, forgotten_left, released_left, wrote_left, ended_left}
+use Rattle.coap_client_engine.proofs.ClientReached.{pinged_left, forgotten_left, released_left, announced_left}
+use Rattle.coap_client_engine.proofs.ClientReached.{wrote_left, ended_left}
 
 -- `ClientShows` holds for the client after accepted calls.
 shows_client_of : (limits : LimitValues) (tokens : ℕ) (calls : List ClientCall) (v : ClientValue)
@@ -115,6 +119,14 @@ module _ (v : ClientValue) (tokens : ℕ) (calls : List ClientCall) (shows : Cli
       call_is_shown Released client_released unrefused
       (released_left v.link.limits tokens calls before unrefused) new is
 
+  announced_on : (size : ℕ) → announce_refusal v.link size ≡ None → (new : ClientValue) → new ≡ client_announced v size
+      → ClientShows new tokens (calls ++ Announced size ∷ [])
+  unfolding IsAccepted
+  announced_on size none new is =
+      let unrefused = ap (λ (l : LinkValue). announce_refusal l size) (sym link_is) ∙ none in
+      call_is_shown (Announced size) (λ u. client_announced u size) unrefused
+      (announced_left v.link.limits tokens calls before size unrefused) new is
+
   wrote_on : (n : ℕ) → n ≤ length v.link.waiting → (new : ClientValue) → new ≡ client_written v n
       → ClientShows new tokens (calls ++ Wrote n ∷ [])
   unfolding IsAccepted
@@ -150,7 +162,7 @@ module _ (v : ClientValue) (tokens : ℕ) (calls : List ClientCall) (shows : Cli
       (call_is_shown (Took (take (takes v.link.limits tokens calls piece) piece)) (λ u. (taking u piece).client)
       (piece_is_told piece).accepted (piece_is_told piece).client (taking v piece).client refl)
 
--- ---- send, cancel, ping, forget, release
+-- ---- send, cancel, ping, forget, release, announce
 
 pub sent_shown : {T : Type 0} (r : Result T RequestFault) (v new : ClientValue) (method : Method) (target : TargetValue)
     (extras : ExtrasValue) → RefusedBy r (send_refusal v.link method target extras)
@@ -188,6 +200,16 @@ forgotten_shown (Err e) v new token may is = tt
 pub released_shown : (v new : ClientValue) → release_refusal v.link ≡ None → new ≡ client_released v → (tokens : ℕ)
     (calls : List ClientCall) → ClientShows v tokens calls → ClientShows new tokens (calls ++ Released ∷ [])
 released_shown v new none is tokens calls shows = released_on v tokens calls shows none new is
+
+-- An announcement that passes each check is not refused.
+pub unrefused : (l : LinkValue) (size : ℕ) → is_open l.phase ≡ true → l.own_max ≤ size → size ≤ 1048576
+    → l.limits.max_sent ≤ free_in l → fits (limit_in l) (own_csm size) ≡ true → announce_refusal l size ≡ None
+unrefused l size opened low high room fit = grind (arith, nat_tests)
+
+pub announced_shown : (v new : ClientValue) (size : ℕ) → announce_refusal v.link size ≡ None
+    → new ≡ client_announced v size → (tokens : ℕ) (calls : List ClientCall) → ClientShows v tokens calls
+    → ClientShows new tokens (calls ++ Announced size ∷ [])
+announced_shown v new size none is tokens calls shows = announced_on v tokens calls shows size none new is
 
 -- The same for the parts of a client: the bytes that it buffers, and its link before and after the call.
 abbrev client_of_parts : List ℕ → LinkValue → ClientValue

@@ -1,17 +1,19 @@
 -- Lists of calls: their bytes, their steps, the connection after them, and which calls are accepted.
-use Rattle.std.proofs.Common.{◌≡◌, ℕ, List, [], ◌∷◌, ◌++◌, length, map, Option, Some, None, refl, sym, ap, subst, ◌∙◌}
-use Rattle.std.proofs.Common.{append_assoc}
+use Rattle.std.proofs.Common.{◌≡◌, ℕ, ◌-◌, ◌<◌, ◌≤◌, List, [], ◌∷◌, ◌++◌, length, map, Option, Some, None, refl, sym, ap}
+use Rattle.std.proofs.Common.{subst, ◌∙◌, append_assoc, arith}
 use Rattle.coap_client_engine.specs.Prelude.{flat_map, Message, Unfinished, prefix_kind, StreamFault, Stream, split}
-use Rattle.coap_client_engine.specs.Prelude.{behind}
+use Rattle.coap_client_engine.specs.Prelude.{sized_split, sizes_first, constant_size, behind}
 use Rattle.coap_client_engine.specs.Prelude.{continued, split_on, framing, LimitValues, History, new_history, Client}
 use Rattle.coap_client_engine.specs.Prelude.{ClientCall, Took, ClientStep, Handles, taken_by, stream_in, new_fault}
-use Rattle.coap_client_engine.specs.Prelude.{beyond}
+use Rattle.coap_client_engine.specs.Prelude.{size_by, size_in, sizes_in, beyond, AllByRecursion, KeepsSize}
 use Rattle.coap_client_engine.specs.Prelude.{steps_by, steps_behind, steps_of, after_steps, client_after, IsAccepted}
 use Rattle.coap_client_engine.specs.Prelude.{AreAcceptedBehind, AreAccepted}
-use Rattle.std.proofs.lemmas.List.{append-nil}
+use Rattle.std.proofs.lemmas.Bool.Decides.{nat_tests}
+use Rattle.std.proofs.lemmas.List.{append-nil, length-append}
 use Rattle.std.proofs.lemmas.List.Concat.{flat_map-append}
 use Rattle.std.proofs.Math.Seq.{drop-length, drop-append_seam}
-use Rattle.coap_wire.proofs.StreamSteps.{unfinished_empty, split_unfinished, split_goes_on, split_rest}
+use Rattle.coap_wire.proofs.StreamSteps.{unfinished_empty, split_unfinished, split_is, split_same_to}
+use Rattle.coap_wire.proofs.SizesLaws.{first_always, went_on, left_unfinished}
 use Rattle.coap_client_engine.specs.ClientWorld as client
 use Rattle.coap_frame.proofs.FrontLaws.{added_by, added_whole}
 
@@ -24,27 +26,126 @@ taken_with_call calls c =
     flat_map-append taken_by calls (c ∷ [])
     ∙ ap (λ (t : List ℕ). flat_map taken_by calls ++ t) (append-nil (taken_by c))
 
+-- ---- sizes
+
+-- The size after one more call.
+pub size_with_call : (M : ℕ) (calls : List ClientCall) (c : ClientCall)
+    → size_in M (calls ++ c ∷ []) ≡ size_by c (size_in M calls)
+unfolding size_in
+size_with_call M [] c = refl
+size_with_call M (d ∷ calls) c = size_with_call (size_by d M) calls c
+
+-- The size never decreases.
+size_rises : (c : ClientCall) (M : ℕ) → M ≤ size_by c M
+size_rises c M = grind (arith, nat_tests)
+
+pub size_grows : (M : ℕ) (calls : List ClientCall) → M ≤ size_in M calls
+unfolding size_in
+size_grows M [] = omega arith
+size_grows M (c ∷ calls) = omega (arith, size_rises c M, size_grows (size_by c M) calls)
+
+-- Accepted bytes do not change the sizes.
+pub sizes_with_take : (M : ℕ) (calls : List ClientCall) (bytes : List ℕ)
+    → sizes_in M (calls ++ Took bytes ∷ []) ≡ sizes_in M calls
+unfolding sizes_in
+sizes_with_take M [] bytes = first_always (length bytes) M
+sizes_with_take M (c ∷ calls) bytes =
+    ap (sizes_first (length (taken_by c)) M) (sizes_with_take (size_by c M) calls bytes)
+
+-- No earlier size was larger than the current one.
+sizes_within : (M : ℕ) (calls : List ClientCall) (at : ℕ) → sizes_in M calls at ≤ size_in M calls
+unfolding size_in sizes_in
+sizes_within M [] at = omega arith
+sizes_within M (c ∷ calls) at =
+    let N : ℕ = size_by c M in
+    grind (
+      arith,
+      nat_tests,
+      size_rises c M,
+      size_grows N calls,
+      sizes_within N calls (at - length (taken_by c)),
+    )
+
+-- The current size applies to the bytes that follow.
+sizes_now : (M : ℕ) (calls : List ClientCall) (at : ℕ) → length (flat_map taken_by calls) ≤ at
+    → sizes_in M calls at ≡ size_in M calls
+unfolding size_in sizes_in
+sizes_now M [] at past = refl
+sizes_now M (c ∷ calls) at past =
+    let whole = length-append (taken_by c) (flat_map taken_by calls) in
+    grind (arith, nat_tests, sizes_now (size_by c M) calls (at - length (taken_by c)))
+
+-- A call does not change the sizes of its own and earlier bytes.
+sizes_before : (M : ℕ) (calls : List ClientCall) (c : ClientCall) (at : ℕ)
+    → at < length (flat_map taken_by (calls ++ c ∷ [])) → sizes_in M (calls ++ c ∷ []) at ≡ sizes_in M calls at
+unfolding sizes_in
+sizes_before M [] c at within = grind (arith, nat_tests, length-append (taken_by c) [])
+sizes_before M (d ∷ calls) c at within =
+    let whole = length-append (taken_by d) (flat_map taken_by (calls ++ c ∷ [])) in
+    grind (arith, nat_tests, sizes_before (size_by d M) calls c (at - length (taken_by d)))
+
+-- ---- the stream
+
+-- The bytes of a call are read with the sizes before it.
+pub read_before : (M : ℕ) (calls : List ClientCall) (c : ClientCall)
+    → stream_in M (calls ++ c ∷ []) ≡ sized_split (sizes_in M calls) (flat_map taken_by calls ++ taken_by c)
+read_before M calls c =
+    split_same_to (sizes_in M (calls ++ c ∷ [])) (sizes_in M calls) (flat_map taken_by (calls ++ c ∷ []))
+    (sizes_before M calls c) ∙ ap (sized_split (sizes_in M calls)) (taken_with_call calls c)
+
 -- A call without bytes keeps the stream.
 pub stream_stays : (M : ℕ) (calls : List ClientCall) (c : ClientCall) → taken_by c ≡ []
     → stream_in M (calls ++ c ∷ []) ≡ stream_in M calls
 stream_stays M calls c none =
-    ap (split M) (taken_with_call calls c ∙ ap (λ (t : List ℕ). flat_map taken_by calls ++ t) none
+    read_before M calls c
+    ∙ ap (sized_split (sizes_in M calls)) (ap (λ (t : List ℕ). flat_map taken_by calls ++ t) none
     ∙ append-nil (flat_map taken_by calls))
 
--- Accepted bytes continue the stream.
+-- Accepted bytes continue the stream with the current size.
+pub stream_by : (M : ℕ) (calls : List ClientCall) (c : ClientCall)
+    → stream_in M (calls ++ c ∷ []) ≡ split_on (size_in M calls) (stream_in M calls) (taken_by c)
+stream_by M calls c =
+    read_before M calls c ∙ went_on (sizes_in M calls) (size_in M calls) (flat_map taken_by calls) (taken_by c)
+    (sizes_within M calls) (sizes_now M calls)
+
 pub stream_goes_on : (M : ℕ) (calls : List ClientCall) (bytes : List ℕ)
-    → stream_in M (calls ++ Took bytes ∷ []) ≡ split_on M (stream_in M calls) bytes
-stream_goes_on M calls bytes =
-    ap (split M) (taken_with_call calls (Took bytes)) ∙ split_goes_on M (flat_map taken_by calls) bytes
+    → stream_in M (calls ++ Took bytes ∷ []) ≡ split_on (size_in M calls) (stream_in M calls) bytes
+stream_goes_on M calls bytes = stream_by M calls (Took bytes)
 
 -- The stream is empty before the first call.
 pub stream_first : (M : ℕ) → stream_in M [] ≡ record { messages = []; rest = []; fault = None }
-stream_first M = split_unfinished M [] (unfinished_empty M)
+unfolding sizes_in
+stream_first M = sym (split_is M []) ∙ split_unfinished M [] (unfinished_empty M)
 
--- The rest of a stream without a fault is unfinished.
+-- The rest of a stream without a fault is unfinished for the current size.
 pub stream_rest_unfinished : (M : ℕ) (calls : List ClientCall) → (stream_in M calls).fault ≡ None
-    → prefix_kind M (stream_in M calls).rest ≡ Unfinished
-stream_rest_unfinished M calls none = split_rest M (flat_map taken_by calls) none
+    → prefix_kind (size_in M calls) (stream_in M calls).rest ≡ Unfinished
+stream_rest_unfinished M calls none =
+    left_unfinished (sizes_in M calls) (size_in M calls) (flat_map taken_by calls) (sizes_within M calls) none
+
+-- ---- calls without an announcement
+
+size_kept : (M : ℕ) (calls : List ClientCall) → AllByRecursion KeepsSize calls → size_in M calls ≡ M
+unfolding size_in
+size_kept M [] keeps = refl
+size_kept M (c ∷ calls) keeps = ap (λ (N : ℕ). size_in N calls) (keeps.0 M) ∙ size_kept M calls keeps.1
+
+sizes_kept : (M : ℕ) (calls : List ClientCall) → AllByRecursion KeepsSize calls → sizes_in M calls ≡ constant_size M
+unfolding sizes_in
+sizes_kept M [] keeps = refl
+sizes_kept M (c ∷ calls) keeps =
+    ap (λ (N : ℕ). sizes_first (length (taken_by c)) M (sizes_in N calls)) (keeps.0 M)
+    ∙ ap (sizes_first (length (taken_by c)) M) (sizes_kept M calls keeps.1)
+    ∙ first_always (length (taken_by c)) M
+
+-- The size of the limits applies to all bytes.
+pub unannounced : (M : ℕ) (calls : List ClientCall) → AllByRecursion KeepsSize calls
+    → (size_in M calls ≡ M) × (stream_in M calls ≡ split M (flat_map taken_by calls))
+unannounced M calls keeps = (
+  size_kept M calls keeps,
+  ap (λ (sizes : ℕ → ℕ). sized_split sizes (flat_map taken_by calls)) (sizes_kept M calls keeps)
+      ∙ sym (split_is M (flat_map taken_by calls)),
+)
 
 -- ---- steps
 
@@ -166,14 +267,14 @@ steps_beyond_added before after added none is =
     ∙ ap (λ (f : Option StreamFault). map Handles added.messages ++ new_fault f added.fault) none
 
 pub take_adds : (M : ℕ) (calls : List ClientCall) (bytes : List ℕ) (added : Stream) → (stream_in M calls).fault ≡ None
-    → split M ((stream_in M calls).rest ++ bytes) ≡ added → AddsTo M calls bytes added
+    → split (size_in M calls) ((stream_in M calls).rest ++ bytes) ≡ added → AddsTo M calls bytes added
 unfolding steps_by
 take_adds M calls bytes added none is =
-    let after : stream_in M (calls ++ Took bytes ∷ []) ≡ behind (stream_in M calls).messages added =
+    let before : Stream = stream_in M calls in
+    let after : stream_in M (calls ++ Took bytes ∷ []) ≡ behind before.messages added =
     stream_goes_on M calls bytes
-    ∙ ap (λ (f : Option StreamFault). continued (stream_in M calls) f (split M ((stream_in M calls).rest ++ bytes)))
-    none
-    ∙ ap (behind (stream_in M calls).messages) is
+    ∙ ap (λ (f : Option StreamFault). continued before f (split (size_in M calls) (before.rest ++ bytes))) none
+    ∙ ap (behind before.messages) is
     in
     record {
       steps = steps_beyond_added (stream_in M calls) (stream_in M (calls ++ Took bytes ∷ [])) added none after;
@@ -182,11 +283,11 @@ take_adds M calls bytes added none is =
 
 -- Bytes that are accepted in full add what the framer finds in them, if the stream has no fault.
 pub adds_whole : (M : ℕ) (calls : List ClientCall) (bytes : List ℕ) → (stream_in M calls).fault ≡ None
-    → (framing M (stream_in M calls).rest bytes).taken ≡ length bytes
-    → AddsTo M calls bytes (added_by (stream_in M calls).rest bytes (framing M (stream_in M calls).rest bytes).finding)
+    → (framing (size_in M calls) (stream_in M calls).rest bytes).taken ≡ length bytes → AddsTo M calls bytes
+    (added_by (stream_in M calls).rest bytes (framing (size_in M calls) (stream_in M calls).rest bytes).finding)
 adds_whole M calls bytes none all =
     take_adds M calls bytes _ none
-    (added_whole M (stream_in M calls).rest bytes (stream_rest_unfinished M calls none) all)
+    (added_whole (size_in M calls) (stream_in M calls).rest bytes (stream_rest_unfinished M calls none) all)
 
 -- ---- no bytes
 

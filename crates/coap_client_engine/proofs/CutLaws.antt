@@ -2,44 +2,60 @@
 use Rattle.std.proofs.Common.{◌≡◌, ℕ, List, [], ◌∷◌, ◌++◌, map, Option, Some, None, refl, sym, ap, subst, ◌∙◌}
 use Rattle.std.proofs.Common.{append_assoc}
 use Rattle.coap_client_engine.specs.Prelude.{flat_map, Message, StreamFault, Stream, split, behind, continued, split_on}
+use Rattle.coap_client_engine.specs.Prelude.{sized_split}
 use Rattle.coap_client_engine.specs.Prelude.{Client, LimitValues, History, new_history, link_of, ClientValue, is_cut}
-use Rattle.coap_client_engine.specs.Prelude.{ClientCall, Took, Sent, Cancelled, Pinged, Forgot, Released, Wrote, Ended}
-use Rattle.coap_client_engine.specs.Prelude.{ClientStep}
+use Rattle.coap_client_engine.specs.Prelude.{ClientCall, Took, Sent, Cancelled, Pinged, Forgot, Released, Announced}
+use Rattle.coap_client_engine.specs.Prelude.{Wrote, Ended, size_by, size_in, sizes_in, ClientStep}
 use Rattle.coap_client_engine.specs.Prelude.{Handles}
 use Rattle.coap_client_engine.specs.Prelude.{Ends, taken_by, stream_in, new_fault, beyond, steps_by, steps_behind}
 use Rattle.coap_client_engine.specs.Prelude.{steps_of}
 use Rattle.coap_client_engine.specs.Prelude.{after_steps, client_after, kept_after, client_of}
 use Rattle.std.proofs.lemmas.List.{append-nil, map-append}
-use Rattle.std.proofs.lemmas.List.Concat.{flat_map-append}
 use Rattle.std.proofs.Math.Seq.{drop-append_seam}
-use Rattle.coap_client_engine.proofs.ClientSteps.{stream_goes_on, call_steps_behind_more, nothing_beyond_itself}
+use Rattle.coap_client_engine.proofs.ClientSteps.{taken_with_call, size_with_call, sizes_with_take, read_before}
+use Rattle.coap_client_engine.proofs.ClientSteps.{stream_by, stream_goes_on, call_steps_behind_more}
+use Rattle.coap_client_engine.proofs.ClientSteps.{nothing_beyond_itself}
 
--- ---- only the accepted bytes matter
+-- ---- only the stream and the current size matter
 
--- Two lists of calls accepted the same bytes.
-abbrev TookAlike : List ClientCall → List ClientCall → Type 0
-TookAlike calls others = flat_map taken_by calls ≡ flat_map taken_by others
+-- Two lists of calls give the same stream, and the same size applies after them.
+abbrev StreamAlike : ℕ → List ClientCall → List ClientCall → Type 0
+StreamAlike M calls others = (stream_in M calls ≡ stream_in M others) × (size_in M calls ≡ size_in M others)
 
-alike_then : (calls others more : List ClientCall) → TookAlike calls others → TookAlike (calls ++ more) (others ++ more)
-alike_then calls others more alike =
-    flat_map-append taken_by calls more ∙ ap (λ (t : List ℕ). t ++ flat_map taken_by more) alike
-    ∙ sym (flat_map-append taken_by others more)
+alike_by : (M : ℕ) (calls others : List ClientCall) (c : ClientCall) → StreamAlike M calls others
+    → StreamAlike M (calls ++ c ∷ []) (others ++ c ∷ [])
+alike_by M calls others c alike = (
+  stream_by M calls c ∙ ap (λ (N : ℕ). split_on N (stream_in M calls) (taken_by c)) alike.1
+      ∙ ap (λ (s : Stream). split_on (size_in M others) s (taken_by c)) alike.0 ∙ sym (stream_by M others c),
+  size_with_call M calls c ∙ ap (size_by c) alike.1 ∙ sym (size_with_call M others c),
+)
 
-call_steps_alike : (M : ℕ) (calls others : List ClientCall) (c : ClientCall) → TookAlike calls others
+alike_then : (M : ℕ) (calls others more : List ClientCall) → StreamAlike M calls others
+    → StreamAlike M (calls ++ more) (others ++ more)
+alike_then M calls others [] alike =
+    subst (λ (cs : List ClientCall). StreamAlike M cs (others ++ [])) (sym (append-nil calls))
+    (subst (StreamAlike M calls) (sym (append-nil others)) alike)
+alike_then M calls others (c ∷ more) alike =
+    subst (λ (cs : List ClientCall). StreamAlike M cs (others ++ c ∷ more)) (append_assoc calls (c ∷ []) more)
+    (subst (StreamAlike M ((calls ++ c ∷ []) ++ more)) (append_assoc others (c ∷ []) more)
+    (alike_then M (calls ++ c ∷ []) (others ++ c ∷ []) more (alike_by M calls others c alike)))
+
+call_steps_alike : (M : ℕ) (calls others : List ClientCall) (c : ClientCall) → StreamAlike M calls others
     → steps_by M calls c ≡ steps_by M others c
 unfolding steps_by
 call_steps_alike M calls others (Took bytes) alike =
-    ap (λ (t : List ℕ). beyond (split M t) (stream_in M (calls ++ Took bytes ∷ []))) alike
-    ∙ ap (λ (t : List ℕ). beyond (stream_in M others) (split M t)) (alike_then calls others (Took bytes ∷ []) alike)
+    ap (λ (s : Stream). beyond s (stream_in M (calls ++ Took bytes ∷ []))) alike.0
+    ∙ ap (beyond (stream_in M others)) (alike_by M calls others (Took bytes) alike).0
 call_steps_alike M calls others (Sent method target extras) alike = refl
 call_steps_alike M calls others (Cancelled token target extras) alike = refl
 call_steps_alike M calls others (Pinged custody) alike = refl
 call_steps_alike M calls others (Forgot token) alike = refl
 call_steps_alike M calls others Released alike = refl
+call_steps_alike M calls others (Announced size) alike = refl
 call_steps_alike M calls others (Wrote n) alike = refl
-call_steps_alike M calls others Ended alike = ap (λ (t : List ℕ). Ends (is_cut (split M t).rest) ∷ []) alike
+call_steps_alike M calls others Ended alike = ap (λ (s : Stream). Ends (is_cut s.rest) ∷ []) alike.0
 
-later_steps_alike : (M : ℕ) (calls others later : List ClientCall) → TookAlike calls others
+later_steps_alike : (M : ℕ) (calls others later : List ClientCall) → StreamAlike M calls others
     → steps_behind M calls later ≡ steps_behind M others later
 unfolding steps_behind
 later_steps_alike M calls others [] alike = refl
@@ -47,7 +63,7 @@ later_steps_alike M calls others (c ∷ later) alike =
     ap (λ (ss : List ClientStep). ss ++ steps_behind M (calls ++ c ∷ []) later)
     (call_steps_alike M calls others c alike)
     ∙ ap (λ (ss : List ClientStep). steps_by M others c ++ ss)
-    (later_steps_alike M (calls ++ c ∷ []) (others ++ c ∷ []) later (alike_then calls others (c ∷ []) alike))
+    (later_steps_alike M (calls ++ c ∷ []) (others ++ c ∷ []) later (alike_by M calls others c alike))
 
 -- ---- a stream continued in two parts
 
@@ -101,13 +117,19 @@ beyond_two_pieces M before (Some fault) one other is =
 
 -- ---- a slice in two parts
 
-taken_twice : (calls : List ClientCall) (one other : List ℕ)
-    → TookAlike (calls ++ Took (one ++ other) ∷ []) ((calls ++ Took one ∷ []) ++ Took other ∷ [])
-taken_twice calls one other =
-    flat_map-append taken_by calls (Took (one ++ other) ∷ [])
-    ∙ ap (λ (t : List ℕ). flat_map taken_by calls ++ t) (append_assoc one other [])
-    ∙ sym (flat_map-append taken_by calls (Took one ∷ Took other ∷ []))
-    ∙ ap (flat_map taken_by) (sym (append_assoc calls (Took one ∷ []) (Took other ∷ [])))
+taken_twice : (M : ℕ) (calls : List ClientCall) (one other : List ℕ)
+    → StreamAlike M (calls ++ Took (one ++ other) ∷ []) ((calls ++ Took one ∷ []) ++ Took other ∷ [])
+taken_twice M calls one other =
+    let half : List ClientCall = calls ++ Took one ∷ [] in (
+      read_before M calls (Took (one ++ other))
+          ∙ ap (sized_split (sizes_in M calls))
+          (sym (append_assoc (flat_map taken_by calls) one other)
+          ∙ ap (λ (t : List ℕ). t ++ other) (sym (taken_with_call calls (Took one))))
+          ∙ ap (λ (sizes : ℕ → ℕ). sized_split sizes (flat_map taken_by half ++ other)) (sym (sizes_with_take M calls one))
+          ∙ sym (read_before M half (Took other)),
+      size_with_call M calls (Took (one ++ other)) ∙ sym (size_with_call M calls (Took one))
+          ∙ sym (size_with_call M half (Took other)),
+    )
 
 -- The steps of a slice are those of its parts.
 piece_steps_by_parts : (M : ℕ) (calls : List ClientCall) (one other : List ℕ)
@@ -116,16 +138,19 @@ piece_steps_by_parts : (M : ℕ) (calls : List ClientCall) (one other : List ℕ
 unfolding steps_by
 piece_steps_by_parts M calls one other =
     let before : Stream = stream_in M calls in
+    let N : ℕ = size_in M calls in
     let half = stream_goes_on M calls one in
-    let both : stream_in M ((calls ++ Took one ∷ []) ++ Took other ∷ []) ≡ split_on M (split_on M before one) other =
-    stream_goes_on M (calls ++ Took one ∷ []) other ∙ ap (λ (s : Stream). split_on M s other) half in
-    let whole : stream_in M (calls ++ Took (one ++ other) ∷ []) ≡ split_on M (split_on M before one) other =
-    ap (split M) (taken_twice calls one other) ∙ both in
+    let both : stream_in M ((calls ++ Took one ∷ []) ++ Took other ∷ []) ≡ split_on N (split_on N before one) other =
+    stream_goes_on M (calls ++ Took one ∷ []) other
+    ∙ ap (λ (n : ℕ). split_on n (stream_in M (calls ++ Took one ∷ [])) other) (size_with_call M calls (Took one))
+    ∙ ap (λ (s : Stream). split_on N s other) half in
+    let whole : stream_in M (calls ++ Took (one ++ other) ∷ []) ≡ split_on N (split_on N before one) other =
+    (taken_twice M calls one other).0 ∙ both in
     ap (beyond before) whole
-    ∙ beyond_two_pieces M before before.fault one other refl
+    ∙ beyond_two_pieces N before before.fault one other refl
     ∙ sym (
     ap (λ (s : Stream). beyond before s ++ beyond s (stream_in M ((calls ++ Took one ∷ []) ++ Took other ∷ []))) half
-    ∙ ap (λ (s : Stream). beyond before (split_on M before one) ++ beyond (split_on M before one) s) both)
+    ∙ ap (λ (s : Stream). beyond before (split_on N before one) ++ beyond (split_on N before one) s) both)
 
 -- ---- the theorem
 
@@ -139,31 +164,36 @@ cut_call_steps M earlier later one other =
     ap (λ (ss : List ClientStep). ss ++ steps_behind M (earlier ++ Took (one ++ other) ∷ []) later)
     (piece_steps_by_parts M earlier one other)
     ∙ ap (λ (ss : List ClientStep). (steps_by M earlier (Took one) ++ steps_by M half (Took other)) ++ ss)
-    (later_steps_alike M _ _ later (taken_twice earlier one other))
+    (later_steps_alike M _ _ later (taken_twice M earlier one other))
     ∙ append_assoc (steps_by M earlier (Took one)) (steps_by M half (Took other))
     (steps_behind M (half ++ Took other ∷ []) later))
     ∙ sym (call_steps_behind_more M [] earlier (Took one ∷ Took other ∷ later))
 
--- The client, as a function of the steps and the accepted bytes.
-abbrev client_by : LimitValues → ℕ → List ClientStep → List ℕ → ClientValue
-client_by limits tokens ss bytes =
+-- The client, as a function of the steps and the stream.
+abbrev client_by : LimitValues → ℕ → List ClientStep → Stream → ClientValue
+client_by limits tokens ss stream =
     let h : History = after_steps (new_history Client limits tokens) ss in
-    record { frame = kept_after h (split limits.max_message bytes).rest; link = link_of h }
+    record { frame = kept_after h stream.rest; link = link_of h }
 
-cut_bytes : (earlier later : List ClientCall) (one other : List ℕ)
-    → TookAlike (earlier ++ Took (one ++ other) ∷ later) (earlier ++ Took one ∷ Took other ∷ later)
-cut_bytes earlier later one other =
-    flat_map-append taken_by earlier (Took (one ++ other) ∷ later)
-    ∙ ap (λ (t : List ℕ). flat_map taken_by earlier ++ t) (append_assoc one other (flat_map taken_by later))
-    ∙ sym (flat_map-append taken_by earlier (Took one ∷ Took other ∷ later))
+cut_stream : (M : ℕ) (earlier later : List ClientCall) (one other : List ℕ)
+    → StreamAlike M (earlier ++ Took (one ++ other) ∷ later) (earlier ++ Took one ∷ Took other ∷ later)
+cut_stream M earlier later one other =
+    let whole : List ClientCall = earlier ++ Took (one ++ other) ∷ [] in
+    let half : List ClientCall = earlier ++ Took one ∷ [] in
+    subst (λ (cs : List ClientCall). StreamAlike M cs (earlier ++ Took one ∷ Took other ∷ later))
+    (append_assoc earlier (Took (one ++ other) ∷ []) later)
+    (subst (StreamAlike M (whole ++ later))
+    (append_assoc half (Took other ∷ []) later ∙ append_assoc earlier (Took one ∷ []) (Took other ∷ later))
+    (alike_then M whole (half ++ Took other ∷ []) later (taken_twice M earlier one other)))
 
 pub cut_client : (limits : LimitValues) (tokens : ℕ) (earlier later : List ClientCall) (one other : List ℕ)
     → client_of limits tokens (earlier ++ Took (one ++ other) ∷ later)
     ≡ client_of limits tokens (earlier ++ Took one ∷ Took other ∷ later)
 unfolding client_of client_after
 cut_client limits tokens earlier later one other =
+    let M : ℕ = limits.max_message in
     let cut : List ClientCall = earlier ++ Took one ∷ Took other ∷ later in
     ap
-    (λ (ss : List ClientStep). client_by limits tokens ss (flat_map taken_by (earlier ++ Took (one ++ other) ∷ later)))
-    (cut_call_steps limits.max_message earlier later one other)
-    ∙ ap (client_by limits tokens (steps_of limits.max_message cut)) (cut_bytes earlier later one other)
+    (λ (ss : List ClientStep). client_by limits tokens ss (stream_in M (earlier ++ Took (one ++ other) ∷ later)))
+    (cut_call_steps M earlier later one other)
+    ∙ ap (client_by limits tokens (steps_of M cut)) (cut_stream M earlier later one other).0

@@ -9,11 +9,12 @@ use Rattle.coap_client_engine.specs.Prelude.{after}
 use Rattle.coap_client_engine.specs.Prelude.{end_reason, ClientStep, Handles, Faults, Requests, Cancels, Pings, Writes}
 use Rattle.coap_client_engine.specs.Prelude.{Ends, step, Forgets, Releases, is_open, may_forget, release, link_of}
 use Rattle.coap_client_engine.specs.Prelude.{release_refusal, ReleasedHere, LinkValue, stay, without_entry_of, limit_in}
-use Rattle.coap_client_engine.specs.Prelude.{◌≤◌}
+use Rattle.coap_client_engine.specs.Prelude.{◌≤◌, Announces, announce_refusal, may_announce, own_csm}
 use Rattle.std.proofs.lemmas.List.{append-nil}
 use Rattle.coap_conn.specs.Calls as call
 use Rattle.coap_conn.proofs.AskingLaws.{none_where}
 use Rattle.coap_conn.proofs.HistoryLaws.{reaction_fits, stopped_fits, asked_fits, cancelled_fits, released_fits}
+use Rattle.coap_conn.proofs.AnnounceLaws.{announcement_fits}
 use Rattle.std.proofs.Common.{arith}
 use Rattle.std.proofs.lemmas.Bool.Decides.{nat_tests}
 
@@ -68,6 +69,17 @@ release_grows h =
     (λ none. effect_grows_fit h (stop (standing_now h) ReleasedHere (release ∷ [])) (is_open h.phase)
     (released_fits h (release_limit (link_of h) none)))
 
+own_grows : (h : History) (size : ℕ) (may : Bool) → may_announce (link_of h) size ≡ may
+    → GrowsFit h (cond may (record h { queued = h.queued ++ own_csm size ∷ []; own_max = size }) h)
+own_grows h size true may = (own_csm size ∷ [], refl, announcement_fits h size may)
+own_grows h size false may = grows_none h h refl
+
+announce_grows : (h : History) (size : ℕ) → GrowsFit h (step h (Announces size))
+unfolding step
+announce_grows h size =
+    grows_where h (after h (call.Announce size)) (is_none (announce_refusal (link_of h) size))
+    (λ none. own_grows h size (may_announce (link_of h) size) refl)
+
 -- Each step only appends to the queued messages, and the added messages fit.
 pub step_grows : (h : History) (s : ClientStep)
     → (more : List Message) × ((step h s).queued ≡ h.queued ++ more) × AllFit (limit_now h) more
@@ -84,5 +96,6 @@ step_grows h (Forgets token) =
     effect_grows_fit h (record (stay (standing_now h)) { outstanding = without_entry_of token h.outstanding })
     (may_forget (link_of h) token) tt
 step_grows h Releases = release_grows h
+step_grows h (Announces size) = announce_grows h size
 step_grows h (Writes n) = grows_none h (step h (Writes n)) refl
 step_grows h (Ends cut) = effect_grows_fit h (stop (standing_now h) (end_reason cut) []) (takes_messages h.phase) tt

@@ -10,6 +10,7 @@ use Rattle.coap_client_engine.specs.Prelude.{end_reason}
 use Rattle.coap_client_engine.specs.Prelude.{History, new_history, Client, standing_now, asking_now, with_effect, after}
 use Rattle.coap_client_engine.specs.Prelude.{after_asking, link_of, may_forget, ClientCall, ClientStep, Forgot, Handles}
 use Rattle.coap_client_engine.specs.Prelude.{Faults, Requests, Cancels, Pings, Forgets, Releases, Writes, Ends, step}
+use Rattle.coap_client_engine.specs.Prelude.{Announces, announce_refusal, may_announce}
 use Rattle.coap_client_engine.specs.Prelude.{steps_by, steps_of, steps_behind, after_steps, client_after}
 use Rattle.std.proofs.lemmas.Bool.{cond_both, and_parts, or_cases, or_from, or_parts, true≢false, false_from_ne_true}
 use Rattle.coap_conn.specs.Calls as call
@@ -124,6 +125,9 @@ step_knows h Releases knows =
     knows_if h (after h call.Release) (is_none (release_refusal (link_of h))) knows
     (λ none. knows_if h (with_effect h (stop (standing_now h) ReleasedHere (release ∷ []))) (is_open h.phase) knows
     (λ opened. tt))
+step_knows h (Announces size) knows =
+    knows_if h (after h (call.Announce size)) (is_none (announce_refusal (link_of h) size)) knows
+    (λ none. knows_if h _ (may_announce (link_of h) size) knows (λ may. knows))
 step_knows h (Writes n) knows = knows
 step_knows h (Ends cut) knows =
     knows_if h (with_effect h (stop (standing_now h) (end_reason cut) [])) (takes_messages h.phase) knows
@@ -230,6 +234,9 @@ step_gone token h Releases is =
     let k : History = with_effect h (stop (standing_now h) ReleasedHere (release ∷ [])) in
     gone_if token h (after h call.Release) (is_none (release_refusal (link_of h))) is
     (λ none. gone_if token h k (is_open h.phase) is (λ opened. gone_still token h k is refl refl))
+step_gone token h (Announces size) is =
+    gone_if token h (after h (call.Announce size)) (is_none (announce_refusal (link_of h) size)) is
+    (λ none. gone_if token h _ (may_announce (link_of h) size) is (λ may. gone_still token h _ is refl is.gone))
 step_gone token h (Writes n) is = gone_still token h _ is refl is.gone
 step_gone token h (Ends cut) is =
     let k : History = with_effect h (stop (standing_now h) (end_reason cut) []) in

@@ -12,7 +12,8 @@ use Rattle.coap_client_engine.specs.Prelude.{entry_of, ping_with, stop, abort, r
 use Rattle.coap_client_engine.specs.Prelude.{with_effect, after, after_asking, link_of, end_reason, free_in, is_cut}
 use Rattle.coap_client_engine.specs.Prelude.{ClientCall, ClientStep, Took, Sent, Cancelled, Pinged, Forgot, Released}
 use Rattle.coap_client_engine.specs.Prelude.{Wrote, Ended, Handles, Forgets, Releases, is_open, may_forget, release}
-use Rattle.coap_client_engine.specs.Prelude.{release_refusal, ReleasedHere}
+use Rattle.coap_client_engine.specs.Prelude.{release_refusal, ReleasedHere, Announced, Announces, announce_refusal}
+use Rattle.coap_client_engine.specs.Prelude.{may_announce, size_in}
 use Rattle.coap_client_engine.specs.Prelude.{Faults, Requests, Cancels, Pings, Writes, Ends, taken_by, stream_in}
 use Rattle.coap_client_engine.specs.Prelude.{steps_by}
 use Rattle.coap_client_engine.specs.Prelude.{step, client_after, handles, takes, IsAccepted, AreAccepted, request_of}
@@ -49,7 +50,7 @@ pub data TakeMakes (M : ℕ) (calls : List ClientCall) (bytes : List ℕ) (h : H
 module _ (M : ℕ) (calls : List ClientCall) (bytes : List ℕ) (h : History) where
   -- The framer's result for the bytes, after the buffered bytes of an unfinished frame.
   abbrev found_of_bytes : Framing
-  found_of_bytes = framing M (stream_in M calls).rest bytes
+  found_of_bytes = framing (size_in M calls) (stream_in M calls).rest bytes
 
   none_makes : bytes ≡ [] → TakeMakes M calls bytes h
   none_makes none =
@@ -132,6 +133,12 @@ open_stop_rests h farewell false is = rests_by_itself h
 rests_where : (h k : History) (does : Bool) → Rests h k → Rests h (cond does k h)
 rests_where h k true rests = rests
 rests_where h k false rests = rests_by_itself h
+
+announce_rests : (h : History) (size : ℕ) → Rests h (step h (Announces size))
+unfolding step
+announce_rests h size =
+    rests_where h (after h (call.Announce size)) (is_none (announce_refusal (link_of h) size))
+    (rests_if h _ (may_announce (link_of h) size) refl refl)
 
 release_rests : (h : History) → Rests h (step h Releases)
 unfolding step
@@ -243,6 +250,8 @@ module _ (limits : LimitValues) (tokens : ℕ) where
     call_agrees (Forgot token) accepted =
         bare_call_agrees (Forgot token) (Forgets token) refl refl (forget_rests history_now token)
     call_agrees Released accepted = bare_call_agrees Released Releases refl refl (release_rests history_now)
+    call_agrees (Announced size) accepted =
+        bare_call_agrees (Announced size) (Announces size) refl refl (announce_rests history_now size)
     call_agrees (Wrote n) accepted =
         bare_call_agrees (Wrote n) (Writes n) refl refl (record { handled = refl; stopped = λ why is. is })
     call_agrees Ended accepted =

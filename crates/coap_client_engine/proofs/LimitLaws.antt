@@ -16,6 +16,7 @@ use Rattle.coap_client_engine.specs.Prelude.{Cancelled}
 use Rattle.coap_client_engine.specs.Prelude.{Pinged, Forgot, Released, Wrote, Ended, Handles, Faults, Requests, Cancels}
 use Rattle.coap_client_engine.specs.Prelude.{Pings, Forgets, Releases, Writes, is_open, may_forget, release, link_of}
 use Rattle.coap_client_engine.specs.Prelude.{release_refusal, ReleasedHere, is_entry_of, LinkValue, free_in}
+use Rattle.coap_client_engine.specs.Prelude.{Announced, Announces, announce_refusal, may_announce, own_csm, size_in}
 use Rattle.coap_client_engine.specs.Prelude.{Ends}
 use Rattle.coap_client_engine.specs.Prelude.{stream_in, steps_by, steps_of, step, after_steps, client_after, handles}
 use Rattle.coap_client_engine.specs.Prelude.{IsAccepted, AreAccepted, client_of}
@@ -29,8 +30,9 @@ use Rattle.coap_conn.proofs.OutstandingLemmas.{count_left}
 use Rattle.coap_conn.proofs.AskingLaws.{none_where, asked_size, cancel_size}
 use Rattle.coap_conn.proofs.OutstandingLaws.{asked_no_more, asked_few}
 use Rattle.coap_conn.proofs.HistoryLaws.{reaction_fits, stopped_fits}
+use Rattle.coap_conn.proofs.AnnounceLaws.{announcement_fits}
 use Rattle.coap_client_engine.proofs.ClientSteps.{stream_rest_unfinished, client_first, client_same, client_step}
-use Rattle.coap_client_engine.proofs.ClientSteps.{by_calls}
+use Rattle.coap_client_engine.proofs.ClientSteps.{by_calls, size_grows}
 use Rattle.coap_client_engine.proofs.ClientReached.{limits_same, accepted_reach}
 use Rattle.coap_client_engine.proofs.HandledLaws.{TakeMakes, NoStep, OneMessage, OneFault, handling_has_room}
 use Rattle.coap_client_engine.proofs.HandledLaws.{take_makes}
@@ -122,6 +124,10 @@ step_keeps_limits limits h Releases is =
     keeps_if limits h (after h call.Release) (is_none (release_refusal (link_of h))) is
     (keeps_if limits h (with_effect h (stop (standing_now h) ReleasedHere (release ∷ []))) (is_open h.phase) is
     (record { same = is.same; none = refl; few = omega arith }))
+step_keeps_limits limits h (Announces size) is =
+    keeps_if limits h (after h (call.Announce size)) (is_none (announce_refusal (link_of h) size)) is
+    (keeps_if limits h _ (may_announce (link_of h) size) is
+    (record { same = is.same; none = is.none; few = is.few }))
 step_keeps_limits limits h (Writes n) is = record { same = is.same; none = is.none; few = is.few }
 step_keeps_limits limits h (Ends cut) is =
     keeps_if limits h (with_effect h (stop (standing_now h) (end_reason cut) [])) (takes_messages h.phase) is
@@ -162,6 +168,9 @@ wait_if most h k false few then = few
 
 release_room : (v : LinkValue) → is_none (release_refusal v) ≡ true → 2 ≤ free_in v
 release_room v none = grind (arith, nat_tests)
+
+announce_room : (v : LinkValue) (size : ℕ) → is_none (announce_refusal v size) ≡ true → v.limits.max_sent ≤ free_in v
+announce_room v size none = grind (arith, nat_tests)
 
 -- A history in which the queue limit holds.
 module _ (limits : LimitValues) (h : History) (same : h.limits ≡ limits) (is : IsHistory h)
@@ -208,6 +217,23 @@ module _ (limits : LimitValues) (h : History) (same : h.limits ≡ limits) (is :
         release_room (link_of h) none,
         queued_waits h (release ∷ []) is,
         release_bytes_small,
+        ap (λ (l : LimitValues). l.queue) same,
+      )))
+
+  -- An announcement that is sent has room.
+  announce_waits : (size : ℕ) → bytes_wait (step h (Announces size)) ≤ limits.queue
+  unfolding step
+  announce_waits size =
+      wait_if limits.queue h (after h (call.Announce size)) (is_none (announce_refusal (link_of h) size)) few
+      (λ none. wait_if limits.queue h (record h { queued = h.queued ++ own_csm size ∷ []; own_max = size })
+      (may_announce (link_of h) size) few
+      (λ may. omega (
+        arith,
+        few,
+        announce_room (link_of h) size none,
+        queued_waits h (own_csm size ∷ []) is,
+        one_small (limit_now h) (own_csm size ∷ []) (omega arith) (announcement_fits h size may),
+        limit_within h,
         ap (λ (l : LimitValues). l.queue) same,
       )))
 
@@ -315,6 +341,9 @@ module _ (limits : LimitValues) (tokens : ℕ) where
         (forget_waits limits after_calls same_limits written_within few token)
     call_waits Released last =
         step_waits Released Releases refl (release_waits limits after_calls same_limits written_within few)
+    call_waits (Announced size) last =
+        step_waits (Announced size) (Announces size) refl
+        (announce_waits limits after_calls same_limits written_within few size)
     call_waits (Wrote n) last =
         step_waits (Wrote n) (Writes n) refl (written_waits limits after_calls same_limits written_within few n)
     call_waits Ended last =
@@ -330,13 +359,22 @@ few_wait limits tokens calls ranges accepted =
 
 -- ---- buffered bytes of an unfinished frame
 
--- The buffer holds fewer bytes than a message of maximum size.
+-- The buffer holds fewer bytes than the largest message that is accepted.
 pub few_kept : (limits : LimitValues) (tokens : ℕ) (calls : List ClientCall) → AreInRange limits
-    → AreAccepted limits tokens calls → length (client_of limits tokens calls).frame < limits.max_message
+    → AreAccepted limits tokens calls
+    → length (client_of limits tokens calls).frame < size_in limits.max_message calls
 unfolding client_of
 few_kept limits tokens calls ranges accepted =
-    let rest : List ℕ = (stream_in limits.max_message calls).rest in
-    kept_small_by limits.max_message rest (takes_messages (client_after limits tokens calls).phase)
-    (omega (arith, ranges.message_low))
-    (λ takes. unfinished_below limits.max_message rest (omega (arith, ranges.message_low))
-    (stream_rest_unfinished limits.max_message calls ((accepted_reach limits tokens calls accepted).live takes)))
+    let M : ℕ = limits.max_message in
+    let N : ℕ = size_in M calls in
+    let rest : List ℕ = (stream_in M calls).rest in
+    let low : 1152 ≤ N = omega (arith, ranges.message_low, size_grows M calls) in
+    kept_small_by N rest (takes_messages (client_after limits tokens calls).phase) (omega (arith, low))
+    (λ takes. unfinished_below N rest (omega (arith, low))
+    (stream_rest_unfinished M calls ((accepted_reach limits tokens calls accepted).live takes)))
+
+-- The client accepts messages up to the size announced last.
+pub last_size : (limits : LimitValues) (tokens : ℕ) (calls : List ClientCall) → AreAccepted limits tokens calls
+    → (client_of limits tokens calls).link.own_max ≡ size_in limits.max_message calls
+unfolding client_of
+last_size limits tokens calls accepted = (accepted_reach limits tokens calls accepted).size

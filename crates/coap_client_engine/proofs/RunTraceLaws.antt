@@ -8,7 +8,7 @@ use Rattle.coap_client_engine.specs.Prelude.{History, IsHistory, bytes_of, Got, 
 use Rattle.coap_client_engine.specs.Prelude.{ClientPlan, ClientCall, Took, Sent, Cancelled, Pinged, Forgot, Released}
 use Rattle.coap_client_engine.specs.Prelude.{Wrote, Ended, ClientStep, Handles, Faults, Requests, Cancels, Pings}
 use Rattle.coap_client_engine.specs.Prelude.{Forgets, Releases, Writes, Ends, after, is_none, is_open, link_of}
-use Rattle.coap_client_engine.specs.Prelude.{release_refusal}
+use Rattle.coap_client_engine.specs.Prelude.{release_refusal, Announced, Announces, announce_refusal, may_announce}
 use Rattle.coap_client_engine.specs.Prelude.{taken_by}
 use Rattle.coap_client_engine.specs.Prelude.{stream_in, new_fault, steps_by, step, after_steps, client_after, client_of}
 use Rattle.coap_client_engine.specs.Prelude.{AreAcceptedBehind, AreAccepted, calls_read, calls_written, RunTrace}
@@ -94,6 +94,7 @@ trace_taken plan (Calls before (Cancelled token target extras)) is =
 trace_taken plan (Calls before (Pinged custody)) is = absurd is.2
 trace_taken plan (Calls before (Forgot token)) is = absurd is.2
 trace_taken plan (Calls before Released) is = absurd is.2
+trace_taken plan (Calls before (Announced size)) is = absurd is.2
 trace_taken plan (Calls before (Wrote n)) is = absurd is.2
 trace_taken plan (Calls before Ended) is = absurd is.2
 trace_taken plan (Refuses before fault) is = trace_taken plan before is.0
@@ -119,6 +120,7 @@ IsQuietStep (Cancels token m) = Unit {0}
 IsQuietStep (Pings custody) = Unit {0}
 IsQuietStep (Forgets token) = Unit {0}
 IsQuietStep Releases = Unit {0}
+IsQuietStep (Announces size) = Unit {0}
 IsQuietStep (Writes n) = ⊥
 IsQuietStep (Ends cut) = Unit {0}
 
@@ -132,6 +134,9 @@ step_written h (Pings custody) quiet = written_if _ h _ refl
 step_written h (Forgets token) quiet = written_if _ h _ refl
 step_written h Releases quiet =
     written_if (is_none (release_refusal (link_of h))) h (after h call.Release) (written_if (is_open h.phase) h _ refl)
+step_written h (Announces size) quiet =
+    written_if (is_none (announce_refusal (link_of h) size)) h (after h (call.Announce size))
+    (written_if (may_announce (link_of h) size) h _ refl)
 step_written h (Writes n) quiet = absurd quiet
 step_written h (Ends cut) quiet = written_if (takes_messages h.phase) h _ refl
 
@@ -161,6 +166,7 @@ IsQuietCall (Cancelled token target extras) = Unit {0}
 IsQuietCall (Pinged custody) = Unit {0}
 IsQuietCall (Forgot token) = Unit {0}
 IsQuietCall Released = Unit {0}
+IsQuietCall (Announced size) = Unit {0}
 IsQuietCall (Wrote n) = ⊥
 IsQuietCall Ended = Unit {0}
 
@@ -176,6 +182,7 @@ call_steps h calls (Cancelled token target extras) quiet = step_quiet h _ tt
 call_steps h calls (Pinged custody) quiet = step_quiet h _ tt
 call_steps h calls (Forgot token) quiet = step_quiet h _ tt
 call_steps h calls Released quiet = step_quiet h _ tt
+call_steps h calls (Announced size) quiet = step_quiet h _ tt
 call_steps h calls (Wrote n) quiet = absurd quiet
 call_steps h calls Ended quiet = step_quiet h _ tt
 
@@ -277,6 +284,7 @@ planned_quiet plan before (Cancelled token target extras) is = tt
 planned_quiet plan before (Pinged custody) is = tt
 planned_quiet plan before (Forgot token) is = tt
 planned_quiet plan before Released is = tt
+planned_quiet plan before (Announced size) is = tt
 planned_quiet plan before (Wrote n) is = is
 planned_quiet plan before Ended is = tt
 

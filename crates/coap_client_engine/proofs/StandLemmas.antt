@@ -38,8 +38,8 @@ limits_taken false w t e = refl
 pub taking_limits : (v : ClientValue) (piece : List ℕ) → (taking v piece).client.link.limits ≡ v.link.limits
 unfolding taking
 taking_limits v piece =
-    limits_taken _ v _ (limits_found v (framing v.link.limits.max_message v.frame piece)
-    (framing v.link.limits.max_message v.frame piece).finding)
+    limits_taken _ v _ (limits_found v (framing v.link.own_max v.frame piece)
+    (framing v.link.own_max v.frame piece).finding)
 
 pub sent_limits : (v : ClientValue) (method : Method) (target : TargetValue) (extras : ExtrasValue)
     → (client_sent v method target extras).link.limits ≡ v.link.limits

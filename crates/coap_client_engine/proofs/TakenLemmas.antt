@@ -4,7 +4,7 @@ use Rattle.std.proofs.Common.{ap, subst, ◌∙◌, inl, inr, arith}
 use Rattle.coap_client_engine.specs.Prelude.{nat_le, ◌&&◌, framing, History, link_of, LinkValue, free_in}
 use Rattle.coap_client_engine.specs.Prelude.{OutstandingValue}
 use Rattle.coap_client_engine.specs.Prelude.{takes_messages, ClientValue, client_takes, client_cancelled, ClientCall}
-use Rattle.coap_client_engine.specs.Prelude.{stream_in, handles, takes, client_after, client_of, AreAccepted}
+use Rattle.coap_client_engine.specs.Prelude.{size_in, stream_in, handles, takes, client_after, client_of, AreAccepted}
 use Rattle.coap_client_engine.specs.Prelude.{ExtrasValue}
 use Rattle.coap_client_engine.specs.Prelude.{TargetValue, default_limits}
 use Rattle.std.proofs.lemmas.Bool.{leb-false, lt-leb, and_parts}
@@ -24,11 +24,12 @@ module _ (calls : List ClientCall) where
   takes_same = refl
 
   takes_where : (piece : List ℕ) → handles history_so_far ≡ true → takes default_limits 0 calls piece
-      ≡ (framing default_limits.max_message (stream_in default_limits.max_message calls).rest piece).taken
+      ≡ (framing (size_in default_limits.max_message calls) (stream_in default_limits.max_message calls).rest piece).taken
   unfolding takes
   takes_where piece does =
       ap (λ (b : Bool). cond b
-      (framing default_limits.max_message (stream_in default_limits.max_message calls).rest piece).taken 0) does
+      (framing (size_in default_limits.max_message calls) (stream_in default_limits.max_message calls).rest piece).taken
+      0) does
 
   -- A client that accepts bytes accepts at least one.
   pub client_takes_some : (piece : List ℕ) → AreAccepted default_limits 0 calls
@@ -40,7 +41,8 @@ module _ (calls : List ClientCall) where
       (nat_le history_so_far.limits.max_sent (free_in (link_of history_so_far))) handling).0 in
       let unfinished = stream_rest_unfinished default_limits.max_message calls live in
       subst (λ (n : ℕ). 1 ≤ n) (sym (takes_where piece handling))
-      (some_in_front default_limits.max_message (stream_in default_limits.max_message calls).rest piece unfinished some)
+      (some_in_front (size_in default_limits.max_message calls) (stream_in default_limits.max_message calls).rest piece
+      unfinished some)
 
 -- ---- a client that accepts no bytes accepts none after a cancellation
 

@@ -6,12 +6,15 @@ use Rattle.coap_client_engine.specs.Prelude.{FormatFault, FrameFault, FramerValu
 use Rattle.coap_client_engine.specs.Prelude.{Nothing}
 use Rattle.coap_client_engine.specs.Prelude.{AFrame, AFault, framing_at, framing, framing_of, framer_after, frame_back}
 use Rattle.coap_client_engine.specs.Prelude.{LimitValues, AreInRange, takes_messages, reject_of_frame, reject_reason}
-use Rattle.coap_client_engine.specs.Prelude.{react}
+use Rattle.coap_client_engine.specs.Prelude.{react, is_open, fits, limit_in, own_csm, sizes_of, link_after}
+use Rattle.coap_client_engine.specs.Prelude.{raise_refusal, with_size}
 use Rattle.coap_client_engine.specs.Prelude.{LinkValue, standing_in, ClientValue, ClientEventValue, ClientTakeOutcome}
 use Rattle.coap_client_engine.specs.Prelude.{client_takes}
 use Rattle.coap_client_engine.specs.Prelude.{event_told, taking_read, taking_found, taking, IsClient, heard_value}
 use Rattle.coap_client_engine.specs.Prelude.{taking_framed, Inside, Received}
 use Rattle.coap_frame.proofs.FramingLemmas.{framing_is_framer}
+use Rattle.coap_frame.proofs.RaiseLemmas.{raise_allowed, raised_is_framer}
+use Rattle.coap_conn.specs.Calls as call
 use Rattle.coap_conn.specs.declared.phase.Reject.TheVariants as reject
 use Rattle.coap_client_engine.specs.EventViews.{client_value}
 use Rattle.coap_client_engine.specs.declared.client.Received.TheVariants as heard
@@ -92,45 +95,62 @@ module _ (v : FramerValue) (l : LinkValue) (piece : List ℕ) where
   unfolding framing
   kept_framed = kept_by_beginning (prefix_kind v.max (v.kept ++ piece))
 
-limits_read : (w : ClientValue) (n : ℕ) (read : Result Message FormatFault)
-    → (taking_read w n read).client.link.limits ≡ w.link.limits
-limits_read w n (Ok m) = stays_so (λ (l : LinkValue). l.limits) (takes_messages w.link.phase) w.link _ refl
-limits_read w n (Err e) = stays_so (λ (l : LinkValue). l.limits) (takes_messages w.link.phase) w.link _ refl
+sizes_read : (w : ClientValue) (n : ℕ) (read : Result Message FormatFault)
+    → sizes_of (taking_read w n read).client.link ≡ sizes_of w.link
+sizes_read w n (Ok m) = stays_so sizes_of (takes_messages w.link.phase) w.link _ refl
+sizes_read w n (Err e) = stays_so sizes_of (takes_messages w.link.phase) w.link _ refl
+
+-- A `take` keeps the limits, and the size of the largest message accepted.
+pub sizes_found : (w : ClientValue) (f : Framing) (found : FrameEventValue)
+    → sizes_of (taking_found w f found).client.link ≡ sizes_of w.link
+sizes_found w f Nothing = refl
+sizes_found w f (AFrame frame) = sizes_read w f.taken (message_of frame)
+sizes_found w f (AFault fault) = stays_so sizes_of (takes_messages w.link.phase) w.link _ refl
 
 pub limits_found : (w : ClientValue) (f : Framing) (found : FrameEventValue)
     → (taking_found w f found).client.link.limits ≡ w.link.limits
-limits_found w f Nothing = refl
-limits_found w f (AFrame frame) = limits_read w f.taken (message_of frame)
-limits_found w f (AFault fault) = stays_so (λ (l : LinkValue). l.limits) (takes_messages w.link.phase) w.link _ refl
+limits_found w f found = ap (λ (both : LimitValues × ℕ). both.0) (sizes_found w f found)
 
--- The end of the input keeps the limits.
 -- ---- the client
 
--- The invariant of a client is kept if the framer and the limits keep theirs.
+-- The invariant of a client is kept if the framer, the limits and the sizes keep theirs.
 pub is_still : (i : Inside) (framer : FramerValue) (link : LinkValue) → IsClient i → framer.max ≡ i.framer.max
-    → IsFramer framer → link.limits ≡ i.link.limits → IsClient (record { framer = framer; link = link })
-is_still i framer link is same framed limits = record {
-  ranges = subst AreInRange (sym limits) is.ranges;
-  greatest = same ∙ is.greatest ∙ ap (λ (l : LimitValues). l.max_message) (sym limits);
+    → IsFramer framer → sizes_of link ≡ sizes_of i.link → IsClient (record { framer = framer; link = link })
+is_still i framer link is same framed sizes = record {
+  ranges = subst AreInRange (sym (ap (λ (both : LimitValues × ℕ). both.0) sizes)) is.ranges;
+  greatest = same ∙ is.greatest ∙ ap (λ (both : LimitValues × ℕ). both.1) (sym sizes);
   framer = framed;
 }
+
+-- The invariant holds after a size was announced.
+pub announced_is : (i : Inside) (size : ℕ) (f : FramerValue) (l : LinkValue) → IsClient i
+    → is_open i.link.phase ≡ true → fits (limit_in i.link) (own_csm size) ≡ true
+    → raise_refusal i.framer.max size ≡ None → f ≡ with_size i.framer size
+    → l ≡ link_after i.link (call.Announce size) → IsClient (record { framer = f; link = l })
+announced_is i size f l is opened fit allowed f_is l_is =
+    let larger = raise_allowed i.framer.max size allowed in
+    rw (l_is, opened, fit, f_is) (record {
+      ranges = is.ranges;
+      greatest = refl;
+      framer = raised_is_framer i.framer size is.framer larger.0 larger.1;
+    })
 
 module _ (i : Inside) (v : ClientValue) (piece : List ℕ) (is : IsClient i) (view : client_value i ≡ v) where
   -- No byte is accepted.
   pub takes_none : client_takes v ≡ false → taking v piece ≡ record { count = 0; client = v; event = None }
   unfolding taking
   takes_none not =
-      ap (λ (b : Bool). cond b (taking_found v (framing v.link.limits.max_message v.frame piece)
-      (framing v.link.limits.max_message v.frame piece).finding) (record { count = 0; client = v; event = None })) not
+      ap (λ (b : Bool). cond b (taking_found v (framing v.link.own_max v.frame piece)
+      (framing v.link.own_max v.frame piece).finding) (record { count = 0; client = v; event = None })) not
 
   -- The framer and the link accept the bytes.
   pub takes_framed : client_takes v ≡ true → taking v piece ≡ taking_framed i.framer i.link piece
   unfolding taking
   takes_framed does =
-      ap (λ (b : Bool). cond b (taking_found v (framing v.link.limits.max_message v.frame piece)
-      (framing v.link.limits.max_message v.frame piece).finding) (record { count = 0; client = v; event = None })) does
-      ∙ ap (λ (w : ClientValue). taking_found w (framing w.link.limits.max_message w.frame piece)
-      (framing w.link.limits.max_message w.frame piece).finding) (sym view)
+      ap (λ (b : Bool). cond b (taking_found v (framing v.link.own_max v.frame piece)
+      (framing v.link.own_max v.frame piece).finding) (record { count = 0; client = v; event = None })) does
+      ∙ ap (λ (w : ClientValue). taking_found w (framing w.link.own_max w.frame piece)
+      (framing w.link.own_max w.frame piece).finding) (sym view)
       ∙ ap
       (λ (M : ℕ). taking_found (client_value i) (framing M i.framer.kept piece) (framing M i.framer.kept piece).finding)
       (sym is.greatest)
@@ -142,7 +162,7 @@ module _ (i : Inside) (v : ClientValue) (piece : List ℕ) (is : IsClient i) (vi
     took_is =
         is_still i framer link is (ap (λ (f : FramerValue). f.max) framed)
         (subst IsFramer (sym framed) (framing_is_framer i.framer piece is.framer))
-        (ap (λ (l : LinkValue). l.limits) handled ∙ limits_found (record { frame = i.framer.kept; link = i.link })
+        (ap sizes_of handled ∙ sizes_found (record { frame = i.framer.kept; link = i.link })
         (framing_of i.framer piece) (framing_of i.framer piece).finding)
 
     -- The client is the one that the definition gives.

@@ -13,7 +13,8 @@ use Rattle.coap_client_engine.specs.Prelude.{after_asking, link_of, end_reason, 
 use Rattle.coap_client_engine.specs.Prelude.{request_of, is_too_long, send_refusal, ClientCall, ClientStep, Took, Sent}
 use Rattle.coap_client_engine.specs.Prelude.{Cancelled, Pinged, Forgot, Released, Wrote, Ended, Handles, Faults}
 use Rattle.coap_client_engine.specs.Prelude.{Requests, Cancels, Pings, Forgets, Releases, after, is_open, may_forget}
-use Rattle.coap_client_engine.specs.Prelude.{release, release_refusal, ReleasedHere}
+use Rattle.coap_client_engine.specs.Prelude.{release, release_refusal, ReleasedHere, Announced, Announces}
+use Rattle.coap_client_engine.specs.Prelude.{announce_refusal, may_announce}
 use Rattle.coap_client_engine.specs.Prelude.{Writes, Ends, step, steps_by, after_steps, client_after, IsAccepted}
 use Rattle.coap_client_engine.specs.Prelude.{AreAcceptedBehind, AreAccepted, token_given, tokens_behind, tokens_given}
 use Rattle.coap_client_engine.specs.Prelude.{AreDifferent}
@@ -49,6 +50,9 @@ step_tokens h (Forgets token) = if_more h _ (may_forget (link_of h) token) (omeg
 step_tokens h Releases =
     if_more h (after h call.Release) (is_none (release_refusal (link_of h)))
     (if_more h (with_effect h (stop (standing_now h) ReleasedHere (release ∷ []))) (is_open h.phase) (omega arith))
+step_tokens h (Announces size) =
+    if_more h (after h (call.Announce size)) (is_none (announce_refusal (link_of h) size))
+    (if_more h _ (may_announce (link_of h) size) (omega arith))
 step_tokens h (Writes n) = omega arith
 step_tokens h (Ends cut) =
     if_more h (with_effect h (stop (standing_now h) (end_reason cut) [])) (takes_messages h.phase) (omega arith)
@@ -193,6 +197,9 @@ module _ (limits : LimitValues) (tokens : ℕ) (earlier : List ClientCall) where
   given_new Released ts accepted are =
       none_new (client_after limits tokens earlier) (after_one Released) ts (call_tokens limits tokens earlier Released)
       are
+  given_new (Announced size) ts accepted are =
+      none_new (client_after limits tokens earlier) (after_one (Announced size)) ts
+      (call_tokens limits tokens earlier (Announced size)) are
   given_new (Wrote n) ts accepted are =
       none_new (client_after limits tokens earlier) (after_one (Wrote n)) ts
       (call_tokens limits tokens earlier (Wrote n)) are

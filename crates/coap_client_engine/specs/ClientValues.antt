@@ -1,12 +1,13 @@
 -- Defined by this project: the state of a client, and the effect of each call on that state.
-use Rattle.std.specs.Prelude.{ℕ, Bool, true, false, ◌&&◌, List, [], length, Option, Some, None, Result, Ok, Err, nat_le}
-use Rattle.std.specs.Prelude.{nat_lt, if◌then◌else◌}
+use Rattle.std.specs.Prelude.{◌≡◌, ◌<◌, ℕ, Bool, true, false, ◌&&◌, List, [], length, Option, Some, None, Result, Ok}
+use Rattle.std.specs.Prelude.{Err, nat_le, nat_lt, if◌then◌else◌}
 use Rattle.coap_wire.specs.Message.{Message}
 use Rattle.coap_wire.specs.Reading.{message_of}
 use Rattle.coap_wire.specs.Spelling.{spelling}
 use Rattle.coap_wire.specs.Recognition.{first_critical}
 use Rattle.coap_wire.specs.Stream.{OfFrame}
 use Rattle.coap_wire.specs.declared.fault.FormatFault.{FormatFault}
+use Rattle.coap_wire.specs.declared.sizes.TheConstants.{LARGEST_MESSAGE}
 use Rattle.coap_frame.specs.Framing.{Framing, FrameEventValue, Nothing, AFrame, AFault, framing}
 use Rattle.coap_conn.specs.declared.reason.Reason.{Reason}
 use Rattle.coap_conn.specs.declared.phase.Role.TheVariants.{Client}
@@ -15,28 +16,31 @@ use Rattle.coap_conn.specs.declared.phase.Reject.TheVariants as reject
 use Rattle.coap_conn.specs.declared.phase.RequestFault.{RequestFault}
 use Rattle.coap_conn.specs.declared.phase.RequestFault.TheVariants.{TooBig}
 use Rattle.coap_conn.specs.Limits.{LimitValues}
-use Rattle.coap_conn.specs.Phases.{takes_messages}
+use Rattle.coap_conn.specs.Phases.{takes_messages, is_open}
+use Rattle.coap_conn.specs.Fit.{fits}
 use Rattle.coap_conn.specs.Rejects.{reject_of, reject_reason}
 use Rattle.coap_conn.specs.Verdicts.{VerdictValue}
 use Rattle.coap_conn.specs.Verdicts as verdict
 use Rattle.coap_conn.specs.Reaction.{react}
 use Rattle.coap_conn.specs.RequestState.{else_refusal, new_refusal, asking_refusal, observation_refusal, cancel_refusal}
 use Rattle.coap_conn.specs.RequestState.{next_token, with_token, ping_with}
-use Rattle.coap_conn.specs.LinkValue.{LinkValue, new_link, free_in, standing_in, asking_in}
+use Rattle.coap_conn.specs.LinkValue.{LinkValue, new_link, free_in, limit_in, standing_in, asking_in, own_csm}
 use Rattle.coap_conn.specs.Calls.{link_after}
 use Rattle.coap_conn.specs.Calls as call
 use Rattle.coap_request.specs.declared.request.Method.{Method}
 use Rattle.coap_request.specs.Targets.{TargetValue}
 use Rattle.coap_request.specs.Requests.{ExtrasValue, request_of, cancel_of, is_too_long, has_long_extra}
+use Rattle.coap_client_engine.specs.declared.client.signals.ClientAnnounceFault.{ClientAnnounceFault}
+use Rattle.coap_client_engine.specs.declared.client.signals.ClientAnnounceFault.TheVariants as announcing
 
 -- The state of a client: the bytes of an unfinished frame, and the link.
 pub record ClientValue : Type 0 where
   pub frame : List ℕ
   pub link : LinkValue
 
--- The size of the largest message that the client accepts, in bytes.
+-- The size of the largest message that the client accepts, in bytes, as announced last.
 abbrev pub client_max : ClientValue → ℕ
-client_max v = v.link.limits.max_message
+client_max v = v.link.own_max
 
 -- A new client, whose Capabilities and Settings Message (CSM) is queued. The first token encodes the number after
 -- `tokens`.
@@ -148,6 +152,10 @@ client_forgotten v token = record v { link = link_after v.link (call.Forget toke
 abbrev pub client_released : ClientValue → ClientValue
 client_released v = record { frame = []; link = link_after v.link call.Release }
 
+-- The client after it announced a Max-Message-Size (RFC 8323 section 5.3.1). Bytes of an unfinished frame stay.
+abbrev pub client_announced : ClientValue → ℕ → ClientValue
+client_announced v size = record v { link = link_after v.link (call.Announce size) }
+
 -- ---- refusals
 
 -- The error of a refused request. If no earlier check fails, extras that are too long give `TooBig`, whatever size the
@@ -166,6 +174,27 @@ cancelling_refusal l token target extras =
 -- The error of a refused Ping.
 abbrev pub ping_refusal : LinkValue → Bool → Option RequestFault
 ping_refusal l custody = asking_refusal (asking_in l) (ping_with custody (next_token l.tokens))
+
+-- The error of a refused announcement, apart from memory. The checks are, in this order: phase, lower bound, upper
+-- bound, room in the queue for a message of maximum size, fit of the CSM.
+abbrev pub announce_refusal : LinkValue → ℕ → Option ClientAnnounceFault
+announce_refusal l size =
+    if is_open l.phase
+    then (if nat_lt size l.own_max
+    then Some announcing.Lower
+    else (if nat_lt LARGEST_MESSAGE size
+    then Some announcing.TooLarge
+    else (if nat_le l.limits.max_sent (free_in l)
+    then (if fits (limit_in l) (own_csm size) then None else Some announcing.PeerTooSmall)
+    else Some announcing.NoRoom)))
+    else Some announcing.NotOpen
+
+-- States the results that an announcement may have: success if there is no refusal, otherwise the refusal. `Memory` is
+-- possible if there is no refusal and the size is larger than the current one.
+abbrev pub IsAnnounceAnswer : {T : Type 0} → LinkValue → ℕ → Result T ClientAnnounceFault → Type 0
+IsAnnounceAnswer l size (Ok done) = announce_refusal l size ≡ None
+IsAnnounceAnswer l size (Err announcing.Memory) = (announce_refusal l size ≡ None) × (l.own_max < size)
+IsAnnounceAnswer l size (Err fault) = announce_refusal l size ≡ Some fault
 
 -- ---- sizes of messages
 

@@ -1,9 +1,10 @@
 -- Defined by this project: the client model. Accepted calls give steps, and steps give the history of the connection.
 use Rattle.std.specs.Prelude.{◌≡◌, ℕ, ◌≤◌, Bool, ◌&&◌, List, [], ◌∷◌, ◌++◌, length, map, drop, Option, Some, None}
-use Rattle.std.specs.Prelude.{true, is_none, nat_le, if◌then◌else◌}
+use Rattle.std.specs.Prelude.{true, is_none, nat_le, nat_lt, if◌then◌else◌}
 use Rattle.std.specs.List.{flat_map}
 use Rattle.coap_wire.specs.Message.{Message}
-use Rattle.coap_wire.specs.Stream.{StreamFault, Stream, split}
+use Rattle.coap_wire.specs.Frames.{Sizes, constant_size, sizes_first}
+use Rattle.coap_wire.specs.Stream.{StreamFault, Stream, sized_split}
 use Rattle.coap_frame.specs.Framing.{framing}
 use Rattle.coap_conn.specs.declared.phase.Role.TheVariants.{Client}
 use Rattle.coap_conn.specs.Limits.{LimitValues}
@@ -19,7 +20,7 @@ use Rattle.coap_request.specs.declared.request.Method.{Method}
 use Rattle.coap_request.specs.Targets.{TargetValue}
 use Rattle.coap_request.specs.Requests.{ExtrasValue, request_of, cancel_of}
 use Rattle.coap_client_engine.specs.ClientValues.{ClientValue, ClientEventValue, Stopped, event_told, is_cut}
-use Rattle.coap_client_engine.specs.ClientValues.{send_refusal, cancelling_refusal, ping_refusal}
+use Rattle.coap_client_engine.specs.ClientValues.{send_refusal, cancelling_refusal, ping_refusal, announce_refusal}
 
 -- An accepted call with its arguments. A refused call is not recorded.
 pub data ClientCall : Type 0 where
@@ -29,6 +30,7 @@ pub data ClientCall : Type 0 where
   Pinged : (custody : Bool) → ClientCall
   Forgot : (token : List ℕ) → ClientCall
   Released : ClientCall
+  Announced : (size : ℕ) → ClientCall
   Wrote : (n : ℕ) → ClientCall
   Ended : ClientCall
 
@@ -42,6 +44,7 @@ pub data ClientStep : Type 0 where
   Pings : (custody : Bool) → ClientStep
   Forgets : (token : List ℕ) → ClientStep
   Releases : ClientStep
+  Announces : (size : ℕ) → ClientStep
   Writes : (n : ℕ) → ClientStep
   Ends : (cut : Bool) → ClientStep
 
@@ -55,12 +58,30 @@ taken_by (Cancelled token target extras) = []
 taken_by (Pinged custody) = []
 taken_by (Forgot token) = []
 taken_by Released = []
+taken_by (Announced size) = []
 taken_by (Wrote n) = []
 taken_by Ended = []
 
--- The messages, rest and fault of all bytes that the calls accepted, for messages of at most `M` bytes.
+-- The size of the largest message that the client accepts after a call, if it is `M` before. Only the announcement of a
+-- larger size changes it.
+abbrev pub size_by : ClientCall → ℕ → ℕ
+size_by (Announced size) M = if nat_lt M size then size else M
+size_by other M = M
+
+-- The size of the largest message that the client accepts after calls, if it is `M` at first.
+unfoldable pub size_in : ℕ → List ClientCall → ℕ
+size_in M [] = M
+size_in M (c ∷ cs) = size_in (size_by c M) cs
+
+-- RFC 8323 section 5.3.1: for each accepted byte, the size of the largest message that the client accepted when this
+-- byte came. Bytes after these calls have the last size.
+unfoldable pub sizes_in : ℕ → List ClientCall → Sizes
+sizes_in M [] = constant_size M
+sizes_in M (c ∷ cs) = sizes_first (length (taken_by c)) M (sizes_in (size_by c M) cs)
+
+-- The messages, rest and fault of all bytes that the calls accepted, for messages of at most `M` bytes at first.
 abbrev pub stream_in : ℕ → List ClientCall → Stream
-stream_in M calls = split M (flat_map taken_by calls)
+stream_in M calls = sized_split (sizes_in M calls) (flat_map taken_by calls)
 
 -- The step of a fault that was not present before.
 abbrev pub new_fault : Option StreamFault → Option StreamFault → List ClientStep
@@ -81,6 +102,7 @@ steps_by M earlier (Cancelled token target extras) = Cancels token (cancel_of ta
 steps_by M earlier (Pinged custody) = Pings custody ∷ []
 steps_by M earlier (Forgot token) = Forgets token ∷ []
 steps_by M earlier Released = Releases ∷ []
+steps_by M earlier (Announced size) = Announces size ∷ []
 steps_by M earlier (Wrote n) = Writes n ∷ []
 steps_by M earlier Ended = Ends (is_cut (stream_in M earlier).rest) ∷ []
 
@@ -95,7 +117,7 @@ steps_of M calls = steps_behind M [] calls
 
 -- ---- the connection
 
--- The history of the connection after one more step. A Release is sent only if it has room and fits the peer's limit.
+-- The history of the connection after one more step. A Release or an announcement is sent only if it is not refused.
 unfoldable pub step : History → ClientStep → History
 step h (Handles m) = after h (call.Handle m)
 step h (Faults fault) = after h (call.Reject (reject_of fault))
@@ -104,6 +126,7 @@ step h (Cancels token m) = after h (call.Cancel token m)
 step h (Pings custody) = after h (call.Ping custody)
 step h (Forgets token) = after h (call.Forget token)
 step h Releases = if is_none (release_refusal (link_of h)) then after h call.Release else h
+step h (Announces size) = if is_none (announce_refusal (link_of h) size) then after h (call.Announce size) else h
 step h (Writes n) = after h (call.Written n)
 step h (Ends cut) = after h (call.End cut)
 
@@ -128,7 +151,7 @@ handles h = takes_messages h.phase && nat_le h.limits.max_sent (free_in (link_of
 unfoldable pub takes : LimitValues → ℕ → List ClientCall → List ℕ → ℕ
 takes limits tokens calls piece =
     if handles (client_after limits tokens calls)
-    then (framing limits.max_message (stream_in limits.max_message calls).rest piece).taken else 0
+    then (framing (size_in limits.max_message calls) (stream_in limits.max_message calls).rest piece).taken else 0
 
 -- ---- events
 
@@ -142,6 +165,7 @@ event_by h (Cancels token m ∷ more) = None
 event_by h (Pings custody ∷ more) = None
 event_by h (Forgets token ∷ more) = None
 event_by h (Releases ∷ more) = None
+event_by h (Announces size ∷ more) = None
 event_by h (Writes n ∷ more) = None
 event_by h (Ends cut ∷ more) = None
 
@@ -153,8 +177,8 @@ event_of limits tokens earlier call =
 -- ---- accepted calls
 
 -- Says that a client accepts a call after the calls `earlier`. A `take` accepts all bytes that the call records. A
--- request, cancellation, Ping or Release is not refused. A token that is forgotten is outstanding. No more bytes are
--- written than are queued.
+-- request, cancellation, Ping, Release or announcement is not refused. A token that is forgotten is outstanding. No
+-- more bytes are written than are queued.
 unfoldable pub IsAccepted : LimitValues → ℕ → List ClientCall → ClientCall → Type 0
 IsAccepted limits tokens earlier (Took bytes) = takes limits tokens earlier bytes ≡ length bytes
 IsAccepted limits tokens earlier (Sent method target extras) =
@@ -165,6 +189,8 @@ IsAccepted limits tokens earlier (Pinged custody) =
     ping_refusal (link_of (client_after limits tokens earlier)) custody ≡ None
 IsAccepted limits tokens earlier (Forgot token) = may_forget (link_of (client_after limits tokens earlier)) token ≡ true
 IsAccepted limits tokens earlier Released = release_refusal (link_of (client_after limits tokens earlier)) ≡ None
+IsAccepted limits tokens earlier (Announced size) =
+    announce_refusal (link_of (client_after limits tokens earlier)) size ≡ None
 IsAccepted limits tokens earlier (Wrote n) = n ≤ length (waiting_of (client_after limits tokens earlier))
 IsAccepted limits tokens earlier Ended = Unit {0}
 

@@ -22,10 +22,10 @@ use Rattle.coap_client_engine.specs.declared.client.Client.TheInside.{Inside}
 abbrev pub client_value : Inside → ClientValue
 client_value c = record { frame = c.framer.kept; link = c.link }
 
--- The invariant of a client: its limits are in range, and its framer accepts messages of at most `max_message` bytes.
+-- The invariant of a client: its limits are in range, and its framer accepts messages up to the size announced last.
 pub record IsClient (c : Inside) : Type 0 where
   pub ranges : AreInRange c.link.limits
-  pub greatest : c.framer.max ≡ c.link.limits.max_message
+  pub greatest : c.framer.max ≡ c.link.own_max
   pub framer : IsFramer c.framer
 
 abbrev pub is_client : Inside → Type 0

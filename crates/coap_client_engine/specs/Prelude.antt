@@ -15,7 +15,8 @@ unfoldable pub use Rattle.coap_wire.specs.Recognition.{first_critical_behind, is
 pub use Rattle.coap_wire.specs.Refusal.{RefusedBy}
 unfoldable pub use Rattle.coap_wire.specs.Spelling.{spelling}
 pub use Rattle.coap_wire.specs.Stream.{StreamFault, Format, OfFrame, Stream, behind, frame_then, continued, split}
-pub use Rattle.coap_wire.specs.Stream.{split_on}
+pub use Rattle.coap_wire.specs.Stream.{sized_split, split_on}
+pub use Rattle.coap_wire.specs.Frames.{constant_size, sizes_first}
 pub use Rattle.coap_wire.specs.declared.fault.FormatFault.{FormatFault}
 pub use Rattle.coap_wire.specs.declared.fault.FrameFault.{FrameFault}
 -- ---- coap_frame
@@ -23,6 +24,7 @@ pub use Rattle.coap_frame.specs.FramedViews.{finding_laid_out}
 pub use Rattle.coap_frame.specs.Framing.{IsFramer, framing_of, framer_after, frame_back, AFault, AFrame}
 pub use Rattle.coap_frame.specs.Framing.{FrameEventValue}
 pub use Rattle.coap_frame.specs.Framing.{FramerValue, Framing, Nothing, framing_at, split_frame}
+pub use Rattle.coap_frame.specs.Raising.{raise_refusal, with_size}
 unfoldable pub use Rattle.coap_frame.specs.Framing.{framing}
 -- ---- coap_conn
 pub use Rattle.coap_conn.specs.Announced.{bad_csm_option, has_critical_option}
@@ -30,13 +32,14 @@ unfoldable pub use Rattle.coap_conn.specs.Announced.{announced}
 pub use Rattle.coap_conn.specs.RequestState.{next_token, else_refusal, entry_of, ping_with, with_token}
 unfoldable pub use Rattle.coap_conn.specs.RequestState.{asking_refusal, cancel_refusal, new_refusal}
 unfoldable pub use Rattle.coap_conn.specs.RequestState.{observation_refusal}
-pub use Rattle.coap_conn.specs.Calls.{link_after, end_reason, may_forget, release}
-pub use Rattle.coap_conn.specs.Fit.{AllFit, bare_response, fit, without_options}
+pub use Rattle.coap_conn.specs.Calls.{link_after, end_reason, may_announce, may_forget, release}
+pub use Rattle.coap_conn.specs.Fit.{AllFit, bare_response, fit, fits, without_options}
 pub use Rattle.coap_conn.specs.PendingEntries.{PendingEntryValue, Pong}
 pub use Rattle.coap_conn.specs.History.{History, limit_now, waiting_of, IsHistory, after, after_asking, asking_now}
 pub use Rattle.coap_conn.specs.History.{link_of, new_history, standing_now, with_effect}
 pub use Rattle.coap_conn.specs.Limits.{LimitValues, AreInRange, default_limits}
-pub use Rattle.coap_conn.specs.LinkValue.{standing_in, LinkValue, asking_in, bytes_of, free_in, limit_in}
+pub use Rattle.coap_conn.specs.LinkValue.{standing_in, LinkValue, asking_in, bytes_of, free_in, limit_in, own_csm}
+pub use Rattle.coap_conn.specs.LinkValue.{sizes_of}
 pub use Rattle.coap_conn.specs.Outstanding.{Observation, OutstandingValue, Ping, Request, cancelled_by}
 pub use Rattle.coap_conn.specs.Outstanding.{matches_response}
 pub use Rattle.coap_conn.specs.Outstanding.{is_last, matches_pong, with_cancelled, without_asked, without_pinged}
@@ -87,7 +90,7 @@ pub use Rattle.coap_request.specs.declared.plan.ClientPlan.{ClientPlan}
 pub use Rattle.coap_request.specs.declared.request.Method.{Method}
 pub use Rattle.coap_request.specs.declared.request.Method.TheVariants.{Get}
 -- ---- coap_client_engine
-pub use Rattle.coap_client_engine.specs.ClientLaws.{AreDifferent, tokens_given, token_given, tokens_behind}
+pub use Rattle.coap_client_engine.specs.ClientLaws.{AreDifferent, KeepsSize, tokens_given, token_given, tokens_behind}
 pub use Rattle.coap_client_engine.specs.ClientRun.{IsReady, IsClientRun, IsExplainedRun, FailedBeforeStart, seen}
 pub use Rattle.coap_client_engine.specs.ClientRun.{with_outlets, with_wire}
 pub use Rattle.coap_client_engine.specs.ClientRun.{with_all, HasReadClock, IsHeard, IsTaken, IsFinished, IsFlushed}
@@ -98,7 +101,8 @@ pub use Rattle.coap_client_engine.specs.ClientRun.{IsAtTrace, most_turns, token_
 pub use Rattle.coap_client_engine.specs.ClientValues.{answer_told, event_told, ClientValue, client_takes, new_client}
 pub use Rattle.coap_client_engine.specs.ClientValues.{client_written, client_ended, client_sent, client_cancelled}
 pub use Rattle.coap_client_engine.specs.ClientValues.{client_pinged, send_refusal, cancelling_refusal, ping_refusal}
-pub use Rattle.coap_client_engine.specs.ClientValues.{client_forgotten, client_released}
+pub use Rattle.coap_client_engine.specs.ClientValues.{client_forgotten, client_released, client_announced}
+pub use Rattle.coap_client_engine.specs.ClientValues.{announce_refusal, IsAnnounceAnswer}
 pub use Rattle.coap_client_engine.specs.ClientValues.{request_size, cancellation_size}
 pub use Rattle.coap_client_engine.specs.ClientValues.{ClientEventValue, ClientTakeOutcome, is_cut, taking_found}
 pub use Rattle.coap_client_engine.specs.ClientValues.{taking_read}
@@ -106,12 +110,12 @@ pub use Rattle.coap_client_engine.specs.ClientValues.{taking_rejected}
 unfoldable pub use Rattle.coap_client_engine.specs.ClientValues.{taking}
 pub use Rattle.coap_client_engine.specs.ClientWorld.{ClientCall, ClientShows, Took, Sent, Cancelled, Pinged, Wrote}
 pub use Rattle.coap_client_engine.specs.ClientWorld.{Ended, ClientStep, AreAccepted, stream_in, Cancels, Ends, Faults}
-pub use Rattle.coap_client_engine.specs.ClientWorld.{Forgot, Released, Forgets, Releases}
+pub use Rattle.coap_client_engine.specs.ClientWorld.{Forgot, Released, Announced, Forgets, Releases, Announces, size_by}
 pub use Rattle.coap_client_engine.specs.ClientWorld.{Handles, Pings, Requests, Writes, beyond, event_by, handles}
 pub use Rattle.coap_client_engine.specs.ClientWorld.{kept_after, new_fault, taken_by}
 unfoldable pub use Rattle.coap_client_engine.specs.ClientWorld.{takes, event_of, client_after, client_of, steps_by}
 unfoldable pub use Rattle.coap_client_engine.specs.ClientWorld.{steps_of, step, AreAcceptedBehind, IsAccepted}
-unfoldable pub use Rattle.coap_client_engine.specs.ClientWorld.{after_steps, steps_behind}
+unfoldable pub use Rattle.coap_client_engine.specs.ClientWorld.{after_steps, steps_behind, size_in, sizes_in}
 pub use Rattle.coap_client_engine.specs.EventViews.{event_value, answer_read, pong_read, heard_value, taken_event}
 pub use Rattle.coap_client_engine.specs.EventViews.{taken_frame}
 pub use Rattle.coap_client_engine.specs.EventViews.{taking_framed, IsClient}
@@ -137,6 +141,7 @@ pub use Rattle.coap_client_engine.specs.RunSteps.{token_asking, unless_refused, 
 -- ---- coap_client_engine, declared
 pub use Rattle.coap_client_engine.specs.declared.client.Client.TheInside.{Inside}
 pub use Rattle.coap_client_engine.specs.declared.client.Received.{Received}
+pub use Rattle.coap_client_engine.specs.declared.client.signals.ClientAnnounceFault.{ClientAnnounceFault}
 pub use Rattle.coap_client_engine.specs.declared.run.state.Run.{Run}
 pub use Rattle.coap_client_engine.specs.declared.run_end.Awaited.{Awaited}
 pub use Rattle.coap_client_engine.specs.declared.run_end.Cause.{Cause}

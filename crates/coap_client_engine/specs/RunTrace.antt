@@ -13,7 +13,7 @@ use Rattle.coap_io.specs.declared.wire.Got.{Got}
 use Rattle.coap_io.specs.streams.Wires.{bytes_passed, count_passed}
 use Rattle.coap_client_engine.specs.ClientValues.{ClientValue, client_takes, ClientEventValue}
 use Rattle.coap_client_engine.specs.ClientWorld.{ClientCall, Took, Sent, Cancelled, Pinged, Forgot, Released, Wrote}
-use Rattle.coap_client_engine.specs.ClientWorld.{Ended, taken_by}
+use Rattle.coap_client_engine.specs.ClientWorld.{Announced, Ended, taken_by}
 use Rattle.coap_client_engine.specs.ClientWorld.{client_after, client_of, takes, event_of}
 use Rattle.coap_client_engine.specs.RunTexts.{stop_line}
 use Rattle.coap_client_engine.specs.RunSteps.{has_passed, must_send_request, is_to_cancel, planned_extras}
@@ -82,6 +82,7 @@ token_by (Cancelled token target extras) client before = before
 token_by (Pinged custody) client before = before
 token_by (Forgot token) client before = before
 token_by Released client before = before
+token_by (Announced size) client before = before
 token_by (Wrote n) client before = before
 token_by Ended client before = before
 
@@ -161,6 +162,7 @@ cancelled_by (Cancelled token target extras) moment before = Some moment
 cancelled_by (Pinged custody) moment before = before
 cancelled_by (Forgot token) moment before = before
 cancelled_by Released moment before = before
+cancelled_by (Announced size) moment before = before
 cancelled_by (Wrote n) moment before = before
 cancelled_by Ended moment before = before
 
@@ -244,6 +246,7 @@ rest_by (Cancelled token target extras) rest = rest
 rest_by (Pinged custody) rest = rest
 rest_by (Forgot token) rest = rest
 rest_by Released rest = rest
+rest_by (Announced size) rest = rest
 rest_by (Wrote n) rest = rest
 rest_by Ended rest = rest
 
@@ -375,6 +378,7 @@ IsPlanned plan before (Cancelled token target extras) =
 IsPlanned plan before (Pinged custody) = ⊥
 IsPlanned plan before (Forgot token) = ⊥
 IsPlanned plan before Released = ⊥
+IsPlanned plan before (Announced size) = ⊥
 IsPlanned plan before (Wrote n) = ⊥
 IsPlanned plan before Ended = ⊥
 

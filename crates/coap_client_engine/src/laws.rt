@@ -4,8 +4,9 @@ ghost use Rattle.std.specs.Prelude.{◌≡◌, ℕ, ◌≤◌, ◌<◌, List, []
 ghost use Rattle.coap_client_engine.specs.Prelude.{AllFit, History, limit_now, waiting_of, LimitValues, AreInRange};
 ghost use Rattle.coap_client_engine.specs.Prelude.{reject_of, reject_reason, Message, StreamFault, ClientCall};
 ghost use Rattle.coap_client_engine.specs.Prelude.{ClientStep, AreAccepted, Took, client_after, client_of, steps_by};
-ghost use Rattle.coap_client_engine.specs.Prelude.{steps_of, step, stream_in, AreDifferent, tokens_given, list_any};
-ghost use Rattle.coap_client_engine.specs.Prelude.{may_forget, is_entry_of, link_of, Forgot};
+ghost use Rattle.coap_client_engine.specs.Prelude.{steps_of, step, stream_in, size_in, AreDifferent, tokens_given};
+ghost use Rattle.coap_client_engine.specs.Prelude.{list_any, may_forget, is_entry_of, link_of, Forgot, KeepsSize};
+ghost use Rattle.coap_client_engine.specs.Prelude.{AllByRecursion, flat_map, split, taken_by};
 ghost use Rattle.coap_conn.specs.declared.phase.Phase.TheVariants.{Stopped};
 
 /// States that no limit is exceeded after any calls that a client accepts.
@@ -14,13 +15,25 @@ ghost use Rattle.coap_conn.specs.declared.phase.Phase.TheVariants.{Stopped};
 /// of a client is always empty.
 pub fn limits_are_kept()
     ensures kept { (limits : LimitValues) (tokens : ℕ) (calls : List ClientCall) → AreInRange limits →
-        AreAccepted limits tokens calls → length (client_of limits tokens calls).frame < limits.max_message }
+        AreAccepted limits tokens calls →
+        length (client_of limits tokens calls).frame < size_in limits.max_message calls }
     ensures waiting { (limits : LimitValues) (tokens : ℕ) (calls : List ClientCall) → AreInRange limits →
         AreAccepted limits tokens calls → length (waiting_of (client_after limits tokens calls)) ≤ limits.queue }
     ensures outstanding { (limits : LimitValues) (tokens : ℕ) (calls : List ClientCall) → AreInRange limits →
         AreAccepted limits tokens calls → length (client_after limits tokens calls).outstanding ≤ limits.outstanding }
     ensures held { (limits : LimitValues) (tokens : ℕ) (calls : List ClientCall) →
         (client_after limits tokens calls).held ≡ [] }
+{}
+
+/// States that the largest message that a client accepts is the one that it announced last (RFC 8323 section 5.3.1).
+///
+/// - `last`: after accepted calls, this size applies. Before any announcement, it is that of the limits.
+/// - `none`: without an announcement, the size of the limits applies to all bytes.
+pub fn last_announced_size_applies()
+    ensures last { (limits : LimitValues) (tokens : ℕ) (calls : List ClientCall) → AreAccepted limits tokens calls →
+        (client_of limits tokens calls).link.own_max ≡ size_in limits.max_message calls }
+    ensures none { (M : ℕ) (calls : List ClientCall) → AllByRecursion KeepsSize calls →
+        (size_in M calls ≡ M) × (stream_in M calls ≡ split M (flat_map taken_by calls)) }
 {}
 
 /// States that the processed messages are exactly those that the accepted bytes encode.

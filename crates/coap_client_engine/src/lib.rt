@@ -45,6 +45,6 @@ mod run;
 mod run_end;
 
 pub use cause_line::explain;
-pub use client::{Client, Event, Taken};
+pub use client::{Client, ClientAnnounceFault, Event, Taken};
 pub use run::{ClientFault, run_client, run_to_end};
 pub use run_end::{Awaited, Cause, Refusal, RunEnd};

@@ -2,8 +2,8 @@
 //! after this one.
 //!
 //! The events are `take HEX`, `send METHOD TARGET` with the fields of a request (`asked`), `ping custody` (or `plain`),
-//! `forget TOKEN`, `release`, `written COUNT`, `end`, `part` and `look`. The method `cancel` cancels an observation.
-//! After each event all queued bytes are removed, as written, unless the row begins with `keep`.
+//! `forget TOKEN`, `release`, `announce SIZE`, `written COUNT`, `end`, `part` and `look`. The method `cancel` cancels an
+//! observation. After each event all queued bytes are removed, as written, unless the row begins with `keep`.
 
 use crate::asked::{method, read_asked};
 use crate::layer::Layer;
@@ -106,6 +106,14 @@ fn release(client: &mut Client, told: &mut RowLine) {
     }
 }
 
+/// Announces another Max-Message-Size, and writes the result.
+fn announce(client: &mut Client, size: usize, told: &mut RowLine) {
+    match client.announce(size.min(4_294_967_295) as u32) {
+        Ok(()) => told.word("Ok"),
+        Err(fault) => told.fault(&fault, fault as u8),
+    }
+}
+
 /// Removes bytes from the front of the queue, as written.
 fn written(client: &mut Client, count: usize, told: &mut RowLine) {
     if count > client.waiting() {
@@ -136,6 +144,7 @@ pub(crate) fn act(
             forget(client, bytes, told);
         }
         "release" => release(client, told),
+        "announce" => announce(client, number(rest), told),
         "written" => written(client, number(rest), told),
         "end" => {
             client.ended();

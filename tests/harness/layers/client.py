@@ -8,6 +8,7 @@ The events are:
   `accept:N`, `option:N:BYTES`, `payload:BYTES`,
 - `ping custody` and `ping plain`,
 - `forget TOKEN` and `release`,
+- `announce SIZE`,
 - `written COUNT` and `end`,
 - `part`, whose result is a prefix of the queued bytes,
 - `look`, which does nothing,
@@ -122,5 +123,8 @@ def steps(opening, rows):
 
 def refused(event, line, again):
     """Returns the call whose allocation failed, and the state that is left."""
-    return (("`Client::open`", "nothing") if event.startswith("= ")
-            else ("`Target::read`", "nothing, and the client as before"))
+    if event.startswith("= "):
+        return "`Client::open`", "nothing"
+    if event.removeprefix("keep ").startswith("announce "):
+        return "`Client::announce`", "the client as before"
+    return "`Target::read`", "nothing, and the client as before"

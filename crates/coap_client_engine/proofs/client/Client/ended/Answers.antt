@@ -1,5 +1,5 @@
 use Rattle.std.proofs.Common.{ℕ, refl, ap, subst, sym, ◌∙◌}
-use Rattle.coap_client_engine.specs.Prelude.{[], nat_lt, FramerValue, IsFramer, LimitValues, LinkValue, link_after}
+use Rattle.coap_client_engine.specs.Prelude.{[], nat_lt, FramerValue, IsFramer, LinkValue, link_after, sizes_of}
 use Rattle.coap_client_engine.specs.Prelude.{client_ended}
 use Rattle.coap_frame.proofs.FramingLemmas.{empty_framer}
 use Rattle.coap_conn.specs.Calls as call
@@ -14,8 +14,7 @@ invariant_of-self c =
     is_still c.self.inside c.clear.new.self c.end.new.self is (ap (λ (f : FramerValue). f.max) c.clear.ensures)
     (subst IsFramer (sym c.clear.ensures) (empty_framer c.self.inside.framer.max [] c.self.inside.framer.copied
     is.framer.low is.framer.high is.framer.countable refl))
-    (ap (λ (l : LinkValue). l.limits) c.end.ensures.after
-    ∙ ap (λ (both : LimitValues × ℕ). both.0) (end_sizes c.self.inside.link (nat_lt 0 c.kept.result)))
+    (ap sizes_of c.end.ensures.after ∙ end_sizes c.self.inside.link (nat_lt 0 c.kept.result))
 
 pub returns-clause-shows : goal.returns-clause-shows
 returns-clause-shows c =

@@ -1,6 +1,6 @@
 use Rattle.std.proofs.Common.{[], refl, ap, subst, sym, ◌∙◌}
 use Rattle.coap_client_engine.specs.Prelude.{is_open, FramerValue, IsFramer, LinkValue, ClientValue, client_released}
-use Rattle.coap_client_engine.specs.Prelude.{release_refusal}
+use Rattle.coap_client_engine.specs.Prelude.{release_refusal, sizes_of}
 use Rattle.coap_frame.proofs.FramingLemmas.{empty_framer}
 use Rattle.coap_conn.proofs.LinkLemmas.{stays_so}
 use Rattle.coap_client_engine.proofs.ClientShown.{released_shown}
@@ -14,8 +14,7 @@ invariant_of-self-2 c =
     is_still c.self.inside c.clear.new.self c.release.new.self is (ap (λ (f : FramerValue). f.max) c.clear.ensures)
     (subst IsFramer (sym c.clear.ensures) (empty_framer c.self.inside.framer.max [] c.self.inside.framer.copied
     is.framer.low is.framer.high is.framer.countable refl))
-    (ap (λ (l : LinkValue). l.limits) c.in_ok-release.ensures.after
-    ∙ stays_so (λ (l : LinkValue). l.limits) (is_open link.phase) link _ refl)
+    (ap sizes_of c.in_ok-release.ensures.after ∙ stays_so sizes_of (is_open link.phase) link _ refl)
 
 pub returns-clause-shows : goal.returns-clause-shows
 returns-clause-shows c =
