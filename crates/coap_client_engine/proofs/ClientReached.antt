@@ -401,7 +401,8 @@ module _ (limits : LimitValues) (tokens : ℕ) (calls : List ClientCall) where
           ∙ ap (λ (n : ℕ). taking_found (client_shown h calls_stream.rest) (framing n calls_stream.rest piece)
           (framing n calls_stream.rest piece).finding) before.size
 
-      takes_is : (other : List ℕ) → takes limits tokens calls other ≡ (framing size_before calls_stream.rest other).taken
+      takes_is : (other : List ℕ)
+          → takes limits tokens calls other ≡ (framing size_before calls_stream.rest other).taken
       unfolding takes
       takes_is other = ap (λ (b : Bool). cond b (framing size_before calls_stream.rest other).taken 0) does
 
@@ -447,9 +448,8 @@ module _ (limits : LimitValues) (tokens : ℕ) (calls : List ClientCall) where
   unfolding taking client_of
   taking_without_room piece not =
       let v : ClientValue = client_of limits tokens calls in
-      ap (λ (b : Bool). cond b
-      (taking_found v (framing h.own_max v.frame piece) (framing h.own_max v.frame piece).finding)
-      (record { count = 0; client = v; event = None })) not
+      ap (λ (b : Bool). cond b (taking_found v (framing h.own_max v.frame piece)
+      (framing h.own_max v.frame piece).finding) (record { count = 0; client = v; event = None })) not
 
   empty_take_left : client_of limits tokens (after_take []) ≡ client_of limits tokens calls
   empty_take_left =

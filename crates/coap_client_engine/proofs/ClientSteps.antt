@@ -1,6 +1,6 @@
 -- Lists of calls: their bytes, their steps, the connection after them, and which calls are accepted.
-use Rattle.std.proofs.Common.{◌≡◌, ℕ, ◌-◌, ◌<◌, ◌≤◌, List, [], ◌∷◌, ◌++◌, length, map, Option, Some, None, refl, sym, ap}
-use Rattle.std.proofs.Common.{subst, ◌∙◌, append_assoc, arith}
+use Rattle.std.proofs.Common.{◌≡◌, ℕ, ◌-◌, ◌<◌, ◌≤◌, List, [], ◌∷◌, ◌++◌, length, map, Option, Some, None, refl, sym}
+use Rattle.std.proofs.Common.{ap, subst, ◌∙◌, append_assoc, arith}
 use Rattle.coap_client_engine.specs.Prelude.{flat_map, Message, Unfinished, prefix_kind, StreamFault, Stream, split}
 use Rattle.coap_client_engine.specs.Prelude.{sized_split, sizes_first, constant_size, behind}
 use Rattle.coap_client_engine.specs.Prelude.{continued, split_on, framing, LimitValues, History, new_history, Client}
@@ -58,13 +58,7 @@ unfolding size_in sizes_in
 sizes_within M [] at = omega arith
 sizes_within M (c ∷ calls) at =
     let N : ℕ = size_by c M in
-    grind (
-      arith,
-      nat_tests,
-      size_rises c M,
-      size_grows N calls,
-      sizes_within N calls (at - length (taken_by c)),
-    )
+    grind (arith, nat_tests, size_rises c M, size_grows N calls, sizes_within N calls (at - length (taken_by c)))
 
 -- The current size applies to the bytes that follow.
 sizes_now : (M : ℕ) (calls : List ClientCall) (at : ℕ) → length (flat_map taken_by calls) ≤ at

@@ -125,7 +125,8 @@ taken_twice M calls one other =
           ∙ ap (sized_split (sizes_in M calls))
           (sym (append_assoc (flat_map taken_by calls) one other)
           ∙ ap (λ (t : List ℕ). t ++ other) (sym (taken_with_call calls (Took one))))
-          ∙ ap (λ (sizes : ℕ → ℕ). sized_split sizes (flat_map taken_by half ++ other)) (sym (sizes_with_take M calls one))
+          ∙ ap (λ (sizes : ℕ → ℕ). sized_split sizes (flat_map taken_by half ++ other))
+          (sym (sizes_with_take M calls one))
           ∙ sym (read_before M half (Took other)),
       size_with_call M calls (Took (one ++ other)) ∙ sym (size_with_call M calls (Took one))
           ∙ sym (size_with_call M half (Took other)),

@@ -24,7 +24,8 @@ module _ (calls : List ClientCall) where
   takes_same = refl
 
   takes_where : (piece : List ℕ) → handles history_so_far ≡ true → takes default_limits 0 calls piece
-      ≡ (framing (size_in default_limits.max_message calls) (stream_in default_limits.max_message calls).rest piece).taken
+      ≡ (framing (size_in default_limits.max_message calls)
+      (stream_in default_limits.max_message calls).rest piece).taken
   unfolding takes
   takes_where piece does =
       ap (λ (b : Bool). cond b

@@ -18,11 +18,10 @@ mod requests;
 mod signals;
 mod state;
 
-pub use signals::ClientAnnounceFault;
-
 use coap_conn::{Limits, Link, Reason, Reject, Role, Verdict};
 use coap_frame::Framer;
 use coap_wire::{MessageRef, TokenRef, parse};
+pub use signals::ClientAnnounceFault;
 use std::alloc::{AllocError, Global};
 use std::marker::Model;
 
@@ -126,8 +125,8 @@ impl Model for Client {
 impl Client {
     /// Creates a client with these limits, and queues its Capabilities and Settings Message (CSM).
     ///
-    /// All memory of the client is reserved here; later, only `announce` allocates, for a larger size. The first token is
-    /// the encoding of the number after `tokens_from`.
+    /// All memory of the client is reserved here. Later only `announce` allocates, for a larger size. The first token
+    /// is the encoding of the number after `tokens_from`.
     ///
     /// # Errors
     ///

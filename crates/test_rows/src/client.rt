@@ -2,8 +2,8 @@
 //! after this one.
 //!
 //! The events are `take HEX`, `send METHOD TARGET` with the fields of a request (`asked`), `ping custody` (or `plain`),
-//! `forget TOKEN`, `release`, `announce SIZE`, `written COUNT`, `end`, `part` and `look`. The method `cancel` cancels an
-//! observation. After each event all queued bytes are removed, as written, unless the row begins with `keep`.
+//! `forget TOKEN`, `release`, `announce SIZE`, `written COUNT`, `end`, `part` and `look`. The method `cancel` cancels
+//! an observation. After each event all queued bytes are removed, as written, unless the row begins with `keep`.
 
 use crate::asked::{method, read_asked};
 use crate::layer::Layer;

@@ -20,8 +20,8 @@ returns-clause-shows c =
     let low : i.link.own_max ≤ size = subst (λ (n : ℕ). n ≤ size) c.self.invariant.greatest allowed.0 in
     announced_shown c.args.self.now (record { frame = c.raise.new.self.kept; link = c.announce.new.self }) size
     (ap (λ (v : ClientValue). announce_refusal v.link size) (sym c.self.view_is)
-    ∙ unrefused i.link size (ap is_open (sym c.phase.ensures ∙ c.in-Open.is)) low allowed.1 c.announce.requires.ready
-    (sym c.if-not-takes_announcement.ensures))
+    ∙ unrefused i.link size (ap is_open (sym c.phase.ensures ∙ c.in-Open.is)) low allowed.1
+    (c.ready.ensures.0 c.if-not-ready.false) (sym c.if-not-takes_announcement.ensures))
     (ap (λ (f : FramerValue). record { frame = f.kept; link = c.announce.new.self }) c.in-Ok.ensures.after
     ∙ ap (λ (l : LinkValue). record { frame = i.framer.kept; link = l }) c.announce.ensures.after
     ∙ ap (λ (v : ClientValue). client_announced v size) c.self.view_is)
