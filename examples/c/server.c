@@ -1,20 +1,22 @@
 /* server [PORT [SECONDS]]: /inside and /outside count up, and the program answers PUT /valve.
    Build: cc -std=c11 server.c $(pkg-config --cflags --libs dachreup) */
 #define _POSIX_C_SOURCE 200809L
-#include <arpa/inet.h>
 #include <dachreup.h>
 #include <errno.h>
+#include <netdb.h>
 #include <poll.h>
 #include <stdio.h>
 #include <stdlib.h>
 #include <string.h>
+#include <sys/socket.h>
 #include <time.h>
 #include <unistd.h>
 
-enum { CONNECTIONS = 16, LISTENER = CONNECTIONS, ROOM = 4096 };
+enum { PLACES = 18, LARGEST = 65536 }; /* the listener, 16 connections, and one that is refused */
 static struct dachreup_server server;
-static uint64_t ids[CONNECTIONS]; /* of the connections, or 0 */
-static struct pollfd sockets[CONNECTIONS + 1];
+static struct pollfd sockets[PLACES] = {{-1, POLLIN, 0}};
+static uint64_t ids[PLACES]; /* of the connections */
+static size_t used = 1;
 
 /* Stores a measured value, and notifies its observers. Without memory, the last one stays. */
 static void measure(const char *path, uint64_t value) {
@@ -23,45 +25,34 @@ static void measure(const char *path, uint64_t value) {
     dachreup_ignore(dachreup_server_put(&server, path, strlen(path), 0, text, length, NULL));
 }
 
-/* Answers PUT /valve. The request is lent until the next call on the server, so it is copied. */
+/* Answers PUT /valve, if it was taken. It is lent until the next call on the server, so copied. */
 static void answer(uint64_t id, struct dachreup_span request) {
+    static uint8_t copy[LARGEST], response[67];
     struct dachreup_message put;
-    uint8_t token[64], state[4], bytes[67];
-    uint32_t code = DACHREUP_CODE(4, 13);
     size_t length = 0;
-    if (dachreup_message_read(request.at, request.count, &put))
+    memcpy(copy, request.at, request.count);
+    if (dachreup_message_read(copy, request.count, &put))
         return;
-    memcpy(token, put.token.at, put.token.count);
-    if (put.payload.count <= sizeof state) {
-        memcpy(state, put.payload.at, put.payload.count);
-        if (!dachreup_server_put(&server, "valve", 5, 0, state, put.payload.count, NULL))
-            code = DACHREUP_CODE(2, 4);
-    }
-    put = dachreup_message_of(code, dachreup_span_of(token, put.token.count));
-    if (!dachreup_message_write(&put, bytes, sizeof bytes, &length))
-        dachreup_ignore(dachreup_server_respond(&server, id, bytes, length, NULL));
+    struct dachreup_span state = put.payload;
+    put = dachreup_message_of(DACHREUP_CODE(2, 4), put.token);
+    if (state.count > 4 || dachreup_server_put(&server, "valve", 5, 0, state.at, state.count, NULL))
+        put.code = DACHREUP_CODE(4, 13);
+    if (!dachreup_message_write(&put, response, sizeof response, &length))
+        dachreup_ignore(dachreup_server_respond(&server, id, response, length, NULL));
 }
 
 /* Offers received bytes to the server. Those that it does not accept yet stay in the socket, and
    the end of the input comes after them. Returns 0 if the connection failed. */
 static int receive(uint64_t id, int from) {
-    uint8_t bytes[ROOM];
+    uint8_t bytes[4096];
     struct dachreup_took took;
-    size_t used = 0;
     ssize_t count = recv(from, bytes, sizeof bytes, MSG_PEEK | MSG_DONTWAIT);
-    if (count < 0)
-        return errno == EAGAIN || errno == EINTR;
-    if (count == 0)
-        return !dachreup_server_ended(&server, id);
-    do {
-        size_t left = (size_t)count - used;
-        if (dachreup_server_take(&server, id, bytes + used, left, &took) || took.memory)
-            return 0;
-        if (took.request.count)
-            answer(id, took.request);
-        used += took.bytes;
-    } while (took.bytes);
-    return recv(from, bytes, used, 0) == (ssize_t)used;
+    if (count <= 0)
+        return count ? errno == EAGAIN : !dachreup_server_ended(&server, id);
+    if (dachreup_server_take(&server, id, bytes, (size_t)count, &took) || took.memory)
+        return 0;
+    answer(id, took.request);
+    return recv(from, bytes, took.bytes, 0) == (ssize_t)took.bytes;
 }
 
 /* Writes queued bytes as far as the socket accepts them. Returns 0 if the connection failed. */
@@ -70,80 +61,59 @@ static int flush(uint64_t id, int to) {
     if (dachreup_server_parts(&server, id, &parts))
         return 0;
     ssize_t count = send(to, parts.first.at, parts.first.count, MSG_NOSIGNAL | MSG_DONTWAIT);
-    if (count < 0)
-        return errno == EAGAIN || errno == EINTR;
-    return !dachreup_server_written(&server, id, (size_t)count);
+    return count < 0 ? errno == EAGAIN : !dachreup_server_written(&server, id, (size_t)count);
 }
 
-/* Moves bytes, and then waits for what can move next: output, or without output the input. */
+/* Moves bytes, and then waits for output that can move, or input unless the client released it. */
 static void serve(size_t at, int is_ready) {
     struct dachreup_status status;
-    int peer = sockets[at].fd;
-    if ((is_ready && !receive(ids[at], peer)) || !flush(ids[at], peer) ||
-        dachreup_server_status(&server, ids[at], &status) || status.finished) {
-        dachreup_ignore(dachreup_server_drop(&server, ids[at]));
-        close(peer);
-        sockets[at].fd = -1;
-        ids[at] = 0;
-    } else if (status.phase == DACHREUP_PHASE_STOPPED)
-        sockets[at].events = status.waiting ? POLLOUT : 0;
-    else
-        sockets[at].events = status.waiting ? POLLOUT : POLLIN;
-}
-
-static void accept_client(void) {
-    size_t at = 0;
-    int peer = accept(sockets[LISTENER].fd, NULL, NULL);
-    while (at < CONNECTIONS && ids[at])
-        at++;
-    if (at < CONNECTIONS && peer >= 0 && !dachreup_server_open(&server, &ids[at]))
-        sockets[at].fd = peer;
-    else if (peer >= 0)
-        close(peer);
-}
-
-static int opened(uint16_t port, uint64_t seconds) {
-    struct dachreup_settings settings = dachreup_settings_at(3, seconds);
-    static struct dachreup_applications own;
-    static struct sockaddr_in at;
-    int yes = 1, listener = socket(AF_INET, SOCK_STREAM | SOCK_NONBLOCK, 0);
-    at.sin_family = AF_INET;
-    at.sin_port = htons(port);
-    at.sin_addr.s_addr = htonl(INADDR_LOOPBACK);
-    for (size_t place = 0; place < CONNECTIONS; place++)
-        sockets[place].fd = -1;
-    sockets[LISTENER].fd = listener;
-    sockets[LISTENER].events = POLLIN;
-    return !dachreup_applications_new(&own, 10) &&
-           !dachreup_applications_add(&own, "valve", 5, 1 << DACHREUP_PUT, NULL, 0) &&
-           !dachreup_server_new_for(&server, &settings, &own) &&
-           !setsockopt(listener, SOL_SOCKET, SO_REUSEADDR, &yes, sizeof yes) &&
-           !bind(listener, (struct sockaddr *)&at, sizeof at) && !listen(listener, CONNECTIONS);
+    if ((!is_ready || receive(ids[at], sockets[at].fd)) && flush(ids[at], sockets[at].fd) &&
+        !dachreup_server_status(&server, ids[at], &status) && !status.finished) {
+        sockets[at].events = status.waiting ? POLLOUT : (status.reason ? 0 : POLLIN);
+        return;
+    }
+    dachreup_ignore(dachreup_server_drop(&server, ids[at]));
+    close(sockets[at].fd);
+    sockets[at] = sockets[--used];
+    ids[at] = ids[used];
 }
 
 int main(int count, char **words) {
-    uint64_t start = (uint64_t)time(NULL), second = start - 1, id;
+    static struct dachreup_applications own;
+    struct addrinfo *at;
+    uint64_t start = (uint64_t)time(NULL), last = 0, id;
     uint64_t seconds = count > 2 ? strtoull(words[2], NULL, 10) : UINT64_MAX;
-    if (!opened((uint16_t)(count > 1 ? atoi(words[1]) : 5683), start))
+    struct dachreup_settings settings = dachreup_settings_at(3, start);
+    int yes = 1, listener = socket(AF_INET, SOCK_STREAM | SOCK_NONBLOCK, 0);
+    if (dachreup_applications_new(&own, 10) ||
+        dachreup_applications_add(&own, "valve", 5, 1 << DACHREUP_PUT, NULL, 0) ||
+        dachreup_server_new_for(&server, &settings, &own) ||
+        getaddrinfo("127.0.0.1", count > 1 ? words[1] : "5683", NULL, &at) ||
+        setsockopt(listener, SOL_SOCKET, SO_REUSEADDR, &yes, sizeof yes) ||
+        bind(listener, at->ai_addr, at->ai_addrlen) || listen(listener, PLACES))
         return 1;
+    freeaddrinfo(at);
+    sockets[0].fd = listener;
     for (uint64_t now = start; now - start < seconds; now = (uint64_t)time(NULL)) {
-        if (now > second) {
-            second = now;
-            dachreup_ignore(dachreup_server_tick(&server, second));
-            measure("inside", second - start);
-            measure("outside", 2 * (second - start));
+        if (now > last) {
+            last = now;
+            dachreup_ignore(dachreup_server_tick(&server, now));
+            measure("inside", now - start);
+            measure("outside", 2 * (now - start));
         }
-        poll(sockets, CONNECTIONS + 1, 200);
-        if (sockets[LISTENER].revents)
-            accept_client();
-        for (size_t at = 0; at < CONNECTIONS; at++)
-            if (sockets[at].revents)
-                serve(at, 1);
         while (!dachreup_server_next_output(&server, &id))
-            for (size_t at = 0; at < CONNECTIONS; at++)
-                if (ids[at] == id)
-                    serve(at, 0);
+            for (size_t place = used; place-- > 1;)
+                if (ids[place] == id)
+                    serve(place, 0);
+        poll(sockets, used, 200);
+        for (size_t place = used; place-- > 1;)
+            if (sockets[place].revents)
+                serve(place, 1);
+        int peer = accept(listener, NULL, NULL);
+        if (peer >= 0 && !dachreup_server_open(&server, &ids[used]))
+            sockets[used++].fd = peer;
+        else if (peer >= 0)
+            close(peer);
     }
     dachreup_server_free(&server);
-    return close(sockets[LISTENER].fd);
 }
