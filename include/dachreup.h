@@ -437,12 +437,13 @@ dachreup_server_take(struct dachreup_server *server, uint64_t id, const void *pi
 /*
  * Sets *id to a connection that has queued bytes, and that was not yielded since bytes were added to them or a part of
  * them was written. So each connection is yielded after every such change, in any order; several changes count once.
- * Another call that concerns the connection may make it yielded too: a take that accepts nothing, or written with 0.
+ * Another call that concerns the connection may make it yielded too. A take that handles nothing does not: a take that
+ * accepts no byte, or only a part of a message. Nor does written with 0.
  * Returns DACHREUP_NO_MORE if there is no such connection.
  *
  * Repeat it after calls that can queue bytes (open, take, respond, tick, put, put_at, remove, remove_at, ended,
- * release, announce), and write the bytes of each id. Between, make only calls that move bytes: otherwise there may be
- * no end.
+ * release, announce), and write the bytes of each id. Between, make only calls that move bytes, and offer kept bytes
+ * again: other calls may yield without end.
  *
  * If the transport accepts none or only a part of the bytes, keep the id. Call dachreup_server_parts with it once the
  * transport is writable. Without a further change, such as a part that was written, the id is not yielded again.

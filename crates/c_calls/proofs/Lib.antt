@@ -1,6 +1,7 @@
 pub mod ServerSlots
 pub mod ServerLemmas
 pub mod LoanLemmas
+pub mod QuietLemmas
 pub mod PathLemmas
 pub mod ListedLemmas
 pub mod ClientSlots

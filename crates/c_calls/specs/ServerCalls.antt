@@ -105,10 +105,15 @@ abbrev pub IsTakenOn : ℕ → Bor (List ℕ) → TookResult → ServerValue →
 IsTakenOn id piece t v v' = ((t.memory ≡ 0) × ((is_there (session_of id v.sessions) ≡ true) × HasTaken id piece t v v'))
     ⊎ HasTakenPart id piece.now t v v'
 
+-- A `take` that handles nothing makes no connection due. One that accepts no byte handles nothing.
+pub record IsQuietTake (t : TookResult) (v v' : PolledServer) : Type 0 where
+  pub same : t.handled ≡ 0 → v'.due ≡ v.due
+  pub nothing : (events : List AcceptedCall) → Shows v.engine events → t.bytes ≡ 0 → t.handled ≡ 0
+
 -- `take` returns 0, or 6 if there is no connection.
 abbrev pub IsTaken : ℕ → Bor (List ℕ) → TookResult → Option PolledServer → Option PolledServer → ℕ → Type 0
 IsTaken id piece t = OnHandle (IsBlank t) (λ v v' r.
-    ((r ≡ 0) × IsTakenOn id piece t v.engine v'.engine)
+    ((r ≡ 0) × (IsTakenOn id piece t v.engine v'.engine × IsQuietTake t v v'))
     ⊎ ((r ≡ 6) × ((session_of id v.engine.sessions ≡ None) × ((v' ≡ v) × IsBlank t))))
 
 abbrev pub IsWritten : (id count : ℕ) → Option PolledServer → Option PolledServer → ℕ → Type 0

@@ -1,11 +1,11 @@
 //! The calls of a server, for C. Each takes the server out of the handle, makes one call and puts the server back.
 
-ghost use Rattle.std.specs.Prelude.{◌≡◌, ◌≤◌, None, Some, length, option_copied};
+ghost use Rattle.std.specs.Prelude.{◌≡◌, ◌≢◌, ◌≤◌, None, Some, length, option_copied};
 ghost use Rattle.c_calls.specs.Loans.{IsInPiece, LendsFrame};
 ghost use Rattle.c_calls.specs.ServerCalls.{IsMade, IsOpened, IsTaken, IsTookBytes, IsResponded, IsWritten, IsTicked};
 ghost use Rattle.c_calls.specs.ServerCalls.{IsEnded, IsReleased, IsDropped, IsAnnouncedTo, HasParts, HasStatus};
-ghost use Rattle.c_calls.specs.ServerCalls.{IsTakenOn, ShowsStatus};
-ghost use Rattle.coap_server_engine.specs.Prelude.{LiesAt};
+ghost use Rattle.c_calls.specs.ServerCalls.{IsQuietTake, IsTakenOn, ShowsStatus};
+ghost use Rattle.coap_server_engine.specs.Prelude.{AddsAffected, AreSettled, LiesAt, server_taken};
 ghost use Rattle.coap_server_output.specs.Reports.{KeepsReported};
 
 use crate::numbers::{
@@ -141,15 +141,39 @@ pub extern "C" fn dachreup_raw_server_take(
 }
 
 /// Accepts the first bytes of those that the connection at an index received. The connection is due, and so are those
-/// that the message concerns. If an allocation fails, all are due.
-#[tactic(auto, using(crate::proofs::LoanLemmas::handed_lies, crate::proofs::LoanLemmas::changing_lies))]
+/// that the message concerns, unless the take handled nothing.
 fn take_at(server: &mut PolledServer, index: ConnIndex, piece: &[u8], took: &mut Took)
-    requires { LiesAt index.id index.at server.old.engine.sessions }
+    requires lies { LiesAt index.id index.at server.old.engine.sessions }
+    requires settled { AreSettled server.old.engine.shared server.old.engine.sessions }
     ensures taken { IsTakenOn index.id piece.entry took.new server.old.engine server.new.engine }
+    ensures quiet { IsQuietTake took.new server.old server.new }
     ensures output { KeepsReported (Some server.old) (Some server.new) }
 {
+    let before = server.due;
+    take_into(&mut server.engine, index, piece, took, &mut server.due);
+    if took.handled == 0 {
+        server.due = before;
+        return;
+    }
     server.due.insert(index.at);
-    match server.engine.take_request_at(index, piece, &mut server.due) {
+}
+
+/// Accepts the first bytes of those that the connection at an index received. The other connections that the message
+/// concerns are added to `affected`.
+#[tactic(auto, using(crate::proofs::LoanLemmas::handed_lies, crate::proofs::LoanLemmas::changing_lies))]
+fn take_into(
+    server: &mut Server,
+    index: ConnIndex,
+    piece: &[u8],
+    took: &mut Took,
+    affected: &mut IndexSet,
+)
+    requires { LiesAt index.id index.at server.old.sessions }
+    ensures taken { IsTakenOn index.id piece.entry took.new server.old server.new }
+    ensures affected { took.new.handled ≢ 0 → AddsAffected index.id affected.old.words affected.new.words server.old
+        (server_taken server.old index.id piece.now) }
+{
+    match server.take_request_at(index, piece, affected) {
         Ok(taken) => {
             let (handled, reason) = handled_numbers(taken.taken.handled);
             let count = taken.taken.bytes;
@@ -163,10 +187,7 @@ fn take_at(server: &mut PolledServer, index: ConnIndex, piece: &[u8], took: &mut
             };
         }
         Err(TakeFault::NoSuch) => unreachable!(),
-        Err(TakeFault::Memory { bytes }) => {
-            server.due = IndexSet::full();
-            *took = took_bytes(bytes, 1);
-        }
+        Err(TakeFault::Memory { bytes }) => *took = took_bytes(bytes, 1),
     }
 }
 
@@ -266,6 +287,7 @@ pub extern "C" fn dachreup_server_written(
     count: usize,
 ) -> u32
     ensures call { IsWritten id count handle.old.value handle.new.value result }
+    ensures none { count ≡ 0 → handle.new.value ≡ handle.old.value }
     ensures output { KeepsReported handle.old.value handle.new.value }
 {
     let Some(mut server) = handle.take_server(alloc) else {

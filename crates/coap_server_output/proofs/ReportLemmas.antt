@@ -1,17 +1,19 @@
 -- The connections that a call leaves as they were reported.
 use Rattle.std.proofs.Common.{◌≡◌, ◌≢◌, ℕ, zero, suc, ◌+◌, ◌<◌, ◌≤◌, nat_eq, List, [], ◌∷◌, ◌++◌, length, remove, map}
 use Rattle.std.proofs.Common.{Option, Some, None, refl, sym, ap, subst, ◌∙◌, inl, inr, arith, slice_get, true}
-use Rattle.std.proofs.Common.{add-one, false}
+use Rattle.std.proofs.Common.{IfSome, add-one, false, is_some}
 use Rattle.std.specs.List.{AllByRecursion, IsDistinct}
-use Rattle.std.proofs.lemmas.Bool.{cases_lt, eqb-true}
+use Rattle.std.proofs.lemmas.Bool.{cases_lt, cond_both, eqb-true, true≢false}
 use Rattle.std.proofs.lemmas.List.{length_push, map-append}
 use Rattle.std.proofs.lemmas.Map.Entries.{length-keys_of, length-values_of}
 use Rattle.coap_server_engine.specs.Prelude.{AddsAffected, AreSettled, IsOutside, KeepsOthers, KeepsWork}
 use Rattle.coap_server_engine.specs.Prelude.{LiesAt, ServerValue, SessionValue, bit_of, keys_of}
 use Rattle.coap_server_engine.specs.Prelude.{new_server, ConfigValues, on_session, position_or_len, server_dropped}
 use Rattle.coap_server_engine.specs.Prelude.{server_opened, server_settled, server_taken, server_ticked, session_of}
+use Rattle.coap_server_engine.specs.Prelude.{is_there, server_written, session_becomes, session_written}
 use Rattle.coap_server_engine.specs.Prelude.{values_of, waiting_at, new_session}
 use Rattle.coap_server_engine.specs.values.Flushes.{waiting_in}
+use Rattle.coap_model.proofs.OptionLemmas.{there_at}
 use Rattle.coap_server_engine.proofs.values.ConcernedLemmas.{outside_inserted}
 use Rattle.coap_server_engine.proofs.values.ServerLemmas.{Entries, all_settled_stay, lies_by_key, lies_still}
 use Rattle.coap_server_engine.proofs.values.ServerLemmas.{one_opened, one_removed}
@@ -52,13 +54,6 @@ keeps_new h x c is id reported =
     let few : length x.engine.sessions ≡ 0 = ap (λ (v : ServerValue). length v.sessions) is in
     absurd (omega (arith, reported.lies.within, few))
 
--- All connections are due.
-pub keeps_all_due : (h : Option PolledServer) (y : PolledServer) → ((i : ℕ) → i < 256 → bit_of y.due.words i ≡ 1)
-    → KeepsReported h (Some y)
-unfolding KeepsReported
-keeps_all_due h y all id reported =
-    absurd (omega (arith, all reported.at reported.outside.within, reported.outside.bit))
-
 -- ---- a call on one connection
 
 pub one_keeps : (x y : PolledServer) (id : ℕ) → KeepsOthers id x.engine y.engine → (IsReported id y → ⊥)
@@ -74,12 +69,57 @@ one_keeps x y id keeps own others other reported =
       ap waiting_in (keeps.same other apart),
     )
 
--- The call changes the connection, and all settle.
-pub one_changed : (x y : PolledServer) (id : ℕ) (f : SessionValue → SessionValue) → AreSettled x.engine.shared
-    x.engine.sessions → y.engine ≡ server_settled (on_session id f x.engine) → (IsReported id y → ⊥)
+-- The connection at its index, if there is one, is due.
+own_due : (x y : PolledServer) (id : ℕ) (at : Option ℕ) → is_some at ≡ is_there (session_of id x.engine.sessions)
+    → IfSome at (λ i. LiesAt id i x.engine.sessions) → keys_of y.engine.sessions ≡ keys_of x.engine.sessions
+    → IfSome at (λ i. i < 256 → bit_of y.due.words i ≡ 1) → IsReported id y → ⊥
+own_due x y id (Some at) there here keys own reported =
+    let lies = lies_still id reported.at y.engine.sessions x.engine.sessions (sym keys) reported.lies in
+    let same : reported.at ≡ at = sym lies.index ∙ here.index in
+    omega (
+      arith,
+      subst (λ (i : ℕ). bit_of y.due.words i ≡ 0) same reported.outside.bit,
+      own (subst (λ (i : ℕ). i < 256) same reported.outside.within),
+    )
+own_due x y id None there here keys own reported =
+    let lies = lies_still id reported.at y.engine.sessions x.engine.sessions (sym keys) reported.lies in
+    let one = there_at (values_of x.engine.sessions) reported.at
+    (omega (arith, lies.within, length-values_of x.engine.sessions)) in
+    true≢false (sym (rw (lies.found ∙ one.1) at there))
+
+-- The call changes the connection, and all settle. `at` is its index.
+pub one_changed : (x y : PolledServer) (id : ℕ) (at : Option ℕ) (f : SessionValue → SessionValue)
+    → AreSettled x.engine.shared x.engine.sessions → is_some at ≡ is_there (session_of id x.engine.sessions)
+    → IfSome at (λ i. LiesAt id i x.engine.sessions) → y.engine ≡ server_settled (on_session id f x.engine)
+    → IfSome at (λ i. i < 256 → bit_of y.due.words i ≡ 1)
     → ((i : ℕ) → IsOutside y.due.words i → IsOutside x.due.words i) → KeepsReported (Some x) (Some y)
-one_changed x y id f settled is =
-    one_keeps x y id (subst (KeepsOthers id x.engine) (sym is) (keeps_others x.engine id f settled))
+one_changed x y id at f settled there here is own =
+    let keeps = subst (KeepsOthers id x.engine) (sym is) (keeps_others x.engine id f settled) in
+    one_keeps x y id keeps (own_due x y id at there here keeps.keys own)
+
+-- ---- a call that changes nothing
+
+same_entries : (id : ℕ) (f : SessionValue → SessionValue) (es : Entries) → ((s : SessionValue) → f s ≡ s)
+    → map (session_becomes id f) es ≡ es
+same_entries id f [] same = refl
+same_entries id f (e ∷ es) same = cc (
+  cond_both (nat_eq e.0 id) (e.0, f e.1) e (λ (d : ℕ × SessionValue). d ≡ e)
+      (λ _. ap (λ (s : SessionValue). (e.0, s)) (same e.1)) (λ _. refl),
+  same_entries id f es same,
+)
+
+-- No byte was written.
+pub none_written : (x y : PolledServer) (id count : ℕ) → count ≡ 0 → AreSettled x.engine.shared x.engine.sessions
+    → y.engine ≡ server_written x.engine id count → y.due ≡ x.due → y ≡ x
+none_written x y id count none settled is due =
+    let engine : y.engine ≡ x.engine =
+    is ∙ ap (server_written x.engine id) none
+    ∙ ap (λ (es : Entries). server_settled (record x.engine { sessions = es }))
+    (same_entries id (λ s. session_written s 0) x.engine.sessions (λ s. refl))
+    ∙ ap (λ (es : Entries). record x.engine { sessions = es })
+    (all_settled_stay x.engine.shared x.engine.sessions settled)
+    in
+    ap (λ (v : ServerValue). record y { engine = v }) engine ∙ ap (λ d. record x { due = d }) due
 
 -- ---- a change that concerns some connections
 
@@ -116,22 +156,37 @@ time_stays x y now same settled is due =
 
 -- ---- a take
 
-pub take_keeps : (x y : PolledServer) (id at : ℕ) (piece start : List ℕ) → LiesAt id at x.engine.sessions
+-- A take that handled something. The connection at the index was added to the set after it.
+pub take_keeps : (x y : PolledServer) (id at : ℕ) (piece words : List ℕ) → LiesAt id at x.engine.sessions
     → y.engine ≡ server_taken x.engine id piece
-    → (at < 256 → bit_of start at ≡ 1) → ((i : ℕ) → i ≢ at → bit_of start i ≡ bit_of x.due.words i)
-    → AddsAffected id start y.due.words x.engine (server_taken x.engine id piece) → KeepsReported (Some x) (Some y)
+    → AddsAffected id x.due.words words x.engine (server_taken x.engine id piece)
+    → (at < 256 → bit_of y.due.words at ≡ 1) → ((i : ℕ) → i ≢ at → bit_of y.due.words i ≡ bit_of words i)
+    → KeepsReported (Some x) (Some y)
 unfolding KeepsReported
-take_keeps x y id at piece start here is own others adds other reported =
+take_keeps x y id at piece words here is adds own others other reported =
     let keys = ap (λ (v : ServerValue). keys_of v.sessions) is ∙ adds.keys in
     let lies = lies_still other reported.at y.engine.sessions x.engine.sessions (sym keys) reported.lies in
-    let before = outside_inserted x.due.words start at own others reported.at
-    (adds.kept reported.at reported.outside) in
+    let before = outside_inserted words y.due.words at own others reported.at reported.outside in
     let apart : other ≢ id =
     λ same. before.0 (sym lies.index ∙ ap (λ (k : ℕ). position_or_len (nat_eq k) (keys_of x.engine.sessions)) same
     ∙ here.index) in (
-      record { at = reported.at; lies = lies; outside = before.1 },
-      ap (waiting_at other) is ∙ ap waiting_in (adds.same reported.at other apart lies reported.outside),
+      record { at = reported.at; lies = lies; outside = adds.kept reported.at before.1 },
+      ap (waiting_at other) is ∙ ap waiting_in (adds.same reported.at other apart lies before.1),
     )
+
+-- A take that leaves the ids, the output of each connection, and the set.
+pub quiet_keeps : (x y : PolledServer) → keys_of y.engine.sessions ≡ keys_of x.engine.sessions
+    → ((id : ℕ) → waiting_at id y.engine ≡ waiting_at id x.engine) → y.due ≡ x.due
+    → KeepsReported (Some x) (Some y)
+unfolding KeepsReported
+quiet_keeps x y keys same due id reported = (
+  record {
+    at = reported.at;
+    lies = lies_still id reported.at y.engine.sessions x.engine.sessions (sym keys) reported.lies;
+    outside = subst (λ (words : List ℕ). IsOutside words reported.at) (ap (λ d. d.words) due) reported.outside;
+  },
+  same id,
+)
 
 -- ---- the id at an index
 

@@ -1,10 +1,10 @@
 //! `PolledServer`, a server with the set of the connections that are due.
 
-ghost use Rattle.std.specs.Prelude.{◌≡◌, ◌+◌, ◌++◌, ◌∷◌, ℕ, List, [], Some, IfNone, IfOk, IfSome, OnErr, OnOk, is_ok};
-ghost use Rattle.std.specs.Prelude.{nat_le};
+ghost use Rattle.std.specs.Prelude.{◌≡◌, ◌<◌, ◌+◌, ◌++◌, ◌∷◌, ℕ, List, [], Some, IfNone, IfOk, IfSome, OnErr, OnOk};
+ghost use Rattle.std.specs.Prelude.{is_ok, nat_le};
 ghost use Rattle.coap_server_engine.specs.Prelude.{AcceptedCall, Announced, Dropped, Ended, IsAnnounced, IsOutside};
 ghost use Rattle.coap_server_engine.specs.Prelude.{IsReplyOn, OpenedOrMemory, Opened, RefusedBy, RefusedOrMemory};
-ghost use Rattle.coap_server_engine.specs.Prelude.{Released, Removed, Shows, Stored, Ticked, Wrote, is_there};
+ghost use Rattle.coap_server_engine.specs.Prelude.{Released, Removed, Shows, Stored, Ticked, Wrote, bit_of, is_there};
 ghost use Rattle.coap_server_engine.specs.Prelude.{message_of, open_refusal, put_refusal, released_refusal};
 ghost use Rattle.coap_server_engine.specs.Prelude.{remove_refusal, responded_refusal, response_event};
 ghost use Rattle.coap_server_engine.specs.Prelude.{server_announced, server_dropped, server_ended, server_given};
@@ -24,10 +24,10 @@ use coap_store::{PathKey, StoreFault};
 ///
 /// A connection becomes due if its unwritten output may have changed. It stays due until `next_output` yields it, or
 /// finds that it has no unwritten output. A call may make connections due whose output is the same: `next_output` then
-/// yields these again.
+/// yields these again. `written` with a count of 0 makes none due.
 ///
 /// A `take` is made on `engine` by `Server::take_request_at`, which adds to `due` the other connections that the
-/// message concerns. The program adds the connection itself.
+/// message concerns. The program adds the connection itself. If the take handled nothing, it leaves `due` as it was.
 #[derive(Drop)]
 pub struct PolledServer {
     /// The server.
@@ -47,16 +47,15 @@ impl PolledServer {
         }
     }
 
-    /// Makes a connection due, if there is one with this id.
-    fn wake(&mut self, id: ConnId)
+    /// Makes the connection at an index due, if there is one.
+    fn wake(&mut self, at: Option<usize>)
         ensures engine { self.new.engine ≡ self.old.engine }
-        ensures own { IsReported id self.new → ⊥ }
+        ensures own { IfSome at (λ i. i < 256 → bit_of self.new.due.words i ≡ 1) }
         ensures others { (i : ℕ) → IsOutside self.new.due.words i → IsOutside self.old.due.words i }
     {
-        let Some(at) = self.engine.index_of(id) else {
-            return;
-        };
-        self.due.insert(at);
+        if let Some(at) = at {
+            self.due.insert(at);
+        }
     }
 
     /// Opens a connection as `Server::open` does. It is due.
@@ -93,12 +92,14 @@ impl PolledServer {
         ensures err { OnErr result (self.new ≡ self.old) }
         ensures output { KeepsReported (Some self.old) (Some self.new) }
     {
+        let at = self.engine.index_of(id);
         let reply = self.engine.respond(id, response)?;
-        self.wake(id);
+        self.wake(at);
         Ok(reply)
     }
 
-    /// Removes the first `count` bytes from the queue of a connection as `Server::written` does. The connection is due.
+    /// Removes the first `count` bytes from the queue of a connection as `Server::written` does. The connection is due,
+    /// unless `count` is 0.
     ///
     /// # Errors
     ///
@@ -109,10 +110,15 @@ impl PolledServer {
         ensures shows { OnOk result ((events : List AcceptedCall) → Shows self.old.engine events →
             Shows self.new.engine (events ++ Wrote id count ∷ [])) }
         ensures err { OnErr result (self.new ≡ self.old) }
+        ensures none { count ≡ 0 → self.new ≡ self.old }
         ensures output { KeepsReported (Some self.old) (Some self.new) }
     {
+        let at = self.engine.index_of(id);
         self.engine.written(id, count)?;
-        self.wake(id);
+        if count == 0 {
+            return Ok(());
+        }
+        self.wake(at);
         Ok(())
     }
 
@@ -153,8 +159,9 @@ impl PolledServer {
         ensures err { OnErr result (self.new ≡ self.old) }
         ensures output { KeepsReported (Some self.old) (Some self.new) }
     {
+        let at = self.engine.index_of(id);
         self.engine.ended(id)?;
-        self.wake(id);
+        self.wake(at);
         Ok(())
     }
 
@@ -171,8 +178,9 @@ impl PolledServer {
         ensures err { OnErr result (self.new ≡ self.old) }
         ensures output { KeepsReported (Some self.old) (Some self.new) }
     {
+        let at = self.engine.index_of(id);
         self.engine.release(id)?;
-        self.wake(id);
+        self.wake(at);
         Ok(())
     }
 
@@ -189,10 +197,9 @@ impl PolledServer {
         ensures err { OnErr result (self.new ≡ self.old) }
         ensures output { KeepsReported (Some self.old) (Some self.new) }
     {
-        // Gives the proof that all connections are settled.
-        self.engine.moment();
+        let at = self.engine.index_of(id);
         self.engine.announce(id, new)?;
-        self.wake(id);
+        self.wake(at);
         Ok(())
     }
 

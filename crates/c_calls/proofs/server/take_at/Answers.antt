@@ -1,12 +1,22 @@
-use Rattle.std.proofs.Common.{Some}
-use Rattle.coap_server_output.proofs.ReportLemmas.{keeps_all_due, take_keeps}
+use Rattle.std.proofs.Common.{refl}
+use Rattle.coap_server_output.proofs.ReportLemmas.{quiet_keeps, take_keeps}
+use Rattle.c_calls.proofs.QuietLemmas.{taken_nothing, taken_quiet, taken_whole}
 use Rattle.c_calls.proofs.server.take_at.Goals as goal
 
-pub returns-in-Ok-clause-output : goal.returns-in-Ok-clause-output
-returns-in-Ok-clause-output c =
-    let after = rw c.in-Ok.is at c.take_request_at.follows.holds-at-none in
-    take_keeps c.args.server.now _ c.args.index.id c.args.index.at c.args.piece.now c.insert.new.self.words c.requires
-    after.0 c.insert.ensures.set c.insert.ensures.others c.in-Ok.ensures.affected
+pub returns-then-took-eq0-clause-output : goal.returns-then-took-eq0-clause-output
+returns-then-took-eq0-clause-output c =
+    let quiet =
+    taken_quiet _ _ _ _ _ _ c.requires.settled c.requires.lies c.take_into.ensures.taken c.if-took-eq0.true in
+    quiet_keeps c.args.server.now _ quiet.keys quiet.same refl
 
-pub returns-in-Err-Memory-clause-output : goal.returns-in-Err-Memory-clause-output
-returns-in-Err-Memory-clause-output c = keeps_all_due (Some c.args.server.now) _ c.full-server.ensures
+pub returns-clause-quiet : goal.returns-clause-quiet
+returns-clause-quiet c = record {
+  same = λ none. absurd (c.if-took-eq0.false none);
+  nothing = taken_nothing _ _ _ _ _ c.take_into.ensures.taken;
+}
+
+pub returns-clause-output : goal.returns-clause-output
+returns-clause-output c =
+    take_keeps c.args.server.now _ c.args.index.id c.args.index.at c.args.piece.now c.take_into.new.affected.words
+    c.requires.lies (taken_whole _ _ _ _ _ c.take_into.ensures.taken c.if-took-eq0.false)
+    (c.take_into.ensures.affected c.if-took-eq0.false) c.insert.ensures.set c.insert.ensures.others
