@@ -204,8 +204,8 @@ def differing(runs):
 
 
 def retyped(runs):
-    """Returns the crates whose edits may have other types than in their last runs: those that differ in an edit, or
-    whose code or specifications differ, or those of a crate below."""
+    """Returns the crates whose edits may have other types than in their last runs. An edit differs, or the code or
+    specifications, or those of a crate below."""
     below = crates()
     coded = {it: {crate_of(file) for file in files_since(it) if "/proofs/" not in file} for it in set(runs.values())}
     edited = {it: {crate for crate, _ in edits_since(it)} for it in set(runs.values())}

@@ -155,8 +155,8 @@ def last_runs():
 
 
 def gate_edits(edits, runs):
-    """Returns the edits that the gate tries after these runs: of the MOST_CRATES crates that differ from theirs and
-    were changed last, up to MOST_IN_GATE edits."""
+    """Returns the edits that the gate tries after these runs, at most MOST_IN_GATE. They are of the MOST_CRATES crates
+    that differ and were changed last."""
     every = {it.crate for it in edits}
     names = [it for it in changes.differing(runs) if it in every]
     tried = names[:MOST_CRATES]
