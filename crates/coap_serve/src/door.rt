@@ -89,11 +89,10 @@ pub fn serve_door<D: Door, C: Clock>(
 {
     let config = ServiceConfig::new(config);
     run(
-        alloc,
+        Setup { alloc, config },
         door,
         clock,
         &mut NoUptime,
-        config,
         &mut NoApplication,
         &mut NoMonitor,
     )
@@ -124,33 +123,38 @@ pub fn serve_door_with<D: Door, C: Clock, U: Clock, A: Application, M: Monitor<D
         monitor.old monitor.new application.old application.new)) result }
 {
     run(
-        alloc,
+        Setup { alloc, config },
         door,
         &mut clocks.time,
         &mut clocks.uptime,
-        config,
         application,
         monitor,
     )
 }
 
+/// Allocator and configuration of the service of a run.
+struct Setup {
+    alloc: Global,
+    config: ServiceConfig,
+}
+
 /// Runs turns of a new service, at most as many as the configuration allows.
 fn run<D: Door, C: Clock, U: Clock, A: Application, M: Monitor<D::Wire>>(
-    alloc: Global,
+    setup: Setup,
     door: &mut D,
     clock: &mut C,
     uptime: &mut U,
-    config: ServiceConfig,
     application: &mut A,
     monitor: &mut M,
 ) -> Result<(), IoFault>
     ensures fault { IsMemoryOrTurns result }
     ensures run { IsRun (environment A.follows A.idle (some_waits A.waits)
-        (views_of D.Wire.readable D.Wire.writable D.Wire.given D.Wire.written D.Wire.answers D.Wire.rooms)) config
-        (known_of_run (TellsMore (C.moments clock.old) (C.moments clock.new))
+        (views_of D.Wire.readable D.Wire.writable D.Wire.given D.Wire.written D.Wire.answers D.Wire.rooms))
+        setup.config (known_of_run (TellsMore (C.moments clock.old) (C.moments clock.new))
         (TellsMore (U.moments uptime.old) (U.moments uptime.new)) (TellsMore (D.calls door.old) (D.calls door.new))
         (known_by M.follows A.follows monitor.old monitor.new application.old application.new)) result }
 {
+    let Setup { alloc, config } = setup;
     let turns = config.config.turns();
     let Ok(mut service) = Service::new(alloc, config) else {
         return Err(IoFault::Memory);

@@ -86,11 +86,3 @@ pub length_written : {X : Type 0} (es : List (ℕ × X)) (i : ℕ) (w : X) → l
 length_written [] i w = refl
 length_written (e ∷ es) zero w = refl
 length_written (e ∷ es) (suc i) w = ap (λ n. suc n) (length_written es i w)
-
--- The entries of a map in which one value was written.
-module _ {P : Type 0} (es mid : List (ℕ × P)) (i : ℕ) (written : (p : P) × (mid ≡ set_value_at es i p)) where
-  pub same_length : length mid ≡ length es
-  same_length = ap (λ xs. length xs) written.1 ∙ length_written es i written.0
-
-  pub front_same : take i mid ≡ take i es
-  front_same = rw written.1 (before_written es i written.0)

@@ -12,7 +12,9 @@ use Rattle.coap_serve.specs.Prelude.{Bytes, End, Failed, Later, PeerOutcome, Tak
 use Rattle.coap_serve.specs.Prelude.{server_wrote, has_failed, course_of, is_over_in, work_of, waiting_once}
 use Rattle.coap_serve.specs.Prelude.{IsLaidOut, IsOffered, IsServedOnceBy, Readiness, VisitState, Answering}
 use Rattle.coap_serve.specs.Prelude.{AreCallsBetween, Continues, Following, HasAccepted, Over, calls_only, heard_events}
-use Rattle.coap_serve.specs.Prelude.{journal, no_history, wrote_events}
+use Rattle.coap_serve.specs.Prelude.{journal, no_history, wrote_events, AreTimesAfter, History, IsServedBy, IsVisited}
+use Rattle.coap_serve.specs.Prelude.{Peer, Way, visit}
+use Rattle.coap_io.specs.streams.Wires.{MatchesTrace}
 use Rattle.std.proofs.lemmas.List.{append-nil}
 use Rattle.coap_serve.proofs.listener.ServingLemmas.{accepted_then, calls_accepted, moved_then}
 use Rattle.coap_serve.specs.listener.Turns.{IsTakenInPart, activity_after, have_moved, has_written}
@@ -125,6 +127,19 @@ failed_read_is_a_part takes ready id before after bytes heard p second
       );
       accepted = rw append-nil (calls_accepted p made);
     }
+
+-- The wire was asked first if it may be read and written.
+pub visited : {W : Type 0} (S : Way W) (v after : ServerValue) (e : ℕ × Peer W) {p : Peer W} (ready : Readiness)
+    (outcome : PeerOutcome) {Known : History → Type 0} → MatchesTrace (S.views.readable e.1.wire) ready.read
+    → MatchesTrace (S.views.writable e.1.wire) ready.write
+    → HasAccepted (λ h. IsServedBy S.takes S.views.trace ready v e (visit after p outcome h)
+    × AreTimesAfter S.second e.1 (visit after p outcome h)) Known v after
+    → HasAccepted (λ h. IsVisited S v e (visit after p outcome h)) Known v after
+visited S v after e ready outcome read write served = record {
+  history = served.history;
+  made = record { ready = ready; read = read; write = write; part = served.made.0; activity = served.made.1 };
+  accepted = served.accepted;
+}
 
 -- ---- the reason of a drop
 

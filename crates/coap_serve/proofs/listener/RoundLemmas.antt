@@ -3,7 +3,7 @@ use Rattle.std.proofs.Common.{ℕ, ◌≡◌, zero, suc, ◌+◌, ◌-◌, ◌<�
 use Rattle.std.proofs.Common.{drop, Some, None, IfSome, nat_eq, refl, sym, ap, ◌∙◌, arith, slice_get, remove}
 use Rattle.std.proofs.Common.{append_assoc}
 use Rattle.std.proofs.lemmas.List.{append-nil, drop_all, take_all}
-use Rattle.std.proofs.lemmas.Option.{slice_get-map}
+use Rattle.std.proofs.lemmas.Option.{slice_get-map, slice_get_within}
 use Rattle.coap_serve.specs.Prelude.{AreServed, CanGoOn, Continues, HasAccepted, HasGoneOn, HasOneMore, History}
 use Rattle.coap_serve.specs.Prelude.{IsAccepted, IsVisited, Journal, LoopState, NoMore, Over, Peer, PeerOutcome}
 use Rattle.coap_serve.specs.Prelude.{ServerValue, Skipped, Visited, Way, history_left, history_then, insert_entry}
@@ -12,8 +12,8 @@ use Rattle.coap_serve.specs.Prelude.{server_opened, set_value_at, status_of_peer
 use Rattle.coap_serve.specs.listener.Turns.{new_activity}
 use Rattle.coap_server_engine.specs.declared.monitor.DropReason.{DropReason}
 use Rattle.coap_serve.specs.declared.door.peer.PeerOutcome.TheVariants.{Open}
-use Rattle.coap_serve.proofs.listener.EntryLemmas.{back_removed, back_written, front_kept, front_same, front_stays}
-use Rattle.coap_serve.proofs.listener.EntryLemmas.{front_written, next_first, same_length, set_there, some_at_index}
+use Rattle.coap_serve.proofs.listener.EntryLemmas.{back_removed, back_written, beside_written, front_kept, front_stays}
+use Rattle.coap_serve.proofs.listener.EntryLemmas.{front_written, next_first, set_there, some_at_index}
 use Rattle.coap_serve.proofs.listener.ServingLemmas.{accepted_then, then_none}
 
 -- Another connection was opened.
@@ -97,83 +97,64 @@ module _ {W : Type 0} (S : Way W) where
 
   -- ---- one connection
 
-  module _ (v between : ServerValue) (es mid : List (ℕ × Peer W)) (i : ℕ) (within : i < length es)
-      (written : (p : Peer W) × (mid ≡ set_value_at es i p)) where
-    entry_was_there : (e : ℕ × Peer W) × (slice_get es i ≡ Some e)
-    entry_was_there = some_at_index es i within
+  module _ (v between : ServerValue) (es : List (ℕ × Peer W)) (i : ℕ) {id : ℕ} {was : Peer W} (p : Peer W)
+      (there : slice_get es i ≡ Some (id, was))
+      (ready : IfSome (slice_get es i) (λ e. CanGoOn (status_of_peer S v e) true)) (a b : Journal)
+      (outcome : PeerOutcome)
+      (part : HasAccepted (λ h. IsVisited S v (id, was) (visit between p outcome h)) (Continues a b) v between) where
+    -- The history of the visit, and of what follows it.
+    left_then : {left : PeerOutcome} → outcome ≡ left → history_then part.history (history_left left id) ≡ history_then
+        part.history (history_left outcome id)
+    left_then is = ap (λ o. history_then part.history (history_left o id)) (sym is)
 
-    is_there : slice_get mid i ≡ Some (entry_was_there.0.0, written.0)
-    is_there = ap (λ (xs : List (ℕ × Peer W)). slice_get xs i) written.1 ∙ set_there es i written.0 entry_was_there.0.0
-        entry_was_there.0.1 entry_was_there.1
-
-    module _ (ready : IfSome (slice_get es i) (λ e. CanGoOn (status_of_peer S v e) true)) (a b : Journal)
-        (outcome : PeerOutcome)
-        (part : IfSome (slice_get es i) (λ was. IfSome (slice_get mid i) (λ is. HasAccepted (λ h. IsVisited S v was
-        (visit between is.1 outcome h)) (Continues a b) v between))) where
-      its_part : HasAccepted (λ h. IsVisited S v entry_was_there.0 (visit between written.0 outcome h)) (Continues a b)
-          v between
-      its_part = rw is_there at (rw entry_was_there.1 at part)
-
-      was_ready : CanGoOn (status_of_peer S v entry_was_there.0) true
-      was_ready = rw entry_was_there.1 at ready
-
-      -- The history of the visit, and of what follows it.
-      left_then : {left : PeerOutcome} → outcome ≡ left → history_then its_part.history (history_left left
-          entry_was_there.0.0) ≡ history_then its_part.history (history_left outcome entry_was_there.0.0)
-      left_then is = ap (λ o. history_then its_part.history (history_left o entry_was_there.0.0)) (sym is)
-
-      pub one_open : outcome ≡ Open → HasAccepted (HasGoneOn S (loop_state v es) i (loop_state between mid) (i + 1))
-          (Continues a b) v between
-      one_open open_now = record {
-        history = its_part.history;
-        made = record {
-          e = entry_was_there.0;
-          its = (entry_was_there.0.0, written.0) ∷ [];
-          there = entry_was_there.1;
-          can = was_ready;
-          part = record {
-            its = visit between written.0 outcome its_part.history;
-            part = its_part.made;
-            server = rw open_now refl;
-            far_end = rw open_now refl;
-            all = sym (then_none) ∙ left_then open_now;
-          };
-          front = ap (λ xs. take (i + 1) xs) written.1 ∙ front_written es i entry_was_there.0.0 entry_was_there.0.1
-              written.0 entry_was_there.1;
-          back = ap (λ xs. drop (i + 1) xs) written.1 ∙ back_written es i written.0;
+    pub one_open : outcome ≡ Open → HasAccepted (HasGoneOn S (loop_state v es) i
+        (loop_state between (set_value_at es i p)) (i + 1)) (Continues a b) v between
+    one_open open_now = record {
+      history = part.history;
+      made = record {
+        e = (id, was);
+        its = (id, p) ∷ [];
+        there = there;
+        can = rw there at ready;
+        part = record {
+          its = visit between p outcome part.history;
+          part = part.made;
+          server = rw open_now refl;
+          far_end = rw open_now refl;
+          all = sym (then_none) ∙ left_then open_now;
         };
-        accepted = its_part.accepted;
-      }
+        front = front_written es i id was p there;
+        back = back_written es i p;
+      };
+      accepted = part.accepted;
+    }
 
-      pub one_over : (c : Journal) {after : ServerValue} {now : List (ℕ × Peer W)} {reason : DropReason} → outcome ≡
-          Over reason → now ≡ remove mid i → IfSome (slice_get (keys_of mid) i) (λ id. after ≡ server_dropped between
-          id)
-          → IfSome (slice_get (keys_of mid) i) (λ id. IsAccepted (Continues b c) between after (one_drop id))
-          → HasAccepted (HasGoneOn S (loop_state v es) i (loop_state after now) i) (Continues a c) v after
-      one_over c {after = after} {reason} over removed dropped accepted =
-          let id : ℕ = entry_was_there.0.0 in
-          let still : i < length mid = omega (arith, within, same_length es mid i written) in
-          let left : after ≡ server_dropped between id = rw (slice_get-map, is_there) at dropped in
-          let last : IsAccepted (Continues b c) between after (one_drop id) = rw (slice_get-map, is_there) at accepted
-          in
-          record {
-            history = history_then its_part.history (one_drop id);
-            made = record {
-              e = entry_was_there.0;
-              its = [];
-              there = entry_was_there.1;
-              can = was_ready;
-              part = record {
-                its = visit between written.0 outcome its_part.history;
-                part = its_part.made;
-                server = rw
-                    over left;
-                far_end = rw over refl;
-                all = left_then over;
-              };
-              front = rw (removed, front_stays mid i still, front_same es mid i written, append-nil) refl;
-              back = rw (removed, back_removed mid i still) (ap (λ xs. drop (i + 1) xs) written.1 ∙ back_written es i
-                  written.0);
+    pub one_over : (c : Journal) {after : ServerValue} {now : List (ℕ × Peer W)} {reason : DropReason} → outcome ≡
+        Over reason → now ≡ remove (set_value_at es i p) i
+        → IfSome (slice_get (keys_of (set_value_at es i p)) i) (λ id. after ≡ server_dropped between id)
+        → IfSome (slice_get (keys_of (set_value_at es i p)) i) (λ id. IsAccepted (Continues b c) between after
+        (one_drop id)) → HasAccepted (HasGoneOn S (loop_state v es) i (loop_state after now) i) (Continues a c) v after
+    one_over c {after = after} over removed dropped accepted =
+        let now_there = set_there es i p id was there in
+        let left : after ≡ server_dropped between id = rw (slice_get-map, now_there) at dropped in
+        let last : IsAccepted (Continues b c) between after (one_drop id) =
+        rw (slice_get-map, now_there) at accepted in
+        record {
+          history = history_then part.history (one_drop id);
+          made = record {
+            e = (id, was);
+            its = [];
+            there = there;
+            can = rw there at ready;
+            part = record {
+              its = visit between p outcome part.history;
+              part = part.made;
+              server = rw over left;
+              far_end = rw over refl;
+              all = left_then over;
             };
-            accepted = accepted_then its_part.accepted last;
-          }
+            front = rw (removed, beside_written es i p, append-nil) (front_stays es i (slice_get_within es i _ there));
+            back = rw (removed, beside_written es i p) (back_removed es i (slice_get_within es i _ there));
+          };
+          accepted = accepted_then part.accepted last;
+        }

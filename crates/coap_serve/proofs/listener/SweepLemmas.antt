@@ -1,16 +1,17 @@
 -- The effect of a sweep, connection by connection.
-use Rattle.std.proofs.Common.{ℕ, ◌≡◌, ◌==◌, true, ◌+◌, ◌<◌, ◌≤◌, List, ◌++◌, length, take, drop, Option, Some, None}
-use Rattle.std.proofs.Common.{refl, sym, ap, ◌∙◌, arith, slice_get, IfSome, remove, append_assoc, option_map, subst}
+use Rattle.std.proofs.Common.{ℕ, ◌≡◌, ◌==◌, true, ◌+◌, ◌<◌, ◌≤◌, List, [], ◌∷◌, ◌++◌, length, take, drop, Option, Some}
+use Rattle.std.proofs.Common.{None, refl, sym, ap, ◌∙◌, arith, slice_get, IfSome, remove, append_assoc, subst}
 use Rattle.std.proofs.lemmas.List.{append-nil, drop_all, take_all}
-use Rattle.std.proofs.lemmas.Option.{same_Some, slice_get-map}
+use Rattle.std.proofs.lemmas.Option.{slice_get-map}
 use Rattle.std.proofs.lemmas.Bool.Decides.{nat_tests}
 use Rattle.coap_serve.specs.Prelude.{IsReasonFor, work_of, keys_of, set_value_at, Peer, SilenceAction, LoopState}
 use Rattle.coap_serve.specs.Prelude.{loop_state, Released, ServerValue, ArePaired, Continues, History, IsAccepted}
 use Rattle.coap_serve.specs.Prelude.{Journal, history_then, no_history, one_call, one_drop, server_released}
 use Rattle.coap_serve.specs.Prelude.{server_dropped, released_refusal, status_of, released_at, unswept, silence_action}
 use Rattle.coap_serve.specs.Prelude.{acted, drop_one, due_sweep, Sweep, swept, swept_one, HasSwept, HasSweptAt}
+use Rattle.coap_server_engine.specs.Prelude.{ReleaseFault}
 use Rattle.coap_server_engine.specs.declared.monitor.DropReason.TheVariants as drop
-use Rattle.coap_serve.specs.declared.door.silence.SilenceAction.TheVariants.{Keep, Release}
+use Rattle.coap_serve.specs.listener.Silence.{release_one}
 use Rattle.coap_serve.proofs.listener.EntryLemmas.{some_at_index, next_first, front_stays, back_removed, front_kept}
 use Rattle.coap_serve.proofs.listener.EntryLemmas.{front_written, back_written, length_written}
 use Rattle.coap_serve.proofs.listener.SleepLemmas.{paired_written}
@@ -23,18 +24,6 @@ as_many_recorded f es left i within is =
     let at = some_at_index es i within in
     let is_so : left ≡ set_value_at es i (f at.0) = rw at.1 at is in
     ap (λ (es : List _). length es) is_so ∙ length_written es i (f at.0)
-
--- The entry at the index has the number.
-pub number_there : {X : Type 0} (es : List (ℕ × X)) (i : ℕ) {id : ℕ} {e : ℕ × X} → slice_get (keys_of es) i ≡ Some id
-    → slice_get es i ≡ Some e → e.0 ≡ id
-number_there {X} es i {e = e} number at = same_Some _ _ (sym (slice_get-map (λ (e : ℕ × X). e.0) es i ∙
-    ap (λ (o : Option (ℕ × X)). option_map (λ e. e.0) o) at) ∙ number)
-
--- The number of the entry at the index.
-pub its_number : {X : Type 0} (es : List (ℕ × X)) (i : ℕ) {e : ℕ × X} → slice_get es i ≡ Some e → slice_get (keys_of es)
-    i ≡ Some e.0
-its_number {X} es i {e = e} at = slice_get-map (λ (e : ℕ × X). e.0) es i ∙ ap (λ (o : Option (ℕ × X)). option_map
-    (λ e. e.0) o) at
 
 -- ---- one connection
 
@@ -59,55 +48,33 @@ dropped_here Known v after es left i within dropped is accepted =
       back = rw is (back_removed es i within);
     })
 
-module _ {W : Type 0} (Known : History → Type 0) (now : ℕ) (v after : ServerValue) (es left : List (ℕ × Peer W))
-    (i id : ℕ) (within : i < length es) (number : slice_get (keys_of es) i ≡ Some id) where
-  pub released_here : after ≡ server_released v id → IfSome (slice_get es i) (λ e. left ≡ set_value_at es i
-      (released_at now e.1)) → IsAccepted Known v after (one_call (Released id)) → released_refusal v id ≡ None
-      → IfSome (slice_get es i) (λ e. HasSweptAt Known (acted Release (released_refusal v e.0) now v e)
-      (loop_state v es) i (loop_state after left) (i + 1))
-  released_here released is accepted may =
-      let at = some_at_index es i within in
-      let same : at.0.0 ≡ id = number_there es i number at.1 in
-      let is_so : left ≡ set_value_at es i (released_at now at.0.1) = rw at.1 at is in
-      let released_so : after ≡ server_released v at.0.0 = rw (← same) at released in
-      let may_so : released_refusal v at.0.0 ≡ None = rw (← same) at may in
-      rw (at.1, may_so) (record {
-        has = record { server = released_so; accepted = rw (← same) at accepted };
-        front = rw is_so (front_written es i at.0.0 at.0.1 (released_at now at.0.1) at.1);
-        back = rw is_so (back_written es i (released_at now at.0.1));
-      })
-
-  -- `release` was refused, and the connection was dropped.
-  pub refused_here : (next : ℕ) (is_there : (refusal : _) × (released_refusal v id ≡ Some refusal))
-      → IfSome (slice_get es i) (λ e. HasSweptAt Known (drop_one v e) (loop_state v es) i (loop_state after left) next)
-      → IfSome (slice_get es i) (λ e. HasSweptAt Known (acted Release (released_refusal v e.0) now v e)
-      (loop_state v es) i (loop_state after left) next)
-  refused_here next is_there part =
-      let at = some_at_index es i within in
-      let same : at.0.0 ≡ id = number_there es i number at.1 in
-      let refused_so : released_refusal v at.0.0 ≡ Some is_there.0 = rw (← same) at is_there.1 in
-      rw (at.1, refused_so) (rw at.1 at part)
-
--- The action is that of the rule.
-pub acted_here : {W : Type 0} (Known : History → Type 0) (idle now : ℕ) (s after : LoopState W) (i : ℕ) {e : ℕ × Peer W}
-    (action : SilenceAction) (next : ℕ)
-    → slice_get s.entries i ≡ Some e → action ≡ silence_action idle now (status_of s.server e.0) e.1.activity
-    → IfSome (slice_get s.entries i) (λ e. HasSweptAt Known (acted action (released_refusal s.server e.0) now
-    s.server e) s i after next)
-    → IfSome (slice_get s.entries i) (λ e. HasSweptAt Known (swept_one idle now s.server e) s i after next)
-acted_here Known idle now s after i action next at is part = rw (at, ← is) (rw at at part)
+pub released_here : {W : Type 0} {Known : History → Type 0} (now : ℕ) {v after : ServerValue}
+    {es left : List (ℕ × Peer W)} (i : ℕ) {e : ℕ × Peer W} → slice_get es i ≡ Some e → after ≡ server_released v e.0
+    → left ≡ set_value_at es i (released_at now e.1) → IsAccepted Known v after (one_call (Released e.0))
+    → HasSweptAt Known (release_one now v e) (loop_state v es) i (loop_state after left) (i + 1)
+released_here now {es = es} i {e = e} there released is accepted = record {
+  has = record { server = released; accepted = accepted };
+  front = rw is (front_written es i e.0 e.1 (released_at now e.1) there);
+  back = rw is (back_written es i (released_at now e.1));
+}
 
 -- The connection stays.
-pub kept_here : {W : Type 0} (a : Journal) (now : ℕ) (s : LoopState W) (i : ℕ) → i < length s.entries
-    → IfSome (slice_get s.entries i) (λ e. HasSweptAt (Continues a a) (acted Keep (released_refusal s.server e.0) now
-    s.server e) s i s (i + 1))
-kept_here a now s i within =
-    let at = some_at_index s.entries i within in
-    rw at.1 (record {
-      has = record { server = refl; accepted = accepted_none a s.server s.server refl };
-      front = front_kept s.entries i at.0 at.1;
-      back = refl;
-    })
+pub kept_here : {W : Type 0} (a : Journal) (s : LoopState W) (i : ℕ) {e : ℕ × Peer W} → slice_get s.entries i ≡ Some e
+    → HasSweptAt (Continues a a) (unswept s.server (e ∷ [])) s i s (i + 1)
+kept_here a s i {e = e} there = record {
+  has = record { server = refl; accepted = accepted_none a s.server s.server refl };
+  front = front_kept s.entries i e there;
+  back = refl;
+}
+
+-- The action is that of the rule, and `release` has this result.
+pub acted_here : {W : Type 0} {Known : History → Type 0} (idle now : ℕ) (s : LoopState W) {after : LoopState W} (i : ℕ)
+    {next : ℕ} {e : ℕ × Peer W} (action : SilenceAction) {refusal : Option ReleaseFault} → slice_get s.entries i ≡ Some e
+    → action ≡ silence_action idle now (status_of s.server e.0) e.1.activity
+    → refusal ≡ released_refusal s.server e.0
+    → HasSweptAt Known (acted action refusal now s.server e) s i after next
+    → IfSome (slice_get s.entries i) (λ e. HasSweptAt Known (swept_one idle now s.server e) s i after next)
+acted_here idle now s i action at is refused part = rw (at, ← is, ← refused) part
 
 -- ---- pairs
 

@@ -1,25 +1,23 @@
-//! The parts of a turn of a service.
+//! The parts of a turn of a service before its visits, and the limit of its wait.
 
 ghost use Rattle.std.specs.Prelude.{ℕ, ◌≡◌, ◌≢◌, ◌==◌, false, Option, is_some};
 ghost use Rattle.coap_serve.specs.Prelude.{AnswersMore, AreAskedLater, FollowsMore, IsAskedLater, SleepOn};
 
 use super::awake::Awake;
 use super::service::Service;
+use super::silence::SilenceLimit;
 use super::sweep::sweep;
-use super::turn::take_turn;
-use coap_io::{Door, Ready, Wait, Wire};
+use coap_io::{Ready, Wait, Wire};
 use coap_model::Backwards;
-use coap_server_engine::{Application, Call, IoFault, Monitor, Server};
+use coap_server_engine::{Application, Call, Monitor, Server};
 
 /// Number of later responses that a turn takes from an application at most.
 const MOST_RESPONSES: usize = 256;
 
 impl<W: Wire + Ready + Drop> Service<W> {
-    ghost use Rattle.std.specs.Prelude.{true, ◌++◌, List, is_ok, nat_le, IfErr, IfOk, OnErr, OnOk};
-    ghost use Rattle.coap_serve.specs.Prelude.{HasTurned, known_by, known_of_turn, loop_state, way};
-    ghost use Rattle.coap_serve.specs.Prelude.{AcceptedCall, HasSwept, IsAskedOnce, IsMemory, IsTurnBy};
-    ghost use Rattle.coap_serve.specs.Prelude.{Shows, TellsMore, due_sweep, moved_to, short_wait};
-    ghost use Rattle.coap_serve.specs.Prelude.{ticked_calls, views_of};
+    ghost use Rattle.std.specs.Prelude.{◌++◌, List, is_ok, nat_le, OnErr, OnOk};
+    ghost use Rattle.coap_serve.specs.Prelude.{AcceptedCall, HasSwept, Shows, due_sweep, known_by, moved_to};
+    ghost use Rattle.coap_serve.specs.Prelude.{short_wait, ticked_calls};
 
     /// Releases or drops the silent connections, if there is a limit and `second` differs from that of the last turn.
     pub(super) fn end_silent<A: Application, M: Monitor<W>>(
@@ -49,8 +47,7 @@ impl<W: Wire + Ready + Drop> Service<W> {
         sweep::<W, A, M>(
             &mut self.server,
             &mut self.peers,
-            idle,
-            second,
+            SilenceLimit { idle, now: second },
             application,
             monitor,
         );
@@ -111,46 +108,6 @@ impl<W: Wire + Ready + Drop> Service<W> {
             monitor,
         );
         count == MOST_RESPONSES
-    }
-
-    /// Opens at most one connection, and serves each connection. Returns how long the listener may wait.
-    ///
-    /// # Errors
-    ///
-    /// - `Memory`: an allocation failed. No later turn does anything.
-    pub(super) fn visit<D: Door<Wire = W>, A: Application, M: Monitor<W>>(
-        &mut self,
-        door: &mut D,
-        application: &mut A,
-        monitor: &mut M,
-    ) -> Result<Wait, IoFault>
-        requires { self.old.is_spent ≡ false }
-        ensures shows { HasTurned (known_by M.follows A.follows monitor.old monitor.new application.old application.new)
-            self.old.server self.new.server }
-        ensures asks { IsAskedOnce (TellsMore (D.calls door.old) (D.calls door.new)) self.old.server }
-        ensures turn { IfOk result (λ wait. IsTurnBy (way A.follows self.old.second (views_of W.readable W.writable
-            W.given W.written W.answers W.rooms)) (known_of_turn (TellsMore (D.calls door.old) (D.calls door.new))
-            (known_by M.follows A.follows monitor.old monitor.new application.old application.new)) (loop_state
-            self.old.server self.old.peers.entries) (loop_state self.new.server self.new.peers.entries) wait) }
-        ensures fault { IfErr result IsMemory }
-        ensures times { (self.new.second ≡ self.old.second) × (self.new.idle ≡ self.old.idle) }
-        ensures ready { OnOk result (self.new.is_spent ≡ false) }
-        ensures spent { OnErr result (self.new.is_spent ≡ true) }
-    {
-        self.is_spent = true;
-        let wait = take_turn::<D, A, M>(
-            self.alloc,
-            &mut self.server,
-            &mut self.peers,
-            &mut self.awake,
-            self.second,
-            door,
-            application,
-            &mut self.response,
-            monitor,
-        )?;
-        self.is_spent = false;
-        Ok(wait)
     }
 
     /// Returns a wait that lasts at most until the next second of the server's time, if there are a limit of silence

@@ -1,8 +1,8 @@
 //! The transport side of a connection, and how a turn serves it.
 
 ghost use Rattle.std.specs.Prelude.{◌≡◌, ◌≢◌, ◌||◌, nat_lt, false, [], length, is_some, IfOk, IfErr};
-ghost use Rattle.coap_serve.specs.Prelude.{AreTimesAfter, HasServed, IsServedBy, IsTakenInPart, known_by};
-ghost use Rattle.coap_serve.specs.Prelude.{readiness, visit, AddsBytes, AreCallsBetween, KeepsBeside};
+ghost use Rattle.coap_serve.specs.Prelude.{HasServed, IsTakenInPart, IsVisited, known_by, views_of, way};
+ghost use Rattle.coap_serve.specs.Prelude.{visit, AddsBytes, AreCallsBetween, KeepsBeside};
 ghost use Rattle.coap_serve.specs.Prelude.{HasAccepted, IsTakenWith, TellsMore, heard_events, wrote_events};
 ghost use Rattle.coap_serve.specs.Prelude.{has_written, trace_by, IsLaidOut, is_heard, server_heard};
 ghost use Rattle.coap_serve.specs.Prelude.{server_wrote, waiting_once, has_failed, course_of};
@@ -79,42 +79,51 @@ pub(super) struct PeerVisit {
     pub(super) affected: IndexSet,
 }
 
+/// Connection that a turn serves, and the time of the turn.
+#[derive(Clone, Copy)]
+pub(super) struct PeerTurn {
+    /// Number and index of the connection.
+    pub(super) index: ConnIndex,
+    /// Time of the turn, in seconds.
+    pub(super) second: u64,
+}
+
 /// Serves a connection once: reads, processes and writes.
 ///
-/// The wire is read once if `may_read` is `true`, all bytes of earlier reads were accepted, and the connection accepts
-/// bytes. The connection then processes the received bytes. If `may_write` is `true`, queued bytes are written once. If
-/// the read fails, the other steps are skipped. `second` is the time of these steps.
+/// The wire is asked first if it may be read and if it may be written. It is read once if it may be read, all bytes of
+/// earlier reads were accepted, and the connection accepts bytes. The connection then processes the received bytes. If
+/// the wire may be written, queued bytes are written once. If the read fails, the other steps are skipped.
 ///
 /// # Errors
 ///
 /// - `Memory`: an allocation failed.
-pub(super) fn serve_peer<W: Wire, A: Application, M: Monitor<W>>(
+pub(super) fn serve_peer<W: Wire + Ready, A: Application, M: Monitor<W>>(
     server: &mut Server,
-    index: ConnIndex,
+    turn: PeerTurn,
     peer: &mut Peer<W>,
-    may_read: bool,
-    may_write: bool,
-    second: u64,
     application: &mut A,
     response: &mut Vec<u8>,
     monitor: &mut M,
 ) -> Result<PeerVisit, IoFault>
-    requires lies { LiesAt index.id index.at server.old.sessions }
-    // The wire is read once if a read is due, and written once if bytes are queued and `may_write` is `true`. Otherwise
-    // it is not touched. The monitor receives the calls of these steps, and no others.
-    ensures part { IfOk result (λ x. HasAccepted (λ h. IsServedBy (IsTakenWith A.follows)
-        (trace_by W.given W.written W.answers W.rooms) (readiness may_read may_write) server.old (index.id, peer.old)
-        (visit server.new peer.new x.outcome h) × AreTimesAfter second peer.old (visit server.new peer.new x.outcome h))
+    requires lies { LiesAt turn.index.id turn.index.at server.old.sessions }
+    // The wire is read once if a read is due, and written once if bytes are queued and it may be written. Otherwise it
+    // is not touched. The monitor receives the calls of these steps, and no others.
+    ensures part { IfOk result (λ x. HasAccepted (λ h. IsVisited (way A.follows turn.second (views_of W.readable
+        W.writable W.given W.written W.answers W.rooms)) server.old (turn.index.id, peer.old)
+        (visit server.new peer.new x.outcome h))
         (known_by M.follows A.follows monitor.old monitor.new application.old application.new) server.old server.new) }
     ensures shows { HasServed (known_by M.follows A.follows monitor.old monitor.new application.old application.new)
         server.old server.new }
-    ensures interest { IfOk result (λ x. x.interest ≡ interest_of server.new index.id peer.new.rest) }
+    ensures interest { IfOk result (λ x. x.interest ≡ interest_of server.new turn.index.id peer.new.rest) }
     // Each other connection that is not affected has the same work left.
-    ensures kept { IfOk result (λ x. KeepsBeside index.id x.affected.words server.old server.new) }
-    ensures reason { IfOk result (λ x. IsCourseFor x.outcome (work_of server.new index.id)) }
+    ensures kept { IfOk result (λ x. KeepsBeside turn.index.id x.affected.words server.old server.new) }
+    ensures reason { IfOk result (λ x. IsCourseFor x.outcome (work_of server.new turn.index.id)) }
     ensures fault { IfErr result IsMemory }
 {
+    let PeerTurn { index, second } = turn;
     let id = index.id;
+    let may_read = peer.wire.may_read();
+    let may_write = peer.wire.may_write();
     let heard = read_wire(server, id, peer, may_read, monitor);
     if failed(heard) {
         return Ok(PeerVisit {

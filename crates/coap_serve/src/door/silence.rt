@@ -70,33 +70,41 @@ pub(super) enum SilenceAction {
     Drop,
 }
 
-/// Returns the action for a connection with this status and activity at the time `now`, in seconds.
+/// Limit of silence, and the present time, in seconds.
+#[derive(Clone, Copy)]
+pub(super) struct SilenceLimit {
+    /// Seconds after which a silent connection is released.
+    pub(super) idle: u32,
+    /// Present time.
+    pub(super) now: u64,
+}
+
+/// Returns the action for a connection with this status and activity.
 pub(super) fn silence_action(
-    idle: u32,
-    now: u64,
+    limit: SilenceLimit,
     status: Option<Status>,
     activity: Activity,
 ) -> SilenceAction
-    ensures { result ≡ action_of idle now status activity }
+    ensures { result ≡ action_of limit.idle limit.now status activity }
 {
     let Some(status) = status else {
         return SilenceAction::Keep;
     };
     match activity.released {
-        Some(since) if now.saturating_sub(since) >= RELEASE_SECONDS => SilenceAction::Drop,
+        Some(since) if limit.now.saturating_sub(since) >= RELEASE_SECONDS => SilenceAction::Drop,
         Some(_) => SilenceAction::Keep,
-        None => quiet_action(idle, now, status, activity),
+        None => quiet_action(limit, status, activity),
     }
 }
 
 /// Returns the action for a connection that the server has not released.
-fn quiet_action(idle: u32, now: u64, status: Status, activity: Activity) -> SilenceAction
-    ensures { result ≡ quiet idle now status activity }
+fn quiet_action(limit: SilenceLimit, status: Status, activity: Activity) -> SilenceAction
+    ensures { result ≡ quiet limit.idle limit.now status activity }
 {
-    if status.phase == Phase::Waiting && now.saturating_sub(activity.opened) > CSM_SECONDS {
+    if status.phase == Phase::Waiting && limit.now.saturating_sub(activity.opened) > CSM_SECONDS {
         return SilenceAction::Drop;
     }
-    let is_silent = now.saturating_sub(activity.moved) > u64::from(idle);
+    let is_silent = limit.now.saturating_sub(activity.moved) > u64::from(limit.idle);
     if status.observers == 0 && status.pending == 0 && is_silent {
         return SilenceAction::Release;
     }

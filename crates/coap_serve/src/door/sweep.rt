@@ -1,46 +1,42 @@
 //! The sweep, which releases or drops silent connections.
 
-ghost use Rattle.std.specs.Prelude.{◌≡◌, ◌<◌, ◌≤◌, ◌+◌, ◌-◌, ◌^◌, Some, length, slice_get, IfSome};
-ghost use Rattle.coap_serve.specs.Prelude.{known_by, loop_state, ArePaired, HasSwept, HasSweptAt, acted};
-ghost use Rattle.coap_serve.specs.Prelude.{drop_one, keys_of, released_refusal, swept};
-ghost use Rattle.coap_serve.specs.Prelude.{swept_one};
-ghost use Rattle.coap_serve.specs.declared.door.silence.SilenceAction.TheVariants.{Release};
+ghost use Rattle.std.specs.Prelude.{◌≡◌, ◌<◌, ◌≤◌, ◌+◌, ◌-◌, ◌^◌, length, slice_get, IfSome};
+ghost use Rattle.coap_serve.specs.Prelude.{known_by, loop_state, ArePaired, HasSwept, HasSweptAt, drop_one};
+ghost use Rattle.coap_serve.specs.Prelude.{swept, swept_one};
 
 use super::peer::Peers;
-use super::removal::{drop_at as drop_for, release_at as record_release};
-use super::silence::{SilenceAction, silence_action};
-use coap_model::ConnId;
+use super::removal::{drop_at as drop_for, release_at};
+use super::silence::{SilenceAction, SilenceLimit, silence_action};
 use coap_server_engine::{Application, Call, DropReason, Monitor, Server};
 
-/// Releases or drops the silent connections, in order of their numbers, by their times and the time `now`. The monitor
-/// receives each call, and the application the end of each connection that is dropped.
+/// Releases or drops the silent connections, in order of their numbers, by their times and the limit of silence. The
+/// monitor receives each call, and the application the end of each connection that is dropped.
 pub(super) fn sweep<W: Drop, A: Application, M: Monitor<W>>(
     server: &mut Server,
     peers: &mut Peers<W>,
-    idle: u32,
-    now: u64,
+    limit: SilenceLimit,
     application: &mut A,
     monitor: &mut M,
 )
     requires { ArePaired server.old peers.old.entries }
     ensures has { HasSwept (known_by M.follows A.follows monitor.old monitor.new application.old application.new)
-        (swept idle now server.old peers.old.entries) server.old server.new }
-    ensures entries { peers.new.entries ≡ (swept idle now server.old peers.old.entries).entries }
+        (swept limit.idle limit.now server.old peers.old.entries) server.old server.new }
+    ensures entries { peers.new.entries ≡ (swept limit.idle limit.now server.old peers.old.entries).entries }
     ensures paired { ArePaired server.new peers.new.entries }
 {
     let mut at = 0;
     while at < peers.len() {
-        at = sweep_at::<W, A, M>(server, peers, at, idle, now, application, monitor);
+        at = sweep_at::<W, A, M>(server, peers, at, limit, application, monitor);
     }
 }
 
-/// Sweeps the connection at an index. Returns the index of the next one.
+/// Sweeps the connection at an index. If it must be released and cannot be, it is dropped. Returns the index of the
+/// next one.
 fn sweep_at<W: Drop, A: Application, M: Monitor<W>>(
     server: &mut Server,
     peers: &mut Peers<W>,
     at: usize,
-    idle: u32,
-    now: u64,
+    limit: SilenceLimit,
     application: &mut A,
     monitor: &mut M,
 ) -> usize
@@ -48,7 +44,7 @@ fn sweep_at<W: Drop, A: Application, M: Monitor<W>>(
     requires fits { length peers.old.entries < 2 ^ 64 }
     requires paired { ArePaired server.old peers.old.entries }
     ensures part { IfSome (slice_get peers.old.entries at) (λ e. HasSweptAt (known_by M.follows A.follows monitor.old
-        monitor.new application.old application.new) (swept_one idle now server.old e)
+        monitor.new application.old application.new) (swept_one limit.idle limit.now server.old e)
         (loop_state server.old peers.old.entries) at (loop_state server.new peers.new.entries) result) }
     ensures paired { ArePaired server.new peers.new.entries }
     ensures within { result ≤ length peers.new.entries }
@@ -62,42 +58,18 @@ fn sweep_at<W: Drop, A: Application, M: Monitor<W>>(
     let Some(status) = server.status(id) else {
         return at + 1;
     };
-    match silence_action(idle, now, Some(status), activity) {
+    match silence_action(limit, Some(status), activity) {
         SilenceAction::Keep => at + 1,
         SilenceAction::Release => {
-            release_at::<W, A, M>(server, peers, at, id, now, application, monitor)
+            let Ok(()) = server.release(id) else {
+                return drop_at::<W, A, M>(server, peers, at, application, monitor);
+            };
+            monitor.accepted(Call::Released(id), server);
+            release_at(peers, at, limit.now);
+            at + 1
         }
         SilenceAction::Drop => drop_at::<W, A, M>(server, peers, at, application, monitor),
     }
-}
-
-/// Releases the connection at an index, or drops it if it cannot be released. Returns the index of the next one.
-fn release_at<W: Drop, A: Application, M: Monitor<W>>(
-    server: &mut Server,
-    peers: &mut Peers<W>,
-    at: usize,
-    id: ConnId,
-    now: u64,
-    application: &mut A,
-    monitor: &mut M,
-) -> usize
-    requires there { at < length peers.old.entries }
-    requires fits { length peers.old.entries < 2 ^ 64 }
-    requires number { slice_get (keys_of peers.old.entries) at ≡ Some id }
-    requires paired { ArePaired server.old peers.old.entries }
-    ensures part { IfSome (slice_get peers.old.entries at) (λ e. HasSweptAt (known_by M.follows A.follows monitor.old
-        monitor.new application.old application.new) (acted Release (released_refusal server.old e.0) now server.old e)
-        (loop_state server.old peers.old.entries) at (loop_state server.new peers.new.entries) result) }
-    ensures paired { ArePaired server.new peers.new.entries }
-    ensures within { result ≤ length peers.new.entries }
-    ensures fewer { length peers.new.entries - result + 1 ≡ length peers.old.entries - at }
-{
-    let Ok(()) = server.release(id) else {
-        return drop_at::<W, A, M>(server, peers, at, application, monitor);
-    };
-    monitor.accepted(Call::Released(id), server);
-    record_release(peers, at, now);
-    at + 1
 }
 
 /// Drops the connection at an index. Returns the index of the next one, which is the same.

@@ -110,7 +110,7 @@ returns-clause-run g c =
 -- An allocation failed before the first turn.
 pub returns-in_default-clause-run : goal.returns-in_default-clause-run
 returns-in_default-clause-run g c = record {
-  last = new_server (config_of c.args.config);
+  last = new_server (config_of c.args.setup.config);
   ran = none_made _ refl;
   ends = inl (
     nothing_matches (g.C.Clock.moments c.args.clock.now) (g.U.Clock.moments c.args.uptime.now)

@@ -8,11 +8,11 @@ abbrev pub invariant-loop-turn : goal.invariant-loop-turn
 invariant-loop-turn g l =
     record {
       ran : HasRun (known_by g.M.Monitor.follows g.A.Application.follows l.fn.monitor l.monitor l.fn.application
-          l.application) (new_server (config_of l.fn.config)) l.service.server;
+          l.application) (new_server (config_of l.fn.setup.config)) l.service.server;
       front : RunTrace _;
       made : AreTurns (environment g.A.Application.follows g.A.Application.idle (some_waits g.A.Application.waits)
           (views_of g.D.Wire.Ready.readable g.D.Wire.Ready.writable g.D.Wire.Wire.given g.D.Wire.Wire.written
-          g.D.Wire.Wire.answers g.D.Wire.Wire.rooms)) l.fn.config front
+          g.D.Wire.Wire.answers g.D.Wire.Wire.rooms)) l.fn.setup.config front
           (service_of l.service.server l.service.peers.entries l.service.second l.service.idle) l.wait;
       counted : length front.times ≡ l.turn;
       matches : Matches (known_of_run (TellsMore (g.C.Clock.moments l.fn.clock) (g.C.Clock.moments l.clock))

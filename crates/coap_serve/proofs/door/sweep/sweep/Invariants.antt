@@ -9,8 +9,8 @@ invariant-loop-at g l =
     (l.at ≤ length l.peers.entries)
     × IsSweptTo
     (known_by g.M.Monitor.follows g.A.Application.follows l.fn.monitor l.monitor l.fn.application l.application)
-    (swept l.fn.idle l.fn.now l.fn.server l.fn.peers.entries) l.fn.idle l.fn.now l.fn.server l.server
-    (take l.at l.peers.entries) (drop l.at l.peers.entries)
+    (swept l.fn.limit.idle l.fn.limit.now l.fn.server l.fn.peers.entries) l.fn.limit.idle l.fn.limit.now l.fn.server
+    l.server (take l.at l.peers.entries) (drop l.at l.peers.entries)
     × ArePaired l.server l.peers.entries
 
 abbrev pub decreases-loop-at : goal.decreases-loop-at

@@ -2,17 +2,17 @@ use Rattle.std.proofs.Common.{Some, refl, rules}
 use Rattle.coap_serve.proofs.listener.RoundLemmas.{one_more_opened}
 use Rattle.coap_serve.proofs.listener.ServingLemmas.{none_called}
 use Rattle.coap_serve.proofs.listener.SleepLemmas.{asleep_with_one, paired_with_one}
-use Rattle.coap_serve.proofs.door.turn.accept.Goals as goal
+use Rattle.coap_serve.proofs.door.service.Service.accept.Goals as goal
 
 pub returns-clause-paired : goal.returns-clause-paired
 returns-clause-paired g c =
-    paired_with_one g.D.Wire.Ready.readable g.D.Wire.Ready.writable _ c.can_open.ensures.settled c.requires.paired
+    paired_with_one g.W.Ready.readable g.W.Ready.writable _ c.can_open.ensures.settled c.requires.paired
     c.in-Ok-open.ensures.id c.in-Ok-open.ensures.ok c.in-Ok-open.ensures.lies
     c.in-Ok-insert.ensures.entries c.in-Ok-insert.ensures.unique
 
 pub returns-clause-asleep : goal.returns-clause-asleep
 returns-clause-asleep g c =
-    asleep_with_one g.D.Wire.Ready.readable g.D.Wire.Ready.writable _ c.can_open.ensures.settled c.requires.paired
+    asleep_with_one g.W.Ready.readable g.W.Ready.writable _ c.can_open.ensures.settled c.requires.paired
     c.in-Ok-open.ensures.id c.in-Ok-open.ensures.ok c.in-Ok-open.ensures.lies
     c.in-Ok-insert.ensures.entries c.in-Ok-insert.ensures.unique c.len.ensures.len c.wake.ensures.awake
     c.wake.ensures.asleep c.requires.asleep
