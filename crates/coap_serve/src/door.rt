@@ -160,14 +160,21 @@ fn run<D: Door, C: Clock, U: Clock, A: Application, M: Monitor<D::Wire>>(
         return Err(IoFault::Memory);
     };
     let mut wait = Wait::No;
+    let mut fault = IoFault::Turns;
     for turn in 0..turns {
         wait_after_turn(door, turn, wait, service.can_open());
         let now = clock.now();
         let second = uptime.now();
         let times = Times { now, second };
-        wait = service.turn(door, times, application, monitor)?;
+        match service.turn(door, times, application, monitor) {
+            Ok(next) => wait = next,
+            Err(memory) => {
+                fault = memory;
+                break;
+            }
+        }
     }
-    Err(IoFault::Turns)
+    Err(fault)
 }
 
 /// Lets the listener wait after a turn; `turns` is the number of turns made. There is no wait before the first turn.

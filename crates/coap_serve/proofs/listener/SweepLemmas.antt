@@ -69,8 +69,8 @@ kept_here a s i {e = e} there = record {
 
 -- The action is that of the rule, and `release` has this result.
 pub acted_here : {W : Type 0} {Known : History → Type 0} (idle now : ℕ) (s : LoopState W) {after : LoopState W} (i : ℕ)
-    {next : ℕ} {e : ℕ × Peer W} (action : SilenceAction) {refusal : Option ReleaseFault} → slice_get s.entries i ≡ Some e
-    → action ≡ silence_action idle now (status_of s.server e.0) e.1.activity
+    {next : ℕ} {e : ℕ × Peer W} (action : SilenceAction) {refusal : Option ReleaseFault}
+    → slice_get s.entries i ≡ Some e → action ≡ silence_action idle now (status_of s.server e.0) e.1.activity
     → refusal ≡ released_refusal s.server e.0
     → HasSweptAt Known (acted action refusal now s.server e) s i after next
     → IfSome (slice_get s.entries i) (λ e. HasSweptAt Known (swept_one idle now s.server e) s i after next)

@@ -155,6 +155,7 @@ impl<W: Wire + Ready + Drop> Service<W> {
     /// # Errors
     ///
     /// - `Memory`: an allocation failed.
+    #[tactic(auto, using(crate::proofs::listener::EntryLemmas::length_written))]
     fn serve_next<A: Application, M: Monitor<W>>(
         &mut self,
         at: usize,

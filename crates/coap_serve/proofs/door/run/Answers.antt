@@ -1,5 +1,4 @@
 use Rattle.std.proofs.Common.{[], ◌∷◌, ◌+◌, length, refl, ap, arith, inl, ◌∙◌}
-use Rattle.std.proofs.lemmas.Result.{err_from_is_err_and}
 use Rattle.std.proofs.lemmas.List.{length-append}
 use Rattle.coap_serve.specs.Prelude.{TellsMore, Times, config_of, known_by, known_of_run, new_server, no_trace}
 use Rattle.coap_serve.specs.Prelude.{service_of, trace_then, turn_trace, views_of}
@@ -7,6 +6,7 @@ use Rattle.coap_serve.specs.listener.Run.{NoneMade, OneMade}
 use Rattle.coap_serve.proofs.listener.RunLemmas.{cut_ends, cut_named, memory_ends, nothing_matches, turn_matches}
 use Rattle.coap_serve.proofs.listener.RunLemmas.{turn_named}
 use Rattle.coap_serve.proofs.listener.ServingLemmas.{both_made, none_made}
+use Rattle.coap_serve.proofs.door.run.Goals.{else-loop-turn-test, then-loop-turn-test+in-Err}
 use Rattle.coap_serve.proofs.door.run.Goals as goal
 
 pub loop-turn-init : goal.loop-turn-init
@@ -19,6 +19,7 @@ loop-turn-init g c = record {
       nothing_matches (g.C.Clock.moments c.args.clock.now) (g.U.Clock.moments c.args.uptime.now)
       (g.D.Door.calls c.args.door.now) _;
   ready = c.in-Ok.ensures.ready;
+  fault = refl;
 }
 
 pub loop-turn-preserved : goal.loop-turn-preserved
@@ -29,13 +30,13 @@ loop-turn-preserved g c =
     c.loop-turn.service.idle in
     let named = turn_named g.A.Application.follows g.A.Application.idle g.A.Application.waits
     (views_of g.D.Wire.Ready.readable g.D.Wire.Ready.writable g.D.Wire.Wire.given g.D.Wire.Wire.written
-    g.D.Wire.Wire.answers g.D.Wire.Wire.rooms) c.turn.new.application c.in_ok-wait.ensures.turn in
+    g.D.Wire.Wire.answers g.D.Wire.Wire.rooms) c.turn.new.application c.in-Ok-turn.ensures.turn in
     record {
       ran = both_made so_far.ran c.turn.ensures.ran;
       front =
           trace_then so_far.front
           (turn_trace (length so_far.front.times) c.loop-turn.wait before times named.0 named.1);
-      made = OneMade so_far.front before c.loop-turn.wait times named.0 named.1 _ c.in_ok-wait.wait so_far.made named.4;
+      made = OneMade so_far.front before c.loop-turn.wait times named.0 named.1 _ c.in-Ok-turn.next so_far.made named.4;
       counted = length-append so_far.front.times (times ∷ []) ∙ ap (λ n. n + 1) so_far.counted;
       matches =
           turn_matches g.C.Clock.moments c.args.clock.now c.loop-turn.clock c.now-now.new.self g.U.Clock.moments
@@ -44,68 +45,70 @@ loop-turn-preserved g c =
           c.loop-turn.wait before times named.0 named.1
           so_far.matches so_far.counted c.can_open.ensures c.now-now.ensures c.now-second.ensures
           c.wait_after_turn.ensures named.2 named.3;
-      ready = c.in_ok-wait.ensures.ready;
+      ready = c.in-Ok-turn.ensures.ready;
+      fault = so_far.fault;
     }
-
-pub returns-in_err-wait-clause-run : goal.returns-in_err-wait-clause-run
-returns-in_err-wait-clause-run g c =
-    let p = err_from_is_err_and c.from_residual.result c.from_residual.ensures.1 in
-    let so_far = c.loop-turn.invariant in
-    let times : Times = record { now = c.now-now.result; second = c.now-second.result } in
-    let before = service_of c.loop-turn.service.server c.loop-turn.service.peers.entries c.loop-turn.service.second
-    c.loop-turn.service.idle in
-    let named = cut_named (c.in_err-wait.ensures.cut so_far.ready) in
-    rw (p.1, p.2) (record {
-      last = c.turn.new.self.server;
-      ran = both_made so_far.ran c.turn.ensures.ran;
-      ends = cut_ends _ _
-          (known_of_run (TellsMore (g.C.Clock.moments c.args.clock.now) (g.C.Clock.moments c.now-now.new.self))
-          (TellsMore (g.U.Clock.moments c.args.uptime.now) (g.U.Clock.moments c.now-second.new.self))
-          (TellsMore (g.D.Door.calls c.args.door.now) (g.D.Door.calls c.turn.new.door)) (known_by g.M.Monitor.follows
-          g.A.Application.follows c.args.monitor.now c.turn.new.monitor c.args.application.now c.turn.new.application))
-          c.turn.new.self.server c.in_err-wait.field-0.0 c.in_err-wait.ensures.fault (record {
-            front = so_far.front;
-            service = before;
-            wait = c.loop-turn.wait;
-            made = so_far.made;
-            few = omega (arith, so_far.counted, c.loop-turn-test.true, c.turns-turns.ensures.value);
-            times = times;
-            calls = named.0;
-            history = named.1;
-            cut = named.4;
-            matches =
-                turn_matches g.C.Clock.moments c.args.clock.now c.loop-turn.clock c.now-now.new.self g.U.Clock.moments
-                c.args.uptime.now c.loop-turn.uptime c.now-second.new.self
-                g.D.Door.calls c.args.door.now c.loop-turn.door c.wait_after_turn.new.door c.turn.new.door so_far.front
-                c.loop-turn.wait before times named.0 named.1
-                so_far.matches so_far.counted c.can_open.ensures c.now-now.ensures c.now-second.ensures
-                c.wait_after_turn.ensures named.2 named.3;
-          });
-    })
-
-pub returns-in_err-wait-clause-fault : goal.returns-in_err-wait-clause-fault
-returns-in_err-wait-clause-fault g c =
-    let p = err_from_is_err_and c.from_residual.result c.from_residual.ensures.1 in
-    rw (p.1, p.2) (memory_ends (Unit {0}) c.in_err-wait.field-0.0 c.in_err-wait.ensures.fault)
 
 pub returns-clause-run : goal.returns-clause-run
 returns-clause-run g c =
     let so_far = c.loop-turn.invariant in
-    record {
-      last = c.loop-turn.service.server;
-      ran = so_far.ran;
-      ends = record {
-        whole = so_far.front;
-        service =
-            service_of c.loop-turn.service.server c.loop-turn.service.peers.entries c.loop-turn.service.second
-            c.loop-turn.service.idle;
-        wait = c.loop-turn.wait;
-        made = so_far.made;
-        counted = omega (arith, so_far.counted, c.loop-turn-test.false, c.turns-turns.ensures.value);
-        matches = so_far.matches;
-        ended = refl;
-      };
-    }
+    let before = service_of c.loop-turn.service.server c.loop-turn.service.peers.entries c.loop-turn.service.second
+    c.loop-turn.service.idle in
+    elim c.loop-turn-test.branch [
+      -- All turns were made.
+      | else-loop-turn-test w ↦
+          rw (w.clock-is, w.uptime-is, w.door-is, w.monitor-is, w.application-is, w.fault-is, so_far.fault) (record {
+            last = c.loop-turn.service.server;
+            ran = so_far.ran;
+            ends = record {
+              whole = so_far.front;
+              service = before;
+              wait = c.loop-turn.wait;
+              made = so_far.made;
+              counted = omega (arith, so_far.counted, w.loop-turn-test.false, c.turns-turns.ensures.value);
+              matches = so_far.matches;
+              ended = refl;
+            };
+          })
+      -- An allocation failed in a turn.
+      | then-loop-turn-test+in-Err w ↦
+          let times : Times = record { now = w.now-now.result; second = w.now-second.result } in
+          let named = cut_named (w.in-Err.ensures.cut so_far.ready) in
+          rw (w.clock-is, w.uptime-is, w.door-is, w.monitor-is, w.application-is, w.fault-is) (record {
+            last = w.turn.new.self.server;
+            ran = both_made so_far.ran w.turn.ensures.ran;
+            ends = cut_ends _ _
+                (known_of_run (TellsMore (g.C.Clock.moments c.args.clock.now) (g.C.Clock.moments w.now-now.new.self))
+                (TellsMore (g.U.Clock.moments c.args.uptime.now) (g.U.Clock.moments w.now-second.new.self))
+                (TellsMore (g.D.Door.calls c.args.door.now) (g.D.Door.calls w.turn.new.door))
+                (known_by g.M.Monitor.follows g.A.Application.follows c.args.monitor.now w.turn.new.monitor
+                c.args.application.now w.turn.new.application))
+                w.turn.new.self.server w.in-Err.memory w.in-Err.ensures.fault (record {
+                  front = so_far.front;
+                  service = before;
+                  wait = c.loop-turn.wait;
+                  made = so_far.made;
+                  few = omega (arith, so_far.counted, w.loop-turn-test.true, c.turns-turns.ensures.value);
+                  times = times;
+                  calls = named.0;
+                  history = named.1;
+                  cut = named.4;
+                  matches =
+                      turn_matches g.C.Clock.moments c.args.clock.now c.loop-turn.clock w.now-now.new.self
+                      g.U.Clock.moments c.args.uptime.now c.loop-turn.uptime w.now-second.new.self
+                      g.D.Door.calls c.args.door.now c.loop-turn.door w.wait_after_turn.new.door w.turn.new.door
+                      so_far.front c.loop-turn.wait before times named.0 named.1
+                      so_far.matches so_far.counted w.can_open.ensures w.now-now.ensures w.now-second.ensures
+                      w.wait_after_turn.ensures named.2 named.3;
+                });
+          })
+    ]
+
+pub returns-clause-fault : goal.returns-clause-fault
+returns-clause-fault g c = elim c.loop-turn-test.branch [
+  | else-loop-turn-test w ↦ rw (w.fault-is, c.loop-turn.invariant.fault) tt
+  | then-loop-turn-test+in-Err w ↦ rw w.fault-is (memory_ends (Unit {0}) w.in-Err.memory w.in-Err.ensures.fault)
+]
 
 -- An allocation failed before the first turn.
 pub returns-in_default-clause-run : goal.returns-in_default-clause-run

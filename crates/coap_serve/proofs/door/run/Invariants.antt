@@ -1,6 +1,6 @@
 use Rattle.std.proofs.Common.{◌≡◌, false, length}
-use Rattle.coap_serve.specs.Prelude.{AreTurns, HasRun, Matches, RunTrace, TellsMore, config_of, environment, known_by}
-use Rattle.coap_serve.specs.Prelude.{known_of_run, new_server, service_of, some_waits, views_of}
+use Rattle.coap_serve.specs.Prelude.{AreTurns, HasRun, Matches, RunTrace, TellsMore, Turns, config_of, environment}
+use Rattle.coap_serve.specs.Prelude.{known_by, known_of_run, new_server, service_of, some_waits, views_of}
 use Rattle.coap_serve.proofs.door.run.Given as goal
 
 -- The progress of the run.
@@ -21,4 +21,5 @@ invariant-loop-turn g l =
           (known_by g.M.Monitor.follows g.A.Application.follows l.fn.monitor l.monitor l.fn.application l.application))
           front;
       ready : l.service.is_spent ≡ false;
+      fault : l.fault ≡ Turns;
     }

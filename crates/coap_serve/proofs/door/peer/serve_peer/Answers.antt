@@ -53,7 +53,8 @@ returns-clause-part g c =
     wrote.server (c.outcome.ensures ∙ ap (course_of c.write_once-wrote.result) (ap is_over_in
     (sym c.work_at-work.ensures)))
     heard.accepted wrote.accepted
-    (c.after-activity.ensures ∙ ap (λ moved. activity_after c.args.turn.second moved c.read_wire-heard.new.peer.activity)
+    (c.after-activity.ensures
+    ∙ ap (λ moved. activity_after c.args.turn.second moved c.read_wire-heard.new.peer.activity)
     c.has_moved-moved.ensures
     ∙ ap (λ a. activity_after c.args.turn.second (nat_lt 0 c.in_ok-taken.taken.count || has_written
     c.write_once-wrote.result) a) heard.activity))

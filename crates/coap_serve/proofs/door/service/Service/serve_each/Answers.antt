@@ -51,5 +51,6 @@ returns-in_err-later-clause-shows g c = both_made c.loop-at.invariant.shows c.se
 pub returns-clause-served : goal.returns-clause-served
 returns-clause-served g c =
     let so_far = c.loop-at.invariant.done in
-    let most : length c.loop-at.self.peers.entries ≤ c.loop-at.at = omega (arith, c.loop-at-test.false, c.len.ensures.len) in
+    let most : length c.loop-at.self.peers.entries ≤ c.loop-at.at =
+    omega (arith, c.loop-at-test.false, c.len.ensures.len) in
     record { history = so_far.history; made = all_are_served _ most so_far.made; accepted = so_far.accepted }

@@ -12,23 +12,6 @@ serve_peer-requires g c = record { lies = lies_there c.requires.paired c.args.at
 pub overflow_add-result : goal.overflow_add-result
 overflow_add-result g c = omega (arith, c.requires.there, c.requires.fits)
 
--- The number of connections stays.
-pub drop_at-requires-clause-there : goal.drop_at-requires-clause-there
-drop_at-requires-clause-there g c =
-    omega (arith, length_written c.args.self.now.peers.entries c.args.at c.serve_peer.new.peer, c.requires.there)
-
-pub index-peer-requires : goal.index-peer-requires
-index-peer-requires g c =
-    omega (arith, length_written c.args.self.now.peers.entries c.args.at c.serve_peer.new.peer, c.requires.there)
-
-pub returns-in-Open-clause-within : goal.returns-in-Open-clause-within
-returns-in-Open-clause-within g c =
-    omega (arith, length_written c.args.self.now.peers.entries c.args.at c.serve_peer.new.peer, c.requires.there)
-
-pub returns-in-Open-clause-fewer : goal.returns-in-Open-clause-fewer
-returns-in-Open-clause-fewer g c =
-    omega (arith, length_written c.args.self.now.peers.entries c.args.at c.serve_peer.new.peer, c.requires.there)
-
 pub drop_at-requires-clause-paired : goal.drop_at-requires-clause-paired
 drop_at-requires-clause-paired g c =
     paired_written c.requires.paired c.args.at c.serve_peer.new.peer c.in_ok-served.ensures.kept.keys refl
