@@ -5,9 +5,9 @@ use Rattle.std.proofs.lemmas.Bool.{leb-false}
 use Rattle.std.proofs.lemmas.List.Folds.{list_any-append}
 use Rattle.coap_path.proofs.PathLemmas.{same_path_sound}
 use Rattle.coap_path.specs.Prelude.{if◌then◌else◌, nat_le, not, ◌==◌, Path, AllByRecursion, same_path, are_methods}
-use Rattle.coap_path.specs.Prelude.{are_attributes}
+use Rattle.coap_path.specs.Prelude.{are_attributes, is_dynamic, kind_of_path}
 use Rattle.coap_path.specs.Prelude.{entry_refusal, refusal_in, first_fault, ApplicationFault}
-use Rattle.coap_path.specs.declared.fault.ApplicationFault.TheVariants.{Full, Root, Twice, Method, Attributes}
+use Rattle.coap_path.specs.declared.fault.ApplicationFault.TheVariants.{Full, Root, BuiltIn, Twice, Method, Attributes}
 use Rattle.coap_path.proofs.PathStartLemmas.{not_false}
 use Rattle.coap_path.specs.Prelude.{ApplicationEntryValue, IsEntry, AreEntries, HaveOwnPrefixes, has_prefix}
 
@@ -38,10 +38,11 @@ pub add_refused : (es : List ApplicationEntryValue) (prefix : Path) (methods att
 unfolding entry_refusal
 add_refused es prefix methods attributes fault is =
     is ∙ sym
-    (first_fault_refuses ((nat_le 16 (length es), Full) ∷ (length prefix == 0, Root) ∷ (has_prefix es prefix, Twice)
+    (first_fault_refuses ((nat_le 16 (length es), Full) ∷ (length prefix == 0, Root)
+    ∷ (not (is_dynamic (kind_of_path prefix)), BuiltIn) ∷ (has_prefix es prefix, Twice)
     ∷ (not (are_methods methods), Method) ∷ (not (are_attributes attributes), Attributes) ∷ []) fault (
       refl,
-      (refl, (refl, (refl, (refl, tt)))),
+      (refl, (refl, (refl, (refl, (refl, tt))))),
     ) is)
 
 not_zero : (n : ℕ) → (n == 0) ≡ false → 1 ≤ n
@@ -52,6 +53,7 @@ not_zero (suc n) is = omega arith
 pub record Accepts (es : List ApplicationEntryValue) (prefix : Path) (methods attributes : List ℕ) : Type 0 where
   pub room : length es < 16
   pub below_root : 1 ≤ length prefix
+  pub dynamic : is_dynamic (kind_of_path prefix) ≡ true
   pub own : has_prefix es prefix ≡ false
   pub methods_ok : are_methods methods ≡ true
   pub attributes_ok : are_attributes attributes ≡ true
@@ -62,12 +64,14 @@ unfolding entry_refusal
 accepted es prefix methods attributes none =
     let room = passed (nat_le 16 (length es)) Full _ none in
     let below = passed (length prefix == 0) Root _ room.1 in
-    let own = passed (has_prefix es prefix) Twice _ below.1 in
+    let built_in = passed (not (is_dynamic (kind_of_path prefix))) BuiltIn _ below.1 in
+    let own = passed (has_prefix es prefix) Twice _ built_in.1 in
     let methods_pass = passed (not (are_methods methods)) Method _ own.1 in
     let attributes_pass = passed (not (are_attributes attributes)) Attributes _ methods_pass.1 in
     record {
       room = leb-false 16 (length es) room.0;
       below_root = not_zero (length prefix) below.0;
+      dynamic = not_false (is_dynamic (kind_of_path prefix)) built_in.0;
       own = own.0;
       methods_ok = not_false (are_methods methods) methods_pass.0;
       attributes_ok = not_false (are_attributes attributes) attributes_pass.0;

@@ -2,6 +2,7 @@
 use Rattle.std.specs.Prelude.{◌≡◌, ◌≤◌, Bool, true, false, List, [], ◌∷◌, length}
 use Rattle.std.specs.List.{list_any, AllByRecursion}
 use Rattle.coap_path.specs.Paths.{Path, same_path, is_path}
+use Rattle.coap_path.specs.ResourceKinds.{kind_of_path, is_dynamic}
 use Rattle.coap_path.specs.Applications.{ApplicationEntryValue}
 use Rattle.coap_path.specs.Methods.{are_methods}
 use Rattle.coap_path.specs.Attributes.{are_attributes}
@@ -10,10 +11,11 @@ use Rattle.coap_path.specs.Attributes.{are_attributes}
 abbrev pub has_prefix : List ApplicationEntryValue → Path → Bool
 has_prefix entries prefix = list_any (λ e. same_path e.prefix prefix) entries
 
--- An entry has a path with at least one segment, methods, and attributes.
+-- An entry has a path with at least one segment, which is not that of a built-in resource, methods, and attributes.
 pub record IsEntry (e : ApplicationEntryValue) : Type 0 where
   pub path : is_path e.prefix ≡ true
   pub below_root : 1 ≤ length e.prefix
+  pub dynamic : is_dynamic (kind_of_path e.prefix) ≡ true
   pub methods : are_methods e.methods ≡ true
   pub attributes : are_attributes e.attributes ≡ true
 

@@ -38,4 +38,4 @@ pub use Rattle.coap_path.specs.LongestPrefix.{IsLongest}
 pub use Rattle.coap_path.specs.Refusals.{RefusedOrMemory, first_fault, refusal_in, with_entry}
 unfoldable pub use Rattle.coap_path.specs.Refusals.{entry_refusal}
 pub use Rattle.coap_path.specs.declared.fault.ApplicationFault.{ApplicationFault}
-pub use Rattle.coap_path.specs.declared.fault.ApplicationFault.TheVariants.{Attributes, Full, Method, Twice}
+pub use Rattle.coap_path.specs.declared.fault.ApplicationFault.TheVariants.{Attributes, BuiltIn, Full, Method, Twice}

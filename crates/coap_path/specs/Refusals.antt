@@ -2,12 +2,14 @@
 use Rattle.std.specs.Prelude.{◌≡◌, ℕ, Bool, not, List, [], ◌∷◌, ◌++◌, length, Option, Some, None, Result, Ok, Err}
 use Rattle.std.specs.Prelude.{nat_le, ◌==◌, if◌then◌else◌}
 use Rattle.coap_path.specs.Paths.{Path}
+use Rattle.coap_path.specs.ResourceKinds.{kind_of_path, is_dynamic}
 use Rattle.coap_path.specs.Applications.{ApplicationEntryValue, ApplicationsValue}
 use Rattle.coap_path.specs.Invariant.{has_prefix}
 use Rattle.coap_path.specs.Methods.{are_methods}
 use Rattle.coap_path.specs.Attributes.{are_attributes}
 use Rattle.coap_path.specs.declared.fault.ApplicationFault.{ApplicationFault}
-use Rattle.coap_path.specs.declared.fault.ApplicationFault.TheVariants.{Full, Root, Twice, Method, Attributes, Memory}
+use Rattle.coap_path.specs.declared.fault.ApplicationFault.TheVariants.{Full, Root, BuiltIn, Twice, Method, Attributes}
+use Rattle.coap_path.specs.declared.fault.ApplicationFault.TheVariants.{Memory}
 
 -- The first error whose condition holds, if any.
 abbrev pub first_fault : List (Bool × ApplicationFault) → Option ApplicationFault
@@ -21,6 +23,7 @@ entry_refusal entries prefix methods attributes =
     first_fault (
     (nat_le 16 (length entries), Full)
     ∷ (length prefix == 0, Root)
+    ∷ (not (is_dynamic (kind_of_path prefix)), BuiltIn)
     ∷ (has_prefix entries prefix, Twice)
     ∷ (not (are_methods methods), Method)
     ∷ (not (are_attributes attributes), Attributes)
@@ -30,6 +33,7 @@ entry_refusal entries prefix methods attributes =
 abbrev pub refusal_in : ApplicationFault → Option ApplicationFault
 refusal_in Full = Some Full
 refusal_in Root = Some Root
+refusal_in BuiltIn = Some BuiltIn
 refusal_in Twice = Some Twice
 refusal_in Method = Some Method
 refusal_in Attributes = Some Attributes

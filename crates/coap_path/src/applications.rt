@@ -90,7 +90,8 @@ impl Applications {
         self.entries.is_empty()
     }
 
-    /// Returns the entries in the order in which they were added: at most 16, with different prefixes.
+    /// Returns the entries in the order in which they were added: at most 16, with different prefixes. None is the path
+    /// of a built-in resource.
     pub fn entries(&self) -> &[ApplicationEntry]
         ensures value { result.now ≡ self.now.entries }
         ensures kept { AreEntries self.now.entries }
@@ -107,6 +108,7 @@ impl Applications {
     /// The entries are unchanged. The errors are checked in this order:
     /// - `Full`: there are 16 entries.
     /// - `Root`: the prefix has no segment.
+    /// - `BuiltIn`: the prefix is the path of a built-in resource, such as `/time`.
     /// - `Twice`: another entry has the prefix.
     /// - `Method`: there is no method, a code is of another class than 0 or is Empty, or a method occurs twice.
     /// - `Attributes`: the attributes do not have the form of RFC 6690 section 2, or have more than 255 bytes.
@@ -145,6 +147,9 @@ impl Applications {
         }
         if segment_count(prefix) == 0 {
             return Err(ApplicationFault::Root);
+        }
+        if !prefix.kind().is_dynamic() {
+            return Err(ApplicationFault::BuiltIn);
         }
         if has_prefix(&self.entries, prefix) {
             return Err(ApplicationFault::Twice);

@@ -1,7 +1,7 @@
 //! An entry of the application.
 
 ghost use Rattle.std.specs.Prelude.{◌≡◌, ◌≤◌, true, IfOk, length};
-ghost use Rattle.coap_path.specs.Prelude.{are_methods, are_attributes};
+ghost use Rattle.coap_path.specs.Prelude.{are_methods, are_attributes, is_dynamic, kind_of_path};
 
 use crate::path::PathKey;
 use coap_wire::Code;
@@ -11,8 +11,9 @@ use std::marker::Model;
 /// Entry of the application: a prefix of paths, the methods that the application answers there, and the attributes of
 /// its link in `/.well-known/core`.
 ///
-/// The prefix has at least one segment. Each method is a code of class 0 other than Empty. There is at least one, and
-/// none occurs twice. The attributes have the form of RFC 6690 section 2, in at most 255 bytes.
+/// The prefix has at least one segment, and is not the path of a built-in resource. Each method is a code of class 0
+/// other than Empty. There is at least one, and none occurs twice. The attributes have the form of RFC 6690 section 2,
+/// in at most 255 bytes.
 #[derive(Drop)]
 pub struct ApplicationEntry {
     prefix: PathKey,
@@ -40,6 +41,7 @@ impl ApplicationEntry {
         attributes: &[u8],
     ) -> Result<ApplicationEntry, AllocError>
         requires below_root { 1 ≤ length prefix.now }
+        requires dynamic { is_dynamic (kind_of_path prefix.now) ≡ true }
         requires methods { are_methods methods.now ≡ true }
         requires attributes { are_attributes attributes.now ≡ true }
         ensures { IfOk result (λ e. e ≡ record {

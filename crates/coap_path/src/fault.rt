@@ -23,6 +23,9 @@ pub enum ApplicationFault {
     /// Allocation failure.
     #[error("out of memory")]
     Memory = 6,
+    /// Prefix that is the path of a built-in resource.
+    #[error("built-in path as a prefix")]
+    BuiltIn = 7,
 }
 
 const _: () = prove!(ApplicationFault::Full as u8 == 1);
@@ -36,3 +39,5 @@ const _: () = prove!(ApplicationFault::Method as u8 == 4);
 const _: () = prove!(ApplicationFault::Attributes as u8 == 5);
 
 const _: () = prove!(ApplicationFault::Memory as u8 == 6);
+
+const _: () = prove!(ApplicationFault::BuiltIn as u8 == 7);

@@ -28,6 +28,7 @@ const APPLICATION_FAULTS: &[ApplicationFault] = &[
     ApplicationFault::Method,
     ApplicationFault::Attributes,
     ApplicationFault::Memory,
+    ApplicationFault::BuiltIn,
 ];
 
 /// Returns the configuration with these limits and the numbers after those of the limits, or the error.

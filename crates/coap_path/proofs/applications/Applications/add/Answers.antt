@@ -13,6 +13,9 @@ returns-in_err-check-clause-answer c =
 pub new-requires-clause-below_root : goal.new-requires-clause-below_root
 new-requires-clause-below_root c = (accepted _ _ _ _ c.in_ok-check.ensures).below_root
 
+pub new-requires-clause-dynamic : goal.new-requires-clause-dynamic
+new-requires-clause-dynamic c = (accepted _ _ _ _ c.in_ok-check.ensures).dynamic
+
 pub new-requires-clause-methods : goal.new-requires-clause-methods
 new-requires-clause-methods c = (accepted _ _ _ _ c.in_ok-check.ensures).methods_ok
 
@@ -36,6 +39,7 @@ invariant_of-self c =
     subst IsEntry (sym c.in-Ok.ensures) (record {
       path = c.is_kept.ensures;
       below_root = accepts.below_root;
+      dynamic = accepts.dynamic;
       methods = accepts.methods_ok;
       attributes = accepts.attributes_ok;
     }) in
