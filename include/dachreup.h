@@ -113,6 +113,7 @@ enum dachreup_error {
     DACHREUP_APPLICATION_METHOD = 83,     /* no method, or a bit above 31 or below 1 */
     DACHREUP_APPLICATION_ATTRIBUTES = 84, /* not of the form of RFC 6690, or above 255 bytes */
     DACHREUP_APPLICATION_DEADLINE = 85,   /* 0 */
+    DACHREUP_APPLICATION_BUILT_IN = 86,   /* the path is that of a built-in resource */
 
     /* respond */
     DACHREUP_NO_SUCH_REQUEST = 96, /* no request with this token waits for a response of the application */
@@ -385,7 +386,7 @@ dachreup_applications_new(struct dachreup_applications *applications, uint32_t d
  * Adds an entry: the application answers requests at the paths that begin with the segments of `path`, unless another
  * entry has more of them. Bit n of `methods` is the method with code 0.n, such as 1 << DACHREUP_POST: DACHREUP_POST
  * alone would be GET. The engine answers other methods. `attributes` are those of the link in /.well-known/core, such
- * as "rt=\"core.rd\"", or empty. The engine also answers every request at a built-in path, even if an entry has it.
+ * as "rt=\"core.rd\"", or empty.
  * Returns DACHREUP_MEMORY, DACHREUP_NOT_A_PATH or DACHREUP_APPLICATION_...
  *
  * Seven critical options reach the application: If-Match, Uri-Host, If-None-Match, Uri-Port, Uri-Path, Uri-Query and
@@ -842,6 +843,8 @@ static inline const char *dachreup_error_text(dachreup_result result) {
         return "invalid attributes of an entry";
     case DACHREUP_APPLICATION_DEADLINE:
         return "deadline of 0 seconds";
+    case DACHREUP_APPLICATION_BUILT_IN:
+        return "built-in path of an entry";
     case DACHREUP_NO_SUCH_REQUEST:
         return "no request with this token waits for a response";
     case DACHREUP_NOT_A_RESPONSE:

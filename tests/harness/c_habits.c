@@ -21,7 +21,8 @@ static uint32_t is_named(dachreup_result result) {
     CASE(OUTSTANDING) CASE(CONNECTIONS) CASE(DYNAMIC_MAX) CASE(REP_MAX) CASE(FULL) CASE(IDS_SPENT)
     CASE(TOO_LARGE) CASE(LIMIT) CASE(BAD_PATH) CASE(VERSIONS_SPENT) CASE(APPLICATION_FULL)
     CASE(APPLICATION_ROOT) CASE(APPLICATION_TWICE) CASE(APPLICATION_METHOD) CASE(APPLICATION_ATTRIBUTES)
-    CASE(APPLICATION_DEADLINE) CASE(NO_SUCH_REQUEST) CASE(NOT_A_RESPONSE) CASE(FRAME_TOKEN_LENGTH)
+    CASE(APPLICATION_DEADLINE) CASE(APPLICATION_BUILT_IN) CASE(NO_SUCH_REQUEST) CASE(NOT_A_RESPONSE)
+    CASE(FRAME_TOKEN_LENGTH)
     CASE(FRAME_OPTION_DELTA) CASE(FRAME_OPTION_LENGTH) CASE(FRAME_OPTION_CUT) CASE(FRAME_OPTION_NUMBER)
     CASE(FRAME_EMPTY_PAYLOAD) CASE(FRAME_NOT_ONE) CASE(OPTION_MALFORMED) CASE(OPTION_ORDER)
     CASE(OPTION_TOO_LONG) CASE(OPTION_NUMBER) CASE(WRITE_CODE) CASE(WRITE_TOKEN) CASE(WRITE_OPTIONS)
@@ -45,7 +46,7 @@ static void texts(void) {
         for (dachreup_result before = 0; before < result && is_named(result); before++)
             check(text, strcmp(text, dachreup_error_text(before)) == 0, 0);
     }
-    check("results", named, 65);
+    check("results", named, 66);
     check("version", (uint32_t)strcmp(dachreup_version(), DACHREUP_VERSION), 0);
 }
 
@@ -234,7 +235,7 @@ static uint64_t application(size_t pending, size_t queue) {
     settings.queue = queue;
     check("entries", dachreup_applications_new(&entries, 5), 0);
     check("entry", dachreup_applications_add(&entries, "b", 1, 1 << DACHREUP_POST, NULL, 0), 0);
-    check("built in", dachreup_applications_add(&entries, "time", 4, 1 << DACHREUP_POST, NULL, 0), 0);
+    check("below a built-in path", dachreup_applications_add(&entries, "time/x", 6, 1 << DACHREUP_POST, NULL, 0), 0);
     check("new", dachreup_server_new_for(&server, &settings, &entries), 0);
     check("open", dachreup_server_open(&server, &id), 0);
     check("CSM", dachreup_server_take(&server, id, csm, 2, &took), 0);

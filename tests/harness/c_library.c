@@ -188,6 +188,7 @@ static void entries(void) {
     check("entries again, no deadline", dachreup_applications_new(&applications, 0), DACHREUP_OCCUPIED);
     check("no path", add("a/..", 1 << 1, ""), DACHREUP_NOT_A_PATH);
     check("root", add("", 1 << 1, ""), DACHREUP_APPLICATION_ROOT);
+    check("built in", add(".well-known/core", 1 << 1, ""), DACHREUP_APPLICATION_BUILT_IN);
     check("no method", add("a", 0, ""), DACHREUP_APPLICATION_METHOD);
     check("bit 0", add("a", 1, ""), DACHREUP_APPLICATION_METHOD);
     check("attributes", add("a", 1 << 1, "rt=\""), DACHREUP_APPLICATION_ATTRIBUTES);

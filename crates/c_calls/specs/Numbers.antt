@@ -169,3 +169,4 @@ entry_code application.Twice = 82
 entry_code application.Method = 83
 entry_code application.Attributes = 84
 entry_code application.Memory = 2
+entry_code application.BuiltIn = 86

@@ -266,5 +266,6 @@ pub(crate) fn entry_number(fault: ApplicationFault) -> u32
         ApplicationFault::Method => 83,
         ApplicationFault::Attributes => 84,
         ApplicationFault::Memory => MEMORY,
+        ApplicationFault::BuiltIn => 86,
     }
 }
