@@ -16,4 +16,4 @@ unfoldable pub use Rattle.directory_links.specs.Reading.{value_at, attribute_at,
 unfoldable pub use Rattle.directory_links.specs.Reading.{after_target}
 unfoldable pub use Rattle.directory_links.specs.Reading.{target_at, link_at, next_link_at, links_within, some_links}
 unfoldable pub use Rattle.directory_links.specs.Reading.{links_of, links_from}
-pub use Rattle.directory_links.specs.LinkViews.{value_of, attribute_of, Gives, GivesRest, GivesLinks, GivesAt}
+pub use Rattle.directory_links.specs.LinkViews.{value_of, attribute_of, lefts, Gives, GivesRest, GivesLinks, GivesAt}

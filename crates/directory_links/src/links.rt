@@ -7,7 +7,7 @@ ghost use Rattle.directory_links.specs.Prelude.{GivesRest, Gives, GivesLinks, Gi
 ghost use Rattle.directory_links.specs.Prelude.{link_at, links_of, links_from, links_read, Link, Writes};
 
 use crate::attribute::AttributeRef;
-use crate::fault::LinkFault;
+use crate::fault::{LinkFault, SyntaxFault};
 use crate::read::{read_attribute, read_separator, read_target};
 use std::marker::Model;
 
@@ -60,7 +60,7 @@ impl<'a> Iterator for Attributes<'a> {
 }
 
 /// Returns the bytes after the attributes at the front.
-pub(crate) fn after_attributes(text: &[u8]) -> Result<&[u8], usize>
+pub(crate) fn after_attributes(text: &[u8]) -> Result<&[u8], SyntaxFault>
     ensures { GivesRest result (attributes_at text.now) }
 {
     let mut rest = text;
@@ -113,7 +113,7 @@ impl<'a> LinkRef<'a> {
 
 /// Reads a link.
 #[tactic(auto, unfolding(crate::specs::Reading::link_at))]
-fn read_link(text: &[u8]) -> Result<(LinkRef<'_>, &[u8]), usize>
+fn read_link(text: &[u8]) -> Result<(LinkRef<'_>, &[u8]), SyntaxFault>
     ensures { Gives (λ x. (x.0, x.1.now)) result (link_at text.now) }
 {
     let (target, attributes) = read_target(text)?;
@@ -176,7 +176,7 @@ impl<'a> Iterator for Links<'a> {
 }
 
 /// Reads all links.
-fn check_links(text: &[u8]) -> Result<(), usize>
+fn check_links(text: &[u8]) -> Result<(), SyntaxFault>
     ensures { GivesLinks result (links_of text.now) }
 {
     if text.is_empty() {
@@ -222,8 +222,8 @@ fn links_in(text: &[u8]) -> Result<Links<'_>, LinkFault>
 {
     match check_links(text) {
         Ok(()) => Ok(Links::of_text(text)),
-        Err(left) => Err(LinkFault {
-            offset: text.len().saturating_sub(left),
+        Err(fault) => Err(LinkFault {
+            offset: text.len().saturating_sub(fault.left),
         }),
     }
 }

@@ -13,10 +13,9 @@ returns-then-first-ne59 c =
 pub returns-in_err-_attribute : goal.returns-in_err-_attribute
 returns-in_err-_attribute c =
     let p = err_from_is_err_and c.from_residual.result c.from_residual.ensures.1 in
-    rw (p.1, p.2) (fails c.loop-first.invariant.0 c.loop-first.rest.now c.in_err-_attribute.field-0.0
-    (attributes_at c.args.text.now)
-    (no_attribute_there c.in-Some.first.now c.loop-first.rest.now c.in-Some.after.now c.in_err-_attribute.field-0.0
-    c.in-Some.ensures.cases.0 c.if-first-ne59.false c.in_err-_attribute.ensures) c.loop-first.invariant.1)
+    rw (p.1, p.2) (fails c.loop-first.invariant.0 c.loop-first.rest.now _ (attributes_at c.args.text.now)
+    (no_attribute_there c.in-Some.first.now c.loop-first.rest.now c.in-Some.after.now _ c.in-Some.ensures.cases.0
+    c.if-first-ne59.false c.in_err-_attribute.ensures) c.loop-first.invariant.1)
 
 pub loop-first-smaller : goal.loop-first-smaller
 loop-first-smaller c =

@@ -18,16 +18,15 @@ loop-link-init c = ([], begins c.args.text.now (eqb-false _ _ (sym c.is_empty.en
 pub returns-in_err-_link : goal.returns-in_err-_link
 returns-in_err-_link c =
     let p = err_from_is_err_and c.from_residual.result c.from_residual.ensures.1 in
-    rw (p.1, p.2) (fails c.loop-link.invariant.0 c.loop-link.rest.now c.in_err-_link.field-0.0
-    (links_of c.args.text.now)
-    (no_link c.loop-link.rest.now c.in_err-_link.field-0.0 c.in_err-_link.ensures) c.loop-link.invariant.1)
+    rw (p.1, p.2) (fails c.loop-link.invariant.0 c.loop-link.rest.now _ (links_of c.args.text.now)
+    (no_link c.loop-link.rest.now _ c.in_err-_link.ensures) c.loop-link.invariant.1)
 
 pub returns-in_err-next : goal.returns-in_err-next
 returns-in_err-next c =
     let p = err_from_is_err_and c.from_residual-in_err-next.result c.from_residual-in_err-next.ensures.1 in
-    rw (p.1, p.2) (fails c.loop-link.invariant.0 c.loop-link.rest.now c.in_err-next.field-0.0 (links_of c.args.text.now)
-    (no_separator c.loop-link.rest.now c.in_ok-_link._link c.in_ok-_link.behind.now c.in_err-next.field-0.0
-    c.in_ok-_link.ensures c.in_err-next.ensures) c.loop-link.invariant.1)
+    rw (p.1, p.2) (fails c.loop-link.invariant.0 c.loop-link.rest.now _ (links_of c.args.text.now)
+    (no_separator c.loop-link.rest.now c.in_ok-_link._link c.in_ok-_link.behind.now _ c.in_ok-_link.ensures
+    c.in_err-next.ensures) c.loop-link.invariant.1)
 
 pub returns-in_default : goal.returns-in_default
 returns-in_default c =
