@@ -18,8 +18,8 @@ mod scripts;
 
 pub use event::Event;
 pub use scripts::lines::{
-    ShortLine, append_request_line, fault_line, in_line, open_line, out_line, put_line,
-    remove_line, status_line, tick_line, word_line,
+    ShortLine, StatusCounts, append_request_line, fault_line, in_line, open_line, out_line,
+    put_line, remove_line, status_line, tick_line, word_line,
 };
 pub use scripts::words::path_in;
 pub use scripts::{ScriptFault, script, scripts_go_on_behind_whole_lines};

@@ -215,10 +215,20 @@ fn append(line: &mut String, text: &str, number: u64) -> Result<(), AllocError>
     write!(line, "{text}{number}")
 }
 
+/// Numbers of a connection in its status line.
+#[derive(Clone, Copy)]
+pub struct StatusCounts {
+    /// Bytes kept of an unfinished message.
+    pub kept: usize,
+    /// Bytes queued for writing.
+    pub waiting: usize,
+    /// Pending responses and Pongs.
+    pub pending: usize,
+    /// Observers.
+    pub observers: usize,
+}
+
 /// Returns the line `status ID PHASE kept N waiting N pending N observers N`.
-///
-/// The numbers are: the bytes kept of an unfinished message, the bytes queued for writing, the pending responses and
-/// Pongs, and the observers.
 ///
 /// # Errors
 ///
@@ -227,18 +237,16 @@ pub fn status_line(
     alloc: Global,
     id: u64,
     phase: Phase,
-    kept: usize,
-    waiting: usize,
-    pending: usize,
-    observers: usize,
+    counts: StatusCounts,
 ) -> Result<Vec<u8>, AllocError>
-    ensures { IfOk result (λ line. line.items ≡ spec.status_line id phase kept waiting pending observers) }
+    ensures { IfOk result (λ line. line.items
+        ≡ spec.status_line id phase counts.kept counts.waiting counts.pending counts.observers) }
 {
     let mut line = status_front(alloc, id, phase)?;
-    append(&mut line, " kept ", kept as u64)?;
-    append(&mut line, " waiting ", waiting as u64)?;
-    append(&mut line, " pending ", pending as u64)?;
-    append(&mut line, " observers ", observers as u64)?;
+    append(&mut line, " kept ", counts.kept as u64)?;
+    append(&mut line, " waiting ", counts.waiting as u64)?;
+    append(&mut line, " pending ", counts.pending as u64)?;
+    append(&mut line, " observers ", counts.observers as u64)?;
     line.push_str("\n")?;
     Ok(line.into_bytes())
 }
