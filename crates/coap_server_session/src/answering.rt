@@ -22,7 +22,7 @@ use crate::response::{respond, respond_change};
 use crate::server_state::{ServerState, mark_at};
 use coap_conn::{Due, Link, Reply};
 use coap_store::{
-    ChangePlan, Plan, PlannedChange, State, Store, UriPath, Watch, delayed_response,
+    ChangePlan, ObservedPath, Plan, PlannedChange, State, Store, UriPath, Watch, delayed_response,
     expired_response, refused_delay, request_path,
 };
 use coap_wire::{Code, MessageRef, TokenRef};
@@ -397,14 +397,12 @@ pub(crate) fn notify(
 {
     let observer = observers.get(stale.index);
     let mut plan = Plan::new();
-    let index = shared.store.fill_notification(
-        &observer.path,
-        observer.kind(),
-        observer.index,
-        observer.format,
-        shared.now,
-        &mut plan,
-    );
+    let observed = ObservedPath {
+        path: &observer.path,
+        kind: observer.kind(),
+        near: observer.index,
+    };
+    let index = shared.store.fill_notification(observed, observer.format, shared.now, &mut plan);
     let goes_on = plan.code() == Code::CONTENT;
     let reply = respond(link, &TokenRef::of(&observer.token), &plan, goes_on);
     if goes_on && is_whole(reply) {

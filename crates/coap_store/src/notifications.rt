@@ -7,6 +7,18 @@ use crate::store::Store;
 use coap_path::{PathKey, ResourceKind};
 use coap_wire::Code;
 
+/// Path of an observer, with what earlier calls found there.
+#[derive(Clone, Copy)]
+pub struct ObservedPath<'p> {
+    /// Path.
+    pub path: &'p PathKey,
+    /// Kind of the path.
+    pub kind: ResourceKind,
+    /// Index that the resource may have, as an earlier call returned it. The resource is searched only if it has
+    /// another index.
+    pub near: usize,
+}
+
 impl Store {
     ghost use Rattle.std.specs.Prelude.{◌≡◌, ◌≤◌, length, option_map, Some};
     ghost use Rattle.coap_store.specs.Prelude.{LARGEST_MESSAGE, says, IsStore, notification_of, no_answer};
@@ -28,37 +40,37 @@ impl Store {
         ensures store { IsStore self.now }
     {
         let mut plan = Plan::new();
-        self.fill_notification(path, path.kind(), 0, format, now, &mut plan);
+        let observed = ObservedPath {
+            path,
+            kind: path.kind(),
+            near: 0,
+        };
+        self.fill_notification(observed, format, now, &mut plan);
         plan
     }
 
     /// Fills a new plan with the notification that `notification` returns, and returns the index of the resource, or 0
     /// if there is none.
     ///
-    /// `near` is an index that the resource may have, as an earlier call returned it. Only if it has another one, it is
-    /// searched.
-    ///
     /// # Preconditions
     ///
-    /// - The plan is new (`Plan::new`), and `place` is the kind of the path.
+    /// - The plan is new (`Plan::new`), and the kind is that of the path.
     pub fn fill_notification<'s, 'r>(
         &'s self,
-        path: &PathKey,
-        place: ResourceKind,
-        near: usize,
+        observed: ObservedPath<'_>,
         format: Option<u16>,
         now: u64,
         plan: &mut Plan<'s, 'r>,
     ) -> usize
-        requires place { place ≡ kind_of_path path.now }
+        requires place { observed.kind ≡ kind_of_path observed.path.now }
         requires fresh { plan.old ≡ no_answer }
-        ensures told { plan.new ≡ says (notification_of self.now now path.now format) }
+        ensures told { plan.new ≡ says (notification_of self.now now observed.entry.path.now format) }
         ensures short { length plan.new.response.payload ≤ LARGEST_MESSAGE }
         ensures store { IsStore self.now }
     {
         self.is_kept();
-        path.is_kept();
-        let Some((index, found)) = self.found_near(path, place, near, now) else {
+        observed.path.is_kept();
+        let Some((index, found)) = self.found_near(observed, now) else {
             plan.only(Code::NOT_FOUND);
             return 0;
         };
@@ -66,8 +78,8 @@ impl Store {
             plan.only(Code::NOT_ACCEPTABLE);
             return index;
         }
-        let etag = etag_for(place, found.version);
-        plan.content(etag, found, max_age_of(place), Watch::Nothing);
+        let etag = etag_for(observed.kind, found.version);
+        plan.content(etag, found, max_age_of(observed.kind), Watch::Nothing);
         index
     }
 
@@ -75,20 +87,19 @@ impl Store {
     /// it is built in.
     fn found_near(
         &self,
-        path: &PathKey,
-        place: ResourceKind,
-        near: usize,
+        observed: ObservedPath<'_>,
         now: u64,
     ) -> Option<(usize, RepresentationRef<'_>)>
-        ensures { option_map (λ r. found_value r.1) result ≡ state_at self.now now (Some path.now) place }
+        ensures { option_map (λ r. found_value r.1) result
+            ≡ state_at self.now now (Some observed.entry.path.now) observed.entry.kind }
     {
-        if place.is_dynamic() {
-            return match self.find_near(path, near) {
+        if observed.kind.is_dynamic() {
+            return match self.find_near(observed.path, observed.near) {
                 Some((index, resource)) => Some((index, RepresentationRef::of(resource))),
                 None => None,
             };
         }
-        match self.found_at(Some(path), place, now) {
+        match self.found_at(Some(observed.path), observed.kind, now) {
             Some(found) => Some((0, found)),
             None => None,
         }

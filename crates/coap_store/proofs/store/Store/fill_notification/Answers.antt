@@ -7,27 +7,28 @@ use Rattle.coap_store.proofs.store.Store.fill_notification.Goals as goal
 pub returns-in_default-clause-told : goal.returns-in_default-clause-told
 returns-in_default-clause-told c =
     let state = c.in_default.ensures
-    ∙ state_by_key c.args.self.now c.args.now c.args.path.now _ c.is_kept-2.ensures c.requires.place in
+    ∙ state_by_key c.args.self.now c.args.now c.args.observed.path.now _ c.is_kept-2.ensures c.requires.place in
     c.only.ensures ∙ ap says (told_absent _ c.args.format _ state)
 
 pub returns-then-ne-clause-told : goal.returns-then-ne-clause-told
 returns-then-ne-clause-told c =
     let state = c.in-Some.ensures
-    ∙ state_by_key c.args.self.now c.args.now c.args.path.now _ c.is_kept-2.ensures c.requires.place in
+    ∙ state_by_key c.args.self.now c.args.now c.args.observed.path.now _ c.is_kept-2.ensures c.requires.place in
     c.only-then-ne.ensures
     ∙ ap says (told_other _ c.args.format (found_value c.in-Some.found) _ state (sym c.ne.ensures ∙ c.if-ne.true))
 
 told : (c : goal.After-content)
-    → c.content.new.self ≡ says (notification_of c.args.self.now c.args.now c.args.path.now c.args.format)
+    → c.content.new.self ≡ says (notification_of c.args.self.now c.args.now c.args.observed.path.now c.args.format)
 told c =
     let state = c.in-Some.ensures
-    ∙ state_by_key c.args.self.now c.args.now c.args.path.now _ c.is_kept-2.ensures c.requires.place in
+    ∙ state_by_key c.args.self.now c.args.now c.args.observed.path.now _ c.is_kept-2.ensures c.requires.place in
     let etag = c.etag_for-etag.ensures (found_value c.in-Some.found) refl in
     c.content.ensures ∙ rw (etag, c.max_age_of.ensures) refl
     ∙ ap says
-    (told_content c.args.place c.args.format (found_value c.in-Some.found) _ state (sym c.ne.ensures ∙ c.if-ne.false))
-    ∙ ap (λ place. says (notification_at place (state_of c.args.self.now c.args.now c.args.path.now) c.args.format))
-    c.requires.place
+    (told_content c.args.observed.kind c.args.format (found_value c.in-Some.found) _ state
+    (sym c.ne.ensures ∙ c.if-ne.false))
+    ∙ ap (λ kind. says (notification_at kind (state_of c.args.self.now c.args.now c.args.observed.path.now)
+    c.args.format)) c.requires.place
 
 pub returns-clause-told : goal.returns-clause-told
 returns-clause-told c = told c
