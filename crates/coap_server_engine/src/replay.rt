@@ -21,8 +21,8 @@ use crate::server::Server;
 use coap_io::{Outlet, write_parts};
 use coap_model::{ConnId, OpenFault, ReleaseFault, ResponseFault};
 use coap_script::{
-    Event, ShortLine, fault_line, in_line, open_line, out_line, put_line, remove_line, status_line,
-    tick_line, word_line,
+    Event, ShortLine, StatusCounts, fault_line, in_line, open_line, out_line, put_line,
+    remove_line, status_line, tick_line, word_line,
 };
 use coap_store::{PathKey, StoreFault};
 use std::alloc::AllocError;
@@ -372,15 +372,13 @@ impl Server {
         let Some(status) = self.status(id) else {
             return Ok(OutputLine::Short(fault_line("status", Some(id), 1)));
         };
-        let line = status_line(
-            self.alloc(),
-            id,
-            status.phase,
-            status.kept,
-            status.waiting,
-            status.pending,
-            status.observers,
-        )?;
+        let counts = StatusCounts {
+            kept: status.kept,
+            waiting: status.waiting,
+            pending: status.pending,
+            observers: status.observers,
+        };
+        let line = status_line(self.alloc(), id, status.phase, counts)?;
         Ok(OutputLine::Long(line))
     }
 }

@@ -20,6 +20,13 @@ const LONGEST_TOKEN: usize = 64;
 /// Number of bytes of the longest message that has a token and no options or payload.
 const LONGEST_FAILURE: usize = 67;
 
+/// Bytes that a connection received, and the connection.
+#[derive(Clone, Copy)]
+struct ReceivedBytes<'a> {
+    index: ConnIndex,
+    bytes: &'a [u8],
+}
+
 impl Server {
     ghost use Rattle.std.specs.Prelude.{◌≡◌, ◌+◌, ◌≤◌, ◌++◌, ◌∷◌, ⊤, List, [], Result, Option, Some, None};
     ghost use Rattle.std.specs.Prelude.{length, take, true, false, IfOk, IfErr, IfNone, IfSome, OnOk, OnErr};
@@ -163,7 +170,7 @@ impl Server {
                 let stop = session.phase().stop();
                 let taken = Taken {
                     bytes: taking.count,
-                    handled: what_was_handled(takes, taking.handled, stop),
+                    handled: what_was_handled(takes, taking, stop),
                 };
                 let frame = frame_of(session.split_frame(), &piece[..taking.count]);
                 let handed = lent_unless_stopped(taking.handed, stop, frame);
@@ -197,43 +204,43 @@ impl Server {
     #[inline(always)]
     fn take_and_ask<A: Application>(
         &mut self,
-        at: usize,
-        id: ConnId,
+        index: ConnIndex,
         rest: &[u8],
         application: &mut A,
-        limit: usize,
         response: &mut Vec<u8>,
         affected: &mut IndexSet,
     ) -> Result<(Taken, Option<Token>), TakeFault>
-        requires lies { LiesAt id at self.old.sessions }
+        requires lies { LiesAt index.id index.at self.old.sessions }
         requires empty { response.old.items ≡ [] }
         ensures within { IfOk result (λ t. t.0.bytes ≤ length rest.now) }
-        ensures count { IfOk result (λ t. t.0.bytes ≡ count_taken self.old id rest.now) }
-        ensures handled { IfOk result (λ t. t.0.handled ≡ handled_by self.old id rest.now) }
-        ensures there { OnOk result (is_there (session_of id self.old.sessions) ≡ true) }
-        ensures ok { OnOk result (self.new ≡ server_taken self.old id rest.now) }
+        ensures count { IfOk result (λ t. t.0.bytes ≡ count_taken self.old index.id rest.now) }
+        ensures handled { IfOk result (λ t. t.0.handled ≡ handled_by self.old index.id rest.now) }
+        ensures there { OnOk result (is_there (session_of index.id self.old.sessions) ≡ true) }
+        ensures ok { OnOk result (self.new ≡ server_taken self.old index.id rest.now) }
         ensures shows { IfOk result (λ t. (events : List AcceptedCall) → Shows self.old events →
-            Shows self.new (events ++ Took id (take t.0.bytes rest.now) ∷ [])) }
+            Shows self.new (events ++ Took index.id (take t.0.bytes rest.now) ∷ [])) }
         ensures token { IfOk result (λ t. IfSome t.1 (λ token.
-            option_map (λ m. m.token) (handed_by self.old id rest.now) ≡ Some token.items)) }
+            option_map (λ m. m.token) (handed_by self.old index.id rest.now) ≡ Some token.items)) }
         ensures unasked { IfOk result (λ t. IfNone t.1 (response.new.items ≡ [])) }
         ensures asked { OnOk result (AnswersMore (A.follows application.old) (A.follows application.new)
-            (asks_for id limit response.new.items (handed_by self.old id rest.now))) }
-        ensures refused { IfErr result (λ fault. IsNotTaken self.old id rest.now fault self.new) }
+            (asks_for index.id (message_limit self.old index.id) response.new.items
+            (handed_by self.old index.id rest.now))) }
+        ensures refused { IfErr result (λ fault. IsNotTaken self.old index.id rest.now fault self.new) }
         ensures shows_refused { IfErr result (λ fault. (events : List AcceptedCall) → Shows self.old events →
-            ShowsRefused events id rest.now fault self.new) }
+            ShowsRefused events index.id rest.now fault self.new) }
         ensures silent { OnErr result (application.new ≡ application.old) }
-        ensures affected { OnOk result (AddsAffected id affected.old.words affected.new.words self.old
-            (server_taken self.old id rest.now)) }
+        ensures affected { OnOk result (AddsAffected index.id affected.old.words affected.new.words self.old
+            (server_taken self.old index.id rest.now)) }
     {
-        let taken = self.take_request_at(ConnIndex { id, at }, rest, affected)?;
+        let limit = self.message_limit(index);
+        let taken = self.take_request_at(index, rest, affected)?;
         if !application.answers() {
             return Ok((taken.taken, None));
         }
         let Some(request) = taken.request() else {
             return Ok((taken.taken, None));
         };
-        application.request(id, &request, limit, response);
+        application.request(index.id, &request, limit, response);
         Ok((taken.taken, Some(request.token().to_token())))
     }
 
@@ -269,8 +276,8 @@ impl Server {
         let _ = self.offer::<W, M>(Some(at), id, failure.as_slice(), monitor);
     }
 
-    /// Accepts bytes once, of the remaining bytes `rest`, and shows the request that is handed over to the application.
-    /// Gives its response, and returns the number of bytes accepted.
+    /// Accepts bytes once, and shows the request that is handed over to the application. Gives its response. Returns
+    /// the number of bytes accepted.
     ///
     /// # Errors
     ///
@@ -278,47 +285,47 @@ impl Server {
     #[inline(always)]
     fn take_for<W, M: Monitor<W>, A: Application>(
         &mut self,
-        at: usize,
-        id: ConnId,
-        rest: &[u8],
+        received: ReceivedBytes<'_>,
         application: &mut A,
         response: &mut Vec<u8>,
         monitor: &mut M,
         affected: &mut IndexSet,
     ) -> Result<usize, AllocError>
-        requires { LiesAt id at self.old.sessions }
-        ensures within { IfOk result (λ n. n ≤ length rest.now) }
-        ensures count { IfOk result (λ n. n ≡ count_taken self.old id rest.now) }
-        ensures there { OnOk result (is_there (session_of id self.old.sessions) ≡ true) }
-        ensures ok { IfOk result (λ n. IsTakenFor self.old id rest.now response.new.items n self.new
+        requires { LiesAt received.index.id received.index.at self.old.sessions }
+        ensures within { IfOk result (λ n. n ≤ length received.entry.bytes.now) }
+        ensures count { IfOk result (λ n. n ≡ count_taken self.old received.entry.index.id received.entry.bytes.now) }
+        ensures there { OnOk result (is_there (session_of received.entry.index.id self.old.sessions) ≡ true) }
+        ensures ok { IfOk result (λ n.
+            IsTakenFor self.old received.entry.index.id received.entry.bytes.now response.new.items n self.new
             (FollowsMore (M.follows monitor.old) (M.follows monitor.new))
             (AnswersMore (A.follows application.old) (A.follows application.new))) }
-        ensures lies { OnOk result (LiesAt id at self.new.sessions) }
-        ensures err { OnErr result (IsNotTakenFor self.old id rest.now self.new
+        ensures lies { OnOk result (LiesAt received.entry.index.id received.entry.index.at self.new.sessions) }
+        ensures err { OnErr result (IsNotTakenFor self.old received.entry.index.id received.entry.bytes.now self.new
             (FollowsMore (M.follows monitor.old) (M.follows monitor.new))) }
         ensures silent { OnErr result (application.new ≡ application.old) }
-        ensures affected { OnOk result (AddsAffected id affected.old.words affected.new.words self.old self.new) }
+        ensures affected { OnOk result (AddsAffected received.entry.index.id affected.old.words affected.new.words
+            self.old self.new) }
     {
+        let index = received.index;
         response.clear();
-        let limit = self.message_limit(ConnIndex { id, at });
-        match self.take_and_ask(at, id, rest, application, limit, response, affected) {
+        match self.take_and_ask(index, received.bytes, application, response, affected) {
             Ok((taken, token)) => {
                 let took = Call::Took {
-                    id,
-                    bytes: &rest[..taken.bytes],
+                    id: index.id,
+                    bytes: &received.bytes[..taken.bytes],
                     handled: taken.handled,
                 };
                 monitor.accepted(took, self);
                 if let Some(token) = token {
-                    self.give_at_once::<W, M>(at, id, &token, response, monitor);
+                    self.give_at_once::<W, M>(index.at, index.id, &token, response, monitor);
                 }
                 Ok(taken.bytes)
             }
             Err(TakeFault::NoSuch) => unreachable!(),
             Err(TakeFault::Memory { bytes }) => {
                 let took = Call::Took {
-                    id,
-                    bytes: &rest[..bytes],
+                    id: index.id,
+                    bytes: &received.bytes[..bytes],
                     handled: Handled::Nothing,
                 };
                 monitor.accepted(took, self);
@@ -363,11 +370,12 @@ impl Server {
         affected.insert(at);
         let mut taken = 0;
         while taken < bytes.len() {
-            let rest = &bytes[taken..];
+            let received = ReceivedBytes {
+                index: ConnIndex { id, at },
+                bytes: &bytes[taken..],
+            };
             let count = self.take_for::<W, M, A>(
-                at,
-                id,
-                rest,
+                received,
                 application,
                 response,
                 monitor,

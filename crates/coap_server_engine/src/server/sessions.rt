@@ -19,7 +19,7 @@ use crate::index_set::IndexSet;
 use coap_conn::{Reason, Reply};
 use coap_io::{Outlet, WriteFailed, write_parts};
 use coap_model::{AnnounceFault, ConnId, Handled, ReleaseFault, ResponseFault};
-use coap_server_session::{Cause, ServerState, sooner};
+use coap_server_session::{Cause, ServerState, TakeOutcome, sooner};
 
 /// Returns `true` if a connection has this index and this id.
 fn is_at(sessions: &Sessions, at: usize, id: ConnId) -> bool
@@ -193,10 +193,10 @@ pub(super) fn settle_after(
     }
 }
 
-/// Returns the result of a `take`: whether the connection accepted bytes, whether a message was processed, and the
-/// reason of a stop decide it.
-pub(super) fn what_was_handled(takes: bool, message: bool, stop: Option<Reason>) -> Handled
-    ensures { result ≡ handled_so takes message stop }
+/// Returns the result of a `take` with this outcome. `takes` is `true` if the connection accepted bytes before it, and
+/// `stop` is the reason for which the connection no longer accepts messages.
+pub(super) fn what_was_handled(takes: bool, outcome: TakeOutcome, stop: Option<Reason>) -> Handled
+    ensures { result ≡ handled_so takes outcome.handled stop }
 {
     if !takes {
         return Handled::Nothing;
@@ -204,7 +204,7 @@ pub(super) fn what_was_handled(takes: bool, message: bool, stop: Option<Reason>)
     match stop {
         Some(reason) => Handled::Stopped(reason),
         None => {
-            if message {
+            if outcome.handled {
                 Handled::Message
             } else {
                 Handled::Nothing

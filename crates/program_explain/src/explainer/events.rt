@@ -18,7 +18,7 @@ use crate::layout::{connection_line, dropped_line, output_line, removed_line, st
 use crate::messages::{Followed, is_within};
 use crate::printer::OutputLine;
 use coap_model::{ConnId, OpenFault, ReleaseFault, ResponseFault};
-use coap_script::{Event, fault_line, status_line};
+use coap_script::{Event, StatusCounts, fault_line, status_line};
 use coap_server_engine::Server;
 use coap_store::{PathKey, StoreFault};
 use coap_text::split_once;
@@ -236,15 +236,13 @@ fn status(alloc: Global, server: &Server, id: ConnId) -> Result<OutputLine, Allo
     let Some(status) = server.status(id) else {
         return Ok(refusal_line("status", Some(id), 1));
     };
-    let line = status_line(
-        alloc,
-        id,
-        status.phase,
-        status.kept,
-        status.waiting,
-        status.pending,
-        status.observers,
-    )?;
+    let counts = StatusCounts {
+        kept: status.kept,
+        waiting: status.waiting,
+        pending: status.pending,
+        observers: status.observers,
+    };
+    let line = status_line(alloc, id, status.phase, counts)?;
     Ok(server_line(Some(id), &line))
 }
 

@@ -9,11 +9,11 @@ pub returns-then-not-answers-clause-asked : goal.returns-then-not-answers-clause
 returns-then-not-answers-clause-asked g c =
     rw c.requires.empty
     (c.answers.ensures.follows c.if-not-answers.true _
-    (asks_unanswered c.args.id c.args.limit (handed_by c.args.self.now c.args.id c.args.rest.now)))
+    (asks_unanswered _ _ (handed_by c.args.self.now c.args.index.id c.args.rest.now)))
 
 -- There is no request.
 pub returns-in_default-clause-asked : goal.returns-in_default-clause-asked
 returns-in_default-clause-asked g c =
-    let none : handed_by c.args.self.now c.args.id c.args.rest.now ≡ None =
+    let none : handed_by c.args.self.now c.args.index.id c.args.rest.now ≡ None =
     ap (option_and_then frame_message) (sym c.in_ok-taken.ensures.frame) ∙ sym c.in_default.ensures in
     rw none (answers_none (g.A.Application.follows c.args.application.now))

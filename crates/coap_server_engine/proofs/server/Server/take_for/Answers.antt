@@ -17,12 +17,13 @@ slice_bounds-took-end-in-Err-Memory g c =
 pub accepted-requires : goal.accepted-requires
 accepted-requires g c =
     let t = c.in-Ok.ensures in
-    WasTaken c.args.self.now c.args.rest.now t.ok (ap (λ (n : ℕ). take n c.args.rest.now) t.count) t.handled
+    WasTaken c.args.self.now c.args.received.bytes.now t.ok
+    (ap (λ (n : ℕ). take n c.args.received.bytes.now) t.count) t.handled
 
 pub accepted-requires-in-Err-Memory : goal.accepted-requires-in-Err-Memory
 accepted-requires-in-Err-Memory g c =
     let e = rw (c.in-Err-Memory.field-0-is) at c.in-Err-Memory.ensures in
-    WasRefused c.args.self.now c.args.rest.now _ e.refused refl refl
+    WasRefused c.args.self.now c.args.received.bytes.now _ e.refused refl refl
 
 -- The application was asked.
 pub returns-in-Some-clause-ok : goal.returns-in-Some-clause-ok
@@ -30,38 +31,35 @@ returns-in-Some-clause-ok g c =
     let e = c.in-Ok.ensures in
     let made = token_made _ _ (sym (rw c.in-Some.is at e.token)) in
     let given = rw c.deref.ensures.value at c.give_at_once.ensures in
-    let asked = rw c.message_limit-limit.ensures at e.asked in
-    taken_asked c.args.self.now c.take_and_ask.new.self c.give_at_once.new.self c.args.id c.args.rest.now
-    c.take_and_ask.new.response.items c.in-Ok.taken.bytes
+    taken_asked c.args.self.now c.take_and_ask.new.self c.give_at_once.new.self c.args.received.index.id
+    c.args.received.bytes.now c.take_and_ask.new.response.items c.in-Ok.taken.bytes
     (g.M.Monitor.follows c.args.monitor.now) (g.M.Monitor.follows c.accepted.new.self)
     (g.M.Monitor.follows c.give_at_once.new.monitor)
     (g.A.Application.follows c.args.application.now) (g.A.Application.follows c.take_and_ask.new.application)
-    e.ok e.shows c.accepted.ensures asked made.0 c.in-Some.token.items made.1 made.2 given.after given.shows given.told
+    e.ok e.shows c.accepted.ensures e.asked made.0 c.in-Some.token.items made.1 made.2 given.after given.shows
+    given.told
 
 -- The application was not asked, or there is no request.
 pub returns-in_default-clause-ok : goal.returns-in_default-clause-ok
 returns-in_default-clause-ok g c =
     let e = c.in-Ok.ensures in
-    let asked = rw c.message_limit-limit.ensures at e.asked in
-    taken_silent c.args.self.now c.take_and_ask.new.self c.take_and_ask.new.self c.args.id c.args.rest.now
-    c.take_and_ask.new.response.items c.in-Ok.taken.bytes
+    taken_silent c.args.self.now c.take_and_ask.new.self c.take_and_ask.new.self c.args.received.index.id
+    c.args.received.bytes.now c.take_and_ask.new.response.items c.in-Ok.taken.bytes
     (g.M.Monitor.follows c.args.monitor.now) (g.M.Monitor.follows c.accepted.new.self)
     (g.M.Monitor.follows c.accepted.new.self)
     (g.A.Application.follows c.args.application.now) (g.A.Application.follows c.take_and_ask.new.application)
-    e.ok e.shows c.accepted.ensures asked (rw c.in_default.is at e.unasked)
+    e.ok e.shows c.accepted.ensures e.asked (rw c.in_default.is at e.unasked)
 
 pub give_at_once-requires : goal.give_at_once-requires
-give_at_once-requires g c =
-    rw c.in-Ok.ensures.ok (taken_stays c.args.self.now c.args.id c.args.at c.args.rest.now c.requires)
+give_at_once-requires g c = rw c.in-Ok.ensures.ok (taken_stays c.args.self.now _ _ _ c.requires)
 
 pub returns-in_default-clause-lies : goal.returns-in_default-clause-lies
-returns-in_default-clause-lies g c =
-    rw c.in-Ok.ensures.ok (taken_stays c.args.self.now c.args.id c.args.at c.args.rest.now c.requires)
+returns-in_default-clause-lies g c = rw c.in-Ok.ensures.ok (taken_stays c.args.self.now _ _ _ c.requires)
 
 pub returns-in-Some-clause-affected : goal.returns-in-Some-clause-affected
 returns-in-Some-clause-affected g c =
     rw (c.give_at_once.ensures.after, c.in-Ok.ensures.ok)
-    (adds_offered c.args.self.now c.args.id c.args.at c.args.rest.now _ _ _ c.requires c.in-Ok.ensures.affected)
+    (adds_offered c.args.self.now _ _ _ _ _ _ c.requires c.in-Ok.ensures.affected)
 
 pub returns-in_default-clause-affected : goal.returns-in_default-clause-affected
 returns-in_default-clause-affected g c = rw c.in-Ok.ensures.ok c.in-Ok.ensures.affected
