@@ -22,6 +22,13 @@ use std::alloc::{AllocError, Global};
 use std::time;
 use std::time::Duration;
 
+/// Text before a message in its line: the number of the connection, followed by the direction of the message.
+#[derive(Clone, Copy)]
+struct LineFront {
+    number: u64,
+    direction: &'static str,
+}
+
 /// Wire over another wire, which passes every call on and writes the messages that it passes to a log.
 ///
 /// Each line begins with the number of the connection. With the level `Warnings`, the log has a line for a read or
@@ -124,11 +131,14 @@ impl<'a, W: Wire, L: LogWriter, C: time::Clock> Wire for LoggedWire<'a, W, L, C>
         ensures others { (self.new.outgoing ≡ self.old.outgoing) × (self.new.number ≡ self.old.number) }
     {
         let got = self.wire.read(buffer);
+        let front = LineFront {
+            number: self.number,
+            direction: " in: ",
+        };
         log_result(
             &mut self.log,
             self.clock,
-            self.number,
-            " in: ",
+            front,
             &mut self.incoming,
             buffer,
             got,
@@ -150,11 +160,14 @@ impl<'a, W: Wire, L: LogWriter, C: time::Clock> Wire for LoggedWire<'a, W, L, C>
         ensures others { (self.new.incoming ≡ self.old.incoming) × (self.new.number ≡ self.old.number) }
     {
         let got = self.wire.write(bytes);
+        let front = LineFront {
+            number: self.number,
+            direction: " out: ",
+        };
         log_result(
             &mut self.log,
             self.clock,
-            self.number,
-            " out: ",
+            front,
             &mut self.outgoing,
             bytes,
             write_outcome(got),
@@ -176,27 +189,25 @@ fn write_outcome(got: Got) -> Got
 }
 
 /// Logs the result of a read or a write: a failure as a warning, and each message that ends with the bytes passed on.
-/// The direction is the text between the number of the connection and the message.
 fn log_result<L: LogWriter>(
     log: &mut Log<L>,
     clock: &impl time::Clock,
-    number: u64,
-    direction: &'static str,
+    front: LineFront,
     tap: &mut Tap,
     bytes: &[u8],
     got: Got,
 )
     requires within { IsWithin (length bytes.now) got }
-    requires text { is_text direction.now ≡ true }
-    ensures { LogsResult number direction.now got bytes.now tap.old tap.new
+    requires text { is_text front.direction.now ≡ true }
+    ensures { LogsResult front.number front.direction.now got bytes.now tap.old tap.new
         (trace_of L.offers L.accepted log.old) (trace_of L.offers L.accepted log.new) }
 {
     match got {
-        Got::Bytes(count) => pass(log, clock, number, direction, tap, &bytes[..count]),
+        Got::Bytes(count) => pass(log, clock, front, tap, &bytes[..count]),
         Got::Later => {}
         Got::End => {}
         Got::Failed => {
-            let line = connection_line(number, " failed");
+            let line = connection_line(front.number, " failed");
             log_now(log, clock, LogLevel::Warnings, &line);
         }
     }
@@ -206,20 +217,19 @@ fn log_result<L: LogWriter>(
 fn pass<L: LogWriter>(
     log: &mut Log<L>,
     clock: &impl time::Clock,
-    number: u64,
-    direction: &'static str,
+    front: LineFront,
     tap: &mut Tap,
     bytes: &[u8],
 )
-    requires { is_text direction.now ≡ true }
-    ensures { LogsPassed (connection_line number direction.now) bytes.now tap.old tap.new
+    requires { is_text front.direction.now ≡ true }
+    ensures { LogsPassed (connection_line front.number front.direction.now) bytes.now tap.old tap.new
         (trace_of L.offers L.accepted log.old) (trace_of L.offers L.accepted log.new) }
 {
     log_messages(
         log,
         now(clock),
         tap,
-        &connection_line(number, direction),
+        &connection_line(front.number, front.direction),
         bytes,
     );
 }
