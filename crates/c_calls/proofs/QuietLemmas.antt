@@ -226,7 +226,7 @@ code_nothing (handled.Stopped why) zero = absurd (omega (arith, zero))
 pub taken_quiet : (id i : ℕ) (piece : Bor (List ℕ)) (t : TookResult) (v after : ServerValue)
     → AreSettled v.shared v.sessions → LiesAt id i v.sessions → IsTakenOn id piece t v after → t.handled ≡ 0
     → IsQuiet v after
-taken_quiet id i piece t v after settled lies (inl (m, (there, (n, (says, (why, (lent, (changed, (is, shows))))))))) none =
+taken_quiet id i piece t v after settled lies (inl (m, (o, (n, (says, (why, (lent, (changed, (is, shows))))))))) none =
     subst (IsQuiet v) (sym is)
     (nothing_quiet v id i piece.now settled lies (code_nothing (handled_by v id piece.now) (sym says ∙ none)))
 taken_quiet id i piece t v after settled lies (inr (refuses, (took, (is, shows)))) none =

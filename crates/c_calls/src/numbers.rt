@@ -156,10 +156,13 @@ pub(crate) fn handled_numbers(handled: Handled) -> (u32, u32)
     ensures handled { result.0 ≡ spec.handled_code handled }
     ensures reason { result.1 ≡ spec.handled_reason handled }
 {
+    // First, so that a message costs one comparison.
+    if let Handled::Message = handled {
+        return (1, 0);
+    }
     match handled {
-        Handled::Nothing => (0, 0),
-        Handled::Message => (1, 0),
         Handled::Stopped(reason) => (2, u32::from(reason.number())),
+        _ => (0, 0),
     }
 }
 

@@ -150,12 +150,14 @@ fn take_at(server: &mut PolledServer, index: ConnIndex, piece: &[u8], took: &mut
     ensures output { KeepsReported (Some server.old) (Some server.new) }
 {
     let before = server.due;
+    // Gives the proof that the index is below 256.
+    server.engine.connection_count();
     take_into(&mut server.engine, index, piece, took, &mut server.due);
     if took.handled == 0 {
         server.due = before;
         return;
     }
-    server.due.insert(index.at);
+    server.wake_at(index.at);
 }
 
 /// Accepts the first bytes of those that the connection at an index received. The other connections that the message

@@ -1,19 +1,18 @@
 -- The connections that a call leaves as they were reported.
 use Rattle.std.proofs.Common.{◌≡◌, ◌≢◌, ℕ, zero, suc, ◌+◌, ◌<◌, ◌≤◌, nat_eq, List, [], ◌∷◌, ◌++◌, length, remove, map}
 use Rattle.std.proofs.Common.{Option, Some, None, refl, sym, ap, subst, ◌∙◌, inl, inr, arith, slice_get, true}
-use Rattle.std.proofs.Common.{IfSome, add-one, false, is_some}
+use Rattle.std.proofs.Common.{add-one, false}
 use Rattle.std.specs.List.{AllByRecursion, IsDistinct}
-use Rattle.std.proofs.lemmas.Bool.{cases_lt, cond_both, eqb-true, true≢false}
+use Rattle.std.proofs.lemmas.Bool.{cases_lt, cond_both, eqb-true}
 use Rattle.std.proofs.lemmas.List.{length_push, map-append}
 use Rattle.std.proofs.lemmas.Map.Entries.{length-keys_of, length-values_of}
 use Rattle.coap_server_engine.specs.Prelude.{AddsAffected, AreSettled, IsOutside, KeepsOthers, KeepsWork}
 use Rattle.coap_server_engine.specs.Prelude.{LiesAt, ServerValue, SessionValue, bit_of, keys_of}
 use Rattle.coap_server_engine.specs.Prelude.{new_server, ConfigValues, on_session, position_or_len, server_dropped}
 use Rattle.coap_server_engine.specs.Prelude.{server_opened, server_settled, server_taken, server_ticked, session_of}
-use Rattle.coap_server_engine.specs.Prelude.{is_there, server_written, session_becomes, session_written}
+use Rattle.coap_server_engine.specs.Prelude.{server_written, session_becomes, session_written}
 use Rattle.coap_server_engine.specs.Prelude.{values_of, waiting_at, new_session}
 use Rattle.coap_server_engine.specs.values.Flushes.{waiting_in}
-use Rattle.coap_model.proofs.OptionLemmas.{there_at}
 use Rattle.coap_server_engine.proofs.values.ConcernedLemmas.{outside_inserted}
 use Rattle.coap_server_engine.proofs.values.ServerLemmas.{Entries, all_settled_stay, lies_by_key, lies_still}
 use Rattle.coap_server_engine.proofs.values.ServerLemmas.{one_opened, one_removed}
@@ -69,33 +68,26 @@ one_keeps x y id keeps own others other reported =
       ap waiting_in (keeps.same other apart),
     )
 
--- The connection at its index, if there is one, is due.
-own_due : (x y : PolledServer) (id : ℕ) (at : Option ℕ) → is_some at ≡ is_there (session_of id x.engine.sessions)
-    → IfSome at (λ i. LiesAt id i x.engine.sessions) → keys_of y.engine.sessions ≡ keys_of x.engine.sessions
-    → IfSome at (λ i. i < 256 → bit_of y.due.words i ≡ 1) → IsReported id y → ⊥
-own_due x y id (Some at) there here keys own reported =
-    let lies = lies_still id reported.at y.engine.sessions x.engine.sessions (sym keys) reported.lies in
-    let same : reported.at ≡ at = sym lies.index ∙ here.index in
-    omega (
-      arith,
-      subst (λ (i : ℕ). bit_of y.due.words i ≡ 0) same reported.outside.bit,
-      own (subst (λ (i : ℕ). i < 256) same reported.outside.within),
-    )
-own_due x y id None there here keys own reported =
-    let lies = lies_still id reported.at y.engine.sessions x.engine.sessions (sym keys) reported.lies in
-    let one = there_at (values_of x.engine.sessions) reported.at
-    (omega (arith, lies.within, length-values_of x.engine.sessions)) in
-    true≢false (sym (rw (lies.found ∙ one.1) at there))
-
--- The call changes the connection, and all settle. `at` is its index.
-pub one_changed : (x y : PolledServer) (id : ℕ) (at : Option ℕ) (f : SessionValue → SessionValue)
-    → AreSettled x.engine.shared x.engine.sessions → is_some at ≡ is_there (session_of id x.engine.sessions)
-    → IfSome at (λ i. LiesAt id i x.engine.sessions) → y.engine ≡ server_settled (on_session id f x.engine)
-    → IfSome at (λ i. i < 256 → bit_of y.due.words i ≡ 1)
+-- The call changes the connection, and all settle.
+pub one_changed : (x y : PolledServer) (id : ℕ) (f : SessionValue → SessionValue) → AreSettled x.engine.shared
+    x.engine.sessions → y.engine ≡ server_settled (on_session id f x.engine) → (IsReported id y → ⊥)
     → ((i : ℕ) → IsOutside y.due.words i → IsOutside x.due.words i) → KeepsReported (Some x) (Some y)
-one_changed x y id at f settled there here is own =
+one_changed x y id f settled is =
+    one_keeps x y id (subst (KeepsOthers id x.engine) (sym is) (keeps_others x.engine id f settled))
+
+-- The same, if the index of the connection is added to the set.
+pub one_inserted : (x y : PolledServer) (id at : ℕ) (f : SessionValue → SessionValue)
+    → AreSettled x.engine.shared x.engine.sessions → LiesAt id at x.engine.sessions
+    → y.engine ≡ server_settled (on_session id f x.engine) → bit_of y.due.words at ≡ 1
+    → ((i : ℕ) → i ≢ at → bit_of y.due.words i ≡ bit_of x.due.words i) → KeepsReported (Some x) (Some y)
+one_inserted x y id at f settled here is own others =
     let keeps = subst (KeepsOthers id x.engine) (sym is) (keeps_others x.engine id f settled) in
-    one_keeps x y id keeps (own_due x y id at there here keeps.keys own)
+    one_keeps x y id keeps
+    (λ reported.
+    let lies = lies_still id reported.at y.engine.sessions x.engine.sessions (sym keeps.keys) reported.lies in
+    (outside_inserted x.due.words y.due.words at (λ small. own) others reported.at reported.outside).0
+    (sym lies.index ∙ here.index))
+    (λ i outside. (outside_inserted x.due.words y.due.words at (λ small. own) others i outside).1)
 
 -- ---- a call that changes nothing
 
@@ -160,13 +152,13 @@ time_stays x y now same settled is due =
 pub take_keeps : (x y : PolledServer) (id at : ℕ) (piece words : List ℕ) → LiesAt id at x.engine.sessions
     → y.engine ≡ server_taken x.engine id piece
     → AddsAffected id x.due.words words x.engine (server_taken x.engine id piece)
-    → (at < 256 → bit_of y.due.words at ≡ 1) → ((i : ℕ) → i ≢ at → bit_of y.due.words i ≡ bit_of words i)
+    → bit_of y.due.words at ≡ 1 → ((i : ℕ) → i ≢ at → bit_of y.due.words i ≡ bit_of words i)
     → KeepsReported (Some x) (Some y)
 unfolding KeepsReported
 take_keeps x y id at piece words here is adds own others other reported =
     let keys = ap (λ (v : ServerValue). keys_of v.sessions) is ∙ adds.keys in
     let lies = lies_still other reported.at y.engine.sessions x.engine.sessions (sym keys) reported.lies in
-    let before = outside_inserted words y.due.words at own others reported.at reported.outside in
+    let before = outside_inserted words y.due.words at (λ small. own) others reported.at reported.outside in
     let apart : other ≢ id =
     λ same. before.0 (sym lies.index ∙ ap (λ (k : ℕ). position_or_len (nat_eq k) (keys_of x.engine.sessions)) same
     ∙ here.index) in (

@@ -8,6 +8,5 @@ returns-in_err-announce-clause-output c = keeps_engine c.args.self.now c.announc
 
 pub returns-clause-output : goal.returns-clause-output
 returns-clause-output c =
-    let at = c.index_of-at.ensures in
-    one_changed c.args.self.now _ c.args.id c.index_of-at.result (λ s. session_announced s c.args.new) at.settled
-    at.there at.at (c.wake.ensures.engine ∙ c.in_ok-announce.ensures.ok) c.wake.ensures.own c.wake.ensures.others
+    one_changed c.args.self.now _ c.args.id (λ s. session_announced s c.args.new) c.moment.ensures.settled
+    (c.wake.ensures.engine ∙ c.in_ok-announce.ensures.ok) c.wake.ensures.own c.wake.ensures.others

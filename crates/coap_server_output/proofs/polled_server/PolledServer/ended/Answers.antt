@@ -8,6 +8,5 @@ returns-in_err-ended-clause-output c = keeps_engine c.args.self.now c.ended.new.
 
 pub returns-clause-output : goal.returns-clause-output
 returns-clause-output c =
-    let at = c.index_of-at.ensures in
-    one_changed c.args.self.now _ c.args.id c.index_of-at.result session_ended at.settled
-    at.there at.at (c.wake.ensures.engine ∙ c.in_ok-ended.ensures.ok) c.wake.ensures.own c.wake.ensures.others
+    one_changed c.args.self.now _ c.args.id session_ended c.ended.ensures.settled
+    (c.wake.ensures.engine ∙ c.in_ok-ended.ensures.ok) c.wake.ensures.own c.wake.ensures.others

@@ -8,6 +8,5 @@ returns-in_err-release-clause-output c = keeps_engine c.args.self.now c.release.
 
 pub returns-clause-output : goal.returns-clause-output
 returns-clause-output c =
-    let at = c.index_of-at.ensures in
-    one_changed c.args.self.now _ c.args.id c.index_of-at.result session_released at.settled
-    at.there at.at (c.wake.ensures.engine ∙ c.in_ok-release.ensures.ok) c.wake.ensures.own c.wake.ensures.others
+    one_changed c.args.self.now _ c.args.id session_released c.release.ensures.settled
+    (c.wake.ensures.engine ∙ c.in_ok-release.ensures.ok) c.wake.ensures.own c.wake.ensures.others

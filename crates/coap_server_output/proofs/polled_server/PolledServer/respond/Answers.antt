@@ -8,7 +8,6 @@ returns-in_err-reply-clause-output c = keeps_engine c.args.self.now c.respond.ne
 
 pub returns-clause-output : goal.returns-clause-output
 returns-clause-output c =
-    let at = c.index_of-at.ensures in
-    one_changed c.args.self.now _ c.args.id c.index_of-at.result (session_given_by (message_of c.args.response.now))
-    at.settled at.there at.at (c.wake.ensures.engine ∙ c.in_ok-reply.ensures.ok) c.wake.ensures.own
+    one_changed c.args.self.now _ c.args.id (session_given_by (message_of c.args.response.now))
+    c.respond.ensures.settled (c.wake.ensures.engine ∙ c.in_ok-reply.ensures.ok) c.wake.ensures.own
     c.wake.ensures.others

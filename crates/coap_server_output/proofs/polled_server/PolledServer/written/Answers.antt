@@ -1,10 +1,13 @@
-use Rattle.std.proofs.Common.{◌∙◌, refl}
+use Rattle.std.proofs.Common.{◌∙◌, refl, arith}
 use Rattle.coap_server_engine.specs.Prelude.{session_written}
-use Rattle.coap_server_output.proofs.ReportLemmas.{keeps_engine, keeps_same, none_written, one_changed}
+use Rattle.coap_server_output.proofs.ReportLemmas.{keeps_engine, keeps_same, none_written, one_inserted}
 use Rattle.coap_server_output.proofs.polled_server.PolledServer.written.Goals as goal
 
 pub returns-in_err-written-clause-output : goal.returns-in_err-written-clause-output
 returns-in_err-written-clause-output c = keeps_engine c.args.self.now c.written.new.self c.in_err-written.ensures.err
+
+pub returns-in_default-clause-output : goal.returns-in_default-clause-output
+returns-in_default-clause-output c = keeps_same c.args.self.now _ refl
 
 pub returns-then-count-eq0-clause-none : goal.returns-then-count-eq0-clause-none
 returns-then-count-eq0-clause-none c none =
@@ -17,6 +20,11 @@ returns-then-count-eq0-clause-output c =
 
 pub returns-clause-output : goal.returns-clause-output
 returns-clause-output c =
-    let at = c.index_of-at.ensures in
-    one_changed c.args.self.now _ c.args.id c.index_of-at.result (λ s. session_written s c.args.count) at.settled
-    at.there at.at (c.wake.ensures.engine ∙ c.in_ok-written.ensures.ok) c.wake.ensures.own c.wake.ensures.others
+    one_inserted c.args.self.now _ c.args.id c.in-Some.at (λ s. session_written s c.args.count)
+    c.written.ensures.settled c.in-Some.ensures.at (c.wake_at.ensures.engine ∙ c.in_ok-written.ensures.ok)
+    c.wake_at.ensures.set c.wake_at.ensures.others
+
+pub wake_at-requires : goal.wake_at-requires
+wake_at-requires c =
+    let e = c.connection_count.ensures in
+    omega (arith, c.in-Some.ensures.at.within, e.count, e.few)
