@@ -706,6 +706,11 @@ dachreup_client_ended(struct dachreup_client *client);
 DACHREUP_MUST_USE dachreup_result
 dachreup_client_release(struct dachreup_client *client);
 
+/* Announces the largest message accepted from now on, in bytes. Returns DACHREUP_MEMORY, _NOT_OPEN, _ANNOUNCE_LOWER,
+   _ANNOUNCE_TOO_LARGE, _QUEUE_FULL or _PEER_TOO_SMALL. */
+DACHREUP_MUST_USE dachreup_result
+dachreup_client_announce(struct dachreup_client *client, uint32_t size);
+
 /* Snapshot of a client. */
 struct dachreup_client_snapshot {
     uint32_t phase;     /* enum dachreup_phase */

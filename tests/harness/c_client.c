@@ -90,8 +90,8 @@ static int pair(size_t size) {
     if (AGAIN(dachreup_server_new(&server, &settings)) || AGAIN(dachreup_server_open(&server, &id)) ||
         AGAIN(dachreup_client_new(&client, &limits, 299)))
         return 2;
-    if (exchange(size) || AGAIN(dachreup_client_send(&client, &put, TEXT("coap+tcp://a/b/c?d"), TEXT("one"), &token)) ||
-        exchange(size))
+    if (exchange(size) || AGAIN(dachreup_client_announce(&client, 131072)) ||
+        AGAIN(dachreup_client_send(&client, &put, TEXT("coap+tcp://a/b/c?d"), TEXT("one"), &token)) || exchange(size))
         return 3;
     if (AGAIN(dachreup_server_put(&server, TEXT("a"), 0, TEXT("first"), &version)))
         return 4;
@@ -461,6 +461,32 @@ static void releases(void) {
     dachreup_client_free(&client);
 }
 
+/* A client announces the size of the messages that it accepts. */
+static void announces(void) {
+    static const uint8_t response[1200] = {0xe1, 0x03, 0x9e, 0x45, 0x01, 0xff};
+    struct dachreup_limits limits = DACHREUP_LIMITS;
+    struct dachreup_request get = DACHREUP_REQUEST_GET;
+    uint64_t token = 0;
+    limits.max_message = 1152;
+    check("empty announce", dachreup_client_announce(&client, 1152), DACHREUP_EMPTY);
+    for (uint32_t larger = 0; larger < 2; larger++) {
+        check("new", dachreup_client_new(&client, &limits, 0), 0);
+        check("announce before the CSM", dachreup_client_announce(&client, 1200), DACHREUP_NOT_OPEN);
+        check("ready", kind_of(TEXT("\x00\xe1"), &token), DACHREUP_EVENT_READY);
+        check("lower", dachreup_client_announce(&client, 1151), DACHREUP_ANNOUNCE_LOWER);
+        check("too large", dachreup_client_announce(&client, 1048577), DACHREUP_ANNOUNCE_TOO_LARGE);
+        check("announce", dachreup_client_announce(&client, 1199 + larger), 0);
+        drained("announced", larger ? "\x30\xe1\x22\x04\xb0" : "\x30\xe1\x22\x04\xaf", 5);
+        check("lower", dachreup_client_announce(&client, 1152), DACHREUP_ANNOUNCE_LOWER);
+        check("send", dachreup_client_send(&client, &get, TEXT("coap+tcp://a"), NULL, 0, NULL), 0);
+        if (larger)
+            check("accepted", kind_of((const char *)response, sizeof response, &token), DACHREUP_EVENT_RESPONSE);
+        else
+            check("refused", kind_of((const char *)response, 3, &token), DACHREUP_EVENT_STOPPED);
+        dachreup_client_free(&client);
+    }
+}
+
 /* A peer that accepts one byte, and a queue without room. */
 static void has_no_room(void) {
     /* Messages of these sizes leave less than the two bytes of a Release. */
@@ -503,6 +529,7 @@ int main(int count, char **words) {
     writing();
     forgets();
     releases();
+    announces();
     has_no_room();
     empty();
     return failed;

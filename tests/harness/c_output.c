@@ -120,9 +120,10 @@ static void opened(void) {
 
 /* Calls that handle nothing, while C has output. */
 static void unhandled(void) {
-    static const uint8_t large[60000];
+    static const uint8_t large[60000], accepts_large[6] = {0x40, 0xe1, 0x23, 0x01, 0x00, 0x00};
     struct dachreup_took took;
     check("put", dachreup_server_put(&server, "a", 1, 0, large, sizeof large, NULL), 0);
+    take(2, accepts_large, sizeof accepts_large);
     take(2, get, sizeof get);
     take(2, get, sizeof get);
     yields("two large responses", C);

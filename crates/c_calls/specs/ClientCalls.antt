@@ -1,6 +1,6 @@
 -- Defined by this project: the results of the calls on the handle of a client.
 use Rattle.std.specs.Prelude.{◌≡◌, ℕ, Bool, true, false, List, [], ◌∷◌, ◌++◌, length, take, Option, Some, None}
-use Rattle.std.specs.Prelude.{option_map, Result, Ok, Err, nat_lt, if◌then◌else◌, ◌⊎◌}
+use Rattle.std.specs.Prelude.{option_map, Result, Ok, Err, nat_lt, if◌then◌else◌, ◌⊎◌, ◌<◌}
 use Rattle.std.specs.Str.{IsUtf8}
 use Rattle.coap_wire.specs.Uint.{bytes_of_uint}
 use Rattle.coap_conn.specs.Limits.{LimitValues, limit_refusal}
@@ -13,13 +13,13 @@ use Rattle.coap_request.specs.declared.request.Method.{Method}
 use Rattle.coap_client_engine.specs.ClientValues.{ClientValue, new_client, taking, client_written, client_ended}
 use Rattle.coap_client_engine.specs.ClientValues.{client_sent, client_cancelled, client_pinged, send_refusal}
 use Rattle.coap_client_engine.specs.ClientValues.{cancelling_refusal, ping_refusal, client_released}
-use Rattle.coap_client_engine.specs.ClientValues.{client_forgotten}
+use Rattle.coap_client_engine.specs.ClientValues.{client_forgotten, client_announced, announce_refusal}
 use Rattle.coap_client_engine.specs.ClientWorld.{ClientCall, ClientShows, Took, Sent, Cancelled, Pinged, Wrote, Ended}
-use Rattle.coap_client_engine.specs.ClientWorld.{Released, Forgot}
+use Rattle.coap_client_engine.specs.ClientWorld.{Released, Announced, Forgot}
 use Rattle.c_handle.specs.declared.span.Parts.{Parts}
 use Rattle.c_calls.specs.ClientEvents.{ShowsEvent, IsPlain, token_number}
 use Rattle.c_calls.specs.Loans.{HaveBytes}
-use Rattle.c_calls.specs.Numbers.{limit_code, phase_code, phase_reason, request_code, send_code}
+use Rattle.c_calls.specs.Numbers.{client_announce_code, limit_code, phase_code, phase_reason, request_code, send_code}
 use Rattle.c_calls.specs.RequestTexts.{asked, flag_named, IsUriRefusal}
 use Rattle.c_calls.specs.Results.{OnHandle, Answers}
 use Rattle.c_calls.specs.Settings.{client_limits}
@@ -134,12 +134,22 @@ IsWritten count =
 abbrev pub IsEnded : Option ClientValue → Option ClientValue → ℕ → Type 0
 IsEnded = OnHandle (Unit {0}) (λ v v' r. (r ≡ 0) × Does Ended (client_ended v) v v')
 
--- ---- release, forget
+-- ---- release, announce, forget
 
 abbrev pub IsReleased : Option ClientValue → Option ClientValue → ℕ → Type 0
 IsReleased =
     OnHandle (Unit {0}) (λ v v' r. Answers (Unit {0}) (option_map send_code (release_refusal v.link))
     (Does Released (client_released v) v v') v v' r)
+
+-- An announcement can also fail with 2, but only if the size is above the current one.
+abbrev pub AnnouncedOrMemory : ℕ → Option ℕ → ClientValue → ClientValue → ℕ → Type 0
+AnnouncedOrMemory size None v v' r =
+    ((r ≡ 0) × Does (Announced size) (client_announced v size) v v') ⊎ ((r ≡ 2) × ((v.link.own_max < size) × (v' ≡ v)))
+AnnouncedOrMemory size (Some number) v v' r = (r ≡ number) × (v' ≡ v)
+
+abbrev pub IsAnnounced : ℕ → Option ClientValue → Option ClientValue → ℕ → Type 0
+IsAnnounced size = OnHandle (Unit {0}) (λ v v' r. AnnouncedOrMemory size
+    (option_map client_announce_code (announce_refusal v.link size)) v v' r)
 
 -- 163 if nothing outstanding has the token.
 abbrev pub unknown_code : Bool → Option ℕ

@@ -10,6 +10,8 @@
 --   store. 80: the entries of an application. 96: responses. 112: frames. 128: options and the writing of messages.
 --   144: URIs. 160: requests. 176: announcements.
 use Rattle.std.specs.Prelude.{ℕ}
+use Rattle.coap_client_engine.specs.declared.client.signals.ClientAnnounceFault.{ClientAnnounceFault}
+use Rattle.coap_client_engine.specs.declared.client.signals.ClientAnnounceFault.TheVariants as client_announcing
 use Rattle.coap_conn.specs.Reasons.{reason_number}
 use Rattle.coap_conn.specs.declared.phase.Phase.{Phase}
 use Rattle.coap_conn.specs.declared.phase.Phase.TheVariants as phase
@@ -90,6 +92,14 @@ announce_code announcing.TooLarge = 177
 announce_code announcing.NoRoom = 11
 announce_code announcing.Memory = 2
 announce_code announcing.PeerTooSmall = 13
+
+abbrev pub client_announce_code : ClientAnnounceFault → ℕ
+client_announce_code client_announcing.NotOpen = 12
+client_announce_code client_announcing.Lower = 176
+client_announce_code client_announcing.TooLarge = 177
+client_announce_code client_announcing.NoRoom = 11
+client_announce_code client_announcing.PeerTooSmall = 13
+client_announce_code client_announcing.Memory = 2
 
 -- The number of the effect of a `take`: 0 for nothing, 1 for a message, 2 for a stop.
 abbrev pub handled_code : Handled → ℕ

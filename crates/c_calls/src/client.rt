@@ -3,13 +3,14 @@
 ghost use Rattle.std.specs.Prelude.{◌≡◌, None};
 ghost use Rattle.c_calls.specs.ClientCalls.{IsMade, IsSent, GivesSent, IsCancelled, GivesCancelled, IsPinged, IsTaken};
 ghost use Rattle.c_calls.specs.ClientCalls.{HasQueuedParts, IsWritten, IsEnded, IsReleased, IsForgotten, HasStatus};
+ghost use Rattle.c_calls.specs.ClientCalls.{IsAnnounced};
 ghost use Rattle.coap_wire.specs.Uint.{bytes_of_uint};
 
 use crate::client_handle::ClientHandle;
 use crate::events::{ClientEvent, event_of, plain_event, token_number};
 use crate::numbers::{
-    EMPTY, MEMORY, NO_SUCH_TOKEN, NOT_A_CHOICE, OCCUPIED, SUCCESS, TOO_MANY, limit_number,
-    phase_numbers, request_number, send_number,
+    EMPTY, MEMORY, NO_SUCH_TOKEN, NOT_A_CHOICE, OCCUPIED, SUCCESS, TOO_MANY,
+    client_announce_number, limit_number, phase_numbers, request_number, send_number,
 };
 use crate::requests::{Request, asked, flag_of, target_of};
 use crate::settings::{ClientLimits, client_limits};
@@ -284,6 +285,26 @@ pub extern "C" fn dachreup_client_release(alloc: Global, handle: &mut ClientHand
     match answer {
         Ok(()) => SUCCESS,
         Err(fault) => send_number(fault),
+    }
+}
+
+/// Announces a size as the largest message accepted on the connection.
+#[unsafe(no_mangle)]
+pub extern "C" fn dachreup_client_announce(
+    alloc: Global,
+    handle: &mut ClientHandle,
+    size: u32,
+) -> u32
+    ensures { IsAnnounced size handle.old.value handle.new.value result }
+{
+    let Some(mut client) = handle.take_client(alloc) else {
+        return EMPTY;
+    };
+    let answer = client.announce(size);
+    handle.put_back(client);
+    match answer {
+        Ok(()) => SUCCESS,
+        Err(fault) => client_announce_number(fault),
     }
 }
 

@@ -3,6 +3,7 @@
 ghost use Rattle.std.specs.Prelude.{◌≡◌};
 ghost use Rattle.c_calls.specs.Numbers as spec;
 
+use coap_client_engine::ClientAnnounceFault;
 use coap_conn::{LimitFault, Phase, Reply, RequestFault, SendFault};
 use coap_model::{
     AnnounceFault, ConfigFault, Handled, OpenFault, ReleaseFault, ResponseFault, WrittenFault,
@@ -62,6 +63,10 @@ pub(crate) const WRITE_TOO_LARGE: u32 = 135;
 pub(crate) const URI_URL: u32 = 144;
 /// No outstanding request has the token.
 pub(crate) const NO_SUCH_TOKEN: u32 = 163;
+/// The size is below the one announced last.
+pub(crate) const ANNOUNCE_LOWER: u32 = 176;
+/// The size is above 1,048,576 bytes.
+pub(crate) const ANNOUNCE_TOO_LARGE: u32 = 177;
 
 /// Returns the number of an error of the limits.
 pub(crate) fn limit_number(fault: LimitFault) -> u32
@@ -143,11 +148,25 @@ pub(crate) fn announce_number(fault: AnnounceFault) -> u32
     match fault {
         AnnounceFault::NoSuch => NO_SUCH,
         AnnounceFault::NotOpen => NOT_OPEN,
-        AnnounceFault::Lower => 176,
-        AnnounceFault::TooLarge => 177,
+        AnnounceFault::Lower => ANNOUNCE_LOWER,
+        AnnounceFault::TooLarge => ANNOUNCE_TOO_LARGE,
         AnnounceFault::NoRoom => QUEUE_FULL,
         AnnounceFault::Memory => MEMORY,
         AnnounceFault::PeerTooSmall => PEER_TOO_SMALL,
+    }
+}
+
+/// Returns the number of an error of `announce` of a client.
+pub(crate) fn client_announce_number(fault: ClientAnnounceFault) -> u32
+    ensures { result ≡ spec.client_announce_code fault }
+{
+    match fault {
+        ClientAnnounceFault::NotOpen => NOT_OPEN,
+        ClientAnnounceFault::Lower => ANNOUNCE_LOWER,
+        ClientAnnounceFault::TooLarge => ANNOUNCE_TOO_LARGE,
+        ClientAnnounceFault::NoRoom => QUEUE_FULL,
+        ClientAnnounceFault::PeerTooSmall => PEER_TOO_SMALL,
+        ClientAnnounceFault::Memory => MEMORY,
     }
 }
 

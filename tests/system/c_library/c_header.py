@@ -14,15 +14,16 @@ HEADER = f"{ROOT}/include/dachreup.h"
 
 # The definitions of the specs that number the constants of the header: the beginning of their names there.
 PREFIXES = {"limit": "", "config": "", "open": "", "written": "", "store": "", "release": "", "announce": "ANNOUNCE_",
-            "handled": "HANDLED_", "phase": "PHASE_", "request": "REQUEST_", "format": "FRAME_", "target": "URI_",
-            "response": "", "reply": "REPLY_", "entry": "APPLICATION_", "send": ""}
+            "client_announce": "ANNOUNCE_", "handled": "HANDLED_", "phase": "PHASE_", "request": "REQUEST_",
+            "format": "FRAME_", "target": "URI_", "response": "", "reply": "REPLY_", "entry": "APPLICATION_",
+            "send": ""}
 
 # Variants with another name in the header.
 RENAMED = {"config.Dynamic": "DYNAMIC_MAX", "config.Representation": "REP_MAX", "format.NotOneFrame": "FRAME_NOT_ONE",
            "reason.Format": "REASON_BAD_MESSAGE", "reason.TooLarge": "REASON_MESSAGE_TOO_LARGE",
            "reason.TokenLength": "REASON_BAD_TOKEN_LENGTH", "release.NoRoom": "QUEUE_FULL",
-           "announce.NoRoom": "QUEUE_FULL", "request.NoRoom": "QUEUE_FULL", "response.NoRoom": "QUEUE_FULL",
-           "send.NoRoom": "QUEUE_FULL"}
+           "announce.NoRoom": "QUEUE_FULL", "client_announce.NoRoom": "QUEUE_FULL", "request.NoRoom": "QUEUE_FULL",
+           "response.NoRoom": "QUEUE_FULL", "send.NoRoom": "QUEUE_FULL"}
 
 # A variant that no call from C has, and options that the header does not name.
 UNNAMED = ("config.Turns", *(f"option.{it}" for it in ("location_path", "max_age", "location_query", "proxy_uri",
