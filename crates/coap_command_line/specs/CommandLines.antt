@@ -14,6 +14,7 @@ use Rattle.coap_print.specs.declared.level.LogLevel.{LogLevel}
 use Rattle.coap_request.specs.declared.target.TargetFault.{TargetFault}
 use Rattle.coap_command_line.specs.declared.arguments.commands.tables.Form.{Form}
 use Rattle.coap_command_line.specs.declared.arguments.commands.tables.Form.TheVariants as form
+use Rattle.coap_command_line.specs.declared.arguments.option_values.BadValue.{BadValue}
 
 -- ---- refusals
 
@@ -155,7 +156,7 @@ level_in text = leveled (decimal_value text)
 
 -- ---- results of the code
 
--- The value, or the bytes of the name.
-abbrev pub named : {A : Type 0} → Result A (Bor Text) → Result A Text
+-- The value, or the name of the option whose value is bad.
+abbrev pub named : {A : Type 0} → Result A BadValue → Result A Text
 named (Ok value) = Ok value
-named (Err name) = Err name.now
+named (Err bad) = Err bad.option.now

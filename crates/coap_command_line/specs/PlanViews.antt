@@ -1,13 +1,12 @@
 -- Defined by this project: the values of the plans and errors of the code.
 use Rattle.std.specs.Prelude.{◌≡◌, ⊤, ℕ, Bool, true, false, List, Vec, Option, option_map, Result, Ok, Err}
 use Rattle.std.specs.Prelude.{string_bytes}
-use Rattle.std.specs.Borrow.{Bor}
 use Rattle.clap.specs.Words.{IsAmong, Kinds, Text, kind_of}
 use Rattle.clap.specs.declared.error.kind.ErrorKind.{ErrorKind}
 use Rattle.clap.specs.declared.error.kind.ErrorKind.TheVariants as kind
 use Rattle.coap_command_line.specs.CommandLines.{WordsFaultValue}
 use Rattle.coap_command_line.specs.CommandLines as fault
-use Rattle.coap_command_line.specs.ClientWords.{ClientPlanValue, client_plan_of}
+use Rattle.coap_command_line.specs.ClientWords.{ClientPlanValue, client_plan_of, spoken}
 use Rattle.coap_command_line.specs.ServerWords.{ModeValue, ServerPlanValue, server_plan_of}
 use Rattle.coap_command_line.specs.ServerWords as mode
 use Rattle.coap_request.specs.declared.plan.ClientPlan.{ClientPlan}
@@ -44,11 +43,6 @@ server_value plan = record {
 -- The number and the value of the extra option.
 abbrev pub extra_value : {A : Type 0} → ℕ × Vec ℕ A → ℕ × Text
 extra_value extra = (extra.0, extra.1.items)
-
--- The extra option if there is one, or the bytes of the name.
-abbrev pub extra_named : {A : Type 0} → Result (Option (ℕ × Vec ℕ A)) (Bor Text) → Result (Option (ℕ × Text)) Text
-extra_named (Ok extra) = Ok (option_map extra_value extra)
-extra_named (Err name) = Err name.now
 
 -- The value of a plan of the client.
 abbrev pub client_value : ClientPlan → ClientPlanValue
@@ -123,6 +117,12 @@ IsServerPlan words answer = TellsServerPlan (server_plan_of words) answer
 abbrev pub TellsClientPlan : Result ClientPlanValue WordsFaultValue → Result ClientPlan WordsFault → Type 0
 TellsClientPlan answer (Ok plan) = answer ≡ Ok (client_value plan)
 TellsClientPlan answer (Err refusal) = IsRefused answer refusal
+
+-- Says that the extra option, if there is one, or an error of the code is the expected result `answer`.
+abbrev pub TellsExtra : {A : Type 0} → Result (Option (ℕ × Text)) Text → Result (Option (ℕ × Vec ℕ A)) WordsFault
+    → Type 0
+TellsExtra answer (Ok extra) = answer ≡ Ok (option_map extra_value extra)
+TellsExtra answer (Err refusal) = IsRefused (spoken answer) refusal
 
 -- Says that a plan or an error of the code is the one for these arguments.
 abbrev pub IsClientPlan : List Text → Result ClientPlan WordsFault → Type 0

@@ -87,7 +87,7 @@ queue_text least given = value_text (codes "--queue") (decimal least ++ codes " 
 unfoldable pub application_text : Text → Text
 application_text given =
     value_text (codes "--application")
-    (codes "PATH;METHODS;ATTRIBUTES of an entry (at most 16, with different paths)") given
+    (codes "PATH;METHODS;ATTRIBUTES of an entry (at most 16, with different paths, none built in)") given
 
 -- The reason for the value of an option of the server. For `--application` it has the first value that is rejected.
 unfoldable pub server_value : List Row → Text → Option Text

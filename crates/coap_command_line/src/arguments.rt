@@ -22,6 +22,7 @@ use coap_print::Line;
 use coap_request::{ClientPlan, ServerPlan, TargetFault};
 use commands::{CLIENT, SERVER, matches_in};
 pub use help::VERSION;
+use option_values::BadValue;
 use reasons::{client_line, server_line};
 use server::server_plan;
 use std::alloc::{AllocError, Global};
@@ -76,6 +77,28 @@ impl WordsFault {
             ),
             _ => false,
         }
+    }
+}
+
+impl From<BadValue> for WordsFault {
+    ghost use Rattle.std.specs.Prelude.{◌≡◌};
+    ghost use Rattle.coap_command_line.specs.declared.arguments.WordsFault.TheVariants.{Value};
+
+    ghost from_gives = { λ bad fault. fault ≡ Value bad.option };
+
+    fn from(bad: BadValue) -> WordsFault {
+        WordsFault::Value(bad.option)
+    }
+}
+
+impl From<AllocError> for WordsFault {
+    ghost use Rattle.std.specs.Prelude.{◌≡◌};
+    ghost use Rattle.coap_command_line.specs.declared.arguments.WordsFault.TheVariants.{Memory};
+
+    ghost from_gives = { λ _ fault. fault ≡ Memory };
+
+    fn from(_error: AllocError) -> WordsFault {
+        WordsFault::Memory
     }
 }
 

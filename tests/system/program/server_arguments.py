@@ -49,7 +49,7 @@ SERVER_VALUES = [
     *((["--record", "/nothing/here", f"--record-limit={it}"], "--record-limit", it or "an empty text")
       for it in ("", "0", "x", "1G", "+1", "-1", "000000000000000000001")),
     *((["--script", "-", f"--application={it}"], "--application", it or "an empty text") for it in (
-        "", "/a", "/a;", "a;get", "/;get", "/time", "/a;GET", "/a;get,get", "/a;0.32", "/a;get;x=", "/..;get",
+        "", "/a", "/a;", "a;get", "/;get", "/time;get", "/a;GET", "/a;get,get", "/a;0.32", "/a;get;x=", "/..;get",
         "/a;get;rt=a b", "/a;get;obs; ct=0",
     )),
     (["--script", "-", '--application=/a;get;rt="a'], "--application", "/a;get;rt=\\x22a"),

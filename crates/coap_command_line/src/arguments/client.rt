@@ -3,13 +3,13 @@
 ghost use Rattle.std.specs.Prelude.{◌≡◌, IfOk, MatchOption, None, Some, codes, false, option_map, true};
 ghost use Rattle.coap_command_line.specs.Prelude.{after_first, before_first, list_any, found_of, rows_of};
 ghost use Rattle.coap_command_line.specs.Prelude.{named, number_within, option_value, TellsClientPlan, client_value};
-ghost use Rattle.coap_command_line.specs.Prelude.{extra_named, extra_value, GivesUnlessMemory, target_of};
+ghost use Rattle.coap_command_line.specs.Prelude.{TellsExtra, extra_value, GivesUnlessMemory, target_of};
 ghost use Rattle.coap_command_line.specs.ClientWords as spec;
 ghost use Rattle.coap_request.specs.declared.request.Method.TheVariants.{Get};
 
 use crate::arguments::WordsFault;
 use crate::arguments::option_values::{
-    file_name, is_used, log, named_value, number, number_within, text_of,
+    BadValue, file_name, is_used, log, named_value, number, number_within, text_of,
 };
 use clap::ArgMatches;
 use coap_print::LogLevel;
@@ -36,14 +36,16 @@ fn method_named(text: &str) -> Option<Method>
 
 /// Returns the method of the request, by default GET.
 ///
-/// The error is the name of the option, if its text is no method.
-fn method(matches: &ArgMatches<'_>) -> Result<Method, &'static str>
+/// # Errors
+///
+/// Returns `BadValue` if the text of the option is no method.
+fn method(matches: &ArgMatches<'_>) -> Result<Method, BadValue>
     ensures { named result ≡ option_value (codes "-m") spec.method_named Get (rows_of (found_of matches.now)) }
 {
     match text_of(matches, "-m") {
         Some(text) => match method_named(text) {
             Some(method) => Ok(method),
-            None => Err("-m"),
+            None => Err(BadValue { option: "-m" }),
         },
         None => Ok(Method::Get),
     }
@@ -82,14 +84,16 @@ fn format_in(text: &str) -> Option<u16>
 
 /// Returns the content format of an option.
 ///
-/// The error is the name of the option, if its text is no content format.
-fn format(matches: &ArgMatches<'_>, name: &'static str) -> Result<Option<u16>, &'static str>
+/// # Errors
+///
+/// Returns `BadValue` if the text of the option is no content format.
+fn format(matches: &ArgMatches<'_>, name: &'static str) -> Result<Option<u16>, BadValue>
     ensures { named result ≡ option_value name.now (spec.perhaps spec.format_of) None (rows_of (found_of matches.now)) }
 {
     match text_of(matches, name) {
         Some(text) => match format_in(text) {
             Some(format) => Ok(Some(format)),
-            None => Err(name),
+            None => Err(BadValue { option: name }),
         },
         None => Ok(None),
     }
@@ -97,15 +101,17 @@ fn format(matches: &ArgMatches<'_>, name: &'static str) -> Result<Option<u16>, &
 
 /// Returns the duration of the observation in seconds.
 ///
-/// The error is the name of the option, if its text is no 32-bit number.
-fn observe(matches: &ArgMatches<'_>) -> Result<Option<u32>, &'static str>
+/// # Errors
+///
+/// Returns `BadValue` if the text of the option is no 32-bit number.
+fn observe(matches: &ArgMatches<'_>) -> Result<Option<u32>, BadValue>
     ensures { named result
         ≡ option_value (codes "-s") (spec.perhaps (number_within 0 4294967295)) None (rows_of (found_of matches.now)) }
 {
     match text_of(matches, "-s") {
         Some(text) => match number_within(text, 0, 4_294_967_295) {
             Some(seconds) => Ok(Some(seconds as u32)),
-            None => Err("-s"),
+            None => Err(BadValue { option: "-s" }),
         },
         None => Ok(None),
     }
@@ -123,9 +129,11 @@ pub(super) struct RequestValues {
 
 /// Returns the values of the options whose text can be invalid, except `-O`.
 ///
-/// The error is the name of the first option with an invalid text, in the order of the usage line.
+/// # Errors
+///
+/// Returns `BadValue` for the first option with an invalid text, in the order of the usage line.
 #[tactic(auto, unfolding(crate::specs::ClientWords::request_said))]
-fn request_values(matches: &ArgMatches<'_>) -> Result<RequestValues, &'static str>
+fn request_values(matches: &ArgMatches<'_>) -> Result<RequestValues, BadValue>
     ensures { named result ≡ spec.request_said (rows_of (found_of matches.now)) }
 {
     let method = method(matches)?;
@@ -143,7 +151,6 @@ fn request_values(matches: &ArgMatches<'_>) -> Result<RequestValues, &'static st
 }
 
 /// Splits a text at its first comma.
-
 fn split_at_comma(text: &str) -> Option<(&str, &str)>
     ensures { spec.AreHalves text.now (option_map (λ x. (x.0.now, x.1.now)) result) }
 {
@@ -189,19 +196,22 @@ fn extra_in(alloc: Global, text: &str) -> Result<Option<(u16, Vec<u8>)>, AllocEr
 
 /// Returns the extra option, if `-O` is given.
 ///
-/// The inner error is the name of the option, if its text is invalid. The outer error is a failed allocation.
+/// # Errors
+///
+/// - `Value`: the text of the option is invalid.
+/// - `Memory`: allocation failed.
 fn extra(
     alloc: Global,
     matches: &ArgMatches<'_>,
-) -> Result<Result<Option<(u16, Vec<u8>)>, &'static str>, AllocError>
-    ensures { IfOk result (λ found. extra_named found ≡ spec.extra_said (rows_of (found_of matches.now))) }
+) -> Result<Option<(u16, Vec<u8>)>, WordsFault>
+    ensures { TellsExtra (spec.extra_said (rows_of (found_of matches.now))) result }
 {
     match text_of(matches, "-O") {
         Some(text) => match extra_in(alloc, text)? {
-            Some(extra) => Ok(Ok(Some(extra))),
-            None => Ok(Err("-O")),
+            Some(extra) => Ok(Some(extra)),
+            None => Err(WordsFault::Value("-O")),
         },
-        None => Ok(Ok(None)),
+        None => Ok(None),
     }
 }
 
@@ -279,24 +289,11 @@ pub(super) fn client_plan(alloc: Global, matches: &ArgMatches<'_>) -> Result<Cli
         Err(TargetFault::Memory) => return Err(WordsFault::Memory),
         Err(fault) => return Err(WordsFault::Target(fault)),
     };
-    let values = match request_values(matches) {
-        Ok(values) => values,
-        Err(name) => return Err(WordsFault::Value(name)),
-    };
-    let extra = match extra(alloc, matches) {
-        Ok(Ok(extra)) => extra,
-        Ok(Err(name)) => return Err(WordsFault::Value(name)),
-        Err(_) => return Err(WordsFault::Memory),
-    };
-    let log = match log(matches) {
-        Ok(level) => level,
-        Err(name) => return Err(WordsFault::Value(name)),
-    };
+    let values = request_values(matches)?;
+    let extra = extra(alloc, matches)?;
+    let log = log(matches)?;
     if clashes(matches, &values) {
         return Err(WordsFault::Clash);
     }
-    match plan_with(alloc, matches, target, values, extra, log) {
-        Ok(plan) => Ok(plan),
-        Err(_) => Err(WordsFault::Memory),
-    }
+    Ok(plan_with(alloc, matches, target, values, extra, log)?)
 }

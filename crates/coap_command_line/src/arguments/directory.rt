@@ -7,7 +7,7 @@ ghost use Rattle.coap_command_line.specs.DirectoryWords as spec;
 ghost use Rattle.coap_command_line.specs.Reasons.{line_of};
 
 use crate::arguments::commands::{DIRECTORY, matches_in};
-use crate::arguments::option_values::{file_name, log, number};
+use crate::arguments::option_values::{BadValue, file_name, log, number};
 use crate::arguments::reasons::directory_line;
 use crate::arguments::server::{address, check_record, lacks_record};
 use crate::arguments::{WordsFault, help};
@@ -52,9 +52,11 @@ struct DirectoryValues {
 
 /// Returns the values of all options except `--record`, whose text is only checked.
 ///
-/// The error is the name of the first option whose text is malformed or out of range, in the order of the usage line.
+/// # Errors
+///
+/// Returns `BadValue` for the first option whose text is malformed or out of range, in the order of the usage line.
 #[tactic(auto, unfolding(crate::specs::DirectoryWords::directory_said))]
-fn directory_values(matches: &ArgMatches<'_>) -> Result<DirectoryValues, &'static str>
+fn directory_values(matches: &ArgMatches<'_>) -> Result<DirectoryValues, BadValue>
     ensures values { named result ≡ spec.directory_said (rows_of (found_of matches.now)) }
     ensures connections { IfOk result (λ values. (1 ≤ values.connections) × (values.connections ≤ 256)) }
     ensures registrations { IfOk result (λ values. (1 ≤ values.registrations) × (values.registrations ≤ 100000)) }
@@ -87,16 +89,11 @@ fn directory_plan(alloc: Global, matches: &ArgMatches<'_>) -> Result<DirectoryPl
     ensures registrations { IfOk result (λ plan. (1 ≤ plan.registrations) × (plan.registrations ≤ 100000)) }
     ensures limit { IfOk result (λ plan. 1 ≤ plan.record_limit) }
 {
-    let values = match directory_values(matches) {
-        Ok(values) => values,
-        Err(name) => return Err(WordsFault::Value(name)),
-    };
+    let values = directory_values(matches)?;
     if lacks_record(matches) {
         return Err(WordsFault::Clash);
     }
-    let Ok(record) = file_name(alloc, matches, "--record") else {
-        return Err(WordsFault::Memory);
-    };
+    let record = file_name(alloc, matches, "--record")?;
     Ok(DirectoryPlan {
         address: values.address,
         port: values.port,

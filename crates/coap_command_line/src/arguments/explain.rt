@@ -7,7 +7,7 @@ ghost use Rattle.coap_command_line.specs.ExplainWords as spec;
 ghost use Rattle.coap_command_line.specs.Reasons.{line_of};
 
 use crate::arguments::commands::{EXPLAIN, matches_in};
-use crate::arguments::option_values::{number_within, text_of};
+use crate::arguments::option_values::{BadValue, number_within, text_of};
 use crate::arguments::reasons::explain_line;
 use crate::arguments::{WordsFault, help};
 use clap::ArgMatches;
@@ -26,15 +26,19 @@ pub struct ExplainPlan {
 
 /// Returns the number of the only connection that is printed, if the option is given.
 ///
-/// The error is the name of the option, if its text is no number of a connection.
+/// # Errors
+///
+/// Returns `BadValue` if the text of the option is no number of a connection.
 #[tactic(auto, unfolding(crate::specs::ExplainWords::connection_said))]
-fn connection(matches: &ArgMatches<'_>) -> Result<Option<u64>, &'static str>
+fn connection(matches: &ArgMatches<'_>) -> Result<Option<u64>, BadValue>
     ensures { named result ≡ spec.connection_said (rows_of (found_of matches.now)) }
 {
     match text_of(matches, "--connection") {
         Some(text) => match number_within(text, 1, u64::MAX) {
             Some(number) => Ok(Some(number)),
-            None => Err("--connection"),
+            None => Err(BadValue {
+                option: "--connection",
+            }),
         },
         None => Ok(None),
     }
@@ -53,14 +57,9 @@ fn file_name<'a>(matches: &ArgMatches<'a>) -> &'a str
 fn explain_plan(alloc: Global, matches: &ArgMatches<'_>) -> Result<ExplainPlan, WordsFault>
     ensures { TellsExplainPlan (spec.explain_plan_in (rows_of (found_of matches.now))) result }
 {
-    let connection = match connection(matches) {
-        Ok(connection) => connection,
-        Err(name) => return Err(WordsFault::Value(name)),
-    };
-    match String::from_str(alloc, file_name(matches)) {
-        Ok(file) => Ok(ExplainPlan { file, connection }),
-        Err(_) => Err(WordsFault::Memory),
-    }
+    let connection = connection(matches)?;
+    let file = String::from_str(alloc, file_name(matches))?;
+    Ok(ExplainPlan { file, connection })
 }
 
 /// Parses the arguments of `coap-explain`, without the program's name, and returns the plan.

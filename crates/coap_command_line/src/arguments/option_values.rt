@@ -8,6 +8,15 @@ use clap::ArgMatches;
 use coap_print::LogLevel;
 use coap_text::{number_in, split_once};
 use std::alloc::{AllocError, Global};
+use thiserror::Error;
+
+/// Value of an option that is malformed or out of range.
+#[derive(Clone, Copy, Debug, PartialEq, Eq, Error)]
+#[error("bad value for {option}")]
+pub(super) struct BadValue {
+    /// Name of the option.
+    pub(super) option: &'static str,
+}
 
 /// Returns the text of an option, if the option is given.
 #[tactic(auto, using(crate::proofs::WordLemmas::first_text))]
@@ -107,14 +116,16 @@ pub(super) fn number_within(text: &str, low: u64, high: u64) -> Option<u64>
 
 /// Returns the number of an option, or `unused` if the option is not given.
 ///
-/// The error is the name of the option, if its text is no decimal number between `low` and `high`.
+/// # Errors
+///
+/// Returns `BadValue` if the text of the option is no decimal number between `low` and `high`.
 pub(super) fn number(
     matches: &ArgMatches<'_>,
     name: &'static str,
     low: u64,
     high: u64,
     unused: u64,
-) -> Result<u64, &'static str>
+) -> Result<u64, BadValue>
     requires low { low ≤ unused }
     requires high { unused ≤ high }
     ensures value { spec.named result
@@ -124,7 +135,7 @@ pub(super) fn number(
     match text_of(matches, name) {
         Some(text) => match number_within(text, low, high) {
             Some(number) => Ok(number),
-            None => Err(name),
+            None => Err(BadValue { option: name }),
         },
         None => Ok(unused),
     }
@@ -141,15 +152,17 @@ fn level_in(text: &str) -> Option<LogLevel>
 
 /// Returns the level of the log, by default `Nothing`.
 ///
-/// The error is the name of the option, if its text is no level.
-pub(super) fn log(matches: &ArgMatches<'_>) -> Result<LogLevel, &'static str>
+/// # Errors
+///
+/// Returns `BadValue` if the text of the option is no level.
+pub(super) fn log(matches: &ArgMatches<'_>) -> Result<LogLevel, BadValue>
     ensures { spec.named result
         ≡ spec.option_value (codes "--log") spec.level_in Nothing (rows_of (found_of matches.now)) }
 {
     match text_of(matches, "--log") {
         Some(text) => match level_in(text) {
             Some(level) => Ok(level),
-            None => Err("--log"),
+            None => Err(BadValue { option: "--log" }),
         },
         None => Ok(LogLevel::Nothing),
     }

@@ -7,7 +7,7 @@ ghost use Rattle.coap_command_line.specs.ServerWords as spec;
 
 use crate::arguments::WordsFault;
 use crate::arguments::applications::{EntryFault, applications};
-use crate::arguments::option_values::{file_name, is_used, log, number, text_of};
+use crate::arguments::option_values::{BadValue, file_name, is_used, log, number, text_of};
 use clap::ArgMatches;
 use coap_conn::Limits;
 use coap_print::LogLevel;
@@ -44,15 +44,17 @@ fn address_in(text: &str) -> Option<IpAddr>
 
 /// Returns the address to listen at, by default 0.0.0.0.
 ///
-/// The error is the name of the option, if its text is no numeric address.
-pub(super) fn address(matches: &ArgMatches<'_>) -> Result<IpAddr, &'static str>
+/// # Errors
+///
+/// Returns `BadValue` if the text of the option is no numeric address.
+pub(super) fn address(matches: &ArgMatches<'_>) -> Result<IpAddr, BadValue>
     ensures { named result
         ≡ option_value (codes "-A") spec.address_of spec.every_address (rows_of (found_of matches.now)) }
 {
     match text_of(matches, "-A") {
         Some(text) => match address_in(text) {
             Some(address) => Ok(address),
-            None => Err("-A"),
+            None => Err(BadValue { option: "-A" }),
         },
         None => Ok(IpAddr::V4(Ipv4Addr::new(0, 0, 0, 0))),
     }
@@ -60,9 +62,11 @@ pub(super) fn address(matches: &ArgMatches<'_>) -> Result<IpAddr, &'static str>
 
 /// Returns the limits of each connection.
 ///
-/// The error is the name of the first option whose text is no number in its range.
+/// # Errors
+///
+/// Returns `BadValue` for the first option whose text is no number in its range.
 #[tactic(auto, unfolding(crate::specs::ServerWords::limits_said))]
-fn limits(matches: &ArgMatches<'_>) -> Result<Limits, &'static str>
+fn limits(matches: &ArgMatches<'_>) -> Result<Limits, BadValue>
     ensures { named result ≡ spec.limits_said (rows_of (found_of matches.now)) }
 {
     let base = BASE_MESSAGE_SIZE as u64;
@@ -145,8 +149,10 @@ fn starts_in(text: &str) -> Option<StartCounts>
 
 /// Returns the start values, by default three zeros.
 ///
-/// The error is the name of the option, if its text is not three numbers in their ranges.
-fn starts(matches: &ArgMatches<'_>) -> Result<StartCounts, &'static str>
+/// # Errors
+///
+/// Returns `BadValue` if the text of the option is not three numbers in their ranges.
+fn starts(matches: &ArgMatches<'_>) -> Result<StartCounts, BadValue>
     ensures value { named result
         ≡ option_value (codes "--starts") spec.starts_in spec.from_zero (rows_of (found_of matches.now)) }
     ensures id_left { IfOk result (λ starts. starts.ids + 1 < 2 ^ 64) }
@@ -154,7 +160,7 @@ fn starts(matches: &ArgMatches<'_>) -> Result<StartCounts, &'static str>
     match text_of(matches, "--starts") {
         Some(text) => match starts_in(text) {
             Some(starts) => Ok(starts),
-            None => Err("--starts"),
+            None => Err(BadValue { option: "--starts" }),
         },
         None => Ok(StartCounts {
             moment: 0,
@@ -166,15 +172,17 @@ fn starts(matches: &ArgMatches<'_>) -> Result<StartCounts, &'static str>
 
 /// Checks that the record has a name, if it is given.
 ///
-/// The error is the name of the option, if its text is empty.
+/// # Errors
+///
+/// Returns `BadValue` if the text of the option is empty.
 #[tactic(auto, unfolding(crate::specs::ServerWords::file_name))]
-pub(super) fn check_record(matches: &ArgMatches<'_>) -> Result<(), &'static str>
+pub(super) fn check_record(matches: &ArgMatches<'_>) -> Result<(), BadValue>
     ensures { named result ≡ option_value (codes "--record") spec.file_name tt (rows_of (found_of matches.now)) }
 {
     match text_of(matches, "--record") {
         Some(name) => {
             if name.is_empty() {
-                return Err("--record");
+                return Err(BadValue { option: "--record" });
             }
             Ok(())
         }
@@ -184,9 +192,11 @@ pub(super) fn check_record(matches: &ArgMatches<'_>) -> Result<(), &'static str>
 
 /// Returns the values of all options except `--stdio`, `--script`, `--record` and `--application`.
 ///
-/// The error is the name of the first option whose text is malformed or out of range, in the order of the usage line.
+/// # Errors
+///
+/// Returns `BadValue` for the first option whose text is malformed or out of range, in the order of the usage line.
 #[tactic(auto, unfolding(crate::specs::ServerWords::values_said))]
-pub(super) fn server_values(matches: &ArgMatches<'_>) -> Result<ServerValues, &'static str>
+pub(super) fn server_values(matches: &ArgMatches<'_>) -> Result<ServerValues, BadValue>
     ensures values { named result ≡ spec.values_said (rows_of (found_of matches.now)) }
     ensures id_left { IfOk result (λ values. values.starts.ids + 1 < 2 ^ 64) }
     ensures limit { IfOk result (λ values. 1 ≤ values.record_limit) }
@@ -194,7 +204,10 @@ pub(super) fn server_values(matches: &ArgMatches<'_>) -> Result<ServerValues, &'
     let address = address(matches)?;
     let port = number(matches, "-p", 1, 65_535, 5_683)?;
     let dynamic_max = number(matches, "-d", 0, 1_000, 0)?;
-    let limits = limits(matches)?;
+    let limits = match limits(matches) {
+        Ok(limits) => limits,
+        Err(bad) => return Err(bad),
+    };
     let connections = number(matches, "--connections", 1, 256, 16)?;
     let turns = number(matches, "--turns", 1, 1_000_000_000_000, 1_000_000_000_000)?;
     let log = log(matches)?;
@@ -315,7 +328,7 @@ pub(super) fn server_plan(alloc: Global, matches: &ArgMatches<'_>) -> Result<Ser
 {
     let values = match server_values(matches) {
         Ok(values) => values,
-        Err(name) => return Err(WordsFault::Value(name)),
+        Err(bad) => return Err(WordsFault::Value(bad.option)),
     };
     let applications = match applications(alloc, matches) {
         Ok(applications) => applications,
@@ -327,14 +340,10 @@ pub(super) fn server_plan(alloc: Global, matches: &ArgMatches<'_>) -> Result<Ser
     }
     let stdio = is_used(matches, "--stdio");
     let script = text_of(matches, "--script");
-    let mode = match mode_in(alloc, stdio, script, values.address, values.port) {
-        Ok(Some(mode)) => mode,
-        Ok(None) => return Err(WordsFault::Clash),
-        Err(_) => return Err(WordsFault::Memory),
+    let Some(mode) = mode_in(alloc, stdio, script, values.address, values.port)? else {
+        return Err(WordsFault::Clash);
     };
-    let Ok(record) = file_name(alloc, matches, "--record") else {
-        return Err(WordsFault::Memory);
-    };
+    let record = file_name(alloc, matches, "--record")?;
     Ok(ServerPlan {
         mode,
         limits: values.limits,

@@ -12,7 +12,7 @@ const STARTS: &str =
 
 /// Values of `--application`.
 pub(super) const ENTRY: &str =
-    "PATH;METHODS;ATTRIBUTES of an entry (at most 16, with different paths)";
+    "PATH;METHODS;ATTRIBUTES of an entry (at most 16, with different paths, none built in)";
 
 /// Values of `--log`.
 const LEVEL: &str = "a level from 0 to 3";
