@@ -8,7 +8,7 @@ ghost use Rattle.program_client.specs.Ends as spec;
 use crate::{PROGRAM, print_end};
 use coap_client_engine::{Cause, ClientFault, RunEnd, explain, run_to_end};
 use coap_conn::{Reason, RequestFault};
-use coap_io::{Clock, Outlet, Wire};
+use coap_io::{Clock, Outlet};
 use coap_log::{LineWriter, Log, LoggedWire, Stderr};
 use coap_print::Line;
 use coap_request::ClientPlan;
@@ -24,7 +24,7 @@ const NUMBER: u64 = 1;
 const RESPONDED: u8 = 2;
 
 /// Returns the address of the peer, if the system reports it.
-pub(crate) fn peer_of<R: Net + time::Clock + AllocGlobal>(
+fn peer_of<R: Net + time::Clock + AllocGlobal>(
     rt: &R,
     wire: &ClientWire<'_, R>,
 ) -> Line {
@@ -120,11 +120,10 @@ fn is_limit_stop(reason: Reason) -> bool
     }
 }
 
-/// Runs a client over a connection to this peer with the log that the plan asks for, and returns the exit status.
-pub(crate) fn run_logged<O: Outlet, E: Outlet>(
-    rt: &(impl Eprint + time::Clock + AllocGlobal),
-    wire: impl Wire + Drop,
-    peer: &Line,
+/// Runs a client over a connection with the log that the plan asks for, and returns the exit status.
+pub(crate) fn run_logged<R: Eprint + Net + time::Clock + AllocGlobal, O: Outlet, E: Outlet>(
+    rt: &R,
+    wire: ClientWire<'_, R>,
     clock: &mut impl Clock,
     out: &mut O,
     err: &mut E,
@@ -137,7 +136,8 @@ pub(crate) fn run_logged<O: Outlet, E: Outlet>(
     let mut program = Line::new();
     program.text("coap-client");
     let log = Log::new(plan.log, program, LineWriter::new(Stderr::new()));
-    let Ok(mut logged) = LoggedWire::new(rt.alloc(), wire, log, rt, NUMBER, peer) else {
+    let peer = peer_of(rt, &wire);
+    let Ok(mut logged) = LoggedWire::new(rt.alloc(), wire, log, rt, NUMBER, &peer) else {
         return PROGRAM.print_fault(rt, "no memory", FAULT);
     };
     let end = run_to_end(rt.alloc(), &mut logged, clock, out, err, plan);

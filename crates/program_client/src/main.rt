@@ -18,7 +18,7 @@ use coap_print::{Line, LogLevel};
 use coap_request::{ClientPlan, Target};
 use coap_sockets::{ClientWire, ConnectError, ConnectFault};
 use coap_wire::LARGEST_MESSAGE;
-use logged::{peer_of, run_logged};
+use logged::run_logged;
 use program_common::{FAULT, FileError, Program, USAGE, occupy_standard_descriptors, read_whole};
 use std::io::Write;
 use std::net::Net;
@@ -127,8 +127,7 @@ fn run_on_connection<R: Eprint + Net + time::Clock + AllocGlobal>(
         let end = run_to_end(rt.alloc(), &mut wire, &mut clock, &mut out, &mut err, plan);
         return print_end(rt, &end);
     }
-    let peer = peer_of(rt, &wire);
-    run_logged(rt, wire, &peer, &mut clock, &mut out, &mut err, plan)
+    run_logged(rt, wire, &mut clock, &mut out, &mut err, plan)
 }
 
 /// Runs a plan, with a writer for reports, and returns the exit status.
