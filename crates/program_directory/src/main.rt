@@ -15,14 +15,15 @@ use application::DirectoryApplication;
 use coap_command_line::{DirectoryPlan, directory_reason, directory_words, entries_in};
 use coap_io::{Clock, Outlet};
 use coap_model::{Config, Starts};
-use coap_print::LogLevel;
 use coap_serve::{Clocks, ServiceConfig, serve_door_with};
 use coap_server_engine::{IoFault, Monitor, NoMonitor};
 use coap_sockets::{RunClock, SocketDoor, SocketWire, SystemClock};
 use coap_wire::LARGEST_SENT_MESSAGE;
 use directory_core::Directory;
 use program_common::{FAULT, Program, occupy_standard_descriptors};
-use program_server_common::{ServerRecord, finish, monitor_of, open_record, print_listen_fault};
+use program_server_common::{
+    ServerDescription, ServerMonitor, finish, monitor_with, open_record, print_listen_fault,
+};
 use std::alloc::{AllocError, Global};
 use std::net::{Net, SocketAddr};
 use std::process::ExitCode;
@@ -105,41 +106,31 @@ fn run<'a>(
         "coap-directory: listening on {}",
         door.address().unwrap_or(address)
     );
-    match serve(rt, &mut door, clock, config, plan.log, directory, record) {
+    let server = ServerDescription {
+        program: &PROGRAM,
+        config: &config.config,
+        entries: &ENTRIES,
+    };
+    let Ok(monitor) = monitor_with(rt, server, plan.log, &mut door, record) else {
+        return PROGRAM.print_fault(rt, IoFault::Memory, FAULT);
+    };
+    match serve(rt, &mut door, clock, config, directory, monitor) {
         Ok(()) => unreachable!(),
         Err(fault) => PROGRAM.print_fault(rt, fault, FAULT),
     }
 }
 
-/// Serves the connections of a listener, with a record, and with a log of this level. With a log, the listener wakes
-/// up each second.
+/// Serves the connections of a listener, with the log and the record of a monitor.
 fn serve<'a, R: Net + time::Clock + AllocGlobal, O: Outlet + Drop>(
     rt: &'a R,
     door: &mut SocketDoor<'a, R>,
     clock: SystemClock<'a, R>,
     config: ServiceConfig,
-    level: LogLevel,
     directory: DirectoryApplication<RunClock<'a, R>>,
-    record: Option<ServerRecord<'_, O>>,
+    mut monitor: ServerMonitor<'_, R, O>,
 ) -> Result<(), IoFault>
     ensures { IsErr result }
 {
-    if level != LogLevel::Nothing {
-        door.wake_each_second();
-    }
-    let troubles = door.troubles();
-    let monitor = monitor_of(
-        rt,
-        &PROGRAM,
-        level,
-        &config.config,
-        &ENTRIES,
-        troubles,
-        record,
-    );
-    let Ok(mut monitor) = monitor else {
-        return Err(IoFault::Memory);
-    };
     let served = if Monitor::<SocketWire>::listens(&monitor) {
         serve_with(rt, door, clock, config, directory, &mut monitor)
     } else {

@@ -9,14 +9,14 @@ ghost use Rattle.program_server_common.specs.Planned.{planned, starts_of};
 use crate::PROGRAM;
 use coap_io::{Clock, Outlet};
 use coap_model::{Config, Starts};
-use coap_print::LogLevel;
 use coap_request::ServerPlan;
 use coap_serve::{Clocks, ServiceConfig, serve_door_with};
 use coap_server_engine::{IoFault, Monitor, NoApplication, NoMonitor};
 use coap_sockets::{RunClock, SocketDoor, SocketWire, SystemClock};
 use program_common::{FAULT, USAGE};
 use program_server_common::{
-    ServerRecord, config_of, finish, monitor_of, open_record, print_listen_fault,
+    ServerDescription, ServerRecord, config_of, finish, monitor_with, open_record,
+    print_listen_fault,
 };
 use std::net::{Net, SocketAddr};
 use std::rt::Files;
@@ -67,8 +67,7 @@ pub(crate) fn run<'a>(
     }
 }
 
-/// Serves the connections of a listener, with the log and the record of the plan. With a log, the listener wakes
-/// up each second.
+/// Serves the connections of a listener, with the log and the record of the plan.
 fn serve<'a, R: Net + time::Clock + AllocGlobal, O: Outlet + Drop>(
     rt: &'a R,
     door: &mut SocketDoor<'a, R>,
@@ -79,12 +78,12 @@ fn serve<'a, R: Net + time::Clock + AllocGlobal, O: Outlet + Drop>(
 ) -> Result<(), IoFault>
     ensures { IsErr result }
 {
-    if plan.log != LogLevel::Nothing {
-        door.wake_each_second();
-    }
-    let troubles = door.troubles();
-    let monitor = monitor_of(rt, &PROGRAM, plan.log, &config, &[], troubles, record);
-    let Ok(mut monitor) = monitor else {
+    let server = ServerDescription {
+        program: &PROGRAM,
+        config: &config,
+        entries: &[],
+    };
+    let Ok(mut monitor) = monitor_with(rt, server, plan.log, door, record) else {
         return Err(IoFault::Memory);
     };
     let served = if Monitor::<SocketWire>::listens(&monitor) {

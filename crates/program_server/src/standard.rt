@@ -9,7 +9,7 @@ use coap_request::ServerPlan;
 use coap_serve::{Report, serve_one_with};
 use coap_server_engine::{IoFault, Monitor, NoMonitor};
 use program_common::{ENDED, FAULT};
-use program_server_common::{ServerRecord, finish, monitor_of, open_record};
+use program_server_common::{ServerDescription, ServerRecord, finish, monitor_of, open_record};
 use std::rt::Files;
 use std::{io, time};
 
@@ -41,7 +41,12 @@ fn serve<O: Outlet + Drop>(
 ) -> Result<Report, IoFault>
     requires { config.now.starts.ids + 1 < 2 ^ 64 }
 {
-    let monitor = monitor_of(rt, &PROGRAM, plan.log, config, &[], None, record);
+    let server = ServerDescription {
+        program: &PROGRAM,
+        config,
+        entries: &[],
+    };
+    let monitor = monitor_of(rt, server, plan.log, None, record);
     let Ok(mut monitor) = monitor else {
         return Err(IoFault::Memory);
     };
