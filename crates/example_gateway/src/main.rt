@@ -44,16 +44,14 @@ fn configuration(now: u64) -> Result<Config> {
 }
 
 /// Stores the measured value at a path if it is new, serves the connections once, and waits.
-fn turn<R: Files + AllocGlobal, D: Door>(
-    rt: &R,
-    file: &str,
+fn turn<D: Door>(
+    value: Vec<u8>,
     path: &PathKey,
     now: u64,
     stored: &mut Option<Vec<u8>>,
     door: &mut D,
     service: &mut Service<D::Wire>,
 ) -> Result<()> {
-    let value = measured(rt, file)?;
     // Each `put` notifies the observers, so only a new value is stored. `put` fails if a client deleted the
     // resource and stored another one, since the server stores only one. It is then repeated in the next turn.
     if stored.as_ref() != Some(&value)
@@ -111,7 +109,8 @@ fn run<R: Files + AllocGlobal, D: Door>(
     let path = PathKey::from_segments(&[b"measured"]).context("no path")?;
     let mut stored = None;
     for _ in 0..turns {
-        turn(rt, file, &path, clock.now(), &mut stored, door, service)?;
+        let value = measured(rt, file)?;
+        turn(value, &path, clock.now(), &mut stored, door, service)?;
     }
     bail!("the limit of turns is reached")
 }
