@@ -1,13 +1,14 @@
 #!/usr/bin/env python3
-"""Checks that source files stay small, that lines stay short, and that modules do not import each other in a circle:
+"""Checks that source files stay small, that lines and lists of parameters stay short, and that modules do not import
+each other in a circle:
 
     tests/tools/crate_limits.py          a line for each limit that is exceeded; the last line is 'N passed, M failed'
     tests/tools/crate_limits.py --all    and a table of all crates
 
 A source file of a crate may have 450 lines, and a line of a file of NARROW 120 columns. A long import is several
-imports of the same module. The attribute `#[tactic(..)]` may be longer, since `rt fmt` keeps it on one line. Modules of
-a crate that import each other, directly or through others, form a circle. The size of a crate is limited by the time of
-its proof after an edit (bench/edits).
+imports of the same module. The attribute `#[tactic(..)]` may be longer, since `rt fmt` keeps it on one line. A function
+may have 6 parameters, `self` included. At most one is a `bool`. Modules of a crate that import each other, directly or
+through others, form a circle. The size of a crate is limited by the time of its proof after an edit (bench/edits).
 """
 
 import os
@@ -18,7 +19,7 @@ import sys
 sys.path.insert(0, os.path.join(os.path.dirname(os.path.abspath(__file__)), "..", "harness"))
 from workspace import ROOT, listed  # noqa: E402
 
-FILE_LINES, COLUMNS = 450, 120
+FILE_LINES, COLUMNS, PARAMETERS, BOOLEANS = 450, 120, 6, 1
 
 # Patterns of files without a line of more than COLUMNS columns. Each must fit a file.
 NARROW = [
@@ -31,7 +32,10 @@ NARROW = [
 # Endings of files that are left out of these, and folders without sources.
 LEFT_OUT, MADE = {".md", ".svg", ".tsv"}, {"__pycache__", "out"}
 
-FUNCTION = re.compile(r"^ *(?:pub(?:\([a-z ]+\))? )?(?:const )?(?:extern \S+ )?fn \w+", re.M)
+FUNCTION = re.compile(r"^ *(?:pub(?:\([a-z ]+\))? )?(?:const )?(?:extern \S+ )?fn (\w+)", re.M)
+# Brackets that have no others within, and a parameter that is a `bool`.
+INNERMOST = re.compile(r"<[^<>()\[\]]*>|\([^<>()\[\]]*\)|\[[^<>()\[\]]*\]")
+BOOLEAN = re.compile(r": (?:&(?:mut )?)?bool$")
 # A line that may be longer.
 ATTRIBUTE = re.compile(r"^ *#\[tactic\(")
 IMPORT = re.compile(r"^ *(?:pub(?:\([a-z ]+\))? )?use crate::([\w:]+)", re.M)
@@ -71,11 +75,34 @@ def circles(edges):
     return {tuple(sorted(other for other in reach[it] if it in reach[other])) for it in edges if it in reach[it]}
 
 
+def parameters(text):
+    """Yields each function of a source with its parameters, whose types have no brackets."""
+    for function in FUNCTION.finditer(text):
+        rest = re.sub(r"//.*", "", text[function.end():function.end() + 5000]).replace("->", "")
+        start = depth = 0
+        for at, letter in enumerate(rest):
+            if letter == "(" and not depth:
+                start = at + 1
+            depth += (letter in "<([") - (letter in ">)]")
+            if letter == ")" and not depth:
+                break
+        rest = rest[start:at]
+        while INNERMOST.search(rest):
+            rest = INNERMOST.sub("", rest)
+        yield function[1], [it.strip() for it in rest.split(",") if it.strip()]
+
+
 def exceeded(crate, modules):
     """Yields a line for each limit that a crate exceeds."""
     for name, text in modules.items():
         if text.count("\n") > FILE_LINES:
             yield f"{name or 'the root'}: {text.count(chr(10))} lines, at most {FILE_LINES}"
+        for function, found in parameters(text):
+            if len(found) > PARAMETERS:
+                yield f"{name or 'the root'}: {function} has {len(found)} parameters, at most {PARAMETERS}"
+            booleans = sum(bool(BOOLEAN.search(it)) for it in found)
+            if booleans > BOOLEANS:
+                yield f"{name or 'the root'}: {function} has {booleans} parameters of type bool, at most {BOOLEANS}"
     for group in sorted(circles(imports(modules))):
         yield f"modules that import each other: {', '.join(group)}"
 
