@@ -56,7 +56,7 @@ def copies_shim(folder):
 def copied(shim, command, stream):
     """Returns the number of bytes that a run with this input copies."""
     ran = subprocess.run(command, input=stream, env={**os.environ, "LD_PRELOAD": shim}, capture_output=True)
-    told = re.search(rb"^copied (\d+)$", ran.stderr, re.MULTILINE)
-    if ran.returncode or not told:
+    reported = re.search(rb"^copied (\d+)$", ran.stderr, re.MULTILINE)
+    if ran.returncode or not reported:
         raise Unmeasured(f"{command[0]}: status {ran.returncode}, and no count of copied bytes")
-    return int(told[1])
+    return int(reported[1])

@@ -98,7 +98,7 @@ def drained(room, shim):
         with contextlib.suppress(OSError):
             count = 0 if server.trouble else ask(server)
         server.end()
-        return collected(server.told()), count
+        return collected(server.reported()), count
 
 
 def over_socket():

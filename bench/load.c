@@ -222,14 +222,14 @@ static void ask(struct connection *c, uint64_t now)
 {
     while (c->unused_count > 0 && run.handed < run.total) {
         uint16_t index = c->unused[--c->unused_count];
-        struct request *asked = &c->requests[index];
-        *asked = (struct request){.sent = now, .uses = (uint16_t)(asked->uses + 1), .outstanding = true};
+        struct request *requested = &c->requests[index];
+        *requested = (struct request){.sent = now, .uses = (uint16_t)(requested->uses + 1), .outstanding = true};
         unsigned char *get = queue(c, run.get_length), *token = get + run.token_at;
         memcpy(get, run.get, run.get_length);
         token[0] = (unsigned char)(index >> 8);
         token[1] = (unsigned char)index;
-        token[2] = (unsigned char)(asked->uses >> 8);
-        token[3] = (unsigned char)asked->uses;
+        token[2] = (unsigned char)(requested->uses >> 8);
+        token[3] = (unsigned char)requested->uses;
         run.handed++;
     }
 }

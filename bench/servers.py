@@ -84,14 +84,14 @@ class Server:
             while it.recv(4096):
                 pass
 
-    def told(self):
+    def reported(self):
         """Returns the output of the server."""
         self.output.seek(0)
         return self.output.read().decode(errors="replace")
 
     def ended(self):
         """Returns the status and the output of a server that has ended, without the lines of valgrind."""
-        lines = [it for it in self.told().splitlines() if not it.startswith("==")]
+        lines = [it for it in self.reported().splitlines() if not it.startswith("==")]
         return f"ended with status {self.process.returncode}: " + ("\n".join(lines) or "it wrote nothing")
 
     def end(self):

@@ -150,12 +150,12 @@ static struct dachreup_settings zeros(void) {
 }
 
 /* What a server with these settings does: its CSM, its connections, and the GETs of / that its queue has room for. */
-static void measure(const struct dachreup_settings *settings, uint8_t *queued, uint32_t *opened, uint32_t *asked) {
+static void measure(const struct dachreup_settings *settings, uint8_t *queued, uint32_t *opened, uint32_t *requested) {
     static const uint8_t get[3] = {0x01, 0x01, 0x01};
     struct dachreup_took took;
     struct dachreup_parts parts = {{NULL, 0}, {NULL, 0}};
     uint64_t id = 0, other = 0;
-    *opened = *asked = 0;
+    *opened = *requested = 0;
     check("new", dachreup_server_new(&server, settings), 0);
     check("open", dachreup_server_open(&server, &id), 0);
     check("parts", dachreup_server_parts(&server, id, &parts), 0);
@@ -165,7 +165,7 @@ static void measure(const struct dachreup_settings *settings, uint8_t *queued, u
         *opened += 1;
     check("CSM", dachreup_server_take(&server, id, csm, 2, &took), 0);
     while (!dachreup_server_take(&server, id, get, 3, &took) && took.bytes)
-        *asked += 1;
+        *requested += 1;
     dachreup_server_free(&server);
 }
 
@@ -173,13 +173,13 @@ static void measure(const struct dachreup_settings *settings, uint8_t *queued, u
 static void server_defaults(void) {
     struct dachreup_settings usual = DACHREUP_SETTINGS(1), none = zeros();
     uint8_t first[16] = {0}, second[16] = {0};
-    uint32_t opened[2], asked[2];
-    measure(&usual, first, &opened[0], &asked[0]);
-    measure(&none, second, &opened[1], &asked[1]);
+    uint32_t opened[2], requested[2];
+    measure(&usual, first, &opened[0], &requested[0]);
+    measure(&none, second, &opened[1], &requested[1]);
     check("the same CSM", (uint32_t)memcmp(first, second, sizeof first), 0);
     check("15 further connections", opened[0] * 100 + opened[1], 1515);
-    check("many GETs", asked[0] > 1000, 1);
-    check("as many", asked[1], asked[0]);
+    check("many GETs", requested[0] > 1000, 1);
+    check("as many", requested[1], requested[0]);
 }
 
 /* Where 0 is a legal value, it means none: no resource, no byte, no observer, no delayed response. */

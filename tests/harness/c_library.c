@@ -401,7 +401,7 @@ static void loans(size_t split) {
                    post[5] = {0x21, 0x02, 0x09, 0xb1, 'b'};
     static const uint8_t created[3] = {0x01, 0x41, 0x09};
     struct dachreup_settings settings = DACHREUP_SETTINGS(3);
-    struct dachreup_message asked;
+    struct dachreup_message requested;
     struct dachreup_took took;
     check("entries", dachreup_applications_new(&applications, 5), 0);
     check("entry", add("b", 1 << 2, ""), 0);
@@ -416,13 +416,13 @@ static void loans(size_t split) {
         check("changed", changed.count == sizeof put && !memcmp(changed.at, put, sizeof put), 1);
         struct dachreup_span request = lent(id, post, sizeof post, split);
         other_calls(id, turn);
-        check("read", dachreup_message_read(request.at, request.count, &asked), 0);
+        check("read", dachreup_message_read(request.at, request.count, &requested), 0);
         if (turn == 1)
             check("respond", dachreup_server_respond(&server, id, created, 3, &reply), 0);
         else
             check("stop", turn == 2 ? dachreup_server_ended(&server, id) : dachreup_server_release(&server, id), 0);
         check("request", request.count == sizeof post && !memcmp(request.at, post, sizeof post), 1);
-        check("token", asked.token.count == 1 && *asked.token.at == 9, 1);
+        check("token", requested.token.count == 1 && *requested.token.at == 9, 1);
     }
     dachreup_server_free(&server);
 }

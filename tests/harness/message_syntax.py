@@ -67,8 +67,8 @@ def encoded(code, token, options, payload):
         head, more = 14, (size - 269).to_bytes(2, "big")
     else:
         head, more = 15, (size - 65_805).to_bytes(4, "big")
-    token_head, behind_code = nibble(len(token))
-    return bytes([head << 4 | token_head]) + more + bytes([code]) + behind_code + token + body
+    token_head, after_code = nibble(len(token))
+    return bytes([head << 4 | token_head]) + more + bytes([code]) + after_code + token + body
 
 
 def code_of(word):

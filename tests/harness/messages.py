@@ -41,10 +41,10 @@ EXTENSIONS = {13: (1, 13), 14: (2, 269)}
 GREATEST_TOKEN = 64
 
 
-def token_at(nibble, behind):
-    """Returns the length of a token. `behind` has the bytes after the code."""
+def token_at(nibble, later):
+    """Returns the length of a token. `later` has the bytes after the code."""
     extension, least = EXTENSIONS.get(nibble, (0, nibble))
-    return least + int.from_bytes(behind[:extension], "big")
+    return least + int.from_bytes(later[:extension], "big")
 
 
 def length_of(stream):
@@ -55,15 +55,15 @@ def length_of(stream):
     if token_nibble == 15:
         raise Malformed("token length of nibble 15")
     extension = {13: 1, 14: 2, 15: 4}.get(nibble, 0)
-    code, behind = 1 + extension, EXTENSIONS.get(token_nibble, (0, 0))[0]
-    if len(stream) < (code + 1 + behind if behind else code):
+    code, later = 1 + extension, EXTENSIONS.get(token_nibble, (0, 0))[0]
+    if len(stream) < (code + 1 + later if later else code):
         return None
     token = token_at(token_nibble, stream[code + 1:])
     if token > GREATEST_TOKEN:
         raise Malformed("token length %d" % token)
     number = int.from_bytes(stream[1:1 + extension], "big")
     length = number + {13: 13, 14: 269, 15: 65805}[nibble] if extension else nibble
-    return code + 1 + behind + token + length
+    return code + 1 + later + token + length
 
 
 def split(stream):

@@ -123,16 +123,16 @@ class Stream:
     def end(self, patience=LIMIT):
         """Returns the bytes received before the connection ends, and the seconds until then, or None if it does not
         end."""
-        began, told = time.monotonic(), self.left
+        began, got = time.monotonic(), self.left
         self.connection.settimeout(patience)
         try:
             while piece := self.connection.recv(65536):
-                told += piece
+                got += piece
         except TimeoutError:
-            return told, None
+            return got, None
         except OSError:
             pass
-        return told, time.monotonic() - began
+        return got, time.monotonic() - began
 
     def is_silent(self, seconds):
         """Returns true if no bytes and no end arrive within this time."""
@@ -196,14 +196,14 @@ class Front:
 
     def tell(self, words):
         """Returns the output of HAProxy for a command."""
-        told = b""
+        got = b""
         with contextlib.suppress(OSError), socket.socket(socket.AF_UNIX) as it:
             it.settimeout(LIMIT)
             it.connect(os.path.join(self.folder, "admin"))
             it.sendall(words.encode() + b"\n")
             while piece := it.recv(65536):
-                told += piece
-        return told.decode(errors="replace")
+                got += piece
+        return got.decode(errors="replace")
 
     def counts(self, name):
         """Returns the counters of HAProxy for a server or for its frontend, by the names in its manual."""
@@ -249,11 +249,11 @@ class Front:
         began = time.monotonic()
         try:
             with self.peer(Kind(source)) as peer:
-                told = (peer.greet(), peer.ask(spelled(GET, b"q", "who")))
+                got = (peer.greet(), peer.ask(spelled(GET, b"q", "who")))
         except OSError as trouble:
             return repr(trouble), time.monotonic() - began
-        answered = told[0] and told[1] and told[1][:2] == (CONTENT, b"q")
-        return told[1][2].decode() if answered else repr(told), time.monotonic() - began
+        answered = got[0] and got[1] and got[1][:2] == (CONTENT, b"q")
+        return got[1][2].decode() if answered else repr(got), time.monotonic() - began
 
 
 def places_for(folder, port, ports):

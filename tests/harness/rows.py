@@ -122,7 +122,7 @@ def differences(found, steps):
     wrong = []
     for line, step in zip(found, steps):
         try:
-            text = step.told(line)
+            text = step.reported(line)
         except (AttributeError, ValueError, IndexError, KeyError):
             # A line of another form, such as `memory`.
             text = line
@@ -159,16 +159,16 @@ def struck_again(file, probe, steps, found, index, shim, number):
     before = run(probe, events[:index] + looks).lines[index:]
     between = looks + [it.event for it in step.meanwhile]
     lines = run(probe, events[: index + 1] + between + [again] + events[index + 1 :], shim, number).lines
-    behind = index + 1 + len(between)
-    after, rest = lines[index + 1 : index + 1 + len(looks)], lines[:index] + lines[behind:]
+    later = index + 1 + len(between)
+    after, rest = lines[index + 1 : index + 1 + len(looks)], lines[:index] + lines[later:]
     if again != events[index]:
         # Only a part of the event is repeated. Its line has less, and the bytes kept differ.
         rest[index], before, after = found[index], [], []
         steps = steps[:index] + [type(steps[index])(again, found[index].strip())] + steps[index + 1 :]
     wrong = [] if after == before else [f"{events[index][:120]}: {before} became {after}"]
-    wrong += differences(lines[index + 1 + len(looks) : behind], step.meanwhile)
+    wrong += differences(lines[index + 1 + len(looks) : later], step.meanwhile)
     judge = getattr(file.layer(), "struck", lambda step, line, again, line_again: [])
-    wrong += judge(step, lines[index], again, lines[behind])
+    wrong += judge(step, lines[index], again, lines[later])
     return again, wrong + differences(rest, steps)
 
 
@@ -190,9 +190,9 @@ def refuse_each(file, probe, shim):
         else:
             again, found = struck_again(file, probe, steps, ran.lines, index, shim, first + count)
             calls[file.layer().refused(events[index], ran.lines[index], again)] += 1
-            told = [] if MEMORY.search(ran.lines[index]) else [f"{events[index][:120]}: the failure is not reported: "
-                                                               f"{ran.lines[index][:120]}"]
-            wrong += [f"allocation {count + 1}: {text}" for text in told + found]
+            missing = f"{events[index][:120]}: the failure is not reported: {ran.lines[index][:120]}"
+            reported = [] if MEMORY.search(ran.lines[index]) else [missing]
+            wrong += [f"allocation {count + 1}: {text}" for text in reported + found]
         count += 1
 
 

@@ -57,9 +57,9 @@ static long tell(const char *call, long result) {
     char text[96];
     long file = set("WAITS_TOLD"), number = errno;
     if (file >= 0) {
-        long told = result < 0 ? -number : result;
+        long reported = result < 0 ? -number : result;
         syscall(SYS_write, (int)file, text,
-                snprintf(text, sizeof text, "%ld %s %ld\n", (now() - begun) / MILLION, call, told));
+                snprintf(text, sizeof text, "%ld %s %ld\n", (now() - begun) / MILLION, call, reported));
     }
     errno = number;
     return result;
@@ -96,15 +96,15 @@ int setsockopt(int socket, int level, int name, const void *value, socklen_t siz
     static const struct {
         int level, name;
         const char *call;
-    } told[] = {
+    } reported[] = {
         {IPPROTO_TCP, TCP_NODELAY, "nodelay"},
         {SOL_SOCKET, SO_KEEPALIVE, "keepalive"},
         {IPPROTO_TCP, TCP_KEEPIDLE, "keepidle"},
         {IPPROTO_TCP, TCP_KEEPINTVL, "keepintvl"},
         {IPPROTO_TCP, TCP_KEEPCNT, "keepcnt"},
     };
-    for (size_t it = 0; it < sizeof told / sizeof told[0]; it++)
-        if (told[it].level == level && told[it].name == name)
-            tell(told[it].call, *(const int *)value);
+    for (size_t it = 0; it < sizeof reported / sizeof reported[0]; it++)
+        if (reported[it].level == level && reported[it].name == name)
+            tell(reported[it].call, *(const int *)value);
     return syscall(SYS_setsockopt, socket, level, name, value, size);
 }

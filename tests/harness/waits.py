@@ -16,11 +16,11 @@ class Waits:
     """
 
     def __init__(self, *libraries, at_most=None, **settings):
-        self.folder, self.told = tempfile.TemporaryDirectory(prefix="waits-"), tempfile.TemporaryFile()
+        self.folder, self.reported = tempfile.TemporaryDirectory(prefix="waits-"), tempfile.TemporaryFile()
         made = [self.compiled(it) for it in ("waits", *libraries)]
         if at_most is not None:
             settings["WAIT_AT_MOST"] = at_most
-        settings.update(LD_PRELOAD=" ".join(made), WAITS_TOLD=self.told.fileno())
+        settings.update(LD_PRELOAD=" ".join(made), WAITS_TOLD=self.reported.fileno())
         self.settings = {**os.environ, **{name: str(value) for name, value in settings.items()}}
 
     def compiled(self, name):
@@ -30,14 +30,14 @@ class Waits:
 
     def how(self, **settings):
         """Returns the arguments of Popen for such a program, and clears the record."""
-        os.ftruncate(self.told.fileno(), 0)
-        os.lseek(self.told.fileno(), 0, os.SEEK_SET)
-        return {"env": {**self.settings, **settings}, "pass_fds": [self.told.fileno()]}
+        os.ftruncate(self.reported.fileno(), 0)
+        os.lseek(self.reported.fileno(), 0, os.SEEK_SET)
+        return {"env": {**self.settings, **settings}, "pass_fds": [self.reported.fileno()]}
 
     def calls(self, kind):
         """Returns the calls of a kind (wait, send, accept, nodelay): the seconds since the program began, by its own
         clock, and the result."""
-        lines = os.pread(self.told.fileno(), 1 << 24, 0).decode().splitlines()
+        lines = os.pread(self.reported.fileno(), 1 << 24, 0).decode().splitlines()
         return [(int(at) / 1000, int(result)) for at, call, result in map(str.split, lines) if call == kind]
 
     def until_idle(self):
@@ -45,7 +45,7 @@ class Waits:
         before, size = None, 0
         while before != size:
             time.sleep(0.4)
-            before, size = size, os.fstat(self.told.fileno()).st_size
+            before, size = size, os.fstat(self.reported.fileno()).st_size
 
     def passed(self):
         """Returns the seconds from the start of a program to its last wait, by its own clock."""
@@ -55,5 +55,5 @@ class Waits:
         return self
 
     def __exit__(self, *_):
-        self.told.close()
+        self.reported.close()
         self.folder.cleanup()

@@ -8,7 +8,7 @@ from dataclasses import dataclass, field
 import changes
 from places import BadEdit, body_of
 from program_tests import CRATES
-from verdicts import told
+from verdicts import reported
 from workspace import ROOT
 
 # The layers of the edits that tests of a program detect.
@@ -30,9 +30,9 @@ class Part:
     new: str
 
     def path(self):
-        """Returns the function in the form of `told`."""
+        """Returns the function in the form of `reported`."""
         module = re.sub(r"^src/|/?(lib|main|mod)?\.rt$", "", self.file).replace("/", "::")
-        return told([*module.split("::"), *self.function.split("::")])
+        return reported([*module.split("::"), *self.function.split("::")])
 
     def applied(self, text):
         begin, end = body_of(text, self.function)

@@ -248,8 +248,8 @@ def main(words):
     make_libraries(dict.fromkeys(it.crate for it in plan.control + plan.by_clauses + plan.typed), below)
     untyped = tell_wrong_types(plan.typed)
     quoting = sum(it.layer == "clause" for it in every)
-    told_of = f", and {len(plan.typed) - untyped} of {len(plan.typed)} are well typed" if plan.typed else ""
-    print(f"{quoting - unquoted} of {quoting} edits quote a clause{told_of}", flush=True)
+    types_of = f", and {len(plan.typed) - untyped} of {len(plan.typed)} are well typed" if plan.typed else ""
+    print(f"{quoting - unquoted} of {quoting} edits quote a clause{types_of}", flush=True)
     if plan.control:
         print("The edits named harmless_ are a control, and must be reported as NOT REFUSED.", flush=True)
     verdicts = plan.run()

@@ -44,7 +44,7 @@ def messages(output):
     return found
 
 
-def told(path):
+def reported(path):
     """Returns the name of a function that is unique in its crate.
 
     For a function of a type, this is the name of the type and its own name. (A check names it by the module of the
@@ -91,13 +91,13 @@ def open_functions(name, lines):
         unproved = re.findall(r"`([^`]+)`", at[4].partition("did not prove")[2])
         named = unproved + [goal for it in filter(is_real, said) if (goal := goal_at(name, it))]
         if named:
-            goals.setdefault(told(at[2].split("::")), []).extend(named)
+            goals.setdefault(reported(at[2].split("::")), []).extend(named)
         elif said:
-            cites.add(told(at[2].split("::")))
+            cites.add(reported(at[2].split("::")))
     return goals, cites - goals.keys()
 
 
 def all_functions(lines):
     """Returns the functions that the check names."""
     found = (re.match(r"fn \w+::(.*?): ", it) for it in lines)
-    return {told(it[1].split("::")) for it in found if it}
+    return {reported(it[1].split("::")) for it in found if it}

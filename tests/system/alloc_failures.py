@@ -98,15 +98,15 @@ def over_streams(*command, stream):
 def received(peer, ends, least=0):
     """Returns the bytes received from a peer, up to this ending after at least `least` bytes, or up to the end of the
     connection."""
-    told = b""
+    reported = b""
     peer.settimeout(LIMIT)
     with contextlib.suppress(ConnectionError):
-        while (len(told) < least or not told.endswith(ends)) and (piece := peer.recv(65_536)):
-            told += piece
-    return told
+        while (len(reported) < least or not reported.endswith(ends)) and (piece := peer.recv(65_536)):
+            reported += piece
+    return reported
 
 
-def asked_once(port, process):
+def requested_once(port, process):
     """Returns the bytes that a server sends to one peer. If these are not all, or the connection fails, the server must
     end by itself."""
     sent = b""
@@ -118,17 +118,17 @@ def asked_once(port, process):
     return sent
 
 
-def asked_two(port, sent, answered):
+def requested_two(port, sent, answered):
     """Returns the bytes that a server sends to two peers, which send their requests after both CSMs. The server ends if
     an allocation fails."""
-    told, greeting = [], bytes.fromhex(CSM)
+    reported, greeting = [], bytes.fromhex(CSM)
     with contextlib.suppress(ConnectionError), contextlib.ExitStack() as stack:
         peers = [stack.enter_context(socket.create_connection((SERVER_HOST, port), LIMIT)) for _ in range(2)]
-        told += [received(peer, greeting) for peer in peers]
+        reported += [received(peer, greeting) for peer in peers]
         for peer in peers:
             peer.sendall(sent)
-            told.append(received(peer, answered) if sent else b"")
-    return b"".join(told)
+            reported.append(received(peer, answered) if sent else b"")
+    return b"".join(reported)
 
 
 def listened(server, port, environment, ask):
@@ -146,7 +146,7 @@ def listened(server, port, environment, ask):
     return Ran(status or 0, written, said.replace(b" (and then the end)", b"") + rest, sent)
 
 
-def listening(server, ask=asked_once):
+def listening(server, ask=requested_once):
     """Returns a function that runs a listening server with these peers. If another program has its port by then, the
     server runs again."""
 
@@ -160,7 +160,7 @@ def listening(server, ask=asked_once):
     return run
 
 
-def answer(listener, got, settings=SETTINGS, asked=ASKED, response=RESPONSE):
+def answer(listener, got, settings=SETTINGS, request=ASKED, response=RESPONSE):
     """Accepts a client, and sends the response if the client sends the expected request."""
     try:
         peer = listener.accept()[0]
@@ -169,8 +169,8 @@ def answer(listener, got, settings=SETTINGS, asked=ASKED, response=RESPONSE):
     with peer:
         peer.sendall(settings)
         # The payload may repeat one byte, so that its last bytes also occur in the middle.
-        got.append(received(peer, asked[-20:], len(asked)))
-        if got[0] == asked:
+        got.append(received(peer, request[-20:], len(request)))
+        if got[0] == request:
             peer.sendall(response)
 
 
@@ -219,11 +219,11 @@ def wrong_at_the_greatest_door(server):
         with contextlib.ExitStack() as stack:
             peers = [stack.enter_context(socket.create_connection((SERVER_HOST, port), LIMIT)) for _ in range(256)]
             peers[-1].sendall(SETTINGS + greatest + b"".join(puts))
-            told = received(peers[-1], wanted[-3:])
+            reported = received(peers[-1], wanted[-3:])
         status = process.poll()
         process.kill()
         said = process.communicate()[1]
-    return "" if (told, status) == (wanted, None) else f"status {status}, told {told.hex()}: {said[-200:]}"
+    return "" if (reported, status) == (wanted, None) else f"status {status}, told {reported.hex()}: {said[-200:]}"
 
 
 def wrong_at_the_greatest_words(client):
@@ -256,21 +256,21 @@ def wrong_of(ran, usual):
     is_usual = ((ran.status, ran.written, ran.sent, ran.fault())
                 == (usual.status, usual.written, usual.sent, usual.fault()))
     is_front = usual.written.startswith(ran.written) and usual.sent.startswith(ran.sent)
-    is_told = ran.status == 3 and [it.partition(": ")[2] for it in ran.fault()] == ["no memory"]
-    return "" if is_usual or (is_told and is_front) else f"{ran}, not {usual}"
+    is_reported = ran.status == 3 and [it.partition(": ")[2] for it in ran.fault()] == ["no memory"]
+    return "" if is_usual or (is_reported and is_front) else f"{ran}, not {usual}"
 
 
 def refuse_each(name, run, wanted, shim):
     """Makes each allocation of a run fail in turn. Returns the number of failures, the number of those that end the
     program, and the errors."""
-    usual, wrong, count, told = run(dict(os.environ)), [], 0, 0
+    usual, wrong, count, reported = run(dict(os.environ)), [], 0, 0
     if (usual.status, usual.written, usual.sent) != (0, *wanted):
         return 0, 0, [f"{name}: {usual}"]
     while True:
         ran = run({**os.environ, "LD_PRELOAD": shim, "REFUSE_ALLOCATION": str(count + 1)})
         if not ran.is_refused():
-            return count, told, wrong + ([f"{name}: {trouble}"] if (trouble := wrong_of(ran, usual)) else [])
-        count, told = count + 1, told + (ran.status == 3)
+            return count, reported, wrong + ([f"{name}: {trouble}"] if (trouble := wrong_of(ran, usual)) else [])
+        count, reported = count + 1, reported + (ran.status == 3)
         trouble = wrong_of(ran, usual)
         wrong += [f"{name}, allocation {count}: {trouble}"] if trouble else []
 
@@ -280,28 +280,28 @@ def made(run, shim):
     least, most = 0, MOST_MADE
     while least < most:
         middle = (least + most) // 2
-        is_refused = run(refusing_behind(middle, shim)).is_refused()
+        is_refused = run(refusing_after(middle, shim)).is_refused()
         least, most = (middle + 1, most) if is_refused else (least, middle)
     return least
 
 
-def refusing_behind(count, shim):
+def refusing_after(count, shim):
     return {**os.environ, "LD_PRELOAD": shim, "REFUSE_BEHIND": str(count)}
 
 
 def wrong_without_growth(opens, run, wanted, shim):
     """Returns the error of a run in which every allocation fails that `opens`, a run that only opens the connections,
     does not make."""
-    ran = run(refusing_behind(made(opens, shim), shim))
+    ran = run(refusing_after(made(opens, shim), shim))
     return "" if (ran.status, ran.written, ran.sent) == (0, *wanted) else f"{ran}"
 
 
 def without_growth(server, shim):
     """Yields the errors of such runs over standard streams and over sockets, by name."""
-    greeting, asked, answered = bytes.fromhex(CSM), bytes.fromhex("00e1" "010101"), bytes.fromhex("a14501" + GREETING)
-    streams = [over_streams(server, "--stdio", stream=it) for it in (b"", asked)]
+    greeting, request, answered = bytes.fromhex(CSM), bytes.fromhex("00e1" "010101"), bytes.fromhex("a14501" + GREETING)
+    streams = [over_streams(server, "--stdio", stream=it) for it in (b"", request)]
     yield "standard streams", wrong_without_growth(*streams, (greeting + answered, b""), shim)
-    peers = [listening(server, lambda port, _, sent=it: asked_two(port, sent, answered)) for it in (b"", asked)]
+    peers = [listening(server, lambda port, _, sent=it: requested_two(port, sent, answered)) for it in (b"", request)]
     yield "sockets", wrong_without_growth(*peers, (b"", 2 * greeting + 2 * answered), shim)
 
 
@@ -321,10 +321,10 @@ def main(words):
         chosen = {name: run for name, run in runs.items() if not named or name in named}
         running = {name: pool.submit(refuse_each, name, *run, shim) for name, run in chosen.items()}
         for name, it in running.items():
-            count, told, wrong = it.result()
+            count, reported, wrong = it.result()
             passed, failed = passed + count - min(count, len(wrong)), failed + len(wrong)
-            calls[f"`{name}`, in `{'coap-client' if name == 'run_client' else 'coap-server'}`", LEFT] = told
-            print(f"{name}: {count} failed allocations, of which {told} end the program")
+            calls[f"`{name}`, in `{'coap-client' if name == 'run_client' else 'coap-server'}`", LEFT] = reported
+            print(f"{name}: {count} failed allocations, of which {reported} end the program")
             for text in wrong[:3]:
                 print(text)
         for name, trouble in without_growth(server, shim):

@@ -184,12 +184,12 @@ def check_forward(checks, programs):
 def check_delayed(checks, programs):
     """Checks that a delayed response arrives in time although the clock is set back before its time."""
     with SystemClock() as clock, Server(programs.server, **clock.how()) as server, Peer(server) as peer:
-        asked_at = time.monotonic()
+        requested_at = time.monotonic()
         peer.ask(1, delay(3))
         clock.ahead(-HOUR)
         token, payload, at = peer.next()
-        checks.same("the delayed response, after %.2f s" % (at - asked_at),
-                    (token, payload, 1.9 < at - asked_at < 3 + SOON), (1, b"done", True))
+        checks.same("the delayed response, after %.2f s" % (at - requested_at),
+                    (token, payload, 1.9 < at - requested_at < 3 + SOON), (1, b"done", True))
 
 
 def check_client(checks, programs):

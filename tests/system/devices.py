@@ -67,7 +67,7 @@ def check_script(checks, server, shim):
                     (3, LINES[: ends[count]], b"coap-server: cannot write\n"))
 
 
-def asked(client, words, stream, environment):
+def requested(client, words, stream, environment):
     """Runs a client with a peer that responds as a server does. Returns the result of the run, and the bytes that the
     peer received."""
     got = []
@@ -86,7 +86,7 @@ def check_client_streams(checks, client, shim):
     words = ["-m", "put", "-f", "-", "-t", "0", "-O", "2048,0x0102", "-w"]
 
     def play(**set_):
-        return asked(client, words, b"a b", setting(shim, **set_))[0]
+        return requested(client, words, b"a b", setting(shim, **set_))[0]
 
     for set_ in ({}, {"READ_BY": 1}, {"WRITE_TAKING": 1}):
         checks.same(f"a client, {set_}", play(**set_), (0, b"hi\n", b""))
@@ -108,7 +108,7 @@ def check_client_socket(checks, client, shim):
     whole = ((0, b"hi\n", b""), ASKED)
     for name, fault in (("RECV_FAILS", STOPPED), ("RECV_ENDS", STOPPED), ("SEND_FAILS", STOPPED)):
         count = 0
-        while (found := asked(client, ASKING, b"", setting(shim, **{name: count}))) != whole:
+        while (found := requested(client, ASKING, b"", setting(shim, **{name: count}))) != whole:
             (status, written, said), got = found
             checks.same(f"a client, {name} {count}", (status, written, said, ASKED.startswith(got)),
                         (3, b"", fault, True))
@@ -122,11 +122,11 @@ def conversation(address):
     """Returns the bytes that a peer of a server receives until all requests are answered, or the connection ends."""
     with socket.create_connection(address, LIMIT) as peer:
         peer.sendall(HELLO[:5])
-        told = received(peer, ANSWERED[: len(ANSWERED) - 3])
-        if told == ANSWERED[: len(ANSWERED) - 3]:
+        reported = received(peer, ANSWERED[: len(ANSWERED) - 3])
+        if reported == ANSWERED[: len(ANSWERED) - 3]:
             peer.sendall(HELLO[5:])
-            told += received(peer, ANSWERED[-3:])
-        return told
+            reported += received(peer, ANSWERED[-3:])
+        return reported
 
 
 def check_server_socket(checks, server, shim):
@@ -140,10 +140,10 @@ def check_server_socket(checks, server, shim):
             with started(command, stdin=subprocess.DEVNULL, stderr=subprocess.PIPE,
                          env=setting(shim, **{name: count})) as process:
                 checks.same("it listens", b"listening" in line_of(process.stderr), True)
-                told = [conversation((SERVER_HOST, port)) for _ in range(3)]
+                reported = [conversation((SERVER_HOST, port)) for _ in range(3)]
                 checks.same(f"a server still runs, {name} {count}", process.poll(), None)
                 process.kill()
-            fronts = [it for it in told if it != ANSWERED]
+            fronts = [it for it in reported if it != ANSWERED]
             checks.same(f"a server, {name} {count}: at most one is truncated", len(fronts) <= 1, True)
             checks.same(f"a server, {name} {count}: its output is a prefix",
                         [it for it in fronts if not ANSWERED.startswith(it)], [])

@@ -78,8 +78,8 @@ def check_gateway(checks, program, uri, sensor):
                  stderr=subprocess.PIPE) as observer:
         first = line_of(observer.stdout)
         sensor.tell("21.5")
-        told, complained = observer.communicate(timeout=LIMIT)
-    values = [first.decode().strip(), *told.decode().split()]
+        got, complained = observer.communicate(timeout=LIMIT)
+    values = [first.decode().strip(), *got.decode().split()]
     # The last response, which ends the observation, repeats the value. Nothing else is repeated: equal values are not
     # stored again.
     checks.same("notifications of an observer", (values, observer.returncode, complained),
@@ -130,10 +130,10 @@ def actuate(program, lines):
 
 def check_actuator(checks, program):
     """Checks each response of an actuator, its entry in the listing, and its end in each way."""
-    status, lines, said = actuate(program, [digits(asked) for asked, _ in ACTUATOR])
+    status, lines, said = actuate(program, [digits(requested) for requested, _ in ACTUATOR])
     checks.same("the actuator ends after its input", (status, said), (0, ""))
-    for at, (asked, answered) in enumerate(ACTUATOR):
-        checks.same(f"the actuator answers {asked}", lines[at] if at < len(lines) else None, digits(answered))
+    for at, (requested, answered) in enumerate(ACTUATOR):
+        checks.same(f"the actuator answers {requested}", lines[at] if at < len(lines) else None, digits(answered))
     # The end of the input queues nothing.
     checks.same("the last lines of the actuator", lines[len(ACTUATOR):], [""])
     _, lines, _ = actuate(program, [digits("(CSM)+(GET /.well-known/core)")])

@@ -246,7 +246,7 @@ def check_slow(checks, server):
                     0)
         checks.same("all responses arrive in order", [number for number, _ in answers], list(range(count)))
         checks.same("each response is complete", [payload == BODY for _, payload in answers], [True] * count)
-        checks.same("times arrive in order", (moments == sorted(moments), {is_told for _, is_told in moments}),
+        checks.same("times arrive in order", (moments == sorted(moments), {is_reported for _, is_reported in moments}),
                     (True, {True}))
         checks.same("the client beside it", beside.answers, {(CONTENT, b"coap+tcp")})
         checks.same("the client is answered in time", beside.slowest if beside.slowest > ANSWERED_IN else 0, 0)

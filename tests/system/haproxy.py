@@ -101,8 +101,8 @@ def check_all(checks, server, folder):
     for check in CHECKS:
         began, counted = time.monotonic(), made(check, server, folder)
         checks.passed, checks.failed = checks.passed + counted.passed, checks.failed + counted.failed
-        told = check.__name__, counted.passed, counted.failed, time.monotonic() - began
-        print("%s: %d passed, %d failed, %.1f s" % told, flush=True)
+        got = check.__name__, counted.passed, counted.failed, time.monotonic() - began
+        print("%s: %d passed, %d failed, %.1f s" % got, flush=True)
 
 
 def check_broken(checks, server, folder):

@@ -53,21 +53,21 @@ async def be_hostile(checks, address):
     print("the good client waited at most %.3f s" % slowest)
 
 
-def told(connections, wanted):
+def got(connections, wanted):
     """Returns the number of these connections that receive the expected bytes, up to the first that does not."""
     return len(list(itertools.takewhile(lambda it: read_bytes(it, len(wanted)) == wanted, connections)))
 
 
 def greeted(connections):
     """Returns the number of these connections that receive the CSM of the server."""
-    return told(connections, OWN_SETTINGS)
+    return got(connections, OWN_SETTINGS)
 
 
 def ponged(connections):
     """Returns the number of these connections that receive a Pong for a Ping."""
     for it in connections:
         it.sendall(FLOOD[:ONE_PING])
-    return told(connections, PONGS[:ONE_PING])
+    return got(connections, PONGS[:ONE_PING])
 
 
 def connect(stack, address):

@@ -160,10 +160,10 @@ def check(checks, program):
         opened = time.monotonic()
         mute, mild = Peer(patient, b""), Peer(patient)
         stays = [Peer(plain, it) for it in (b"", SETTINGS)]
-        began, asked, pinged, slow = time.monotonic(), 0, 0, 0
+        began, requested, pinged, slow = time.monotonic(), 0, 0, 0
         while (passed := time.monotonic() - began) < WINDOW:
-            if passed >= asked * ASK_EVERY:
-                asked += 1
+            if passed >= requested * ASK_EVERY:
+                requested += 1
                 slow += serve(checks, good) > SOON
             if passed >= pinged * PING_EVERY:
                 pinged += 1

@@ -111,53 +111,53 @@ def read(*parts):
         return file.read()
 
 
-def check_library(checks, tree, told, place):
+def check_library(checks, tree, got, place):
     """Checks the content of the installed C library, and what pkg-config says of it."""
     for name, source in LIBRARY.items():
         if source:
-            checks.same("%s: %s" % (told, name), read(place, name) == read(tree, source), True)
+            checks.same("%s: %s" % (got, name), read(place, name) == read(tree, source), True)
     written = read(place, "lib/pkgconfig/dachreup.pc").decode()
-    checks.same("%s: placeholders in dachreup.pc" % told, re.findall(r"@\w+@", written), [])
+    checks.same("%s: placeholders in dachreup.pc" % got, re.findall(r"@\w+@", written), [])
     environment = dict(os.environ, PKG_CONFIG_PATH=os.path.join(place, "lib/pkgconfig"))
     for words, wanted in (
         (["--modversion"], read(tree, "VERSION").decode().strip()),
-        (["--variable=prefix"], told),
-        (["--cflags", "--libs"], "-I%s/include -L%s/lib -ldachreup" % (told, told)),
+        (["--variable=prefix"], got),
+        (["--cflags", "--libs"], "-I%s/include -L%s/lib -ldachreup" % (got, got)),
     ):
         status, said = run(["pkg-config", *words, "dachreup"], tree, env=environment)
-        checks.same("%s: pkg-config %s" % (told, words[0]), (status, said.strip()), (0, wanted))
+        checks.same("%s: pkg-config %s" % (got, words[0]), (status, said.strip()), (0, wanted))
 
 
 def check_prefix(checks, tree, prefix, has_library):
     """Checks one installation: the installed files, their content, and the files left after it is uninstalled."""
-    told = prefix or "/usr/local"
+    got = prefix or "/usr/local"
     with tempfile.TemporaryDirectory(prefix="a folder ") as destination:
-        checks.same("%s: install" % told, make(tree, "install", prefix, destination)[0], 0)
-        below = {"%s/%s" % (told[1:], name): mode for name, mode in wanted_files(has_library).items()}
-        checks.same("%s: files" % told, files_below(destination), below)
-        checks.same("%s: folders" % told, folder_modes(destination), {0o755})
-        place = destination + told
+        checks.same("%s: install" % got, make(tree, "install", prefix, destination)[0], 0)
+        below = {"%s/%s" % (got[1:], name): mode for name, mode in wanted_files(has_library).items()}
+        checks.same("%s: files" % got, files_below(destination), below)
+        checks.same("%s: folders" % got, folder_modes(destination), {0o755})
+        place = destination + got
         for name in PROGRAMS:
-            checks.same("%s: %s" % (told, name), read(place, "bin", name) == read(tree, "bin", name), True)
-            checks.same("%s: %s.1" % (told, name),
+            checks.same("%s: %s" % (got, name), read(place, "bin", name) == read(tree, "bin", name), True)
+            checks.same("%s: %s.1" % (got, name),
                         read(place, "share/man/man1", name + ".1") == read(tree, "man", name + ".1"), True)
         for name, source in ((FRONT, "install/haproxy.cfg"), (SHARED, "man/dachreup.7")):
-            checks.same("%s: %s" % (told, name), read(place, name) == read(tree, source), True)
+            checks.same("%s: %s" % (got, name), read(place, name) == read(tree, source), True)
         if has_library:
-            check_library(checks, tree, told, place)
+            check_library(checks, tree, got, place)
         unit = read(place, UNIT).decode()
         starts = re.findall(r"(?m)^ExecStart=(.*)$", unit)
-        checks.same("%s: command of the unit" % told, starts, ["%s/bin/coap-server $COAP_SERVER_OPTIONS" % told])
-        checks.same("%s: placeholders in the unit" % told, re.findall(r"@\w+@", unit), [])
+        checks.same("%s: command of the unit" % got, starts, ["%s/bin/coap-server $COAP_SERVER_OPTIONS" % got])
+        checks.same("%s: placeholders in the unit" % got, re.findall(r"@\w+@", unit), [])
         others = [os.path.join(os.path.dirname(name), "other") for name in below]
         for name in others:
             with open(os.path.join(destination, name), "w", encoding="utf-8"):
                 pass
-        checks.same("%s: uninstall" % told, make(tree, "uninstall", prefix, destination)[0], 0)
-        checks.same("%s: files after uninstall" % told, sorted(files_below(destination)), sorted(set(others)))
+        checks.same("%s: uninstall" % got, make(tree, "uninstall", prefix, destination)[0], 0)
+        checks.same("%s: files after uninstall" % got, sorted(files_below(destination)), sorted(set(others)))
         for name in set(others):
             os.remove(os.path.join(destination, name))
-        checks.same("%s: folders alone" % told, files_below(destination), {})
+        checks.same("%s: folders alone" % got, files_below(destination), {})
 
 
 def check_unbuilt(checks, tree):

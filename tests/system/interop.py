@@ -140,17 +140,17 @@ class Ends:
     def run(self, name, words, path):
         """Runs the client once. Returns its result, and the conversation."""
         with self.relay(name) as relay, start(self.client, WAITS + words, relay.origin + path) as process:
-            told = finish(process)
-        return told, relay.conversation
+            reported = finish(process)
+        return reported, relay.conversation
 
     def expect(self, words, path, code, pattern):
         """Runs the client once, checks its result and the code that the server sends, and returns the conversation."""
         name = " ".join([self.name + ":", *words, path])
-        told, conversation = self.run(name, words, path)
+        reported, conversation = self.run(name, words, path)
         pattern += self.ending if pattern else b""
         is_error = code >= NOT_FOUND
         wanted = (self.declined if is_error else 0, pattern, code_text(code) if is_error else "")
-        got = (told.status, like(pattern, told.output), first_word(told.error))
+        got = (reported.status, like(pattern, reported.output), first_word(reported.error))
         self.checks.same(name + ": the client's status, output and error", got, wanted)
         self.checks.same(name + ": the server's codes", [it[0] for it in parsed_of(conversation, True)],
                          [SETTINGS, code])
@@ -213,50 +213,51 @@ def watch(ends, path, seconds, states):
         for state in states[1:]:
             ends.put(path, state.decode(), CHANGED)
             ends.checks.same(name + ": notified of %r" % state, relay.conversation.wait_for(True, state), True)
-        told = finish(process)
-    return name, told, relay.conversation
+        reported = finish(process)
+    return name, reported, relay.conversation
 
 
 def check_end(ends, name, conversation):
     """Checks the messages at the end of an observation. Returns the payloads of all responses and notifications."""
-    asked = [it for it in parsed_of(conversation, False) if it[0] != SETTINGS]
+    requested = [it for it in parsed_of(conversation, False) if it[0] != SETTINGS]
     answered = [it for it in parsed_of(conversation, True) if it[0] != SETTINGS]
-    first = asked[0][1] if asked else None
+    first = requested[0][1] if requested else None
     asks = [(code, token == first, [value for number, value in options if number == OBSERVE])
-            for code, token, options, _ in asked]
+            for code, token, options, _ in requested]
     ends.checks.same(name + ": GETs with Observe 0 and 1, with one token", asks,
                      [(1, True, [b""]), (1, True, [b"\x01"])])
-    tells = [[number for number, _ in options if number == OBSERVE] for _, _, options, _ in answered]
-    ends.checks.same(name + ": Observe in all responses but the last", tells, [[OBSERVE]] * (len(answered) - 1) + [[]])
+    reports = [[number for number, _ in options if number == OBSERVE] for _, _, options, _ in answered]
+    ends.checks.same(name + ": Observe in all responses but the last", reports,
+                     [[OBSERVE]] * (len(answered) - 1) + [[]])
     kinds = {(code, token == first) for code, token, _, _ in answered}
     ends.checks.same(name + ": every response is 2.05 with that token", kinds, {(CONTENT, True)})
     return [it[3] for it in answered]
 
 
-def check_watched(ends, name, told, contents):
+def check_watched(ends, name, reported, contents):
     """Checks the output of the observer. The last of these contents is that of the last response."""
     printed = contents if ends.waits_for_the_end else contents[:-1]
     wanted = (0, b"".join(printed) + ends.ending, "")
-    ends.checks.same(name + ": the client's status, output and error", tuple(told), wanted)
+    ends.checks.same(name + ": the client's status, output and error", tuple(reported), wanted)
 
 
 def check_states(ends):
     """Checks an observation of a stored resource that another client changes."""
     ends.put("/watched", STATES[0].decode(), CREATED)
-    name, told, conversation = watch(ends, "/watched", WATCHES_STATES, STATES)
+    name, reported, conversation = watch(ends, "/watched", WATCHES_STATES, STATES)
     contents = check_end(ends, name, conversation)
     ends.checks.same(name + ": each state once, and the last one again at the end", contents, STATES + STATES[-1:])
-    check_watched(ends, name, told, contents)
+    check_watched(ends, name, reported, contents)
 
 
 def check_time(ends, seconds):
     """Checks an observation of /time. Returns a name and the times received."""
-    name, told, conversation = watch(ends, "/time", seconds, [])
+    name, reported, conversation = watch(ends, "/time", seconds, [])
     contents = check_end(ends, name, conversation)
     moments = contents[:-1]
     ends.checks.same(name + ": enough times, each sent once", len(set(moments)) == len(moments) >= seconds or moments,
                      True)
-    check_watched(ends, name, told, contents)
+    check_watched(ends, name, reported, contents)
     return name, moments
 
 

@@ -81,14 +81,14 @@ def talk(program, case):
     with socket.create_server((LOCAL, 0)) as listener, concurrent.futures.ThreadPoolExecutor(1) as pool:
         listener.settimeout(LIMIT)
         status = pool.submit(serve, listener, program, conversation)
-        told = ask(listener.getsockname()[1], *case[:3])
-        return told, status.result(), conversation
+        got = ask(listener.getsockname()[1], *case[:3])
+        return got, status.result(), conversation
 
 
-def check_client(checks, name, case, told, status):
+def check_client(checks, name, case, got, status):
     """Checks the result of the client, and the status of the program."""
     _, _, _, output, error, _ = case
-    checks.same(name + ": the client's status, output and error", told, (0, output, error))
+    checks.same(name + ": the client's status, output and error", got, (0, output, error))
     checks.same(name + ": the server's status", status, 0)
 
 
@@ -111,9 +111,9 @@ def check(program):
     live = [conversation.messages() for _, _, conversation in talks]
     broken = [messages_of([(True, bytes.fromhex(stream))]) for _, stream, _ in BROKEN]
     decoded = [of_side(rows, True) for rows in decode(live + broken)]
-    for case, (told, status, conversation), rows in zip(CASES, talks, decoded):
+    for case, (got, status, conversation), rows in zip(CASES, talks, decoded):
         name = "%s %s" % case[:2]
-        check_client(checks, name, case, told, status)
+        check_client(checks, name, case, got, status)
         check_bytes(checks, name, case[5], conversation.stream(True), rows)
     for (name, _, wanted), rows in zip(BROKEN, decoded[len(CASES):]):
         check_broken(checks, name, wanted, rows)

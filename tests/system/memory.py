@@ -148,10 +148,10 @@ def drained(checks, command):
     sent, line = "01e201", "out 1 01e301\n"
 
     def more(times):
-        told = ("in 1 %s\ndrain 1\n" % sent * times, ("in 1 3\n" + line) * times)
-        untold = ("in 1 %s\ndrain 7\n" % sent * times, "in 1 3\ndrain 7 fault 1\n" * times)
+        reported = ("in 1 %s\ndrain 1\n" % sent * times, ("in 1 3\n" + line) * times)
+        unreported = ("in 1 %s\ndrain 7\n" % sent * times, "in 1 3\ndrain 7 fault 1\n" * times)
         return [replayed(checks, "a script with %d %s" % (times, name), command, OPENED, part)
-                for name, part in (("lines of bytes", told), ("rejected drains", untold))]
+                for name, part in (("lines of bytes", reported), ("rejected drains", unreported))]
 
     (first, without), (second, without_second) = more(1000), more(3000)
     checks.same("allocations of 3,000 lines of bytes and of 1,000", second - without_second, 3 * (first - without))
@@ -172,12 +172,12 @@ def changes(word, times):
 def telling(checks, storing, word, request):
     """Checks that the notification of an observer makes no allocation."""
     for times in (1000, 3000):
-        told, untold = (
+        reported, unreported = (
             replayed(checks, "%d times %s, observed on %d" % (times, word, on), storing + ["--script", "-"],
                      STORED_BEFORE, OPENED, arriving(on, request, 1), changes(word, times))
             for on in (1, 7)
         )
-        checks.same("allocations of notifications of %d times %s" % (times, word), told, untold)
+        checks.same("allocations of notifications of %d times %s" % (times, word), reported, unreported)
 
 
 def putting(checks, server, storing):

@@ -71,8 +71,8 @@ SAMPLES = [
     ("coap_conn: `Link::on`, `Link::parse` (`after`)", ["coap_conn has no function Link::parse"]),
     ("`coap_wire/parse_gives_up` ('exact' of `parse`)", []),
     ("`coap_wire/parse_gives_up` ('a' of `parse`)", ["coap_wire has no mutant parse_gives_up with 'a' of `parse`"]),
-    ("`Link::un_heard_of`", ["no un_heard_of in the sources"]),
-    ("`tests/un_heard_of.py`", ["no file tests/un_heard_of.py"]),
+    ("`Link::not_defined`", ["no not_defined in the sources"]),
+    ("`tests/not_defined.py`", ["no file tests/not_defined.py"]),
     ("[`Spells`](../crates/coap_wire/specs/Spelling.antt)", []),
     ("[`Spells`](../crates/coap_wire/specs/Uint.antt)", ["coap_wire/specs/Uint.antt does not define Spells"]),
 ]

@@ -70,10 +70,10 @@ def spelled(code, token=b"", options=b"", payload=b""):
     """Returns the encoding of a message with fewer than 269 bytes of options and payload (RFC 8323 section 3.2, RFC
     8974 section 2.1)."""
     body = options + (b"\xff" + payload if payload else b"")
-    nibble, behind = (len(token), b"") if len(token) < 13 else (13, bytes([len(token) - 13]))
+    nibble, later = (len(token), b"") if len(token) < 13 else (13, bytes([len(token) - 13]))
     if len(body) < 13:
-        return bytes([len(body) << 4 | nibble, code]) + behind + token + body
-    return bytes([13 << 4 | nibble, len(body) - 13, code]) + behind + token + body
+        return bytes([len(body) << 4 | nibble, code]) + later + token + body
+    return bytes([13 << 4 | nibble, len(body) - 13, code]) + later + token + body
 
 
 def front_size(stream):
@@ -109,8 +109,8 @@ def parts_of(frame):
     """Returns the code, the token and the options of a message. The payload is not read (RFC 8323 section 3.2, RFC 7252
     section 3.1)."""
     begin = 1 + {13: 1, 14: 2, 15: 4}.get(frame[0] >> 4, 0)
-    length, behind = extended(frame[0] & 15, frame[begin + 1 :])
-    code, token, rest = frame[begin], behind[:length], behind[length:]
+    length, later = extended(frame[0] & 15, frame[begin + 1 :])
+    code, token, rest = frame[begin], later[:length], later[length:]
     options, number = [], 0
     while rest and rest[0] != 0xFF:
         first = rest[0]
@@ -237,9 +237,9 @@ def play(program, size, places):
     ran = subprocess.run([program, *WORDS], input=events, capture_output=True, text=True, timeout=600)
     if (ran.returncode, ran.stdout, ran.stderr) == (0, wanted, ""):
         return len(pairs), ""
-    for (asked, line), found in zip(zip(events.splitlines(), wanted.splitlines()), ran.stdout.splitlines()):
+    for (requested, line), found in zip(zip(events.splitlines(), wanted.splitlines()), ran.stdout.splitlines()):
         if line != found:
-            return len(pairs), f"{asked}\n    wanted {line}\n    found  {found}"
+            return len(pairs), f"{requested}\n    wanted {line}\n    found  {found}"
     return len(pairs), f"status {ran.returncode}: {ran.stderr[:200]}"
 
 

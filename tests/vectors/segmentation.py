@@ -52,8 +52,8 @@ def replay(probe, steps, at):
     found = rows.run(probe, sent).lines if cuts else []
     size, wrong = len(events) + 1, []
     for number, cut in enumerate(cuts):
-        told = wrong_of(steps, at, found[number * size : (number + 1) * size])
-        wrong += [f"{cut[0]} and {cut[1]}: {text}" for text in told[:1]]
+        reported = wrong_of(steps, at, found[number * size : (number + 1) * size])
+        wrong += [f"{cut[0]} and {cut[1]}: {text}" for text in reported[:1]]
     return len(cuts), wrong
 
 

@@ -45,27 +45,27 @@ def played(program, shim, run):
     """Runs the program. Returns the recorded calls of its devices, its status, its output and its error output."""
     words = [word for name, value in run.said.items() if name in OPTIONS for word in (OPTIONS[name], str(value))]
     # The input is a file, since a read of a pipe may return a part of it.
-    with tempfile.TemporaryFile() as told, tempfile.TemporaryFile() as sent:
+    with tempfile.TemporaryFile() as reported, tempfile.TemporaryFile() as sent:
         sent.write(run.sent)
         sent.seek(0)
-        set_ = {**environment_of(run.said, shim), "DEVICES_TOLD": str(told.fileno())}
+        set_ = {**environment_of(run.said, shim), "DEVICES_TOLD": str(reported.fileno())}
         ran = subprocess.run([program, "--stdio", *words], stdin=sent, env=set_, capture_output=True,
-                             pass_fds=[told.fileno()], timeout=60)
-        told.seek(0)
-        return told.read().decode(), ran.returncode, ran.stdout, ran.stderr.decode()
+                             pass_fds=[reported.fileno()], timeout=60)
+        reported.seek(0)
+        return reported.read().decode(), ran.returncode, ran.stdout, ran.stderr.decode()
 
 
-def calls_of(told):
+def calls_of(reported):
     """Returns the recorded calls: a word, the bytes or the size of the buffer, and the outcome of each."""
-    words = iter(told.split())
+    words = iter(reported.split())
     return list(zip(words, words, words))
 
 
 def wrong_of(program, shim, run):
     """Returns the differences of a run, or an empty text."""
-    told, status, written, said = played(program, shim, run)
-    calls = calls_of(told)
-    found = run.told_by(calls, run.answer)
+    reported, status, written, said = played(program, shim, run)
+    calls = calls_of(reported)
+    found = run.reported_by(calls, run.answer)
     is_right = (status, said) == (0, "") if run.answer not in FAULTS else status == 3 and FAULTS[run.answer] in said
     writes = [call for call in calls if call[0] == "write" and call[2] != "failed"]
     is_written = written == b"".join(stdio.bytes_of(handed)[: int(count)] for _, handed, count in writes)

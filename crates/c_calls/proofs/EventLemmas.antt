@@ -8,10 +8,10 @@ use Rattle.coap_wire.specs.Message.{Message}
 use Rattle.coap_wire.specs.Recognition.{first_critical}
 use Rattle.coap_wire.specs.Uint.{uint_of}
 use Rattle.coap_wire.specs.declared.fault.FormatFault.{FormatFault}
-use Rattle.coap_client_engine.specs.ClientValues.{ClientEventValue, answer_told, Response, Notification}
-use Rattle.coap_client_engine.specs.EventViews.{heard_value}
+use Rattle.coap_client_engine.specs.ClientValues.{ClientEventValue, response_event, Response, Notification}
+use Rattle.coap_client_engine.specs.EventViews.{received_event}
 use Rattle.coap_client_engine.specs.declared.client.Received.{Received}
-use Rattle.coap_client_engine.specs.declared.client.Received.TheVariants as heard
+use Rattle.coap_client_engine.specs.declared.client.Received.TheVariants as received
 use Rattle.c_calls.specs.ClientEvents.{token_number}
 
 -- ---- tokens
@@ -36,43 +36,43 @@ token_short bytes short = grind (arith, nat_tests)
 
 -- ---- the frames of responses
 
-told_response : (n m : Message) (token : List ℕ) (last : Bool) (critical : Option ℕ)
-    → answer_told n token last critical ≡ Response m → n ≡ m
-told_response n m token last (Some number) is = absurd cc
-told_response n m token true None is = cc
-told_response n m token false None is = absurd cc
+event_of_response : (n m : Message) (token : List ℕ) (last : Bool) (critical : Option ℕ)
+    → response_event n token last critical ≡ Response m → n ≡ m
+event_of_response n m token last (Some number) is = absurd cc
+event_of_response n m token true None is = cc
+event_of_response n m token false None is = absurd cc
 
-told_notification : (n m : Message) (token : List ℕ) (last : Bool) (critical : Option ℕ)
-    → answer_told n token last critical ≡ Notification m → n ≡ m
-told_notification n m token last (Some number) is = absurd cc
-told_notification n m token true None is = absurd cc
-told_notification n m token false None is = cc
+event_of_notification : (n m : Message) (token : List ℕ) (last : Bool) (critical : Option ℕ)
+    → response_event n token last critical ≡ Notification m → n ≡ m
+event_of_notification n m token last (Some number) is = absurd cc
+event_of_notification n m token true None is = absurd cc
+event_of_notification n m token false None is = cc
 
-some_told : (e f : ClientEventValue) → Some e ≡ Some f → e ≡ f
-some_told e f is = cc
+some_event : (e f : ClientEventValue) → Some e ≡ Some f → e ≡ f
+some_event e f is = cc
 
 -- The frame of a response has its message.
-pub heard_response : (h : Received) (read : Result Message FormatFault) (m : Message)
-    → Some (Response m) ≡ heard_value h read → read ≡ Ok m
-heard_response heard.Nothing read m is = absurd cc
-heard_response heard.Ready read m is = absurd cc
-heard_response (heard.Answer last) (Ok n) m is =
-    ap Ok (told_response n m n.token last (first_critical n.options) (some_told _ _ (sym is)))
-heard_response (heard.Answer last) (Err e) m is = absurd cc
-heard_response (heard.Pong custody) (Ok n) m is = absurd cc
-heard_response (heard.Pong custody) (Err e) m is = absurd cc
-heard_response heard.Stranger read m is = absurd cc
-heard_response (heard.Stopped why) read m is = absurd cc
+pub received_response : (h : Received) (read : Result Message FormatFault) (m : Message)
+    → Some (Response m) ≡ received_event h read → read ≡ Ok m
+received_response received.Nothing read m is = absurd cc
+received_response received.Ready read m is = absurd cc
+received_response (received.Answer last) (Ok n) m is =
+    ap Ok (event_of_response n m n.token last (first_critical n.options) (some_event _ _ (sym is)))
+received_response (received.Answer last) (Err e) m is = absurd cc
+received_response (received.Pong custody) (Ok n) m is = absurd cc
+received_response (received.Pong custody) (Err e) m is = absurd cc
+received_response received.Stranger read m is = absurd cc
+received_response (received.Stopped why) read m is = absurd cc
 
 -- So does that of a notification.
-pub heard_notification : (h : Received) (read : Result Message FormatFault) (m : Message)
-    → Some (Notification m) ≡ heard_value h read → read ≡ Ok m
-heard_notification heard.Nothing read m is = absurd cc
-heard_notification heard.Ready read m is = absurd cc
-heard_notification (heard.Answer last) (Ok n) m is =
-    ap Ok (told_notification n m n.token last (first_critical n.options) (some_told _ _ (sym is)))
-heard_notification (heard.Answer last) (Err e) m is = absurd cc
-heard_notification (heard.Pong custody) (Ok n) m is = absurd cc
-heard_notification (heard.Pong custody) (Err e) m is = absurd cc
-heard_notification heard.Stranger read m is = absurd cc
-heard_notification (heard.Stopped why) read m is = absurd cc
+pub received_notification : (h : Received) (read : Result Message FormatFault) (m : Message)
+    → Some (Notification m) ≡ received_event h read → read ≡ Ok m
+received_notification received.Nothing read m is = absurd cc
+received_notification received.Ready read m is = absurd cc
+received_notification (received.Answer last) (Ok n) m is =
+    ap Ok (event_of_notification n m n.token last (first_critical n.options) (some_event _ _ (sym is)))
+received_notification (received.Answer last) (Err e) m is = absurd cc
+received_notification (received.Pong custody) (Ok n) m is = absurd cc
+received_notification (received.Pong custody) (Err e) m is = absurd cc
+received_notification received.Stranger read m is = absurd cc
+received_notification (received.Stopped why) read m is = absurd cc

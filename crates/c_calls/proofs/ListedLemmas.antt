@@ -55,15 +55,15 @@ segments_append : (so_far : List (Bor (List ℕ))) (segment : Bor (List ℕ))
 segments_append [] segment = refl
 segments_append (s ∷ ss) segment = ap (λ (p : Path). s.now ∷ p) (segments_append ss segment)
 
-pub goes_on : (so_far : List (Bor (List ℕ))) (segment : Bor (List ℕ)) (n size : ℕ) (rest behind left list : List ℕ)
-    → left ≡ size ∷ rest → n ≡ size → n ≤ length rest → segment.now ≡ take n rest → behind ≡ drop n rest
+pub goes_on : (so_far : List (Bor (List ℕ))) (segment : Bor (List ℕ)) (n size : ℕ) (rest later left list : List ℕ)
+    → left ≡ size ∷ rest → n ≡ size → n ≤ length rest → segment.now ≡ take n rest → later ≡ drop n rest
     → after_front (segment_list so_far) (listed_segments left) ≡ listed_segments list
-    → after_front (segment_list (so_far ++ segment ∷ [])) (listed_segments behind) ≡ listed_segments list
-goes_on so_far segment n size rest behind left list splits is within whole after before =
+    → after_front (segment_list (so_far ++ segment ∷ [])) (listed_segments later) ≡ listed_segments list
+goes_on so_far segment n size rest later left list splits is within whole after before =
     let first : left ≡ n ∷ rest = splits ∙ ap (λ (k : ℕ). k ∷ rest) (sym is) in
     let all : segment_list (so_far ++ segment ∷ []) ≡ segment_list so_far ++ take n rest ∷ [] =
     segments_append so_far segment ∙ ap (λ (s : List ℕ). segment_list so_far ++ s ∷ []) whole in
-    ap (λ (p : Path). after_front p (listed_segments behind)) all
+    ap (λ (p : Path). after_front p (listed_segments later)) all
     ∙ ap (λ (bytes : List ℕ). after_front (segment_list so_far ++ take n rest ∷ []) (listed_segments bytes)) after
     ∙ one_more_step (segment_list so_far) n rest list within
     (ap (λ (bytes : List ℕ). after_front (segment_list so_far) (listed_segments bytes)) (sym first) ∙ before)

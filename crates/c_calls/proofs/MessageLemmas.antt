@@ -77,9 +77,9 @@ options_placed f l m p =
     ap (take (length (options_spelling 0 m.options))) p.body
     ∙ take_at (options_spelling 0 m.options) (payload_bytes m.payload) _ refl
 
-payload_behind : (o p : List ℕ) → drop (length o + length (payload_marker p)) (o ++ payload_bytes p) ≡ p
-payload_behind o [] = drop_all (length o + 0) (o ++ []) (omega (arith, length-append o []))
-payload_behind o (b ∷ bs) =
+payload_at_end : (o p : List ℕ) → drop (length o + length (payload_marker p)) (o ++ payload_bytes p) ≡ p
+payload_at_end o [] = drop_all (length o + 0) (o ++ []) (omega (arith, length-append o []))
+payload_at_end o (b ∷ bs) =
     ap (drop (length o + 1)) (sym (append_assoc o (255 ∷ []) (b ∷ bs)))
     ∙ drop_at (o ++ 255 ∷ []) (b ∷ bs) (length o + 1) (length-append o (255 ∷ []))
 
@@ -92,7 +92,7 @@ payload_placed f l m at p is =
     let here : at ≡ n + (length o + length (payload_marker m.payload)) = omega (arith, is, parts_count f l m p) in
     let back : drop at f ≡ m.payload =
     ap (λ (k : ℕ). drop k f) here ∙ sym (drop-drop (length o + length (payload_marker m.payload)) n f)
-    ∙ ap (drop (length o + length (payload_marker m.payload))) p.body ∙ payload_behind o m.payload in
+    ∙ ap (drop (length o + length (payload_marker m.payload))) p.body ∙ payload_at_end o m.payload in
     ap (take (length m.payload)) back ∙ take_all (length m.payload) m.payload (omega arith)
 
 ok_not_err : (h : Head) (e : FormatFault) → ◌≡◌ {A = Result Head FormatFault} (Ok h) (Err e) → ⊥

@@ -13,7 +13,7 @@ use Rattle.coap_frame.specs.Framing.{FrameEventValue, Nothing, AFrame, AFault, F
 use Rattle.coap_conn.specs.Phases.{takes_messages, stop_of}
 use Rattle.coap_conn.specs.Reaction.{abort}
 use Rattle.coap_conn.specs.Rejects.{reject_of, reject_reason}
-use Rattle.coap_conn.specs.LinkValue.{link_with, standing_in}
+use Rattle.coap_conn.specs.LinkValue.{link_with, state_in}
 use Rattle.coap_conn.specs.declared.phase.Reject.{Reject}
 use Rattle.coap_conn.specs.declared.phase.Reject.TheVariants as reject
 use Rattle.coap_conn.specs.declared.reason.Reason.{Reason}
@@ -32,8 +32,8 @@ use Rattle.coap_server_session.specs.declared.server_state.ServerState.{ServerSt
 use Rattle.coap_server_session.specs.values.Sessions.{SessionValue, TakeOutcome, IsSettled, RefusesPiece, taking}
 use Rattle.coap_server_session.specs.values.Sessions.{session_takes, session_ready, session_max, session_rejected}
 use Rattle.coap_server_session.specs.values.Sessions.{session_settled, shared_changed, taking_found, taking_read}
-use Rattle.coap_server_session.specs.values.Sessions.{next_held_in, next_stale}
-use Rattle.coap_server_session.proofs.values.SettleLemmas.{none_held, settled_quiet, settled_stays}
+use Rattle.coap_server_session.specs.values.Sessions.{next_pending_in, next_stale}
+use Rattle.coap_server_session.proofs.values.SettleLemmas.{none_is_pending, settled_quiet, settled_stays}
 use Rattle.coap_server_session.proofs.values.TakenLemmas.{refused_changes_nothing, refused_kept, shared_stays}
 use Rattle.coap_server_engine.specs.Prelude.{AreSettled, LiesAt, ServerValue, Shows, count_taken, handled_by}
 use Rattle.coap_server_engine.specs.Prelude.{handled_on, handled_so, keys_of, on_session, server_settled, server_taken}
@@ -65,7 +65,7 @@ pub record IsUnhandled (s : SessionValue) (t : TakeOutcome) : Type 0 where
 
 still_settled : (shared : ServerState) (s : SessionValue) (frame : List ℕ) → IsSettled shared s
     → IsSettled shared (record s { frame = frame })
-unfolding next_held_in next_stale
+unfolding next_pending_in next_stale
 still_settled shared s frame settled = settled
 
 -- A connection that rejected its input stays stopped when it settles.
@@ -76,12 +76,12 @@ rejected_stops shared s fault live =
     let stopped : SessionValue =
     record {
       frame = [];
-      link = link_with s.link (abort (standing_in s.link) (reject_reason fault));
+      link = link_with s.link (abort (state_in s.link) (reject_reason fault));
       observers = [];
     } in
     let is : r ≡ stopped = rw live refl in
     let settled : IsSettled shared stopped =
-    settled_quiet shared stopped (none_held shared.now [] (omega arith)) refl in
+    settled_quiet shared stopped (none_is_pending shared.now [] (omega arith)) refl in
     ap (λ (t : SessionValue). stop_of t.link.phase)
     (settled_stays shared r (subst (IsSettled shared) (sym is) settled) ∙ is)
 

@@ -52,18 +52,18 @@ pub appended : (bytes head value spelled one two : List ℕ) (count at end : ℕ
     → one ≡ take count bytes ++ (head ++ drop (count + length head) bytes)
     → two ≡ take at one ++ (value ++ drop (at + length value) one)
     → (end ≡ count + length spelled) × (two ≡ take count bytes ++ (spelled ++ drop end bytes))
-appended bytes head value spelled one two count at end is space here behind first second =
+appended bytes head value spelled one two count at end is space here later first second =
     let front = take count bytes in
     let all : length spelled ≡ length head + length value = omega (arith, ap length is, length-append head value) in
     let start : count ≡ length front = sym (length-take-le count bytes (omega (arith, space))) in
     let one_is = put_more bytes front head bytes one count start (sym (take-append-drop count bytes)) first in
     let two_is = put_more bytes (front ++ head) value one two at (omega (arith, here, start, length-append front head))
     (one_is ∙ ap (λ (n : ℕ). (front ++ head) ++ drop n bytes) (sym here)) second in (
-      omega (arith, all, here, behind),
+      omega (arith, all, here, later),
       two_is ∙ ap (λ (y : List ℕ). y ++ drop (at + length value) bytes) (append_assoc front head value)
           ∙ append_assoc front (head ++ value) (drop (at + length value) bytes)
           ∙ ap (λ (y : List ℕ). front ++ (y ++ drop (at + length value) bytes)) is
-          ∙ ap (λ (n : ℕ). front ++ (spelled ++ drop n bytes)) (sym behind),
+          ∙ ap (λ (n : ℕ). front ++ (spelled ++ drop n bytes)) (sym later),
     )
 
 -- ---- a message

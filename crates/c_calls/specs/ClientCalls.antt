@@ -20,7 +20,7 @@ use Rattle.c_handle.specs.declared.span.Parts.{Parts}
 use Rattle.c_calls.specs.ClientEvents.{ShowsEvent, IsPlain, token_number}
 use Rattle.c_calls.specs.Loans.{HaveBytes}
 use Rattle.c_calls.specs.Numbers.{client_announce_code, limit_code, phase_code, phase_reason, request_code, send_code}
-use Rattle.c_calls.specs.RequestTexts.{asked, flag_named, IsUriRefusal}
+use Rattle.c_calls.specs.RequestTexts.{call_of, flag_named, IsUriRefusal}
 use Rattle.c_calls.specs.Results.{OnHandle, Answers}
 use Rattle.c_calls.specs.Settings.{client_limits}
 use Rattle.c_calls.specs.declared.settings.ClientLimits.{ClientLimits}
@@ -70,14 +70,14 @@ AtTarget uri v v' call (Err r) =
     ⊎ (IsUtf8 uri × ((target : TargetValue) × ((target_of uri ≡ Ok target) × call target)))
 
 -- A request with values that are not among those allowed is refused with 5, before its URI is read.
-abbrev pub AskedUnless : {T : Type 0} → Option (Method × ExtrasValue) → ClientValue → ClientValue
+abbrev pub CallUnless : {T : Type 0} → Option (Method × ExtrasValue) → ClientValue → ClientValue
     → (Method → ExtrasValue → Type 0) → Result T ℕ → Type 0
-AskedUnless None v v' call (Ok x) = ⊥
-AskedUnless None v v' call (Err r) = (r ≡ 5) × (v' ≡ v)
-AskedUnless (Some a) v v' call result = call a.0 a.1
+CallUnless None v v' call (Ok x) = ⊥
+CallUnless None v v' call (Err r) = (r ≡ 5) × (v' ≡ v)
+CallUnless (Some a) v v' call result = call a.0 a.1
 
 abbrev pub GivesSent : Request → (uri payload : List ℕ) → ClientValue → ClientValue → Result ℕ ℕ → Type 0
-GivesSent request uri payload v v' result = AskedUnless (asked request payload) v v' (λ method extras.
+GivesSent request uri payload v v' result = CallUnless (call_of request payload) v v' (λ method extras.
     AtTarget uri v v' (λ target. SendsTo target method extras v v' result) result) result
 
 -- The result of a call that gives a number: 0 and the number, or the error.
@@ -96,7 +96,7 @@ CancelsTo target token extras v v' (Ok u) = (cancelling_refusal v.link token tar
     × Does (Cancelled token target extras) (client_cancelled v token target extras) v v'
 
 abbrev pub GivesCancelled : Request → List ℕ → ℕ → ClientValue → ClientValue → Result (Unit {0}) ℕ → Type 0
-GivesCancelled request uri token v v' result = AskedUnless (asked request []) v v' (λ method extras.
+GivesCancelled request uri token v v' result = CallUnless (call_of request []) v v' (λ method extras.
     AtTarget uri v v' (λ target. CancelsTo target (bytes_of_uint token) extras v v' result) result) result
 
 abbrev pub IsCancelled : Request → List ℕ → ℕ → Option ClientValue → Option ClientValue → ℕ → Type 0

@@ -27,8 +27,8 @@ flags_named n =
     if n == 0 then Some (false, false) else (if n == 1 then Some (true, false)
     else (if n == 2 then Some (false, true) else (if n == 3 then Some (true, true) else None)))
 
-abbrev pub asked_with : Request → List ℕ → Option Method → Option (Bool × Bool) → Option (Method × ExtrasValue)
-asked_with r payload (Some m) (Some flags) = Some (
+abbrev pub call_with : Request → List ℕ → Option Method → Option (Bool × Bool) → Option (Method × ExtrasValue)
+call_with r payload (Some m) (Some flags) = Some (
   m,
   record {
     observe = flags.0;
@@ -39,12 +39,12 @@ asked_with r payload (Some m) (Some flags) = Some (
     payload = payload;
   },
 )
-asked_with r payload None flags = None
-asked_with r payload (Some m) None = None
+call_with r payload None flags = None
+call_with r payload (Some m) None = None
 
 -- The method and the extras of a request, if each of its values is one of those allowed.
-abbrev pub asked : Request → List ℕ → Option (Method × ExtrasValue)
-asked r payload = asked_with r payload (method_named r.method) (flags_named r.flags)
+abbrev pub call_of : Request → List ℕ → Option (Method × ExtrasValue)
+call_of r payload = call_with r payload (method_named r.method) (flags_named r.flags)
 
 -- The number of the error of a URI: 2 for memory, 144 if the text is not UTF-8, otherwise that of its first error.
 abbrev pub IsUriRefusal : List ℕ → ℕ → Type 0

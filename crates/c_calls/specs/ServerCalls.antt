@@ -213,8 +213,8 @@ IsAnnouncedTo id size = OnHandle Nothing (λ v v' r. AnnouncedOrMemory id size
 
 -- A query changes nothing. It returns 6 if there is no connection or no resource, and leaves its result as it was then.
 abbrev pub AsksOn : {A : Type 0} → Type 0 → (A → Type 0) → Option A → PolledServer → PolledServer → ℕ → Type 0
-AsksOn same told None v v' r = (r ≡ 6) × ((v' ≡ v) × same)
-AsksOn same told (Some x) v v' r = (r ≡ 0) × ((v' ≡ v) × told x)
+AsksOn same reported None v v' r = (r ≡ 6) × ((v' ≡ v) × same)
+AsksOn same reported (Some x) v v' r = (r ≡ 0) × ((v' ≡ v) × reported x)
 
 -- The parts have the queued bytes of a connection, in their order. Their addresses are not specified.
 abbrev pub HasParts : ℕ → Option PolledServer → Option PolledServer → (parts parts' : Parts) → ℕ → Type 0

@@ -12,7 +12,7 @@ use crate::numbers::{
     EMPTY, MEMORY, NO_SUCH_TOKEN, NOT_A_CHOICE, OCCUPIED, SUCCESS, TOO_MANY,
     client_announce_number, limit_number, phase_numbers, request_number, send_number,
 };
-use crate::requests::{Request, asked, flag_of, target_of};
+use crate::requests::{Request, call_of, flag_of, target_of};
 use crate::settings::{ClientLimits, client_limits};
 use c_handle::{Parts, span_of};
 use coap_client_engine::Client;
@@ -103,7 +103,7 @@ fn send(
 ) -> Result<u64, u32>
     ensures { GivesSent request.now uri.now payload.now client.old client.new result }
 {
-    let Some((method, extras)) = asked(request, payload) else {
+    let Some((method, extras)) = call_of(request, payload) else {
         return Err(NOT_A_CHOICE);
     };
     let target = target_of(alloc, uri)?;
@@ -149,7 +149,7 @@ fn cancel(
 ) -> Result<(), u32>
     ensures { GivesCancelled request.now uri.now token client.old client.new result }
 {
-    let Some((_, extras)) = asked(request, &uri[..0]) else {
+    let Some((_, extras)) = call_of(request, &uri[..0]) else {
         return Err(NOT_A_CHOICE);
     };
     let target = target_of(alloc, uri)?;

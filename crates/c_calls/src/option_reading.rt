@@ -97,9 +97,9 @@ pub(crate) fn payload_after(options: &[u8]) -> Result<&[u8], FormatFault>
             }
             return Ok(after);
         }
-        let (option, behind) = read_option(base, *first, after)?;
+        let (option, later) = read_option(base, *first, after)?;
         base = option.number;
-        rest = behind;
+        rest = later;
     }
     Ok(rest)
 }

@@ -60,9 +60,9 @@ fn segments_at(list: &[u8]) -> Option<ArrayVec<&[u8], MAX_SEGMENTS>>
     let mut segments = ArrayVec::new();
     let mut left = list;
     while let Some((size, rest)) = left.split_first() {
-        let (segment, behind) = rest.split_at_checked(usize::from(*size))?;
+        let (segment, later) = rest.split_at_checked(usize::from(*size))?;
         segments.try_push(segment).ok()?;
-        left = behind;
+        left = later;
     }
     Some(segments)
 }

@@ -66,8 +66,8 @@ pub extern "C" fn dachreup_raw_target(
 }
 
 /// Returns the method of a request and its extras, or `None` if the method or the flags have another value.
-pub(crate) fn asked<'a>(request: &Request, payload: &'a [u8]) -> Option<(Method, Extras<'a>)>
-    ensures { option_map (λ x. (x.0, extras_value x.1)) result ≡ spec.asked request.now payload.now }
+pub(crate) fn call_of<'a>(request: &Request, payload: &'a [u8]) -> Option<(Method, Extras<'a>)>
+    ensures { option_map (λ x. (x.0, extras_value x.1)) result ≡ spec.call_of request.now payload.now }
 {
     let method = method_of(request.method)?;
     let (observe, plain) = flags_of(request.flags)?;

@@ -17,7 +17,7 @@ use Rattle.coap_client_engine.specs.Prelude.{ClientCall, Took, Sent, Cancelled, 
 use Rattle.coap_client_engine.specs.Prelude.{Wrote, Ended, ClientStep, Handles, Faults, Requests, Cancels, Pings}
 use Rattle.coap_client_engine.specs.Prelude.{Forgets, Releases, Announces, size_by, size_in}
 use Rattle.coap_client_engine.specs.Prelude.{Writes, is_none, is_open, may_forget, release, release_refusal, SendFault}
-use Rattle.coap_client_engine.specs.Prelude.{standing_now, stop, with_effect, ReleasedHere}
+use Rattle.coap_client_engine.specs.Prelude.{state_now, stop, with_effect, ReleasedHere}
 use Rattle.coap_client_engine.specs.Prelude.{Ends, taken_by, stream_in, new_fault, steps_by, after_steps, client_after}
 use Rattle.coap_client_engine.specs.Prelude.{handles, takes, event_by, event_of, IsAccepted, AreAccepted, kept_after}
 use Rattle.coap_client_engine.specs.Prelude.{client_of}
@@ -105,7 +105,7 @@ release_open h =
 pub release_over : (h : History) → is_open h.phase ≡ true → takes_messages (after h call.Release).phase ≡ false
 release_over h opened =
     ap (λ (b : Bool).
-    takes_messages (cond b (with_effect h (stop (standing_now h) ReleasedHere (release ∷ []))) h).phase) opened
+    takes_messages (cond b (with_effect h (stop (state_now h) ReleasedHere (release ∷ []))) h).phase) opened
 
 pub release_step : (h : History) → release_refusal (link_of h) ≡ None → client.step h Releases ≡ after h call.Release
 unfolding client.step
@@ -416,16 +416,16 @@ module _ (limits : LimitValues) (tokens : ℕ) (calls : List ClientCall) where
           ∙ front_whole size_before calls_stream.rest piece (stream_rest_unfinished max_taken calls stream_has_no_fault)
 
   -- The definitions give the accepted bytes and the event, and the remaining state is the client after the call.
-  pub record IsTakenAndTold (piece bytes : List ℕ) : Type 0 where
+  pub record IsTakenAndReported (piece bytes : List ℕ) : Type 0 where
     pub count : (taking (client_of limits tokens calls) piece).count ≡ takes limits tokens calls piece
     pub event : (taking (client_of limits tokens calls) piece).event ≡ event_of limits tokens calls (Took bytes)
     pub client : (taking (client_of limits tokens calls) piece).client ≡ client_of limits tokens (after_take bytes)
     pub accepted : IsAccepted limits tokens calls (Took bytes)
 
-  told_front : (before : CallsReach limits tokens calls) (piece : List ℕ) (does : handles h ≡ true)
-      → IsTakenAndTold piece (front size_before calls_stream.rest piece)
+  event_of_front : (before : CallsReach limits tokens calls) (piece : List ℕ) (does : handles h ≡ true)
+      → IsTakenAndReported piece (front size_before calls_stream.rest piece)
   unfolding event_of
-  told_front before piece does = record {
+  event_of_front before piece does = record {
     count =
         ap (λ (t : ClientTakeOutcome). t.count) (taking_is before piece does) ∙ (found_taken before piece does).count
         ∙ sym (takes_is before piece does piece);
@@ -459,9 +459,9 @@ module _ (limits : LimitValues) (tokens : ℕ) (calls : List ClientCall) where
       ∙ ap (λ (u : Stream). left h u.rest) (empty_take_stream max_taken calls)
       ∙ sym (after_of limits tokens calls)
 
-  nothing_taken_is_told : (piece : List ℕ) → handles h ≡ false → IsTakenAndTold piece []
+  nothing_taken_is_reported : (piece : List ℕ) → handles h ≡ false → IsTakenAndReported piece []
   unfolding event_of IsAccepted
-  nothing_taken_is_told piece not = record {
+  nothing_taken_is_reported piece not = record {
     count = ap (λ (t : ClientTakeOutcome). t.count) (taking_without_room piece not) ∙ sym (takes_nothing piece not);
     event =
         ap (λ (t : ClientTakeOutcome). t.event) (taking_without_room piece not)
@@ -470,17 +470,17 @@ module _ (limits : LimitValues) (tokens : ℕ) (calls : List ClientCall) where
     accepted = takes_nothing [] not;
   }
 
-  told_if : (before : CallsReach limits tokens calls) (piece : List ℕ) (does : Bool) → handles h ≡ does
-      → IsTakenAndTold piece (take (takes limits tokens calls piece) piece)
-  told_if before piece true e =
-      subst (IsTakenAndTold piece) (sym (front_is_taken before piece e)) (told_front before piece e)
-  told_if before piece false e =
-      subst (IsTakenAndTold piece) (sym (ap (λ (n : ℕ). take n piece) (takes_nothing piece e)))
-      (nothing_taken_is_told piece e)
+  event_if : (before : CallsReach limits tokens calls) (piece : List ℕ) (does : Bool) → handles h ≡ does
+      → IsTakenAndReported piece (take (takes limits tokens calls piece) piece)
+  event_if before piece true e =
+      subst (IsTakenAndReported piece) (sym (front_is_taken before piece e)) (event_of_front before piece e)
+  event_if before piece false e =
+      subst (IsTakenAndReported piece) (sym (ap (λ (n : ℕ). take n piece) (takes_nothing piece e)))
+      (nothing_taken_is_reported piece e)
 
-  pub takes_and_tells : (before : CallsReach limits tokens calls) (piece : List ℕ)
-      → IsTakenAndTold piece (take (takes limits tokens calls piece) piece)
-  takes_and_tells before piece = told_if before piece (handles h) refl
+  pub takes_and_reports : (before : CallsReach limits tokens calls) (piece : List ℕ)
+      → IsTakenAndReported piece (take (takes limits tokens calls piece) piece)
+  takes_and_reports before piece = event_if before piece (handles h) refl
 
   -- ---- the state after one more call
 

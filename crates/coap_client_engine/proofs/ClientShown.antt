@@ -22,7 +22,7 @@ use Rattle.coap_conn.specs.Calls as call
 use Rattle.coap_conn.proofs.LinkLemmas.{new_shown}
 use Rattle.coap_client_engine.proofs.ClientSteps.{stream_first, client_first, accepted_no_call, accepted_with_call}
 use Rattle.coap_client_engine.proofs.ClientReached.{limits_same, CallsReach, accepted_reach, after_of, client_link}
-use Rattle.coap_client_engine.proofs.ClientReached.{IsTakenAndTold, takes_and_tells, sent_left, cancelled_left}
+use Rattle.coap_client_engine.proofs.ClientReached.{IsTakenAndReported, takes_and_reports, sent_left, cancelled_left}
 use Rattle.coap_client_engine.proofs.ClientReached.{pinged_left, forgotten_left, released_left, announced_left}
 use Rattle.coap_client_engine.proofs.ClientReached.{wrote_left, ended_left}
 
@@ -141,17 +141,18 @@ module _ (v : ClientValue) (tokens : ℕ) (calls : List ClientCall) (shows : Cli
   ended_on new is = call_is_shown Ended client_ended tt (ended_left v.link.limits tokens calls before) new is
 
   -- The result of a `take` is the one that the definitions give.
-  piece_is_told : (piece : List ℕ)
-      → IsTakenAndTold v.link.limits tokens calls piece (take (takes v.link.limits tokens calls piece) piece)
-  piece_is_told piece = takes_and_tells v.link.limits tokens calls before piece
+  piece_is_reported : (piece : List ℕ)
+      → IsTakenAndReported v.link.limits tokens calls piece (take (takes v.link.limits tokens calls piece) piece)
+  piece_is_reported piece = takes_and_reports v.link.limits tokens calls before piece
 
   takes_on : (piece : List ℕ) (n : ℕ) → n ≡ (taking v piece).count → n ≡ takes v.link.limits tokens calls piece
-  takes_on piece n is = is ∙ ap (λ (u : ClientValue). (taking u piece).count) shows.same ∙ (piece_is_told piece).count
+  takes_on piece n is = is ∙ ap (λ (u : ClientValue). (taking u piece).count) shows.same
+      ∙ (piece_is_reported piece).count
 
-  told_on : (piece : List ℕ) (n : ℕ) (e : Option ClientEventValue) → n ≡ (taking v piece).count
+  event_on : (piece : List ℕ) (n : ℕ) (e : Option ClientEventValue) → n ≡ (taking v piece).count
       → e ≡ (taking v piece).event → e ≡ event_of v.link.limits tokens calls (Took (take n piece))
-  told_on piece n e count is =
-      is ∙ ap (λ (u : ClientValue). (taking u piece).event) shows.same ∙ (piece_is_told piece).event
+  event_on piece n e count is =
+      is ∙ ap (λ (u : ClientValue). (taking u piece).event) shows.same ∙ (piece_is_reported piece).event
       ∙ ap (λ (k : ℕ). event_of v.link.limits tokens calls (Took (take k piece))) (sym (takes_on piece n count))
 
   took_on : (piece : List ℕ) (n : ℕ) → n ≡ (taking v piece).count
@@ -160,7 +161,7 @@ module _ (v : ClientValue) (tokens : ℕ) (calls : List ClientCall) (shows : Cli
       subst (λ (k : ℕ). ClientShows (taking v piece).client tokens (calls ++ Took (take k piece) ∷ []))
       (sym (takes_on piece n count))
       (call_is_shown (Took (take (takes v.link.limits tokens calls piece) piece)) (λ u. (taking u piece).client)
-      (piece_is_told piece).accepted (piece_is_told piece).client (taking v piece).client refl)
+      (piece_is_reported piece).accepted (piece_is_reported piece).client (taking v piece).client refl)
 
 -- ---- send, cancel, ping, forget, release, announce
 
@@ -323,10 +324,11 @@ pub took_takes : (v : ClientValue) (piece : List ℕ) (n : ℕ) → n ≡ (takin
 took_takes v piece n count tokens calls shows = takes_on v tokens calls shows piece n count
 
 -- The event.
-pub took_told : (v : ClientValue) (piece : List ℕ) (n : ℕ) (e : Option ClientEventValue) → n ≡ (taking v piece).count
+pub took_reported : (v : ClientValue) (piece : List ℕ) (n : ℕ) (e : Option ClientEventValue)
+    → n ≡ (taking v piece).count
     → e ≡ (taking v piece).event → (tokens : ℕ) (calls : List ClientCall) → ClientShows v tokens calls
     → e ≡ event_of v.link.limits tokens calls (Took (take n piece))
-took_told v piece n e count is tokens calls shows = told_on v tokens calls shows piece n e count is
+took_reported v piece n e count is tokens calls shows = event_on v tokens calls shows piece n e count is
 
 -- The client after the call.
 pub took_shown : (v : ClientValue) (piece : List ℕ) (n : ℕ) → n ≡ (taking v piece).count

@@ -2,12 +2,12 @@
 use Rattle.std.proofs.Common.{◌≡◌, ℕ, ◌-◌, ◌<◌, ◌≤◌, List, [], ◌∷◌, ◌++◌, length, map, Option, Some, None, refl, sym}
 use Rattle.std.proofs.Common.{ap, subst, ◌∙◌, append_assoc, arith}
 use Rattle.coap_client_engine.specs.Prelude.{flat_map, Message, Unfinished, prefix_kind, StreamFault, Stream, split}
-use Rattle.coap_client_engine.specs.Prelude.{sized_split, sizes_first, constant_size, behind}
+use Rattle.coap_client_engine.specs.Prelude.{sized_split, sizes_first, constant_size, stream_after}
 use Rattle.coap_client_engine.specs.Prelude.{continued, split_on, framing, LimitValues, History, new_history, Client}
 use Rattle.coap_client_engine.specs.Prelude.{ClientCall, Took, ClientStep, Handles, taken_by, stream_in, new_fault}
 use Rattle.coap_client_engine.specs.Prelude.{size_by, size_in, sizes_in, beyond, AllByRecursion, KeepsSize}
-use Rattle.coap_client_engine.specs.Prelude.{steps_by, steps_behind, steps_of, after_steps, client_after, IsAccepted}
-use Rattle.coap_client_engine.specs.Prelude.{AreAcceptedBehind, AreAccepted}
+use Rattle.coap_client_engine.specs.Prelude.{steps_by, later_steps, steps_of, after_steps, client_after, IsAccepted}
+use Rattle.coap_client_engine.specs.Prelude.{AreAcceptedAfter, AreAccepted}
 use Rattle.std.proofs.lemmas.Bool.Decides.{nat_tests}
 use Rattle.std.proofs.lemmas.List.{append-nil, length-append}
 use Rattle.std.proofs.lemmas.List.Concat.{flat_map-append}
@@ -151,30 +151,30 @@ client_steps_then h [] ts = refl
 client_steps_then h (s ∷ ss) ts = client_steps_then (client.step h s) ss ts
 
 -- The steps of two lists of calls in turn.
-pub call_steps_behind_more : (M : ℕ) (a calls more : List ClientCall)
-    → steps_behind M a (calls ++ more) ≡ steps_behind M a calls ++ steps_behind M (a ++ calls) more
-unfolding steps_behind
-call_steps_behind_more M a [] more = ap (λ (b : List ClientCall). steps_behind M b more) (sym (append-nil a))
-call_steps_behind_more M a (c ∷ calls) more =
-    ap (λ (t : List ClientStep). steps_by M a c ++ t) (call_steps_behind_more M (a ++ c ∷ []) calls more)
+pub later_call_steps_more : (M : ℕ) (a calls more : List ClientCall)
+    → later_steps M a (calls ++ more) ≡ later_steps M a calls ++ later_steps M (a ++ calls) more
+unfolding later_steps
+later_call_steps_more M a [] more = ap (λ (b : List ClientCall). later_steps M b more) (sym (append-nil a))
+later_call_steps_more M a (c ∷ calls) more =
+    ap (λ (t : List ClientStep). steps_by M a c ++ t) (later_call_steps_more M (a ++ c ∷ []) calls more)
     ∙ sym
-    (append_assoc (steps_by M a c) (steps_behind M (a ++ c ∷ []) calls) (steps_behind M ((a ++ c ∷ []) ++ calls) more))
-    ∙ ap (λ (b : List ClientCall). (steps_by M a c ++ steps_behind M (a ++ c ∷ []) calls) ++ steps_behind M b more)
+    (append_assoc (steps_by M a c) (later_steps M (a ++ c ∷ []) calls) (later_steps M ((a ++ c ∷ []) ++ calls) more))
+    ∙ ap (λ (b : List ClientCall). (steps_by M a c ++ later_steps M (a ++ c ∷ []) calls) ++ later_steps M b more)
     (append_assoc a (c ∷ []) calls)
 
 pub steps_with_call : (M : ℕ) (calls : List ClientCall) (c : ClientCall)
     → steps_of M (calls ++ c ∷ []) ≡ steps_of M calls ++ steps_by M calls c
-unfolding steps_of steps_behind
+unfolding steps_of later_steps
 steps_with_call M calls c =
-    call_steps_behind_more M [] calls (c ∷ [])
-    ∙ ap (λ (t : List ClientStep). steps_behind M [] calls ++ t) (append-nil (steps_by M calls c))
+    later_call_steps_more M [] calls (c ∷ [])
+    ∙ ap (λ (t : List ClientStep). later_steps M [] calls ++ t) (append-nil (steps_by M calls c))
 
 -- ---- the connection
 
 -- The history before the first call, and after one more call.
 pub client_first : (limits : LimitValues) (tokens : ℕ)
     → client_after limits tokens [] ≡ new_history Client limits tokens
-unfolding client_after steps_of steps_behind after_steps
+unfolding client_after steps_of later_steps after_steps
 client_first limits tokens = refl
 
 pub client_more : (limits : LimitValues) (tokens : ℕ) (calls : List ClientCall) (c : ClientCall)
@@ -203,38 +203,38 @@ client_step limits tokens calls c s one =
 
 -- ---- accepted calls
 
-accepted_behind_calls : (limits : LimitValues) (tokens : ℕ) (a calls : List ClientCall) (c : ClientCall)
-    → AreAcceptedBehind limits tokens a calls → IsAccepted limits tokens (a ++ calls) c
-    → AreAcceptedBehind limits tokens a (calls ++ c ∷ [])
-unfolding AreAcceptedBehind
-accepted_behind_calls limits tokens a [] c before last =
+accepted_after_calls : (limits : LimitValues) (tokens : ℕ) (a calls : List ClientCall) (c : ClientCall)
+    → AreAcceptedAfter limits tokens a calls → IsAccepted limits tokens (a ++ calls) c
+    → AreAcceptedAfter limits tokens a (calls ++ c ∷ [])
+unfolding AreAcceptedAfter
+accepted_after_calls limits tokens a [] c before last =
     (subst (λ (b : List ClientCall). IsAccepted limits tokens b c) (append-nil a) last, tt)
-accepted_behind_calls limits tokens a (d ∷ calls) c before last = (
+accepted_after_calls limits tokens a (d ∷ calls) c before last = (
   before.0,
-  accepted_behind_calls limits tokens (a ++ d ∷ []) calls c before.1
+  accepted_after_calls limits tokens (a ++ d ∷ []) calls c before.1
       (subst (λ (b : List ClientCall). IsAccepted limits tokens b c) (sym (append_assoc a (d ∷ []) calls)) last),
 )
 
 -- The empty list of calls is accepted.
 pub accepted_no_call : (limits : LimitValues) (tokens : ℕ) → AreAccepted limits tokens []
-unfolding AreAcceptedBehind
+unfolding AreAcceptedAfter
 accepted_no_call limits tokens = tt
 
 -- One more accepted call.
 pub accepted_with_call : (limits : LimitValues) (tokens : ℕ) (calls : List ClientCall) (c : ClientCall)
     → AreAccepted limits tokens calls → IsAccepted limits tokens calls c → AreAccepted limits tokens (calls ++ c ∷ [])
-accepted_with_call limits tokens calls c before last = accepted_behind_calls limits tokens [] calls c before last
+accepted_with_call limits tokens calls c before last = accepted_after_calls limits tokens [] calls c before last
 
 -- Induction over accepted calls.
-by_calls_behind : (limits : LimitValues) (tokens : ℕ) (P : List ClientCall → Type 0)
+by_later_calls : (limits : LimitValues) (tokens : ℕ) (P : List ClientCall → Type 0)
     → ((calls : List ClientCall) (c : ClientCall) → AreAccepted limits tokens calls → IsAccepted limits tokens calls c
     → P calls → P (calls ++ c ∷ []))
     → (a calls : List ClientCall) → AreAccepted limits tokens a → P a
-    → AreAcceptedBehind limits tokens a calls → P (a ++ calls)
-unfolding AreAcceptedBehind
-by_calls_behind limits tokens P go a [] before holds all = subst P (sym (append-nil a)) holds
-by_calls_behind limits tokens P go a (c ∷ calls) before holds all =
-    subst P (append_assoc a (c ∷ []) calls) (by_calls_behind limits tokens P go (a ++ c ∷ []) calls
+    → AreAcceptedAfter limits tokens a calls → P (a ++ calls)
+unfolding AreAcceptedAfter
+by_later_calls limits tokens P go a [] before holds all = subst P (sym (append-nil a)) holds
+by_later_calls limits tokens P go a (c ∷ calls) before holds all =
+    subst P (append_assoc a (c ∷ []) calls) (by_later_calls limits tokens P go (a ++ c ∷ []) calls
     (accepted_with_call limits tokens a c before all.0) (go a c before all.0 holds) all.1)
 
 pub by_calls : (limits : LimitValues) (tokens : ℕ) (P : List ClientCall → Type 0) → P []
@@ -242,17 +242,17 @@ pub by_calls : (limits : LimitValues) (tokens : ℕ) (P : List ClientCall → Ty
     → P calls → P (calls ++ c ∷ []))
     → (calls : List ClientCall) → AreAccepted limits tokens calls → P calls
 by_calls limits tokens P first go calls all =
-    by_calls_behind limits tokens P go [] calls (accepted_no_call limits tokens) first all
+    by_later_calls limits tokens P go [] calls (accepted_no_call limits tokens) first all
 
 -- ---- the stream and the steps of a take
 
 -- The steps of a `take` and the stream after it, given the stream that its bytes add.
 pub record AddsTo (M : ℕ) (calls : List ClientCall) (bytes : List ℕ) (added : Stream) : Type 0 where
   pub steps : steps_by M calls (Took bytes) ≡ map Handles added.messages ++ new_fault None added.fault
-  pub stream : stream_in M (calls ++ Took bytes ∷ []) ≡ behind (stream_in M calls).messages added
+  pub stream : stream_in M (calls ++ Took bytes ∷ []) ≡ stream_after (stream_in M calls).messages added
 
 -- The added steps, if the stream before has no fault.
-steps_beyond_added : (before after added : Stream) → before.fault ≡ None → after ≡ behind before.messages added
+steps_beyond_added : (before after added : Stream) → before.fault ≡ None → after ≡ stream_after before.messages added
     → beyond before after ≡ map Handles added.messages ++ new_fault None added.fault
 steps_beyond_added before after added none is =
     ap (beyond before) is
@@ -265,10 +265,10 @@ pub take_adds : (M : ℕ) (calls : List ClientCall) (bytes : List ℕ) (added : 
 unfolding steps_by
 take_adds M calls bytes added none is =
     let before : Stream = stream_in M calls in
-    let after : stream_in M (calls ++ Took bytes ∷ []) ≡ behind before.messages added =
+    let after : stream_in M (calls ++ Took bytes ∷ []) ≡ stream_after before.messages added =
     stream_goes_on M calls bytes
     ∙ ap (λ (f : Option StreamFault). continued before f (split (size_in M calls) (before.rest ++ bytes))) none
-    ∙ ap (behind before.messages) is
+    ∙ ap (stream_after before.messages) is
     in
     record {
       steps = steps_beyond_added (stream_in M calls) (stream_in M (calls ++ Took bytes ∷ [])) added none after;

@@ -1,19 +1,20 @@
 -- Segmentation is irrelevant: an input slice and its two parts in turn make the same steps and leave the same client.
 use Rattle.std.proofs.Common.{◌≡◌, ℕ, List, [], ◌∷◌, ◌++◌, map, Option, Some, None, refl, sym, ap, subst, ◌∙◌}
 use Rattle.std.proofs.Common.{append_assoc}
-use Rattle.coap_client_engine.specs.Prelude.{flat_map, Message, StreamFault, Stream, split, behind, continued, split_on}
+use Rattle.coap_client_engine.specs.Prelude.{flat_map, Message, StreamFault, Stream, split, stream_after, continued}
+use Rattle.coap_client_engine.specs.Prelude.{split_on}
 use Rattle.coap_client_engine.specs.Prelude.{sized_split}
 use Rattle.coap_client_engine.specs.Prelude.{Client, LimitValues, History, new_history, link_of, ClientValue, is_cut}
 use Rattle.coap_client_engine.specs.Prelude.{ClientCall, Took, Sent, Cancelled, Pinged, Forgot, Released, Announced}
 use Rattle.coap_client_engine.specs.Prelude.{Wrote, Ended, size_by, size_in, sizes_in, ClientStep}
 use Rattle.coap_client_engine.specs.Prelude.{Handles}
-use Rattle.coap_client_engine.specs.Prelude.{Ends, taken_by, stream_in, new_fault, beyond, steps_by, steps_behind}
+use Rattle.coap_client_engine.specs.Prelude.{Ends, taken_by, stream_in, new_fault, beyond, steps_by, later_steps}
 use Rattle.coap_client_engine.specs.Prelude.{steps_of}
 use Rattle.coap_client_engine.specs.Prelude.{after_steps, client_after, kept_after, client_of}
 use Rattle.std.proofs.lemmas.List.{append-nil, map-append}
 use Rattle.std.proofs.Math.Seq.{drop-append_seam}
 use Rattle.coap_client_engine.proofs.ClientSteps.{taken_with_call, size_with_call, sizes_with_take, read_before}
-use Rattle.coap_client_engine.proofs.ClientSteps.{stream_by, stream_goes_on, call_steps_behind_more}
+use Rattle.coap_client_engine.proofs.ClientSteps.{stream_by, stream_goes_on, later_call_steps_more}
 use Rattle.coap_client_engine.proofs.ClientSteps.{nothing_beyond_itself}
 
 -- ---- only the stream and the current size matter
@@ -56,11 +57,11 @@ call_steps_alike M calls others (Wrote n) alike = refl
 call_steps_alike M calls others Ended alike = ap (λ (s : Stream). Ends (is_cut s.rest) ∷ []) alike.0
 
 later_steps_alike : (M : ℕ) (calls others later : List ClientCall) → StreamAlike M calls others
-    → steps_behind M calls later ≡ steps_behind M others later
-unfolding steps_behind
+    → later_steps M calls later ≡ later_steps M others later
+unfolding later_steps
 later_steps_alike M calls others [] alike = refl
 later_steps_alike M calls others (c ∷ later) alike =
-    ap (λ (ss : List ClientStep). ss ++ steps_behind M (calls ++ c ∷ []) later)
+    ap (λ (ss : List ClientStep). ss ++ later_steps M (calls ++ c ∷ []) later)
     (call_steps_alike M calls others c alike)
     ∙ ap (λ (ss : List ClientStep). steps_by M others c ++ ss)
     (later_steps_alike M (calls ++ c ∷ []) (others ++ c ∷ []) later (alike_by M calls others c alike))
@@ -69,7 +70,7 @@ later_steps_alike M calls others (c ∷ later) alike =
 
 -- The steps of a stream that continues one without a fault.
 beyond_more : (before others : Stream) → before.fault ≡ None
-    → beyond before (behind before.messages others) ≡ map Handles others.messages ++ new_fault None others.fault
+    → beyond before (stream_after before.messages others) ≡ map Handles others.messages ++ new_fault None others.fault
 beyond_more before others none =
     ap (λ (ms : List Message). map Handles ms ++ new_fault before.fault others.fault)
     (drop-append_seam before.messages others.messages)
@@ -77,22 +78,23 @@ beyond_more before others none =
 
 -- The steps of a stream without a fault that `s` and then `t` continue.
 beyond_gone_on : (before s t : Stream) (fault : Option StreamFault) → before.fault ≡ None → s.fault ≡ fault
-    → beyond before (continued (behind before.messages s) fault t) ≡ beyond before (behind before.messages s)
-    ++ beyond (behind before.messages s) (continued (behind before.messages s) fault t)
+    → beyond before (continued (stream_after before.messages s) fault t)
+    ≡ beyond before (stream_after before.messages s)
+    ++ beyond (stream_after before.messages s) (continued (stream_after before.messages s) fault t)
 beyond_gone_on before s t None none is =
-    let after : Stream = behind before.messages s in
+    let after : Stream = stream_after before.messages s in
     ap (λ (ms : List Message). beyond before (record t { messages = ms }))
     (append_assoc before.messages s.messages t.messages)
-    ∙ beyond_more before (behind s.messages t) none
+    ∙ beyond_more before (stream_after s.messages t) none
     ∙ ap (λ (ss : List ClientStep). ss ++ new_fault None t.fault) (map-append Handles s.messages t.messages)
     ∙ append_assoc (map Handles s.messages) (map Handles t.messages) (new_fault None t.fault)
     ∙ sym (
-    ap (λ (ss : List ClientStep). ss ++ beyond after (behind after.messages t))
+    ap (λ (ss : List ClientStep). ss ++ beyond after (stream_after after.messages t))
     (beyond_more before s none ∙ ap (λ (f : Option StreamFault). map Handles s.messages ++ new_fault None f) is
     ∙ append-nil (map Handles s.messages))
     ∙ ap (λ (ss : List ClientStep). map Handles s.messages ++ ss) (beyond_more after t is))
 beyond_gone_on before s t (Some fault) none is =
-    let after : Stream = behind before.messages s in
+    let after : Stream = stream_after before.messages s in
     sym (ap (λ (ss : List ClientStep). beyond before after ++ ss) (nothing_beyond_itself after after.fault refl)
     ∙ append-nil (beyond before after))
 
@@ -102,7 +104,7 @@ beyond_two_pieces : (M : ℕ) (before : Stream) (fault : Option StreamFault) (on
     ≡ beyond before (split_on M before one) ++ beyond (split_on M before one) (split_on M (split_on M before one) other)
 beyond_two_pieces M before None one other none =
     let s : Stream = split M (before.rest ++ one) in
-    let on : split_on M before one ≡ behind before.messages s =
+    let on : split_on M before one ≡ stream_after before.messages s =
     ap (λ (f : Option StreamFault). continued before f s) none in
     subst (λ (a : Stream). beyond before (split_on M a other) ≡ beyond before a ++ beyond a (split_on M a other))
     (sym on)
@@ -157,18 +159,18 @@ piece_steps_by_parts M calls one other =
 
 pub cut_call_steps : (M : ℕ) (earlier later : List ClientCall) (one other : List ℕ)
     → steps_of M (earlier ++ Took (one ++ other) ∷ later) ≡ steps_of M (earlier ++ Took one ∷ Took other ∷ later)
-unfolding steps_of steps_behind
+unfolding steps_of later_steps
 cut_call_steps M earlier later one other =
     let half : List ClientCall = earlier ++ Took one ∷ [] in
-    call_steps_behind_more M [] earlier (Took (one ++ other) ∷ later)
-    ∙ ap (λ (ss : List ClientStep). steps_behind M [] earlier ++ ss) (
-    ap (λ (ss : List ClientStep). ss ++ steps_behind M (earlier ++ Took (one ++ other) ∷ []) later)
+    later_call_steps_more M [] earlier (Took (one ++ other) ∷ later)
+    ∙ ap (λ (ss : List ClientStep). later_steps M [] earlier ++ ss) (
+    ap (λ (ss : List ClientStep). ss ++ later_steps M (earlier ++ Took (one ++ other) ∷ []) later)
     (piece_steps_by_parts M earlier one other)
     ∙ ap (λ (ss : List ClientStep). (steps_by M earlier (Took one) ++ steps_by M half (Took other)) ++ ss)
     (later_steps_alike M _ _ later (taken_twice M earlier one other))
     ∙ append_assoc (steps_by M earlier (Took one)) (steps_by M half (Took other))
-    (steps_behind M (half ++ Took other ∷ []) later))
-    ∙ sym (call_steps_behind_more M [] earlier (Took one ∷ Took other ∷ later))
+    (later_steps M (half ++ Took other ∷ []) later))
+    ∙ sym (later_call_steps_more M [] earlier (Took one ∷ Took other ∷ later))
 
 -- The client, as a function of the steps and the stream.
 abbrev client_by : LimitValues → ℕ → List ClientStep → Stream → ClientValue

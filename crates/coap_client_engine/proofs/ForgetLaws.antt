@@ -7,17 +7,17 @@ use Rattle.coap_client_engine.specs.Prelude.{is_entry_of, without_entry_of, with
 use Rattle.coap_client_engine.specs.Prelude.{asking_refusal, cancel_refusal, next_token, with_token, ping_with, stop}
 use Rattle.coap_client_engine.specs.Prelude.{abort, react, stay, release, release_refusal, ReleasedHere, is_open}
 use Rattle.coap_client_engine.specs.Prelude.{end_reason}
-use Rattle.coap_client_engine.specs.Prelude.{History, new_history, Client, standing_now, asking_now, with_effect, after}
+use Rattle.coap_client_engine.specs.Prelude.{History, new_history, Client, state_now, asking_now, with_effect, after}
 use Rattle.coap_client_engine.specs.Prelude.{after_asking, link_of, may_forget, ClientCall, ClientStep, Forgot, Handles}
 use Rattle.coap_client_engine.specs.Prelude.{Faults, Requests, Cancels, Pings, Forgets, Releases, Writes, Ends, step}
 use Rattle.coap_client_engine.specs.Prelude.{Announces, announce_refusal, may_announce}
-use Rattle.coap_client_engine.specs.Prelude.{steps_by, steps_of, steps_behind, after_steps, client_after}
+use Rattle.coap_client_engine.specs.Prelude.{steps_by, steps_of, later_steps, after_steps, client_after}
 use Rattle.std.proofs.lemmas.Bool.{cond_both, and_parts, or_cases, or_from, or_parts, true≢false, false_from_ne_true}
 use Rattle.coap_conn.specs.Calls as call
 use Rattle.coap_conn.proofs.AskingLaws.{none_where}
-use Rattle.coap_conn.proofs.OutstandingLaws.{asked_kept, none_left, tokens_differ, token_left}
+use Rattle.coap_conn.proofs.OutstandingLaws.{requested_kept, none_left, tokens_differ, token_left}
 use Rattle.coap_conn.proofs.ForgetLaws.{its_token, is_its_token}
-use Rattle.coap_client_engine.proofs.ClientSteps.{client_steps_then, call_steps_behind_more}
+use Rattle.coap_client_engine.proofs.ClientSteps.{client_steps_then, later_call_steps_more}
 
 -- ---- spent tokens
 
@@ -55,9 +55,9 @@ all_and_one n [] e spent one = (one, tt)
 all_and_one n (x ∷ entries) e spent one = (spent.0, all_and_one n entries e spent.1 one)
 
 cancelled_token : (token : List ℕ) (e : OutstandingValue) → its_token (cancelled_by token e) ≡ its_token e
-cancelled_token token (Request asked) = refl
-cancelled_token token (Observation asked cancelled) = refl
-cancelled_token token (Ping asked) = refl
+cancelled_token token (Request own) = refl
+cancelled_token token (Observation own cancelled) = refl
+cancelled_token token (Ping own) = refl
 
 all_cancelled : (n : ℕ) (token : List ℕ) (entries : List OutstandingValue) → AreSpent n entries
     → AreSpent n (with_cancelled token entries)
@@ -84,9 +84,9 @@ knows_if : (h k : History) (does : Bool) → KnowsAll h → (does ≡ true → K
 knows_if h k true knows then = then refl
 knows_if h k false knows then = knows
 
-asked_knows : (h : History) (m : Message) (e : OutstandingValue) → its_token e ≡ next_token h.tokens → KnowsAll h
+request_knows : (h : History) (m : Message) (e : OutstandingValue) → its_token e ≡ next_token h.tokens → KnowsAll h
     → KnowsAll (after_asking h m e)
-asked_knows h m e token knows =
+request_knows h m e token knows =
     knows_if h _ (is_none (asking_refusal (asking_now h) m)) knows
     (λ may. all_and_one (h.tokens + 1) h.outstanding e
     (all_later h.tokens (h.tokens + 1) h.outstanding (omega arith) knows)
@@ -104,33 +104,33 @@ new_entry_token false token = refl
 step_knows : (h : History) (s : ClientStep) → KnowsAll h → KnowsAll (step h s)
 unfolding step
 step_knows h (Handles m) knows =
-    knows_if h (record (with_effect h (react (standing_now h) m).effect) { handled = h.handled ++ m ∷ [] })
+    knows_if h (record (with_effect h (react (state_now h) m).effect) { handled = h.handled ++ m ∷ [] })
     (takes_messages h.phase) knows
-    (λ takes. asked_kept (AreSpent h.tokens) tt (all_left h.tokens) (standing_now h) m knows)
+    (λ takes. requested_kept (AreSpent h.tokens) tt (all_left h.tokens) (state_now h) m knows)
 step_knows h (Faults fault) knows =
-    knows_if h (with_effect h (abort (standing_now h) (reject_reason (reject_of fault)))) (takes_messages h.phase) knows
+    knows_if h (with_effect h (abort (state_now h) (reject_reason (reject_of fault)))) (takes_messages h.phase) knows
     (λ takes. tt)
 step_knows h (Requests m observe) knows =
-    asked_knows h (with_token m (next_token h.tokens)) (entry_of observe (next_token h.tokens))
+    request_knows h (with_token m (next_token h.tokens)) (entry_of observe (next_token h.tokens))
     (new_entry_token observe (next_token h.tokens)) knows
 step_knows h (Cancels token m) knows =
     knows_if h _ (is_none (cancel_refusal (asking_now h) token (with_token m token))) knows
     (λ may. all_cancelled h.tokens token h.outstanding knows)
 step_knows h (Pings custody) knows =
-    asked_knows h (ping_with custody (next_token h.tokens)) (Ping (next_token h.tokens)) refl knows
+    request_knows h (ping_with custody (next_token h.tokens)) (Ping (next_token h.tokens)) refl knows
 step_knows h (Forgets token) knows =
     knows_if h _ (may_forget (link_of h) token) knows
     (λ may. all_left h.tokens (λ e. not (is_entry_of token e)) h.outstanding knows)
 step_knows h Releases knows =
     knows_if h (after h call.Release) (is_none (release_refusal (link_of h))) knows
-    (λ none. knows_if h (with_effect h (stop (standing_now h) ReleasedHere (release ∷ []))) (is_open h.phase) knows
+    (λ none. knows_if h (with_effect h (stop (state_now h) ReleasedHere (release ∷ []))) (is_open h.phase) knows
     (λ opened. tt))
 step_knows h (Announces size) knows =
     knows_if h (after h (call.Announce size)) (is_none (announce_refusal (link_of h) size)) knows
     (λ none. knows_if h _ (may_announce (link_of h) size) knows (λ may. knows))
 step_knows h (Writes n) knows = knows
 step_knows h (Ends cut) knows =
-    knows_if h (with_effect h (stop (standing_now h) (end_reason cut) [])) (takes_messages h.phase) knows
+    knows_if h (with_effect h (stop (state_now h) (end_reason cut) [])) (takes_messages h.phase) knows
     (λ takes. tt)
 
 steps_know : (h : History) (ss : List ClientStep) → KnowsAll h → KnowsAll (after_steps h ss)
@@ -179,9 +179,9 @@ none_and_one token (x ∷ entries) e none other =
 
 cancelled_entry : (token other : List ℕ) (e : OutstandingValue)
     → is_entry_of token (cancelled_by other e) ≡ is_entry_of token e
-cancelled_entry token other (Request asked) = refl
-cancelled_entry token other (Observation asked cancelled) = refl
-cancelled_entry token other (Ping asked) = refl
+cancelled_entry token other (Request own) = refl
+cancelled_entry token other (Observation own cancelled) = refl
+cancelled_entry token other (Ping own) = refl
 
 none_cancelled : (token other : List ℕ) (entries : List OutstandingValue)
     → list_any (is_entry_of token) (with_cancelled other entries) ≡ list_any (is_entry_of token) entries
@@ -191,9 +191,9 @@ none_cancelled token other (e ∷ entries) =
     ∙ ap (λ (b : Bool). is_entry_of token e || b) (none_cancelled token other entries)
 
 -- A new entry has another token.
-asked_gone : (token : List ℕ) (h : History) (m : Message) (e : OutstandingValue) → its_token e ≡ next_token h.tokens
+request_gone : (token : List ℕ) (h : History) (m : Message) (e : OutstandingValue) → its_token e ≡ next_token h.tokens
     → IsGone token h → IsGone token (after_asking h m e)
-asked_gone token h m e named is =
+request_gone token h m e named is =
     gone_if token h _ (is_none (asking_refusal (asking_now h) m)) is
     (λ may. record {
       spent = spent_later h.tokens (h.tokens + 1) token (omega arith) is.spent;
@@ -211,27 +211,27 @@ asked_gone token h m e named is =
 step_gone : (token : List ℕ) (h : History) (s : ClientStep) → IsGone token h → IsGone token (step h s)
 unfolding step
 step_gone token h (Handles m) is =
-    let k : History = record (with_effect h (react (standing_now h) m).effect) { handled = h.handled ++ m ∷ [] } in
+    let k : History = record (with_effect h (react (state_now h) m).effect) { handled = h.handled ++ m ∷ [] } in
     gone_if token h k (takes_messages h.phase) is
-    (λ takes. gone_still token h k is refl (asked_kept (λ es. list_any (is_entry_of token) es ≡ false) refl
-    (none_in_left token) (standing_now h) m is.gone))
+    (λ takes. gone_still token h k is refl (requested_kept (λ es. list_any (is_entry_of token) es ≡ false) refl
+    (none_in_left token) (state_now h) m is.gone))
 step_gone token h (Faults fault) is =
-    let k : History = with_effect h (abort (standing_now h) (reject_reason (reject_of fault))) in
+    let k : History = with_effect h (abort (state_now h) (reject_reason (reject_of fault))) in
     gone_if token h k (takes_messages h.phase) is (λ takes. gone_still token h k is refl refl)
 step_gone token h (Requests m observe) is =
-    asked_gone token h (with_token m (next_token h.tokens)) (entry_of observe (next_token h.tokens))
+    request_gone token h (with_token m (next_token h.tokens)) (entry_of observe (next_token h.tokens))
     (new_entry_token observe (next_token h.tokens)) is
 step_gone token h (Cancels other m) is =
     gone_if token h _ (is_none (cancel_refusal (asking_now h) other (with_token m other))) is
     (λ may. gone_still token h _ is refl (none_cancelled token other h.outstanding ∙ is.gone))
 step_gone token h (Pings custody) is =
-    asked_gone token h (ping_with custody (next_token h.tokens)) (Ping (next_token h.tokens)) refl is
+    request_gone token h (ping_with custody (next_token h.tokens)) (Ping (next_token h.tokens)) refl is
 step_gone token h (Forgets other) is =
     gone_if token h _ (may_forget (link_of h) other) is
     (λ may. gone_still token h _ is refl
     (none_in_left token (λ e. not (is_entry_of other e)) h.outstanding is.gone))
 step_gone token h Releases is =
-    let k : History = with_effect h (stop (standing_now h) ReleasedHere (release ∷ [])) in
+    let k : History = with_effect h (stop (state_now h) ReleasedHere (release ∷ [])) in
     gone_if token h (after h call.Release) (is_none (release_refusal (link_of h))) is
     (λ none. gone_if token h k (is_open h.phase) is (λ opened. gone_still token h k is refl refl))
 step_gone token h (Announces size) is =
@@ -239,7 +239,7 @@ step_gone token h (Announces size) is =
     (λ none. gone_if token h _ (may_announce (link_of h) size) is (λ may. gone_still token h _ is refl is.gone))
 step_gone token h (Writes n) is = gone_still token h _ is refl is.gone
 step_gone token h (Ends cut) is =
-    let k : History = with_effect h (stop (standing_now h) (end_reason cut) []) in
+    let k : History = with_effect h (stop (state_now h) (end_reason cut) []) in
     gone_if token h k (takes_messages h.phase) is (λ takes. gone_still token h k is refl refl)
 
 steps_gone : (token : List ℕ) (h : History) (ss : List ClientStep) → IsGone token h → IsGone token (after_steps h ss)
@@ -254,7 +254,7 @@ forgotten_gone : (h : History) (token : List ℕ) → KnowsAll h → may_forget 
 unfolding step
 forgotten_gone h token knows may =
     let any = (and_parts (is_open h.phase) (list_any (is_entry_of token) h.outstanding) may).1 in
-    subst (λ (b : Bool). IsGone token (cond b (with_effect h (record (stay (standing_now h)) {
+    subst (λ (b : Bool). IsGone token (cond b (with_effect h (record (stay (state_now h)) {
       outstanding = without_entry_of token h.outstanding;
     })) h)) (sym may)
     (record {
@@ -265,16 +265,16 @@ forgotten_gone h token knows may =
 pub never_again : (limits : LimitValues) (tokens : ℕ) (earlier later : List ClientCall) (token : List ℕ)
     → may_forget (link_of (client_after limits tokens earlier)) token ≡ true
     → list_any (is_entry_of token) (client_after limits tokens (earlier ++ Forgot token ∷ later)).outstanding ≡ false
-unfolding client_after steps_of steps_behind steps_by after_steps
+unfolding client_after steps_of later_steps steps_by after_steps
 never_again limits tokens earlier later token may =
     let M : ℕ = limits.max_message in
     let start : History = new_history Client limits tokens in
-    let before : List ClientStep = steps_behind M [] earlier in
-    let ss : List ClientStep = steps_behind M (earlier ++ Forgot token ∷ []) later in
+    let before : List ClientStep = later_steps M [] earlier in
+    let ss : List ClientStep = later_steps M (earlier ++ Forgot token ∷ []) later in
     let h : History = after_steps start before in
-    let parts : after_steps start (steps_behind M [] (earlier ++ Forgot token ∷ later))
+    let parts : after_steps start (later_steps M [] (earlier ++ Forgot token ∷ later))
     ≡ after_steps (step h (Forgets token)) ss =
-    ap (after_steps start) (call_steps_behind_more M [] earlier (Forgot token ∷ later))
+    ap (after_steps start) (later_call_steps_more M [] earlier (Forgot token ∷ later))
     ∙ client_steps_then start before (Forgets token ∷ ss) in
     ap (λ (k : History). list_any (is_entry_of token) k.outstanding) parts
     ∙ (steps_gone token (step h (Forgets token)) ss

@@ -8,7 +8,7 @@ use Rattle.coap_client_engine.specs.Prelude.{Framing, framing}
 use Rattle.coap_client_engine.specs.Prelude.{Stopped, Reason, takes_messages, reject_of, reject_reason, LimitValues}
 use Rattle.coap_client_engine.specs.Prelude.{OutstandingValue, Ping, asking_refusal, cancel_refusal, next_token}
 use Rattle.coap_client_engine.specs.Prelude.{with_token}
-use Rattle.coap_client_engine.specs.Prelude.{entry_of, ping_with, stop, abort, react, History, standing_now, asking_now}
+use Rattle.coap_client_engine.specs.Prelude.{entry_of, ping_with, stop, abort, react, History, state_now, asking_now}
 use Rattle.coap_client_engine.specs.Prelude.{with_effect, after, after_asking, link_of, end_reason, free_in, is_cut}
 use Rattle.coap_client_engine.specs.Prelude.{ClientCall, ClientStep, Took, Sent, Cancelled, Pinged, Forgot, Released}
 use Rattle.coap_client_engine.specs.Prelude.{Wrote, Ended, Handles, Forgets, Releases, is_open, may_forget, release}
@@ -106,7 +106,7 @@ rests_if h k false handled phase = rests_by_itself h
 
 -- A connection that accepts messages has not stopped.
 stop_rests : (h : History) (why : Reason) (takes : Bool) → takes_messages h.phase ≡ takes
-    → Rests h (cond takes (with_effect h (stop (standing_now h) why [])) h)
+    → Rests h (cond takes (with_effect h (stop (state_now h) why [])) h)
 stop_rests h why true is =
     record { handled = refl; stopped = λ other at. absurd (both_ways _ (ap takes_messages at) is) }
 stop_rests h why false is = rests_by_itself h
@@ -114,8 +114,8 @@ stop_rests h why false is = rests_by_itself h
 end_rests : (h : History) (cut : Bool) → Rests h (after h (call.End cut))
 end_rests h cut = stop_rests h (end_reason cut) (takes_messages h.phase) refl
 
-asked_rests : (h : History) (m : Message) (e : OutstandingValue) → Rests h (after_asking h m e)
-asked_rests h m e = rests_if h _ (is_none (asking_refusal (asking_now h) m)) refl refl
+request_rests : (h : History) (m : Message) (e : OutstandingValue) → Rests h (after_asking h m e)
+request_rests h m e = rests_if h _ (is_none (asking_refusal (asking_now h) m)) refl refl
 
 cancel_rests : (h : History) (token : List ℕ) (m : Message) → Rests h (after h (call.Cancel token m))
 cancel_rests h token m = rests_if h _ (is_none (cancel_refusal (asking_now h) token (with_token m token))) refl refl
@@ -125,7 +125,7 @@ forget_rests h token = rests_if h _ (may_forget (link_of h) token) refl refl
 
 -- A connection that is open has not stopped.
 open_stop_rests : (h : History) (farewell : List Message) (opened : Bool) → is_open h.phase ≡ opened
-    → Rests h (cond opened (with_effect h (stop (standing_now h) ReleasedHere farewell)) h)
+    → Rests h (cond opened (with_effect h (stop (state_now h) ReleasedHere farewell)) h)
 open_stop_rests h farewell true is =
     record { handled = refl; stopped = λ other at. absurd (both_ways _ (ap is_open at) is) }
 open_stop_rests h farewell false is = rests_by_itself h
@@ -159,20 +159,20 @@ agrees_at_rest u v h k rests messages same is = record {
   stopped = λ fault at. rests.stopped (reject_reason (reject_of fault)) (is.stopped fault (sym same ∙ at));
 }
 
-heard_by : (u v : Stream) (h : History) (m : Message) (takes : Bool) → takes ≡ true → v.messages ≡ u.messages ++ m ∷ []
-    → v.fault ≡ None → AgreesWith u h
+agrees_after : (u v : Stream) (h : History) (m : Message) (takes : Bool) → takes ≡ true
+    → v.messages ≡ u.messages ++ m ∷ [] → v.fault ≡ None → AgreesWith u h
     → AgreesWith v
-    (cond takes (record (with_effect h (react (standing_now h) m).effect) { handled = h.handled ++ m ∷ [] }) h)
-heard_by u v h m true e messages none is = record {
+    (cond takes (record (with_effect h (react (state_now h) m).effect) { handled = h.handled ++ m ∷ [] }) h)
+agrees_after u v h m true e messages none is = record {
   handled = ap (λ (ms : List Message). ms ++ m ∷ []) is.handled ∙ sym messages;
   stopped = λ fault at. absurd (none_or_some fault (sym none ∙ at));
 }
-heard_by u v h m false e messages none is = absurd cc
+agrees_after u v h m false e messages none is = absurd cc
 
 rejected_agrees : (u v : Stream) (h : History) (fault : StreamFault) (takes : Bool) → takes ≡ true
     → v.messages ≡ u.messages
     → v.fault ≡ Some fault → AgreesWith u h
-    → AgreesWith v (cond takes (with_effect h (abort (standing_now h) (reject_reason (reject_of fault)))) h)
+    → AgreesWith v (cond takes (with_effect h (abort (state_now h) (reject_reason (reject_of fault)))) h)
 rejected_agrees u v h fault true e messages has is = record {
   handled = is.handled ∙ sym messages;
   stopped = λ other at. (
@@ -224,7 +224,7 @@ module _ (limits : LimitValues) (tokens : ℕ) where
     take_agrees bytes (OneMessage does m adds) =
         subst (AgreesWith (stream_in limits.max_message (calls ++ Took bytes ∷ [])))
         (sym (client_step limits tokens calls (Took bytes) (Handles m) adds.steps))
-        (heard_by _ _ history_now m (takes_messages history_now.phase) (handling_has_room history_now does).0
+        (agrees_after _ _ history_now m (takes_messages history_now.phase) (handling_has_room history_now does).0
         (ap (λ (u : Stream). u.messages) adds.stream) (ap (λ (u : Stream). u.fault) adds.stream) is)
     take_agrees bytes (OneFault does fault rest adds) =
         subst (AgreesWith (stream_in limits.max_message (calls ++ Took bytes ∷ [])))
@@ -239,13 +239,13 @@ module _ (limits : LimitValues) (tokens : ℕ) where
     call_agrees (Sent method target extras) accepted =
         bare_call_agrees (Sent method target extras)
         (Requests (request_of method target extras) extras.observe) refl refl
-        (asked_rests history_now (with_token (request_of method target extras) (next_token history_now.tokens))
+        (request_rests history_now (with_token (request_of method target extras) (next_token history_now.tokens))
         (entry_of extras.observe (next_token history_now.tokens)))
     call_agrees (Cancelled token target extras) accepted =
         bare_call_agrees (Cancelled token target extras) (Cancels token (cancel_of target extras)) refl refl
         (cancel_rests history_now token (cancel_of target extras))
     call_agrees (Pinged custody) accepted =
-        bare_call_agrees (Pinged custody) (Pings custody) refl refl (asked_rests history_now
+        bare_call_agrees (Pinged custody) (Pings custody) refl refl (request_rests history_now
         (ping_with custody (next_token history_now.tokens)) (Ping (next_token history_now.tokens)))
     call_agrees (Forgot token) accepted =
         bare_call_agrees (Forgot token) (Forgets token) refl refl (forget_rests history_now token)

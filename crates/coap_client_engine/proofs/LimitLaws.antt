@@ -7,7 +7,7 @@ use Rattle.coap_client_engine.specs.Prelude.{takes_messages, abort_of, reject_of
 use Rattle.coap_client_engine.specs.Prelude.{OutstandingValue, Ping, cancelled_by, asking_refusal, cancel_refusal}
 use Rattle.coap_client_engine.specs.Prelude.{next_token, with_token, entry_of, ping_with, ConnectionState, stop, abort}
 use Rattle.coap_client_engine.specs.Prelude.{react}
-use Rattle.coap_client_engine.specs.Prelude.{ReactionResult, History, IsHistory, new_history, limit_now, standing_now}
+use Rattle.coap_client_engine.specs.Prelude.{ReactionResult, History, IsHistory, new_history, limit_now, state_now}
 use Rattle.coap_client_engine.specs.Prelude.{asking_now}
 use Rattle.coap_client_engine.specs.Prelude.{waiting_of, with_effect, after, after_asking, bytes_of, end_reason}
 use Rattle.coap_client_engine.specs.Prelude.{PendingEntryValue}
@@ -27,8 +27,8 @@ use Rattle.coap_wire.proofs.StreamSteps.{unfinished_below}
 use Rattle.coap_conn.specs.Calls as call
 use Rattle.coap_conn.proofs.SmallLemmas.{first_csm_bytes_small, release_bytes_small}
 use Rattle.coap_conn.proofs.OutstandingLemmas.{count_left}
-use Rattle.coap_conn.proofs.AskingLaws.{none_where, asked_size, cancel_size}
-use Rattle.coap_conn.proofs.OutstandingLaws.{asked_no_more, asked_few}
+use Rattle.coap_conn.proofs.AskingLaws.{none_where, requested_size, cancel_size}
+use Rattle.coap_conn.proofs.OutstandingLaws.{requested_no_more, requested_few}
 use Rattle.coap_conn.proofs.HistoryLaws.{reaction_fits, stopped_fits}
 use Rattle.coap_conn.proofs.AnnounceLaws.{announcement_fits}
 use Rattle.coap_client_engine.proofs.ClientSteps.{stream_rest_unfinished, client_first, client_same, client_step}
@@ -44,17 +44,17 @@ use Rattle.coap_conn.proofs.WaitingLaws.{one_small, limit_within, queued_waits, 
 -- An effect queues at most one message, and keeps an empty pending list empty.
 record IsSparing (s : ConnectionState) (e : ReactionResult) : Type 0 where
   one : length e.queued ≤ 1
-  none : s.held ≡ [] → e.held ≡ []
+  none : s.pending ≡ [] → e.pending ≡ []
 
 react_sparing : (s : ConnectionState) (m : Message) → IsSparing s (react s m).effect
 react_sparing s m = react_so s m (IsSparing s) (record {
   stays = record { one = omega arith; none = λ e. e };
-  stands = λ now outstanding stands. record { one = omega arith; none = λ e. e };
+  silent = λ now outstanding silent. record { one = omega arith; none = λ e. e };
   stops = λ why farewell plain one may. record { one = one; none = λ e. refl };
   queues = λ n no. record { one = omega arith; none = λ e. e };
   keeps = λ ping custody some. record {
     one = omega arith;
-    none = λ e. absurd (omega (arith, some, ap (λ (held : List PendingEntryValue). length held) e));
+    none = λ e. absurd (omega (arith, some, ap (λ (pending : List PendingEntryValue). length pending) e));
   };
 })
 
@@ -63,7 +63,7 @@ react_sparing s m = react_so s m (IsSparing s) (record {
 -- The limits are the given ones, no entry is pending, and no more entries are outstanding than the limit.
 record KeepsLimits (limits : LimitValues) (h : History) : Type 0 where
   same : h.limits ≡ limits
-  none : h.held ≡ []
+  none : h.pending ≡ []
   few : length h.outstanding ≤ limits.outstanding
 
 keeps_if : (limits : LimitValues) (h k : History) (does : Bool) → KeepsLimits limits h → KeepsLimits limits k
@@ -71,39 +71,39 @@ keeps_if : (limits : LimitValues) (h k : History) (does : Bool) → KeepsLimits 
 keeps_if limits h k true is then = then
 keeps_if limits h k false is then = is
 
-asked_keeps_held : (h : History) (m : Message) (e : OutstandingValue)
-    → ((after_asking h m e).limits ≡ h.limits) × ((after_asking h m e).held ≡ h.held)
-asked_keeps_held h m e =
+request_keeps_pending : (h : History) (m : Message) (e : OutstandingValue)
+    → ((after_asking h m e).limits ≡ h.limits) × ((after_asking h m e).pending ≡ h.pending)
+request_keeps_pending h m e =
     cond_both (is_none (asking_refusal (asking_now h) m)) _ h
-    (λ (k : History). (k.limits ≡ h.limits) × (k.held ≡ h.held)) (λ f. (refl, refl)) (λ f. (refl, refl))
+    (λ (k : History). (k.limits ≡ h.limits) × (k.pending ≡ h.pending)) (λ f. (refl, refl)) (λ f. (refl, refl))
 
-asked_keeps : (limits : LimitValues) (h : History) (m : Message) (e : OutstandingValue) → KeepsLimits limits h
+request_keeps : (limits : LimitValues) (h : History) (m : Message) (e : OutstandingValue) → KeepsLimits limits h
     → KeepsLimits limits (after_asking h m e)
-asked_keeps limits h m e is =
+request_keeps limits h m e is =
     let most : h.limits.outstanding ≡ limits.outstanding = ap (λ (l : LimitValues). l.outstanding) is.same in
     record {
-      same = (asked_keeps_held h m e).0 ∙ is.same;
-      none = (asked_keeps_held h m e).1 ∙ is.none;
-      few = omega (arith, most, asked_few h m e (omega (arith, most, is.few)));
+      same = (request_keeps_pending h m e).0 ∙ is.same;
+      none = (request_keeps_pending h m e).1 ∙ is.none;
+      few = omega (arith, most, requested_few h m e (omega (arith, most, is.few)));
     }
 
 step_keeps_limits : (limits : LimitValues) (h : History) (s : ClientStep) → KeepsLimits limits h
     → KeepsLimits limits (step h s)
 unfolding step
 step_keeps_limits limits h (Handles m) is =
-    keeps_if limits h (record (with_effect h (react (standing_now h) m).effect) { handled = h.handled ++ m ∷ [] })
+    keeps_if limits h (record (with_effect h (react (state_now h) m).effect) { handled = h.handled ++ m ∷ [] })
     (takes_messages h.phase) is
     (record {
       same = is.same;
-      none = (react_sparing (standing_now h) m).none is.none;
-      few = omega (arith, is.few, asked_no_more (standing_now h) m);
+      none = (react_sparing (state_now h) m).none is.none;
+      few = omega (arith, is.few, requested_no_more (state_now h) m);
     })
 step_keeps_limits limits h (Faults fault) is =
-    keeps_if limits h (with_effect h (abort (standing_now h) (reject_reason (reject_of fault))))
+    keeps_if limits h (with_effect h (abort (state_now h) (reject_reason (reject_of fault))))
     (takes_messages h.phase) is
     (record { same = is.same; none = refl; few = omega arith })
 step_keeps_limits limits h (Requests m observe) is =
-    asked_keeps limits h (with_token m (next_token h.tokens)) (entry_of observe (next_token h.tokens)) is
+    request_keeps limits h (with_token m (next_token h.tokens)) (entry_of observe (next_token h.tokens)) is
 step_keeps_limits limits h (Cancels token m) is =
     keeps_if limits h _ (is_none (cancel_refusal (asking_now h) token (with_token m token))) is
     (record {
@@ -112,7 +112,7 @@ step_keeps_limits limits h (Cancels token m) is =
       few = omega (arith, is.few, length-map h.outstanding (cancelled_by token));
     })
 step_keeps_limits limits h (Pings custody) is =
-    asked_keeps limits h (ping_with custody (next_token h.tokens)) (Ping (next_token h.tokens)) is
+    request_keeps limits h (ping_with custody (next_token h.tokens)) (Ping (next_token h.tokens)) is
 step_keeps_limits limits h (Forgets token) is =
     keeps_if limits h _ (may_forget (link_of h) token) is
     (record {
@@ -122,7 +122,7 @@ step_keeps_limits limits h (Forgets token) is =
     })
 step_keeps_limits limits h Releases is =
     keeps_if limits h (after h call.Release) (is_none (release_refusal (link_of h))) is
-    (keeps_if limits h (with_effect h (stop (standing_now h) ReleasedHere (release ∷ []))) (is_open h.phase) is
+    (keeps_if limits h (with_effect h (stop (state_now h) ReleasedHere (release ∷ []))) (is_open h.phase) is
     (record { same = is.same; none = refl; few = omega arith }))
 step_keeps_limits limits h (Announces size) is =
     keeps_if limits h (after h (call.Announce size)) (is_none (announce_refusal (link_of h) size)) is
@@ -130,7 +130,7 @@ step_keeps_limits limits h (Announces size) is =
     (record { same = is.same; none = is.none; few = is.few }))
 step_keeps_limits limits h (Writes n) is = record { same = is.same; none = is.none; few = is.few }
 step_keeps_limits limits h (Ends cut) is =
-    keeps_if limits h (with_effect h (stop (standing_now h) (end_reason cut) [])) (takes_messages h.phase) is
+    keeps_if limits h (with_effect h (stop (state_now h) (end_reason cut) [])) (takes_messages h.phase) is
     (record { same = is.same; none = refl; few = omega arith })
 
 steps_keep_limits : (limits : LimitValues) (h : History) (ss : List ClientStep) → KeepsLimits limits h
@@ -147,7 +147,7 @@ calls_keep_limits limits tokens calls =
     (record { same = refl; none = refl; few = omega arith })
 
 pub client_holds_nothing : (limits : LimitValues) (tokens : ℕ) (calls : List ClientCall)
-    → (client_after limits tokens calls).held ≡ []
+    → (client_after limits tokens calls).pending ≡ []
 client_holds_nothing limits tokens calls = (calls_keep_limits limits tokens calls).none
 
 pub few_outstanding : (limits : LimitValues) (tokens : ℕ) (calls : List ClientCall)
@@ -191,7 +191,7 @@ module _ (limits : LimitValues) (h : History) (same : h.limits ≡ limits) (is :
   asking_waits : (m : Message) (e : OutstandingValue) → bytes_wait (after_asking h m e) ≤ limits.queue
   asking_waits m e =
       wait_if limits.queue h _ (is_none (asking_refusal (asking_now h) m)) few
-      (λ may. room_by_size m (asked_size (asking_now h) m (none_where (asking_refusal (asking_now h) m) may)).room)
+      (λ may. room_by_size m (requested_size (asking_now h) m (none_where (asking_refusal (asking_now h) m) may)).room)
 
   cancel_waits : (token : List ℕ) (m : Message) → bytes_wait (after h (call.Cancel token m)) ≤ limits.queue
   cancel_waits token m =
@@ -209,7 +209,7 @@ module _ (limits : LimitValues) (h : History) (same : h.limits ≡ limits) (is :
   unfolding step
   release_waits =
       wait_if limits.queue h (after h call.Release) (is_none (release_refusal (link_of h))) few
-      (λ none. wait_if limits.queue h (with_effect h (stop (standing_now h) ReleasedHere (release ∷ [])))
+      (λ none. wait_if limits.queue h (with_effect h (stop (state_now h) ReleasedHere (release ∷ [])))
       (is_open h.phase) few
       (λ opened. omega (
         arith,
@@ -243,7 +243,7 @@ module _ (limits : LimitValues) (h : History) (same : h.limits ≡ limits) (is :
 
   end_waits : (cut : Bool) → bytes_wait (after h (call.End cut)) ≤ limits.queue
   end_waits cut =
-      wait_if limits.queue h (with_effect h (stop (standing_now h) (end_reason cut) [])) (takes_messages h.phase) few
+      wait_if limits.queue h (with_effect h (stop (state_now h) (end_reason cut) [])) (takes_messages h.phase) few
       (λ takes. omega (arith, few, queued_waits h [] is))
 
   -- If messages are processed, one message has room.
@@ -264,16 +264,16 @@ module _ (limits : LimitValues) (h : History) (same : h.limits ≡ limits) (is :
     message_waits : (m : Message) → bytes_wait (after h (call.Handle m)) ≤ limits.queue
     message_waits m =
         wait_if limits.queue h
-        (record (with_effect h (react (standing_now h) m).effect) { handled = h.handled ++ m ∷ [] })
+        (record (with_effect h (react (state_now h) m).effect) { handled = h.handled ++ m ∷ [] })
         (takes_messages h.phase) few
-        (λ takes. one_waits (react (standing_now h) m).effect.queued
-        (react_sparing (standing_now h) m).one (reaction_fits h m))
+        (λ takes. one_waits (react (state_now h) m).effect.queued
+        (react_sparing (state_now h) m).one (reaction_fits h m))
 
     fault_waits : (why : Reason)
-        → bytes_wait (cond (takes_messages h.phase) (with_effect h (abort (standing_now h) why)) h) ≤ limits.queue
+        → bytes_wait (cond (takes_messages h.phase) (with_effect h (abort (state_now h) why)) h) ≤ limits.queue
     fault_waits why =
-        wait_if limits.queue h (with_effect h (abort (standing_now h) why)) (takes_messages h.phase) few
-        (λ takes. one_waits (abort (standing_now h) why).queued
+        wait_if limits.queue h (with_effect h (abort (state_now h) why)) (takes_messages h.phase) few
+        (λ takes. one_waits (abort (state_now h) why).queued
         (abort_one (limit_now h) (abort_of why)) (stopped_fits h why))
 
 -- ---- after accepted calls

@@ -11,7 +11,7 @@ use Rattle.coap_client_engine.specs.Prelude.{Forgets, Releases, Writes, Ends, af
 use Rattle.coap_client_engine.specs.Prelude.{release_refusal, Announced, Announces, announce_refusal, may_announce}
 use Rattle.coap_client_engine.specs.Prelude.{taken_by}
 use Rattle.coap_client_engine.specs.Prelude.{stream_in, new_fault, steps_by, step, after_steps, client_after, client_of}
-use Rattle.coap_client_engine.specs.Prelude.{AreAcceptedBehind, AreAccepted, calls_read, calls_written, RunTrace}
+use Rattle.coap_client_engine.specs.Prelude.{AreAcceptedAfter, AreAccepted, calls_read, calls_written, RunTrace}
 use Rattle.coap_client_engine.specs.Prelude.{Begins}
 use Rattle.coap_client_engine.specs.Prelude.{Turns, Reads, Calls, Refuses, GivesUp, Rests, default_limits, calls_in}
 use Rattle.coap_client_engine.specs.Prelude.{history_in}
@@ -208,8 +208,8 @@ sent_grown h k is grows =
 
 -- A prefix of accepted calls is accepted.
 accepted_front : (limits : LimitValues) (tokens : ℕ) (earlier calls more : List ClientCall)
-    → AreAcceptedBehind limits tokens earlier (calls ++ more) → AreAcceptedBehind limits tokens earlier calls
-unfolding AreAcceptedBehind
+    → AreAcceptedAfter limits tokens earlier (calls ++ more) → AreAcceptedAfter limits tokens earlier calls
+unfolding AreAcceptedAfter
 accepted_front limits tokens earlier [] more all = tt
 accepted_front limits tokens earlier (c ∷ calls) more all =
     (all.0, accepted_front limits tokens (earlier ++ c ∷ []) calls more all.1)
@@ -259,16 +259,16 @@ wrote_sent calls n all =
     (history_of calls (accepted_before calls (Wrote n ∷ []) all))
 
 -- The bytes still to be written are the queued bytes after those already written.
-waits_behind : (calls : List ClientCall)
+waits_after : (calls : List ClientCall)
     → (client_of default_limits 0 calls).link.waiting ≡ drop (led_to calls).written (bytes_of (led_to calls).queued)
 unfolding client_of
-waits_behind calls = refl
+waits_after calls = refl
 
 written_sent : (calls : List ClientCall) (got : Got) → AreAccepted default_limits 0 (calls ++ calls_written got)
     → sent_bytes (led_to (calls ++ calls_written got))
     ≡ sent_bytes (led_to calls) ++ bytes_passed (client_of default_limits 0 calls).link.waiting got
 written_sent calls (Bytes n) all =
-    wrote_sent calls n all ∙ ap (λ (w : List ℕ). sent_bytes (led_to calls) ++ take n w) (sym (waits_behind calls))
+    wrote_sent calls n all ∙ ap (λ (w : List ℕ). sent_bytes (led_to calls) ++ take n w) (sym (waits_after calls))
 written_sent calls Later all = no_call_sent calls ∙ sym (append-nil (sent_bytes (led_to calls)))
 written_sent calls End all = no_call_sent calls ∙ sym (append-nil (sent_bytes (led_to calls)))
 written_sent calls Failed all = no_call_sent calls ∙ sym (append-nil (sent_bytes (led_to calls)))
@@ -313,4 +313,4 @@ trace_queued plan c is all =
     sym (take-append-drop (history_in c).written (bytes_of (history_in c).queued))
     ∙ ap (λ (w : List ℕ). w ++ drop (history_in c).written (bytes_of (history_in c).queued))
     (sym (trace_sent plan c is all))
-    ∙ ap (λ (w : List ℕ). written_in c ++ w) (sym (waits_behind (calls_in c)))
+    ∙ ap (λ (w : List ℕ). written_in c ++ w) (sym (waits_after (calls_in c)))

@@ -71,11 +71,11 @@ read_shown v new Later calls is shows = shown_none v new calls is shows
 read_shown v new End calls is shows = ended_shown v new is 0 calls shows
 read_shown v new Failed calls is shows = shown_none v new calls is shows
 
-pub asked_shown : (v new : ClientValue) (method : Method) (target : TargetValue) (extras : ExtrasValue)
+pub request_shown : (v new : ClientValue) (method : Method) (target : TargetValue) (extras : ExtrasValue)
     (calls : List ClientCall) → send_refusal v.link method target extras ≡ None
     → new ≡ client_sent v method target extras
     → ClientShows v 0 calls → ClientShows new 0 (calls ++ Sent method target extras ∷ [])
-asked_shown v new method target extras calls none is shows =
+request_shown v new method target extras calls none is shows =
     let done : Result ℕ RequestFault = Ok 0 in
     sent_shown done v new method target extras none is 0 calls shows
 
@@ -89,12 +89,12 @@ given_up_shown v new token target extras calls none is shows =
 
 -- ---- calls without an event
 
-pub send_tells_none : (calls : List ClientCall) (method : Method) (target : TargetValue) (extras : ExtrasValue)
+pub send_reports_none : (calls : List ClientCall) (method : Method) (target : TargetValue) (extras : ExtrasValue)
     (limits : LimitValues) → event_of limits 0 calls (Sent method target extras) ≡ None
 unfolding event_of steps_by
-send_tells_none calls method target extras limits = refl
+send_reports_none calls method target extras limits = refl
 
-pub cancel_tells_none : (calls : List ClientCall) (token : List ℕ) (target : TargetValue) (extras : ExtrasValue)
+pub cancel_reports_none : (calls : List ClientCall) (token : List ℕ) (target : TargetValue) (extras : ExtrasValue)
     (limits : LimitValues) → event_of limits 0 calls (Cancelled token target extras) ≡ None
 unfolding event_of steps_by
-cancel_tells_none calls token target extras limits = refl
+cancel_reports_none calls token target extras limits = refl

@@ -11,9 +11,10 @@ use Rattle.coap_client_engine.specs.Prelude.{CsmExpected, BadSignalOption, PeerA
 use Rattle.coap_client_engine.specs.Prelude.{has_critical_option}
 use Rattle.coap_client_engine.specs.Prelude.{fit, bare_response, without_options, Pong, OutstandingValue}
 use Rattle.coap_client_engine.specs.Prelude.{matches_response, is_last}
-use Rattle.coap_client_engine.specs.Prelude.{matches_pong, without_asked, without_pinged, VerdictValue, ConnectionState}
+use Rattle.coap_client_engine.specs.Prelude.{matches_pong, without_matching, without_pinged, VerdictValue}
+use Rattle.coap_client_engine.specs.Prelude.{ConnectionState}
 use Rattle.coap_client_engine.specs.Prelude.{Reaction}
-use Rattle.coap_client_engine.specs.Prelude.{tells, aborts, told_of, sends, is_reserved, is_signal, is_method}
+use Rattle.coap_client_engine.specs.Prelude.{reports, aborts, reply_verdict, sends, is_reserved, is_signal, is_method}
 use Rattle.coap_client_engine.specs.Prelude.{checks_critical_options, asks_custody, pong_with, pong_of, holds, leaves}
 use Rattle.coap_client_engine.specs.Prelude.{late_pong, ping_reaction, not_implemented, request_reaction}
 use Rattle.coap_client_engine.specs.Prelude.{release_reaction}
@@ -42,13 +43,13 @@ module _ (s : ConnectionState) (m : Message) where
   of_if true one other is isnt = is
   of_if false one other is isnt = isnt
 
-  of_told : (r : Reply) → IsOf m (told_of r)
-  of_told WholeReply = tt
-  of_told Bare = tt
-  of_told Stopped = tt
+  of_event : (r : Reply) → IsOf m (reply_verdict r)
+  of_event WholeReply = tt
+  of_event Bare = tt
+  of_event Stopped = tt
 
   of_sends : (whole less : Message) → IsOf m (sends s whole less).verdict
-  of_sends whole less = of_told (fit s.limit whole less)
+  of_sends whole less = of_event (fit s.limit whole less)
 
   of_opened : (waits : Bool) → IsOf m (cond waits verdict.Opened verdict.Done)
   of_opened true = tt
@@ -60,13 +61,13 @@ module _ (s : ConnectionState) (m : Message) where
 
   of_late : IsOf m (late_pong s m).verdict
   of_late =
-      of_if (nat_lt (length s.held) s.most) (holds s (Pong m.token))
+      of_if (nat_lt (length s.pending) s.most) (holds s (Pong m.token))
       (sends s (pong_with false m.token) (pong_with false m.token)) tt
       (of_sends (pong_with false m.token) (pong_with false m.token))
 
   of_ping : IsOf m (ping_reaction s m).verdict
   of_ping =
-      of_if (asks_custody m && nat_lt 0 (length s.held)) (late_pong s m)
+      of_if (asks_custody m && nat_lt 0 (length s.pending)) (late_pong s m)
       (sends s (pong_of m) (without_options (pong_of m))) of_late (of_sends (pong_of m) (without_options (pong_of m)))
 
   of_request : (role : Role) → IsOf m (request_reaction s m role).verdict
@@ -76,14 +77,14 @@ module _ (s : ConnectionState) (m : Message) where
   of_answered : (e : Option OutstandingValue) → IsOf m (answered s m e).verdict
   of_answered None = tt
   of_answered (Some e) =
-      of_if (is_last m e) (leaves s (without_asked m.token s.outstanding) (verdict.Answer m.token true))
-      (tells s (verdict.Answer m.token false)) refl refl
+      of_if (is_last m e) (leaves s (without_matching m.token s.outstanding) (verdict.Answer m.token true))
+      (reports s (verdict.Answer m.token false)) refl refl
 
   of_pong : IsOf m (pong_reaction s m).verdict
   of_pong =
       of_if (list_any (matches_pong m.token) s.outstanding)
       (leaves s (without_pinged m.token s.outstanding) (verdict.Pong m.token (asks_custody m)))
-      (tells s verdict.Stranger) refl tt
+      (reports s verdict.Stranger) refl tt
 
   of_response : IsOf m (response_reaction s m).verdict
   of_response = of_answered (find (matches_response m.token) s.outstanding)
@@ -93,7 +94,7 @@ module _ (s : ConnectionState) (m : Message) where
   method_or = if is_method m.code then request_reaction s m s.role else response_reaction s m
 
   abbrev signal_or : Reaction
-  signal_or = if is_signal m.code then tells s verdict.Done else method_or
+  signal_or = if is_signal m.code then reports s verdict.Done else method_or
 
   abbrev pong_or : Reaction
   pong_or = if m.code == code.pong then pong_reaction s m else signal_or
@@ -109,7 +110,7 @@ module _ (s : ConnectionState) (m : Message) where
       of_if (is_method m.code) (request_reaction s m s.role) (response_reaction s m) (of_request s.role) of_response
 
   of_signal_or : IsOf m signal_or.verdict
-  of_signal_or = of_if (is_signal m.code) (tells s verdict.Done) method_or tt of_method_or
+  of_signal_or = of_if (is_signal m.code) (reports s verdict.Done) method_or tt of_method_or
 
   of_pong_or : IsOf m pong_or.verdict
   of_pong_or = of_if (m.code == code.pong) (pong_reaction s m) signal_or of_pong of_signal_or
@@ -135,7 +136,7 @@ module _ (s : ConnectionState) (m : Message) where
   abort_or = if m.code == code.abort then aborts s PeerAbort else csm_or
 
   abbrev empty_or : Reaction
-  empty_or = if m.code == code.empty then tells s verdict.Done else abort_or
+  empty_or = if m.code == code.empty then reports s verdict.Done else abort_or
 
   of_open_or : IsOf m open_or.verdict
   of_open_or = of_if (is_waiting s.phase) (aborts s CsmExpected) (open_reaction s m) tt of_open
@@ -148,7 +149,7 @@ module _ (s : ConnectionState) (m : Message) where
   of_abort_or = of_if (m.code == code.abort) (aborts s PeerAbort) csm_or tt of_csm_or
 
   of_empty_or : IsOf m empty_or.verdict
-  of_empty_or = of_if (m.code == code.empty) (tells s verdict.Done) abort_or tt of_abort_or
+  of_empty_or = of_if (m.code == code.empty) (reports s verdict.Done) abort_or tt of_abort_or
 
   of_live : IsOf m (live_reaction s m).verdict
   unfolding live_reaction

@@ -8,16 +8,16 @@ use Rattle.coap_client_engine.specs.Prelude.{AFrame, AFault, framing_at, framing
 use Rattle.coap_client_engine.specs.Prelude.{LimitValues, AreInRange, takes_messages, reject_of_frame, reject_reason}
 use Rattle.coap_client_engine.specs.Prelude.{react, is_open, fits, limit_in, own_csm, sizes_of, link_after}
 use Rattle.coap_client_engine.specs.Prelude.{raise_refusal, with_size}
-use Rattle.coap_client_engine.specs.Prelude.{LinkValue, standing_in, ClientValue, ClientEventValue, ClientTakeOutcome}
+use Rattle.coap_client_engine.specs.Prelude.{LinkValue, state_in, ClientValue, ClientEventValue, ClientTakeOutcome}
 use Rattle.coap_client_engine.specs.Prelude.{client_takes}
-use Rattle.coap_client_engine.specs.Prelude.{event_told, taking_read, taking_found, taking, IsClient, heard_value}
+use Rattle.coap_client_engine.specs.Prelude.{verdict_event, taking_read, taking_found, taking, IsClient, received_event}
 use Rattle.coap_client_engine.specs.Prelude.{taking_framed, Inside, Received}
 use Rattle.coap_frame.proofs.FramingLemmas.{framing_is_framer}
 use Rattle.coap_frame.proofs.RaiseLemmas.{raise_allowed, raised_is_framer}
 use Rattle.coap_conn.specs.Calls as call
 use Rattle.coap_conn.specs.declared.phase.Reject.TheVariants as reject
 use Rattle.coap_client_engine.specs.EventViews.{client_value}
-use Rattle.coap_client_engine.specs.declared.client.Received.TheVariants as heard
+use Rattle.coap_client_engine.specs.declared.client.Received.TheVariants as received
 use Rattle.coap_client_engine.proofs.TakeLemmas.{frame_is_back}
 use Rattle.coap_conn.proofs.LinkLemmas.{stays_so}
 
@@ -25,42 +25,42 @@ use Rattle.coap_conn.proofs.LinkLemmas.{stays_so}
 
 module _ (v : FramerValue) (l : LinkValue) (piece : List ℕ) where
   -- The event, by what the framer found.
-  abbrev told_of_finding : FrameEventValue → Option ClientEventValue
-  told_of_finding found = (taking_found (record { frame = v.kept; link = l }) (framing_of v piece) found).event
+  abbrev event_of_finding : FrameEventValue → Option ClientEventValue
+  event_of_finding found = (taking_found (record { frame = v.kept; link = l }) (framing_of v piece) found).event
 
-  told_as : (h : Received) (read : Result Message FormatFault) (found : FrameEventValue)
-      → (framing_of v piece).finding ≡ found → heard_value h read ≡ told_of_finding found
-      → heard_value h read ≡ (taking_framed v l piece).event
-  told_as h read found is told = told ∙ ap told_of_finding (sym is)
+  event_as : (h : Received) (read : Result Message FormatFault) (found : FrameEventValue)
+      → (framing_of v piece).finding ≡ found → received_event h read ≡ event_of_finding found
+      → received_event h read ≡ (taking_framed v l piece).event
+  event_as h read found is reported = reported ∙ ap event_of_finding (sym is)
 
-  pub told_nothing : (h : Received) (read : Result Message FormatFault) → (framing_of v piece).finding ≡ Nothing
-      → h ≡ heard.Nothing → heard_value h read ≡ (taking_framed v l piece).event
-  told_nothing h read is e = told_as h read Nothing is (ap (λ (k : Received). heard_value k read) e)
+  pub event_of_nothing : (h : Received) (read : Result Message FormatFault) → (framing_of v piece).finding ≡ Nothing
+      → h ≡ received.Nothing → received_event h read ≡ (taking_framed v l piece).event
+  event_of_nothing h read is e = event_as h read Nothing is (ap (λ (k : Received). received_event k read) e)
 
-  pub told_fault : (h : Received) (read : Result Message FormatFault) (fault : FrameFault)
-      → (framing_of v piece).finding ≡ AFault fault → h ≡ heard.Stopped (reject_reason (reject_of_frame fault))
-      → heard_value h read ≡ (taking_framed v l piece).event
-  told_fault h read fault is e = told_as h read (AFault fault) is (ap (λ (k : Received). heard_value k read) e)
+  pub event_of_fault : (h : Received) (read : Result Message FormatFault) (fault : FrameFault)
+      → (framing_of v piece).finding ≡ AFault fault → h ≡ received.Stopped (reject_reason (reject_of_frame fault))
+      → received_event h read ≡ (taking_framed v l piece).event
+  event_of_fault h read fault is e = event_as h read (AFault fault) is (ap (λ (k : Received). received_event k read) e)
 
   -- The event of a frame, by the result of parsing it.
-  abbrev told_read : Result Message FormatFault → Option ClientEventValue
-  told_read read = (taking_read (record { frame = v.kept; link = l }) (framing_of v piece).taken read).event
+  abbrev event_of_read : Result Message FormatFault → Option ClientEventValue
+  event_of_read read = (taking_read (record { frame = v.kept; link = l }) (framing_of v piece).taken read).event
 
-  pub told_bad : (h : Received) (read : Result Message FormatFault) (frame : List ℕ) (bad : FormatFault)
+  pub event_of_bad : (h : Received) (read : Result Message FormatFault) (frame : List ℕ) (bad : FormatFault)
       → (framing_of v piece).finding ≡ AFrame frame → message_of frame ≡ Err bad
-      → h ≡ heard.Stopped (reject_reason reject.Format) → heard_value h read ≡ (taking_framed v l piece).event
-  told_bad h read frame bad is reads e =
-      told_as h read (AFrame frame) is (ap (λ (k : Received). heard_value k read) e ∙ ap told_read (sym reads))
+      → h ≡ received.Stopped (reject_reason reject.Format) → received_event h read ≡ (taking_framed v l piece).event
+  event_of_bad h read frame bad is reads e =
+      event_as h read (AFrame frame) is (ap (λ (k : Received). received_event k read) e ∙ ap event_of_read (sym reads))
 
   -- The message is the one in the frame that `frame_back` returns.
-  pub told_message : (h : Received) (frame : List ℕ) (m : Message) → IsFramer v
+  pub event_of_message : (h : Received) (frame : List ℕ) (m : Message) → IsFramer v
       → (framing_of v piece).finding ≡ AFrame frame → message_of frame ≡ Ok m
-      → heard_value h (Ok m) ≡ event_told m (react (standing_in l) m).verdict
-      → heard_value h (message_of (frame_back (framer_after v piece).spent (take (framing_of v piece).taken piece)))
+      → received_event h (Ok m) ≡ verdict_event m (react (state_in l) m).verdict
+      → received_event h (message_of (frame_back (framer_after v piece).spent (take (framing_of v piece).taken piece)))
       ≡ (taking_framed v l piece).event
-  told_message h frame m framer is reads e =
-      ap (λ (f : List ℕ). heard_value h (message_of f)) (frame_is_back v piece frame framer is)
-      ∙ ap (heard_value h) reads ∙ e ∙ ap told_read (sym reads) ∙ ap told_of_finding (sym is)
+  event_of_message h frame m framer is reads e =
+      ap (λ (f : List ℕ). received_event h (message_of f)) (frame_is_back v piece frame framer is)
+      ∙ ap (received_event h) reads ∙ e ∙ ap event_of_read (sym reads) ∙ ap event_of_finding (sym is)
 
   -- ---- buffered bytes and limits
 

@@ -7,7 +7,7 @@ use Rattle.coap_client_engine.specs.Prelude.{reject_of, reject_reason, LimitValu
 use Rattle.coap_client_engine.specs.Prelude.{else_refusal}
 use Rattle.coap_client_engine.specs.Prelude.{new_refusal, asking_refusal, cancel_refusal, next_token, with_token}
 use Rattle.coap_client_engine.specs.Prelude.{entry_of}
-use Rattle.coap_client_engine.specs.Prelude.{ping_with, stop, abort, react, History, standing_now, asking_now}
+use Rattle.coap_client_engine.specs.Prelude.{ping_with, stop, abort, react, History, state_now, asking_now}
 use Rattle.coap_client_engine.specs.Prelude.{with_effect}
 use Rattle.coap_client_engine.specs.Prelude.{after_asking, link_of, end_reason, Method, TargetValue, ExtrasValue}
 use Rattle.coap_client_engine.specs.Prelude.{request_of, is_too_long, send_refusal, ClientCall, ClientStep, Took, Sent}
@@ -16,7 +16,7 @@ use Rattle.coap_client_engine.specs.Prelude.{Requests, Cancels, Pings, Forgets, 
 use Rattle.coap_client_engine.specs.Prelude.{release, release_refusal, ReleasedHere, Announced, Announces}
 use Rattle.coap_client_engine.specs.Prelude.{announce_refusal, may_announce}
 use Rattle.coap_client_engine.specs.Prelude.{Writes, Ends, step, steps_by, after_steps, client_after, IsAccepted}
-use Rattle.coap_client_engine.specs.Prelude.{AreAcceptedBehind, AreAccepted, token_given, tokens_behind, tokens_given}
+use Rattle.coap_client_engine.specs.Prelude.{AreAcceptedAfter, AreAccepted, token_given, later_tokens, tokens_given}
 use Rattle.coap_client_engine.specs.Prelude.{AreDifferent}
 use Rattle.std.proofs.lemmas.Bool.{cond_both}
 use Rattle.coap_conn.specs.Calls as call
@@ -30,32 +30,32 @@ if_more : (h k : History) (does : Bool) → h.tokens ≤ k.tokens → h.tokens �
 if_more h k true more = more
 if_more h k false more = omega arith
 
-asked_more : (h : History) (m : Message) (e : OutstandingValue) → h.tokens ≤ (after_asking h m e).tokens
-asked_more h m e = if_more h _ (is_none (asking_refusal (asking_now h) m)) (omega arith)
+request_more : (h : History) (m : Message) (e : OutstandingValue) → h.tokens ≤ (after_asking h m e).tokens
+request_more h m e = if_more h _ (is_none (asking_refusal (asking_now h) m)) (omega arith)
 
 step_tokens : (h : History) (s : ClientStep) → h.tokens ≤ (step h s).tokens
 unfolding step
 step_tokens h (Handles m) =
-    if_more h (record (with_effect h (react (standing_now h) m).effect) { handled = h.handled ++ m ∷ [] })
+    if_more h (record (with_effect h (react (state_now h) m).effect) { handled = h.handled ++ m ∷ [] })
     (takes_messages h.phase) (omega arith)
 step_tokens h (Faults fault) =
-    if_more h (with_effect h (abort (standing_now h) (reject_reason (reject_of fault))))
+    if_more h (with_effect h (abort (state_now h) (reject_reason (reject_of fault))))
     (takes_messages h.phase) (omega arith)
 step_tokens h (Requests m observe) =
-    asked_more h (with_token m (next_token h.tokens)) (entry_of observe (next_token h.tokens))
+    request_more h (with_token m (next_token h.tokens)) (entry_of observe (next_token h.tokens))
 step_tokens h (Cancels token m) =
     if_more h _ (is_none (cancel_refusal (asking_now h) token (with_token m token))) (omega arith)
-step_tokens h (Pings custody) = asked_more h (ping_with custody (next_token h.tokens)) (Ping (next_token h.tokens))
+step_tokens h (Pings custody) = request_more h (ping_with custody (next_token h.tokens)) (Ping (next_token h.tokens))
 step_tokens h (Forgets token) = if_more h _ (may_forget (link_of h) token) (omega arith)
 step_tokens h Releases =
     if_more h (after h call.Release) (is_none (release_refusal (link_of h)))
-    (if_more h (with_effect h (stop (standing_now h) ReleasedHere (release ∷ []))) (is_open h.phase) (omega arith))
+    (if_more h (with_effect h (stop (state_now h) ReleasedHere (release ∷ []))) (is_open h.phase) (omega arith))
 step_tokens h (Announces size) =
     if_more h (after h (call.Announce size)) (is_none (announce_refusal (link_of h) size))
     (if_more h _ (may_announce (link_of h) size) (omega arith))
 step_tokens h (Writes n) = omega arith
 step_tokens h (Ends cut) =
-    if_more h (with_effect h (stop (standing_now h) (end_reason cut) [])) (takes_messages h.phase) (omega arith)
+    if_more h (with_effect h (stop (state_now h) (end_reason cut) [])) (takes_messages h.phase) (omega arith)
 
 steps_tokens : (h : History) (ss : List ClientStep) → h.tokens ≤ (after_steps h ss).tokens
 unfolding after_steps
@@ -74,9 +74,9 @@ call_tokens limits tokens earlier c =
 -- ---- a call that gives a token
 
 -- A request that is not refused uses the next number.
-asked_counts_token : (h : History) (m : Message) (e : OutstandingValue) → asking_refusal (asking_now h) m ≡ None
+request_counts_token : (h : History) (m : Message) (e : OutstandingValue) → asking_refusal (asking_now h) m ≡ None
     → (after_asking h m e).tokens ≡ h.tokens + 1
-asked_counts_token h m e may =
+request_counts_token h m e may =
     ap (λ (r : Option RequestFault). (cond (is_none r)
     (record h { queued = h.queued ++ m ∷ []; outstanding = h.outstanding ++ e ∷ []; tokens = h.tokens + 1 }) h).tokens)
     may
@@ -86,10 +86,10 @@ refused_so None e = cc
 refused_so (Some fault) e = cc
 
 -- A request that is sent is refused neither for its extras nor as a message.
-sent_asked : (h : History) (method : Method) (target : TargetValue) (extras : ExtrasValue)
+sent_requested : (h : History) (method : Method) (target : TargetValue) (extras : ExtrasValue)
     → send_refusal (link_of h) method target extras ≡ None
     → asking_refusal (asking_now h) (with_token (request_of method target extras) (next_token h.tokens)) ≡ None
-sent_asked h method target extras =
+sent_requested h method target extras =
     cond_both (is_too_long extras) _ _ (λ (r : Option RequestFault). r ≡ None
     → asking_refusal (asking_now h) (with_token (request_of method target extras) (next_token h.tokens)) ≡ None)
     (λ long e. absurd (refused_so (new_refusal (asking_now h)) e)) (λ short e. e)
@@ -99,9 +99,9 @@ record UsesToken (h k : History) : Type 0 where
   next : k.tokens ≡ h.tokens + 1
   left : h.tokens < 18446744073709551615
 
-asked_gives : (h : History) (m : Message) (e : OutstandingValue) → asking_refusal (asking_now h) m ≡ None
+request_gives : (h : History) (m : Message) (e : OutstandingValue) → asking_refusal (asking_now h) m ≡ None
     → UsesToken h (after_asking h m e)
-asked_gives h m e may = record { next = asked_counts_token h m e may; left = token_left h m may }
+request_gives h m e may = record { next = request_counts_token h m e may; left = token_left h m may }
 
 sent_gives : (limits : LimitValues) (tokens : ℕ) (earlier : List ClientCall) (method : Method) (target : TargetValue)
     (extras : ExtrasValue) → IsAccepted limits tokens earlier (Sent method target extras)
@@ -112,9 +112,9 @@ sent_gives limits tokens earlier method target extras accepted =
     let h : History = client_after limits tokens earlier in
     subst (UsesToken h) (sym (client_step limits tokens earlier (Sent method target extras)
     (Requests (request_of method target extras) extras.observe) refl))
-    (asked_gives h (with_token (request_of method target extras) (next_token h.tokens))
+    (request_gives h (with_token (request_of method target extras) (next_token h.tokens))
     (entry_of extras.observe (next_token h.tokens))
-    (sent_asked h method target extras accepted))
+    (sent_requested h method target extras accepted))
 
 pinged_gives : (limits : LimitValues) (tokens : ℕ) (earlier : List ClientCall) (custody : Bool)
     → IsAccepted limits tokens earlier (Pinged custody)
@@ -123,7 +123,7 @@ unfolding IsAccepted step steps_by
 pinged_gives limits tokens earlier custody accepted =
     let h : History = client_after limits tokens earlier in
     subst (UsesToken h) (sym (client_step limits tokens earlier (Pinged custody) (Pings custody) refl))
-    (asked_gives h (ping_with custody (next_token h.tokens)) (Ping (next_token h.tokens)) accepted)
+    (request_gives h (ping_with custody (next_token h.tokens)) (Ping (next_token h.tokens)) accepted)
 
 -- ---- tokens of later numbers
 
@@ -161,13 +161,13 @@ none_new h k ts more are = (all_earlier h.tokens k.tokens ts more are.0, are.1)
 one_new : (h k : History) (ts : List (List ℕ)) → UsesToken h k → AreNew k.tokens ts
     → AreNew h.tokens ((next_token h.tokens ∷ []) ++ ts)
 one_new h k ts gives are =
-    let behind : AllByRecursion (IsLater (h.tokens + 1)) ts =
+    let rest : AllByRecursion (IsLater (h.tokens + 1)) ts =
     subst (λ (n : ℕ). AllByRecursion (IsLater n) ts) gives.next are.0 in (
       (
         record { number = h.tokens; is = refl; later = omega arith; small = gives.left },
-        all_earlier h.tokens (h.tokens + 1) ts (omega arith) behind,
+        all_earlier h.tokens (h.tokens + 1) ts (omega arith) rest,
       ),
-      (all_other h.tokens ts gives.left behind, are.1),
+      (all_other h.tokens ts gives.left rest, are.1),
     )
 
 -- ---- the theorem
@@ -206,15 +206,15 @@ module _ (limits : LimitValues) (tokens : ℕ) (earlier : List ClientCall) where
   given_new Ended ts accepted are =
       none_new (client_after limits tokens earlier) (after_one Ended) ts (call_tokens limits tokens earlier Ended) are
 
-behind_new : (limits : LimitValues) (tokens : ℕ) (earlier calls : List ClientCall)
-    → AreAcceptedBehind limits tokens earlier calls
-    → AreNew (client_after limits tokens earlier).tokens (tokens_behind limits tokens earlier calls)
-unfolding AreAcceptedBehind
-behind_new limits tokens earlier [] accepted = (tt, tt)
-behind_new limits tokens earlier (c ∷ calls) accepted =
-    given_new limits tokens earlier c (tokens_behind limits tokens (earlier ++ c ∷ []) calls) accepted.0
-    (behind_new limits tokens (earlier ++ c ∷ []) calls accepted.1)
+later_new : (limits : LimitValues) (tokens : ℕ) (earlier calls : List ClientCall)
+    → AreAcceptedAfter limits tokens earlier calls
+    → AreNew (client_after limits tokens earlier).tokens (later_tokens limits tokens earlier calls)
+unfolding AreAcceptedAfter
+later_new limits tokens earlier [] accepted = (tt, tt)
+later_new limits tokens earlier (c ∷ calls) accepted =
+    given_new limits tokens earlier c (later_tokens limits tokens (earlier ++ c ∷ []) calls) accepted.0
+    (later_new limits tokens (earlier ++ c ∷ []) calls accepted.1)
 
 pub tokens_once : (limits : LimitValues) (tokens : ℕ) (calls : List ClientCall) → AreAccepted limits tokens calls
     → AreDifferent (tokens_given limits tokens calls)
-tokens_once limits tokens calls accepted = (behind_new limits tokens [] calls accepted).1
+tokens_once limits tokens calls accepted = (later_new limits tokens [] calls accepted).1

@@ -24,14 +24,14 @@ token_given limits tokens earlier (Wrote n) = []
 token_given limits tokens earlier Ended = []
 
 -- The tokens that calls give after the calls `earlier`, in order.
-abbrev pub tokens_behind : LimitValues → ℕ → List ClientCall → List ClientCall → List (List ℕ)
-tokens_behind limits tokens earlier [] = []
-tokens_behind limits tokens earlier (c ∷ cs) =
-    token_given limits tokens earlier c ++ tokens_behind limits tokens (earlier ++ c ∷ []) cs
+abbrev pub later_tokens : LimitValues → ℕ → List ClientCall → List ClientCall → List (List ℕ)
+later_tokens limits tokens earlier [] = []
+later_tokens limits tokens earlier (c ∷ cs) =
+    token_given limits tokens earlier c ++ later_tokens limits tokens (earlier ++ c ∷ []) cs
 
 -- The tokens that a list of calls gives, in order.
 abbrev pub tokens_given : LimitValues → ℕ → List ClientCall → List (List ℕ)
-tokens_given limits tokens calls = tokens_behind limits tokens [] calls
+tokens_given limits tokens calls = later_tokens limits tokens [] calls
 
 -- Says that no two tokens of a list are equal.
 abbrev pub AreDifferent : List (List ℕ) → Type 0

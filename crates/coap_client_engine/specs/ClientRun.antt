@@ -5,12 +5,13 @@ use Rattle.coap_conn.specs.LinkValue.{bytes_of}
 use Rattle.coap_io.specs.declared.wire.Got.{Got}
 use Rattle.coap_io.specs.declared.output.WriteFailed.{WriteFailed}
 use Rattle.coap_io.specs.streams.Device.{AddsBytes}
-use Rattle.coap_io.specs.streams.DeviceTraces.{TellsMore}
+use Rattle.coap_io.specs.streams.DeviceTraces.{AddsCalls}
 use Rattle.coap_client_engine.specs.ClientWorld.{AreAccepted, ClientShows}
 use Rattle.coap_client_engine.specs.RunTrace.{RunTrace, Begins, calls_in, history_in, token_in, moments_in, turns_in}
 use Rattle.coap_client_engine.specs.RunTrace.{moment_in, started_in, first_in, cancelled_in, answers_in, taken_in}
 use Rattle.coap_client_engine.specs.RunTrace.{given_in, rest_in, waiting_in, written_in, status_in, output_in}
-use Rattle.coap_client_engine.specs.RunTrace.{errors_in, has_looked, IsAskedWhereDue, IsTakenUp, IsResting, IsBetween}
+use Rattle.coap_client_engine.specs.RunTrace.{errors_in, has_looked, IsRequestedWhereDue, IsTakenUp, IsResting}
+use Rattle.coap_client_engine.specs.RunTrace.{IsBetween}
 use Rattle.coap_client_engine.specs.RunTrace.{MayWrite, HasWritten, IsRunTrace}
 use Rattle.coap_request.specs.declared.plan.ClientPlan.{ClientPlan}
 use Rattle.coap_client_engine.specs.RunCauses.{cause_in}
@@ -31,17 +32,17 @@ pub record RunDevices : Type 0 where
   pub err : Option (List ℕ)
 
 -- The records of the devices, field by field.
-abbrev pub seen : (given written : Option (List ℕ)) (answers : Option (List Got))
+abbrev pub records : (given written : Option (List ℕ)) (answers : Option (List Got))
     (moments out err : Option (List ℕ)) → RunDevices
-seen given written answers moments out err =
+records given written answers moments out err =
     record { given = given; written = written; answers = answers; moments = moments; out = out; err = err }
 
 -- Says that between `start` and `now` the devices recorded exactly the events of a trace.
 pub record IsRecorded (plan : ClientPlan) (start now : RunDevices) (trace : RunTrace) : Type 0 where
   pub given : AddsBytes start.given now.given (given_in trace)
   pub written : AddsBytes start.written now.written (written_in trace)
-  pub answers : TellsMore start.answers now.answers (answers_in trace)
-  pub moments : TellsMore start.moments now.moments (moments_in trace)
+  pub answers : AddsCalls start.answers now.answers (answers_in trace)
+  pub moments : AddsCalls start.moments now.moments (moments_in trace)
   pub out : AddsBytes start.out now.out (output_in plan trace)
   pub err : AddsBytes start.err now.err (errors_in trace)
 
@@ -70,7 +71,7 @@ pub record IsClientRun (plan : ClientPlan) (start now : RunDevices) (status : �
   pub accepted : AreAccepted default_limits 0 (calls_in trace)
   pub taken : given_in trace ≡ taken_in trace ++ rest_in trace
   pub queued : bytes_of (history_in trace).queued ≡ written_in trace ++ waiting_in trace
-  pub told : IsRecorded plan start now trace
+  pub reported : IsRecorded plan start now trace
   pub turns : turns_in trace ≤ most_turns
   pub ends : IsEnded trace status ⊎ IsOutOfTurns trace status
 
@@ -83,7 +84,7 @@ pub record IsExplainedRun (plan : ClientPlan) (start now : RunDevices) (end : Ru
 -- nothing.
 pub record FailedBeforeStart (plan : ClientPlan) (start now : RunDevices) : Type 0 where
   pub moment : ℕ
-  pub told : IsRecorded plan start now (Begins moment)
+  pub reported : IsRecorded plan start now (Begins moment)
 
 -- ---- the state during a run
 
@@ -103,14 +104,14 @@ pub record IsAtTrace (plan : ClientPlan) (start now : RunDevices) (run : Run) (t
   pub first : run.first ≡ first_in trace
   pub cancelled : run.cancelled ≡ cancelled_in trace
   pub cause : run.cause ≡ cause_in plan trace
-  pub told : IsRecorded plan start now trace
+  pub reported : IsRecorded plan start now trace
 
 -- Says that a part of an iteration leads to a trace for which `P` holds. `next` is the exit status after that trace, or
 -- `None` if the run continues.
 pub record ExtendsTraceOn (plan : ClientPlan) (start now : RunDevices) (run : Run) (P : RunTrace → Type 0)
     (next : Option ℕ) : Type 0 where
   pub trace : RunTrace
-  pub stands : IsAtTrace plan start now run trace
+  pub is_at : IsAtTrace plan start now run trace
   pub ends : status_in trace ≡ next
   pub holds : P trace
 
@@ -121,28 +122,28 @@ HasReadClock trace = has_looked trace ≡ true
 -- Says that the wire was read if no input was left, and that no request remains to be sent, except a refused one.
 pub record IsReady (trace : RunTrace) : Type 0 where
   pub looked : HasReadClock trace
-  pub asked : IsAskedWhereDue trace
+  pub requested : IsRequestedWhereDue trace
 
 -- The state after the read, with the number of iterations that began. The wire was read if no input was left, unless
 -- the run has ended. No write may follow yet.
-pub record IsHeard (began : ℕ) (trace : RunTrace) : Type 0 where
+pub record IsAfterRead (began : ℕ) (trace : RunTrace) : Type 0 where
   pub turns : turns_in trace ≡ began
   pub looked : status_in trace ≡ None → HasReadClock trace
   pub early : MayWrite trace → ⊥
 
 -- The state after the attempt to send the request. If the run continues, no request remains to be sent, except a
 -- refused one.
-pub record IsAsked (began : ℕ) (trace : RunTrace) : Type 0 where
+pub record IsRequested (began : ℕ) (trace : RunTrace) : Type 0 where
   pub turns : turns_in trace ≡ began
   pub looked : HasReadClock trace
-  pub asked : status_in trace ≡ None → IsAskedWhereDue trace
+  pub requested : status_in trace ≡ None → IsRequestedWhereDue trace
   pub writes : status_in trace ≢ None → MayWrite trace
 
 -- The state after the input was processed. If the run continues, no more input can be processed now.
 pub record IsTaken (began : ℕ) (trace : RunTrace) : Type 0 where
   pub turns : turns_in trace ≡ began
   pub looked : HasReadClock trace
-  pub asked : status_in trace ≡ None → IsAskedWhereDue trace
+  pub requested : status_in trace ≡ None → IsRequestedWhereDue trace
   pub taken : status_in trace ≡ None → IsTakenUp trace
   pub writes : status_in trace ≢ None → MayWrite trace
 
@@ -162,17 +163,17 @@ pub record IsFlushed (began : ℕ) (trace : RunTrace) : Type 0 where
 
 -- The records of the devices with other records of the outlets.
 abbrev pub with_outlets : (out err : Option (List ℕ)) → RunDevices → RunDevices
-with_outlets out err now = seen now.given now.written now.answers now.moments out err
+with_outlets out err now = records now.given now.written now.answers now.moments out err
 
 -- The records of the devices with other records of the wire and of the outlet for reports.
 abbrev pub with_wire : (given written : Option (List ℕ)) (answers : Option (List Got)) (err : Option (List ℕ))
     → RunDevices → RunDevices
-with_wire given written answers err now = seen given written answers now.moments now.out err
+with_wire given written answers err now = records given written answers now.moments now.out err
 
 -- The records of the devices with other records of the wire and of both outlets.
 abbrev pub with_all : (given written : Option (List ℕ)) (answers : Option (List Got)) (out err : Option (List ℕ))
     → RunDevices → RunDevices
-with_all given written answers out err now = seen given written answers now.moments out err
+with_all given written answers out err now = records given written answers now.moments out err
 
 -- The contract of a part of an iteration. If the run has not ended and its trace satisfies `P`, the part leads to a
 -- trace that satisfies `Q`.

@@ -24,7 +24,7 @@ use Rattle.coap_conn.specs.Verdicts as verdict
 use Rattle.coap_conn.specs.Reaction.{react}
 use Rattle.coap_conn.specs.RequestState.{else_refusal, new_refusal, asking_refusal, observation_refusal, cancel_refusal}
 use Rattle.coap_conn.specs.RequestState.{next_token, with_token, ping_with}
-use Rattle.coap_conn.specs.LinkValue.{LinkValue, new_link, free_in, limit_in, standing_in, asking_in, own_csm}
+use Rattle.coap_conn.specs.LinkValue.{LinkValue, new_link, free_in, limit_in, state_in, asking_in, own_csm}
 use Rattle.coap_conn.specs.Calls.{link_after}
 use Rattle.coap_conn.specs.Calls as call
 use Rattle.coap_request.specs.declared.request.Method.{Method}
@@ -67,20 +67,20 @@ pub data ClientEventValue : Type 0 where
   Stopped : (why : Reason) → ClientEventValue
 
 -- The event of a response. If a critical option is not recognised, the response is rejected (RFC 7252 section 5.4.1).
-abbrev pub answer_told : Message → List ℕ → Bool → Option ℕ → ClientEventValue
-answer_told m token last (Some number) = Rejected token number
-answer_told m token true None = Response m
-answer_told m token false None = Notification m
+abbrev pub response_event : Message → List ℕ → Bool → Option ℕ → ClientEventValue
+response_event m token last (Some number) = Rejected token number
+response_event m token true None = Response m
+response_event m token false None = Notification m
 
 -- The event of a message, by the verdict of the link.
-abbrev pub event_told : Message → VerdictValue → Option ClientEventValue
-event_told m verdict.Opened = Some Ready
-event_told m verdict.Done = None
-event_told m verdict.Request = None
-event_told m (verdict.Answer token last) = Some (answer_told m token last (first_critical m.options))
-event_told m (verdict.Pong token custody) = Some (Pong token custody)
-event_told m verdict.Stranger = Some Stranger
-event_told m (verdict.Stopped why) = Some (Stopped why)
+abbrev pub verdict_event : Message → VerdictValue → Option ClientEventValue
+verdict_event m verdict.Opened = Some Ready
+verdict_event m verdict.Done = None
+verdict_event m verdict.Request = None
+verdict_event m (verdict.Answer token last) = Some (response_event m token last (first_critical m.options))
+verdict_event m (verdict.Pong token custody) = Some (Pong token custody)
+verdict_event m verdict.Stranger = Some Stranger
+verdict_event m (verdict.Stopped why) = Some (Stopped why)
 
 -- ---- take
 
@@ -103,7 +103,7 @@ abbrev pub taking_read : ClientValue → ℕ → Result Message FormatFault → 
 taking_read v count (Ok m) = record {
   count = count;
   client = record { frame = []; link = link_after v.link (call.Handle m) };
-  event = event_told m (react (standing_in v.link) m).verdict;
+  event = verdict_event m (react (state_in v.link) m).verdict;
 }
 taking_read v count (Err e) = taking_rejected v count reject.Format
 

@@ -11,7 +11,7 @@ use Rattle.coap_conn.specs.Limits.{LimitValues}
 use Rattle.coap_conn.specs.Phases.{takes_messages}
 use Rattle.coap_conn.specs.Rejects.{reject_of, reject_reason}
 use Rattle.coap_conn.specs.Reaction.{react}
-use Rattle.coap_conn.specs.History.{History, new_history, standing_now, waiting_of, after, link_of}
+use Rattle.coap_conn.specs.History.{History, new_history, state_now, waiting_of, after, link_of}
 use Rattle.coap_conn.specs.Calls.{may_forget}
 use Rattle.coap_conn.specs.Calls as call
 use Rattle.coap_conn.specs.LinkValue.{free_in}
@@ -19,7 +19,7 @@ use Rattle.coap_conn.specs.Release.{release_refusal}
 use Rattle.coap_request.specs.declared.request.Method.{Method}
 use Rattle.coap_request.specs.Targets.{TargetValue}
 use Rattle.coap_request.specs.Requests.{ExtrasValue, request_of, cancel_of}
-use Rattle.coap_client_engine.specs.ClientValues.{ClientValue, ClientEventValue, Stopped, event_told, is_cut}
+use Rattle.coap_client_engine.specs.ClientValues.{ClientValue, ClientEventValue, Stopped, verdict_event, is_cut}
 use Rattle.coap_client_engine.specs.ClientValues.{send_refusal, cancelling_refusal, ping_refusal, announce_refusal}
 
 -- An accepted call with its arguments. A refused call is not recorded.
@@ -107,13 +107,13 @@ steps_by M earlier (Wrote n) = Writes n ∷ []
 steps_by M earlier Ended = Ends (is_cut (stream_in M earlier).rest) ∷ []
 
 -- The steps of calls after the calls `earlier`.
-unfoldable pub steps_behind : ℕ → List ClientCall → List ClientCall → List ClientStep
-steps_behind M earlier [] = []
-steps_behind M earlier (c ∷ cs) = steps_by M earlier c ++ steps_behind M (earlier ++ c ∷ []) cs
+unfoldable pub later_steps : ℕ → List ClientCall → List ClientCall → List ClientStep
+later_steps M earlier [] = []
+later_steps M earlier (c ∷ cs) = steps_by M earlier c ++ later_steps M (earlier ++ c ∷ []) cs
 
 -- The steps of a list of calls.
 unfoldable pub steps_of : ℕ → List ClientCall → List ClientStep
-steps_of M calls = steps_behind M [] calls
+steps_of M calls = later_steps M [] calls
 
 -- ---- the connection
 
@@ -158,7 +158,7 @@ takes limits tokens calls piece =
 -- The event of a list of steps: that of its first step, if this is a processed message or a fault.
 abbrev pub event_by : History → List ClientStep → Option ClientEventValue
 event_by h [] = None
-event_by h (Handles m ∷ more) = event_told m (react (standing_now h) m).verdict
+event_by h (Handles m ∷ more) = verdict_event m (react (state_now h) m).verdict
 event_by h (Faults fault ∷ more) = Some (Stopped (reject_reason (reject_of fault)))
 event_by h (Requests m observe ∷ more) = None
 event_by h (Cancels token m ∷ more) = None
@@ -195,14 +195,14 @@ IsAccepted limits tokens earlier (Wrote n) = n ≤ length (waiting_of (client_af
 IsAccepted limits tokens earlier Ended = Unit {0}
 
 -- Says that each call is accepted after the calls before it.
-unfoldable pub AreAcceptedBehind : LimitValues → ℕ → List ClientCall → List ClientCall → Type 0
-AreAcceptedBehind limits tokens earlier [] = Unit {0}
-AreAcceptedBehind limits tokens earlier (c ∷ cs) =
-    IsAccepted limits tokens earlier c × AreAcceptedBehind limits tokens (earlier ++ c ∷ []) cs
+unfoldable pub AreAcceptedAfter : LimitValues → ℕ → List ClientCall → List ClientCall → Type 0
+AreAcceptedAfter limits tokens earlier [] = Unit {0}
+AreAcceptedAfter limits tokens earlier (c ∷ cs) =
+    IsAccepted limits tokens earlier c × AreAcceptedAfter limits tokens (earlier ++ c ∷ []) cs
 
 -- Says that a new client accepts all calls of a list.
 abbrev pub AreAccepted : LimitValues → ℕ → List ClientCall → Type 0
-AreAccepted limits tokens calls = AreAcceptedBehind limits tokens [] calls
+AreAccepted limits tokens calls = AreAcceptedAfter limits tokens [] calls
 
 -- ---- the client after calls
 

@@ -7,14 +7,14 @@ use Rattle.coap_wire.specs.declared.fault.FormatFault.{FormatFault}
 use Rattle.coap_frame.specs.Framing.{FramerValue, IsFramer, framing_of}
 use Rattle.coap_conn.specs.Limits.{AreInRange}
 use Rattle.coap_conn.specs.LinkValue.{LinkValue}
-use Rattle.coap_client_engine.specs.ClientValues.{ClientValue, ClientEventValue, ClientTakeOutcome, answer_told}
+use Rattle.coap_client_engine.specs.ClientValues.{ClientValue, ClientEventValue, ClientTakeOutcome, response_event}
 use Rattle.coap_client_engine.specs.ClientValues.{taking_found}
 use Rattle.coap_client_engine.specs.ClientValues as value
 use Rattle.coap_client_engine.specs.declared.client.Event.{Event}
 use Rattle.coap_client_engine.specs.declared.client.Event.TheVariants.{Ready, Response, Notification, Rejected, Pong}
 use Rattle.coap_client_engine.specs.declared.client.Event.TheVariants.{Stranger, Stopped}
 use Rattle.coap_client_engine.specs.declared.client.Received.{Received}
-use Rattle.coap_client_engine.specs.declared.client.Received.TheVariants as heard
+use Rattle.coap_client_engine.specs.declared.client.Received.TheVariants as received
 use Rattle.coap_client_engine.specs.declared.client.Taken.{Taken}
 use Rattle.coap_client_engine.specs.declared.client.Client.TheInside.{Inside}
 
@@ -45,7 +45,7 @@ event_value (Stopped why) = value.Stopped why
 
 -- The event of a response, by the result of parsing its frame.
 abbrev pub answer_read : Result Message FormatFault → Bool → Option ClientEventValue
-answer_read (Ok m) last = Some (answer_told m m.token last (first_critical m.options))
+answer_read (Ok m) last = Some (response_event m m.token last (first_critical m.options))
 answer_read (Err e) last = None
 
 -- The event of a Pong, by the result of parsing its frame.
@@ -54,13 +54,13 @@ pong_read (Ok m) custody = Some (value.Pong m.token custody)
 pong_read (Err e) custody = None
 
 -- The event for a kind of event, by the result of parsing the frame.
-abbrev pub heard_value : Received → Result Message FormatFault → Option ClientEventValue
-heard_value heard.Nothing read = None
-heard_value heard.Ready read = Some value.Ready
-heard_value (heard.Answer last) read = answer_read read last
-heard_value (heard.Pong custody) read = pong_read read custody
-heard_value heard.Stranger read = Some value.Stranger
-heard_value (heard.Stopped why) read = Some (value.Stopped why)
+abbrev pub received_event : Received → Result Message FormatFault → Option ClientEventValue
+received_event received.Nothing read = None
+received_event received.Ready read = Some value.Ready
+received_event (received.Answer last) read = answer_read read last
+received_event (received.Pong custody) read = pong_read read custody
+received_event received.Stranger read = Some value.Stranger
+received_event (received.Stopped why) read = Some (value.Stopped why)
 
 -- The frame in the result of a `take`.
 abbrev pub taken_frame : Taken → List ℕ
@@ -68,7 +68,7 @@ taken_frame t = t.frame.now
 
 -- The event in the result of a `take`.
 abbrev pub taken_event : Taken → Option ClientEventValue
-taken_event t = heard_value t.heard (message_of (taken_frame t))
+taken_event t = received_event t.received (message_of (taken_frame t))
 
 -- ---- the result of a framer and a link, if the client accepts bytes
 

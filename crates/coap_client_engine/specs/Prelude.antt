@@ -11,10 +11,10 @@ pub use Rattle.coap_wire.specs.StreamPrefix.{StreamPrefix, Faulty, Unfinished, W
 pub use Rattle.coap_wire.specs.Message.{Message}
 pub use Rattle.coap_wire.specs.Reading.{message_of}
 pub use Rattle.coap_wire.specs.Recognition.{first_critical}
-unfoldable pub use Rattle.coap_wire.specs.Recognition.{first_critical_behind, is_recognised, known_behind}
+unfoldable pub use Rattle.coap_wire.specs.Recognition.{first_critical_given, is_recognised, known_given}
 pub use Rattle.coap_wire.specs.Refusal.{RefusedBy}
 unfoldable pub use Rattle.coap_wire.specs.Spelling.{spelling}
-pub use Rattle.coap_wire.specs.Stream.{StreamFault, Format, OfFrame, Stream, behind, frame_then, continued, split}
+pub use Rattle.coap_wire.specs.Stream.{StreamFault, Format, OfFrame, Stream, stream_after, frame_then, continued, split}
 pub use Rattle.coap_wire.specs.Stream.{sized_split, split_on}
 pub use Rattle.coap_wire.specs.Frames.{constant_size, sizes_first}
 pub use Rattle.coap_wire.specs.declared.fault.FormatFault.{FormatFault}
@@ -36,13 +36,13 @@ pub use Rattle.coap_conn.specs.Calls.{link_after, end_reason, may_announce, may_
 pub use Rattle.coap_conn.specs.Fit.{AllFit, bare_response, fit, fits, without_options}
 pub use Rattle.coap_conn.specs.PendingEntries.{PendingEntryValue, Pong}
 pub use Rattle.coap_conn.specs.History.{History, limit_now, waiting_of, IsHistory, after, after_asking, asking_now}
-pub use Rattle.coap_conn.specs.History.{link_of, new_history, standing_now, with_effect}
+pub use Rattle.coap_conn.specs.History.{link_of, new_history, state_now, with_effect}
 pub use Rattle.coap_conn.specs.Limits.{LimitValues, AreInRange, default_limits}
-pub use Rattle.coap_conn.specs.LinkValue.{standing_in, LinkValue, asking_in, bytes_of, free_in, limit_in, own_csm}
+pub use Rattle.coap_conn.specs.LinkValue.{state_in, LinkValue, asking_in, bytes_of, free_in, limit_in, own_csm}
 pub use Rattle.coap_conn.specs.LinkValue.{sizes_of}
 pub use Rattle.coap_conn.specs.Outstanding.{Observation, OutstandingValue, Ping, Request, cancelled_by}
 pub use Rattle.coap_conn.specs.Outstanding.{matches_response}
-pub use Rattle.coap_conn.specs.Outstanding.{is_last, matches_pong, with_cancelled, without_asked, without_pinged}
+pub use Rattle.coap_conn.specs.Outstanding.{is_last, matches_pong, with_cancelled, without_matching, without_pinged}
 pub use Rattle.coap_conn.specs.Outstanding.{is_entry_of, without_entry_of}
 unfoldable pub use Rattle.coap_conn.specs.Outstanding.{is_notification}
 pub use Rattle.coap_conn.specs.Phases.{IsLive, is_open, is_waiting, stop_of, takes_messages}
@@ -53,7 +53,7 @@ pub use Rattle.coap_conn.specs.Reaction.{checks_critical_options, not_implemente
 pub use Rattle.coap_conn.specs.Reaction.{pong_of}
 pub use Rattle.coap_conn.specs.Reaction.{pong_reaction, pong_with, reaction_unless, release_reaction, request_reaction}
 pub use Rattle.coap_conn.specs.Reaction.{stay}
-pub use Rattle.coap_conn.specs.Reaction.{response_reaction, sends, stop, tells, told_of}
+pub use Rattle.coap_conn.specs.Reaction.{response_reaction, sends, stop, reports, reply_verdict}
 unfoldable pub use Rattle.coap_conn.specs.Reaction.{react, live_reaction}
 pub use Rattle.coap_conn.specs.Reasons.{abort_of}
 pub use Rattle.coap_conn.specs.Rejects.{reject_reason, reject_of, reject_of_frame}
@@ -78,7 +78,7 @@ pub use Rattle.coap_io.specs.declared.output.WriteFailed.{WriteFailed}
 pub use Rattle.coap_io.specs.declared.wire.Got.{Got}
 pub use Rattle.coap_io.specs.declared.wire.Got.TheVariants.{Bytes, End, Failed, Later}
 pub use Rattle.coap_io.specs.streams.Device.{AddsBytes}
-pub use Rattle.coap_io.specs.streams.DeviceTraces.{TellsMore}
+pub use Rattle.coap_io.specs.streams.DeviceTraces.{AddsCalls}
 pub use Rattle.coap_io.specs.streams.Wires.{bytes_passed, count_passed}
 -- ---- coap_request
 pub use Rattle.coap_request.specs.RequestViews.{extras_value}
@@ -90,15 +90,16 @@ pub use Rattle.coap_request.specs.declared.plan.ClientPlan.{ClientPlan}
 pub use Rattle.coap_request.specs.declared.request.Method.{Method}
 pub use Rattle.coap_request.specs.declared.request.Method.TheVariants.{Get}
 -- ---- coap_client_engine
-pub use Rattle.coap_client_engine.specs.ClientLaws.{AreDifferent, KeepsSize, tokens_given, token_given, tokens_behind}
-pub use Rattle.coap_client_engine.specs.ClientRun.{IsReady, IsClientRun, IsExplainedRun, FailedBeforeStart, seen}
+pub use Rattle.coap_client_engine.specs.ClientLaws.{AreDifferent, KeepsSize, tokens_given, token_given, later_tokens}
+pub use Rattle.coap_client_engine.specs.ClientRun.{IsReady, IsClientRun, IsExplainedRun, FailedBeforeStart, records}
 pub use Rattle.coap_client_engine.specs.ClientRun.{with_outlets, with_wire}
-pub use Rattle.coap_client_engine.specs.ClientRun.{with_all, HasReadClock, IsHeard, IsTaken, IsFinished, IsFlushed}
+pub use Rattle.coap_client_engine.specs.ClientRun.{with_all, HasReadClock, IsAfterRead, IsTaken, IsFinished, IsFlushed}
 pub use Rattle.coap_client_engine.specs.ClientRun.{ExtendsTrace}
-pub use Rattle.coap_client_engine.specs.ClientRun.{ExtendsAllTraces, Flushes, IsAsked, IsEnded, IsOutOfTurns}
+pub use Rattle.coap_client_engine.specs.ClientRun.{ExtendsAllTraces, Flushes, IsRequested, IsEnded, IsOutOfTurns}
 pub use Rattle.coap_client_engine.specs.ClientRun.{ExtendsTraceOn, RunDevices}
 pub use Rattle.coap_client_engine.specs.ClientRun.{IsAtTrace, most_turns, token_of}
-pub use Rattle.coap_client_engine.specs.ClientValues.{answer_told, event_told, ClientValue, client_takes, new_client}
+pub use Rattle.coap_client_engine.specs.ClientValues.{response_event, verdict_event, ClientValue, client_takes}
+pub use Rattle.coap_client_engine.specs.ClientValues.{new_client}
 pub use Rattle.coap_client_engine.specs.ClientValues.{client_written, client_ended, client_sent, client_cancelled}
 pub use Rattle.coap_client_engine.specs.ClientValues.{client_pinged, send_refusal, cancelling_refusal, ping_refusal}
 pub use Rattle.coap_client_engine.specs.ClientValues.{client_forgotten, client_released, client_announced}
@@ -114,13 +115,14 @@ pub use Rattle.coap_client_engine.specs.ClientWorld.{Forgot, Released, Announced
 pub use Rattle.coap_client_engine.specs.ClientWorld.{Handles, Pings, Requests, Writes, beyond, event_by, handles}
 pub use Rattle.coap_client_engine.specs.ClientWorld.{kept_after, new_fault, taken_by}
 unfoldable pub use Rattle.coap_client_engine.specs.ClientWorld.{takes, event_of, client_after, client_of, steps_by}
-unfoldable pub use Rattle.coap_client_engine.specs.ClientWorld.{steps_of, step, AreAcceptedBehind, IsAccepted}
-unfoldable pub use Rattle.coap_client_engine.specs.ClientWorld.{after_steps, steps_behind, size_in, sizes_in}
-pub use Rattle.coap_client_engine.specs.EventViews.{event_value, answer_read, pong_read, heard_value, taken_event}
+unfoldable pub use Rattle.coap_client_engine.specs.ClientWorld.{steps_of, step, AreAcceptedAfter, IsAccepted}
+unfoldable pub use Rattle.coap_client_engine.specs.ClientWorld.{after_steps, later_steps, size_in, sizes_in}
+pub use Rattle.coap_client_engine.specs.EventViews.{event_value, answer_read, pong_read, received_event, taken_event}
 pub use Rattle.coap_client_engine.specs.EventViews.{taken_frame}
 pub use Rattle.coap_client_engine.specs.EventViews.{taking_framed, IsClient}
 pub use Rattle.coap_client_engine.specs.RunTrace.{IsFresh, Begins, Calls, RunTrace, GivesUp, HasWaited}
-pub use Rattle.coap_client_engine.specs.RunTrace.{IsAskedWhereDue, IsBetween, IsCancelledWhereDue, IsRunTrace, IsDone}
+pub use Rattle.coap_client_engine.specs.RunTrace.{IsRequestedWhereDue, IsBetween, IsCancelledWhereDue, IsRunTrace}
+pub use Rattle.coap_client_engine.specs.RunTrace.{IsDone}
 pub use Rattle.coap_client_engine.specs.RunTrace.{IsPlanned, IsRefused, IsResting, IsTakenUp, MayWrite, Reads, Refuses}
 pub use Rattle.coap_client_engine.specs.RunTrace.{Rests, Turns, answers_in, calls_in, cancelled_in, client_in}
 pub use Rattle.coap_client_engine.specs.RunTrace.{errors_in, event_in, first_in, given_in, has_looked, history_in}
@@ -129,14 +131,14 @@ pub use Rattle.coap_client_engine.specs.RunTrace.{moment_in, moments_in, or_then
 pub use Rattle.coap_client_engine.specs.RunTrace.{since_in, started_in, status_in, status_stopped, stop_read}
 pub use Rattle.coap_client_engine.specs.RunTrace.{stop_text, taken_in, token_in, turns_in, waiting_in, waits_since}
 pub use Rattle.coap_client_engine.specs.RunTrace.{written_in}
-pub use Rattle.coap_client_engine.specs.RunCauses.{cause_after, cause_stopped, cause_of, cause_told, cause_refused_as}
+pub use Rattle.coap_client_engine.specs.RunCauses.{cause_after, cause_stopped, cause_of, event_cause, cause_refused_as}
 pub use Rattle.coap_client_engine.specs.RunCauses.{cause_refused, awaited_in, cause_waited, watched_cause, cause_in}
 pub use Rattle.coap_client_engine.specs.RunFaults.{is_output_fault, IfMemory, IsStatus, EndsWithStatus}
 pub use Rattle.coap_client_engine.specs.RunSteps.{calls_read, calls_written, cancelled_at, client_asking}
-pub use Rattle.coap_client_engine.specs.RunSteps.{client_cancelling, client_read, ended_by, errors_told, first_told}
+pub use Rattle.coap_client_engine.specs.RunSteps.{client_cancelling, client_read, ended_by, event_errors, event_first}
 pub use Rattle.coap_client_engine.specs.RunSteps.{has_passed, must_send_request, is_to_cancel, timeout_status, may_take}
-pub use Rattle.coap_client_engine.specs.RunSteps.{output_told}
-pub use Rattle.coap_client_engine.specs.RunSteps.{planned_extras, refusal_text, status_told, stop_behind, stop_written}
+pub use Rattle.coap_client_engine.specs.RunSteps.{event_output}
+pub use Rattle.coap_client_engine.specs.RunSteps.{planned_extras, refusal_text, event_status, stop_after, stop_written}
 pub use Rattle.coap_client_engine.specs.RunSteps.{token_asking, unless_refused, watched}
 -- ---- coap_client_engine, declared
 pub use Rattle.coap_client_engine.specs.declared.client.Client.TheInside.{Inside}

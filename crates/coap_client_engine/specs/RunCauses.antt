@@ -43,9 +43,9 @@ cause_of Stranger = None
 cause_of (Stopped why) = Some (cause.Stopped why)
 
 -- The same for accepted bytes, which have an event or none.
-abbrev pub cause_told : Option ClientEventValue → Option Cause
-cause_told None = None
-cause_told (Some event) = cause_of event
+abbrev pub event_cause : Option ClientEventValue → Option Cause
+event_cause None = None
+event_cause (Some event) = cause_of event
 
 -- ---- messages that are not sent
 
@@ -109,7 +109,7 @@ abbrev pub cause_in : ClientPlan → RunTrace → Option Cause
 cause_in plan (Begins moment) = None
 cause_in plan (Turns before moment) = cause_in plan before
 cause_in plan (Reads before got bytes) = cause_after (cause_in plan before) (cause_stopped (stop_read before got bytes))
-cause_in plan (Calls before call) = cause_after (cause_in plan before) (cause_told (event_in before call))
+cause_in plan (Calls before call) = cause_after (cause_in plan before) (event_cause (event_in before call))
 cause_in plan (Refuses before fault) =
     cause_after (cause_in plan before)
     (cause_refused (token_in before) (client_in before).link.peer_max plan (Some fault))

@@ -112,11 +112,11 @@ client_read client End = value.client_ended client
 client_read client Failed = client
 
 -- The reason if a read ends the run: the input has ended, or the wire has failed.
-abbrev pub stop_behind : Phase → Got → Option Reason
-stop_behind phase (Bytes n) = None
-stop_behind phase Later = None
-stop_behind phase End = stop_of phase
-stop_behind phase Failed = Some reason.Ended
+abbrev pub stop_after : Phase → Got → Option Reason
+stop_after phase (Bytes n) = None
+stop_after phase Later = None
+stop_after phase End = stop_of phase
+stop_after phase Failed = Some reason.Ended
 
 -- The reason if a write ends the run: the wire failed, and the run had not ended before.
 abbrev pub stop_written : Option ℕ → Got → Option Reason
@@ -187,14 +187,14 @@ abbrev pub response_status : ℕ → ℕ
 response_status code = if class_of code == 2 then 0 else 2
 
 -- The effect of an event on the run.
-abbrev pub heard_of : ClientEventValue → EventOutcome
-heard_of Ready = Nothing
-heard_of (Response m) = Ended (response_status m.code)
-heard_of (Notification m) = Notified
-heard_of (Rejected token number) = Ended 2
-heard_of (Pong token custody) = Nothing
-heard_of Stranger = Nothing
-heard_of (Stopped reason) = Ended 3
+abbrev pub outcome_of : ClientEventValue → EventOutcome
+outcome_of Ready = Nothing
+outcome_of (Response m) = Ended (response_status m.code)
+outcome_of (Notification m) = Notified
+outcome_of (Rejected token number) = Ended 2
+outcome_of (Pong token custody) = Nothing
+outcome_of Stranger = Nothing
+outcome_of (Stopped reason) = Ended 3
 
 -- The bytes that the run writes to the outlet for payloads.
 abbrev pub output_of : ClientEventValue → Bool → List ℕ
@@ -217,32 +217,32 @@ errors_of Stranger = []
 errors_of (Stopped reason) = stop_line reason
 
 -- The exit status, if the effect ends the run.
-abbrev pub status_heard : EventOutcome → Option ℕ
-status_heard Nothing = None
-status_heard Notified = None
-status_heard (Ended status) = Some status
+abbrev pub outcome_status : EventOutcome → Option ℕ
+outcome_status Nothing = None
+outcome_status Notified = None
+outcome_status (Ended status) = Some status
 
 -- The time of the first notification, after an effect at the time `moment`.
-abbrev pub first_heard : EventOutcome → Option ℕ → ℕ → Option ℕ
-first_heard Nothing first moment = first
-first_heard Notified None moment = Some moment
-first_heard Notified (Some first) moment = Some first
-first_heard (Ended status) first moment = first
+abbrev pub outcome_first : EventOutcome → Option ℕ → ℕ → Option ℕ
+outcome_first Nothing first moment = first
+outcome_first Notified None moment = Some moment
+outcome_first Notified (Some first) moment = Some first
+outcome_first (Ended status) first moment = first
 
 -- ---- the same for accepted bytes, which have an event or none
 
-abbrev pub status_told : Option ClientEventValue → Option ℕ
-status_told None = None
-status_told (Some event) = status_heard (heard_of event)
+abbrev pub event_status : Option ClientEventValue → Option ℕ
+event_status None = None
+event_status (Some event) = outcome_status (outcome_of event)
 
-abbrev pub first_told : Option ClientEventValue → Option ℕ → ℕ → Option ℕ
-first_told None first moment = first
-first_told (Some event) first moment = first_heard (heard_of event) first moment
+abbrev pub event_first : Option ClientEventValue → Option ℕ → ℕ → Option ℕ
+event_first None first moment = first
+event_first (Some event) first moment = outcome_first (outcome_of event) first moment
 
-abbrev pub output_told : Option ClientEventValue → Bool → List ℕ
-output_told None newline = []
-output_told (Some event) newline = output_of event newline
+abbrev pub event_output : Option ClientEventValue → Bool → List ℕ
+event_output None newline = []
+event_output (Some event) newline = output_of event newline
 
-abbrev pub errors_told : Option ClientEventValue → List ℕ
-errors_told None = []
-errors_told (Some event) = errors_of event
+abbrev pub event_errors : Option ClientEventValue → List ℕ
+event_errors None = []
+event_errors (Some event) = errors_of event

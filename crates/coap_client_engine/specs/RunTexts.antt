@@ -42,13 +42,13 @@ abbrev pub code_text : ℕ → List ℕ
 code_text code = digit (class_of code) ∷ 46 ∷ digit (detail_of code / 10) ∷ digit (detail_of code % 10) ∷ []
 
 -- A space followed by the payload, or nothing if the payload is empty.
-abbrev pub payload_behind : List ℕ → List ℕ
-payload_behind [] = []
-payload_behind (byte ∷ bytes) = codes " " ++ byte ∷ bytes
+abbrev pub spaced_payload : List ℕ → List ℕ
+spaced_payload [] = []
+spaced_payload (byte ∷ bytes) = codes " " ++ byte ∷ bytes
 
 -- The line for a response: its code, and its payload if it has one.
 abbrev pub response_line : ℕ → List ℕ → List ℕ
-response_line code payload = code_text code ++ payload_behind payload ++ codes "\n"
+response_line code payload = code_text code ++ spaced_payload payload ++ codes "\n"
 
 -- The payload as it is, followed by a newline if `newline` is true. An empty payload gives no text.
 abbrev pub payload_text : List ℕ → Bool → List ℕ

@@ -17,8 +17,8 @@ use Rattle.coap_client_engine.specs.ClientWorld.{Announced, Ended, taken_by}
 use Rattle.coap_client_engine.specs.ClientWorld.{client_after, client_of, takes, event_of}
 use Rattle.coap_client_engine.specs.RunTexts.{stop_line}
 use Rattle.coap_client_engine.specs.RunSteps.{has_passed, must_send_request, is_to_cancel, planned_extras}
-use Rattle.coap_client_engine.specs.RunSteps.{asking_refusal, cancelling_refusal, ended_by, refusal_text, status_told}
-use Rattle.coap_client_engine.specs.RunSteps.{first_told, output_told, errors_told, stop_behind, stop_written}
+use Rattle.coap_client_engine.specs.RunSteps.{asking_refusal, cancelling_refusal, ended_by, refusal_text, event_status}
+use Rattle.coap_client_engine.specs.RunSteps.{event_first, event_output, event_errors, stop_after, stop_written}
 use Rattle.coap_client_engine.specs.RunSteps.{calls_read, calls_written}
 use Rattle.coap_request.specs.declared.plan.ClientPlan.{ClientPlan}
 
@@ -148,7 +148,7 @@ abbrev pub first_in : RunTrace → Option ℕ
 first_in (Begins moment) = None
 first_in (Turns before moment) = first_in before
 first_in (Reads before got bytes) = first_in before
-first_in (Calls before call) = first_told (event_in before call) (first_in before) (moment_in before)
+first_in (Calls before call) = event_first (event_in before call) (first_in before) (moment_in before)
 first_in (Refuses before fault) = first_in before
 first_in (GivesUp before) = first_in before
 first_in (Rests before) = first_in before
@@ -276,7 +276,7 @@ written_in (Writes before got) = written_in before ++ bytes_passed (waiting_in b
 
 -- The reason if a read ends the run: the input has ended, or the wire has failed.
 abbrev pub stop_read : RunTrace → Got → List ℕ → Option Reason
-stop_read before got bytes = stop_behind (phase_in (Reads before got bytes)) got
+stop_read before got bytes = stop_after (phase_in (Reads before got bytes)) got
 
 -- The exit status if the connection stops for a reason.
 abbrev pub status_stopped : Option Reason → Option ℕ
@@ -299,7 +299,7 @@ abbrev pub status_in : RunTrace → Option ℕ
 status_in (Begins moment) = None
 status_in (Turns before moment) = status_in before
 status_in (Reads before got bytes) = status_stopped (stop_read before got bytes)
-status_in (Calls before call) = status_told (event_in before call)
+status_in (Calls before call) = event_status (event_in before call)
 status_in (Refuses before fault) = ended_by (Some fault)
 status_in (GivesUp before) = Some 4
 status_in (Rests before) = status_in before
@@ -310,7 +310,7 @@ abbrev pub output_in : ClientPlan → RunTrace → List ℕ
 output_in plan (Begins moment) = []
 output_in plan (Turns before moment) = output_in plan before
 output_in plan (Reads before got bytes) = output_in plan before
-output_in plan (Calls before call) = output_in plan before ++ output_told (event_in before call) plan.newline
+output_in plan (Calls before call) = output_in plan before ++ event_output (event_in before call) plan.newline
 output_in plan (Refuses before fault) = output_in plan before
 output_in plan (GivesUp before) = output_in plan before
 output_in plan (Rests before) = output_in plan before
@@ -321,7 +321,7 @@ abbrev pub errors_in : RunTrace → List ℕ
 errors_in (Begins moment) = []
 errors_in (Turns before moment) = errors_in before
 errors_in (Reads before got bytes) = errors_in before ++ stop_text (stop_read before got bytes)
-errors_in (Calls before call) = errors_in before ++ errors_told (event_in before call)
+errors_in (Calls before call) = errors_in before ++ event_errors (event_in before call)
 errors_in (Refuses before fault) = errors_in before ++ refusal_text (Some fault)
 errors_in (GivesUp before) = errors_in before
 errors_in (Rests before) = errors_in before
@@ -389,8 +389,8 @@ IsRefused plan before fault =
     ⊎ ((is_cancel_due plan before ≡ true) × (cancelling_refusal (client_in before) (token_in before) plan ≡ Some fault))
 
 -- Says that no request remains to be sent, unless a call was refused in this iteration.
-abbrev pub IsAskedWhereDue : RunTrace → Type 0
-IsAskedWhereDue before = must_send_request (phase_in before) (token_in before) ≡ true → has_refused before ≡ true
+abbrev pub IsRequestedWhereDue : RunTrace → Type 0
+IsRequestedWhereDue before = must_send_request (phase_in before) (token_in before) ≡ true → has_refused before ≡ true
 
 -- Says that no observation remains to be cancelled, unless a call was refused in this iteration.
 abbrev pub IsCancelledWhereDue : ClientPlan → RunTrace → Type 0
@@ -410,7 +410,7 @@ pub record HasWaited (plan : ClientPlan) (before : RunTrace) : Type 0 where
   pub late : is_late plan before ≡ true
   pub looked : has_looked before ≡ true
   pub taken : IsTakenUp before
-  pub asked : IsAskedWhereDue before
+  pub requested : IsRequestedWhereDue before
 
 -- Says that nothing more is to be done in an iteration. The run has not ended and is not overdue. The wire was read if
 -- no input was left, and no more input can be processed. No request or cancellation remains to be sent, except a
@@ -420,7 +420,7 @@ pub record IsDone (plan : ClientPlan) (before : RunTrace) : Type 0 where
   pub in_time : is_overdue plan before ≡ false
   pub looked : has_looked before ≡ true
   pub taken : IsTakenUp before
-  pub asked : IsAskedWhereDue before
+  pub requested : IsRequestedWhereDue before
   pub cancelled : IsCancelledWhereDue plan before
 
 -- Says that the last event is `Rests`, after which only a write is left in the iteration.

@@ -2,16 +2,16 @@
 
 ghost use Rattle.std.specs.Prelude.{◌≡◌, ◌≤◌, Ok, length, take, option_map, ◌++◌, ◌∷◌, ⊤, ℕ, List, [], IfOk};
 ghost use Rattle.coap_client_engine.specs.Prelude.{message_of, first_critical, IsFramer, framing_of, framer_after};
-ghost use Rattle.coap_client_engine.specs.Prelude.{frame_back, IsLive, react, reject_reason, standing_in, link_after};
-ghost use Rattle.coap_client_engine.specs.Prelude.{answer_told, event_told, event_value, answer_read, pong_read};
+ghost use Rattle.coap_client_engine.specs.Prelude.{frame_back, IsLive, react, reject_reason, state_in, link_after};
+ghost use Rattle.coap_client_engine.specs.Prelude.{response_event, verdict_event, event_value, answer_read, pong_read};
 ghost use Rattle.coap_client_engine.specs.Prelude.{taken_frame};
-ghost use Rattle.coap_client_engine.specs.Prelude.{heard_value, taken_event, taking_framed, sem, follows_so, none};
+ghost use Rattle.coap_client_engine.specs.Prelude.{received_event, taken_event, taking_framed, sem, follows_so, none};
 ghost use Rattle.coap_client_engine.specs.Prelude.{ClientValue, taking, client_takes, new_client, client_written};
 ghost use Rattle.coap_client_engine.specs.Prelude.{client_ended, ClientCall, ClientShows, Took, Wrote, Ended, takes};
 ghost use Rattle.coap_client_engine.specs.Prelude.{event_of};
 ghost use Rattle.coap_conn.specs.LinkValue.{IsReady};
 ghost use Rattle.coap_conn.specs.Calls as call;
-ghost use Rattle.coap_client_engine.specs.declared.client.Received.TheVariants as heard;
+ghost use Rattle.coap_client_engine.specs.declared.client.Received.TheVariants as received;
 ghost use Rattle.coap_client_engine.specs.contracts.client.Client.{the_row};
 
 mod requests;
@@ -72,7 +72,7 @@ enum Received {
 pub struct Taken<'a> {
     /// Number of bytes accepted from the start of the input slice.
     pub bytes: usize,
-    heard: Received,
+    received: Received,
     frame: &'a [u8],
 }
 
@@ -89,7 +89,7 @@ impl<'a> Taken<'a> {
     pub fn event(&self) -> Option<Event<'a>>
         ensures { option_map event_value result ≡ taken_event self.now }
     {
-        match self.heard {
+        match self.received {
             Received::Nothing => None,
             Received::Ready => Some(Event::Ready),
             Received::Answer { last } => answer_in(self.frame, last),
@@ -156,7 +156,7 @@ impl Client {
         // accepted bytes lead to the new client.
         ensures takes { (tokens : ℕ) (calls : List ClientCall) → ClientShows self.old tokens calls →
             result.bytes ≡ takes self.old.link.limits tokens calls piece.now }
-        ensures told { (tokens : ℕ) (calls : List ClientCall) → ClientShows self.old tokens calls →
+        ensures reported { (tokens : ℕ) (calls : List ClientCall) → ClientShows self.old tokens calls →
             taken_event result ≡ event_of self.old.link.limits tokens calls (Took (take result.bytes piece.now)) }
         ensures shows { (tokens : ℕ) (calls : List ClientCall) → ClientShows self.old tokens calls →
             ClientShows (taking self.old piece.now).client tokens (calls ++ Took (take result.bytes piece.now) ∷ []) }
@@ -164,14 +164,14 @@ impl Client {
         if !self.takes() {
             return Taken {
                 bytes: 0,
-                heard: Received::Nothing,
+                received: Received::Nothing,
                 frame: &[],
             };
         }
-        let (bytes, heard) = take_in(&mut self.framer, &mut self.link, piece);
+        let (bytes, received) = take_in(&mut self.framer, &mut self.link, piece);
         Taken {
             bytes,
-            heard,
+            received,
             frame: frame_given(self.framer.split_frame(), &piece[..bytes]),
         }
     }
@@ -240,12 +240,12 @@ fn take_in(framer: &mut Framer, link: &mut Link, piece: &[u8]) -> (usize, Receiv
     ensures framer { framer.new ≡ framer_after framer.old piece.now }
     ensures count { result.0 ≡ (framing_of framer.old piece.now).taken }
     ensures within { result.0 ≤ length piece.now }
-    ensures told { heard_value result.1 (message_of (frame_back framer.new.spent (take result.0 piece.now)))
+    ensures reported { received_event result.1 (message_of (frame_back framer.new.spent (take result.0 piece.now)))
         ≡ (taking_framed framer.old link.old piece.now).event }
     ensures link { link.new ≡ (taking_framed framer.old link.old piece.now).client.link }
 {
     let framed = framer.next_frame(piece);
-    let heard = match framed.what.laid_out() {
+    let received = match framed.what.laid_out() {
         Ok(None) => Received::Nothing,
         Err(fault) => reject(link, Reject::from(fault)),
         Ok(Some(frame)) => match frame.parse() {
@@ -253,7 +253,7 @@ fn take_in(framer: &mut Framer, link: &mut Link, piece: &[u8]) -> (usize, Receiv
             Ok(message) => handle_message(link, &message),
         },
     };
-    (framed.taken, heard)
+    (framed.taken, received)
 }
 
 /// Returns the frame that the framer gave last: its buffered copy if the frame was split, otherwise the accepted bytes.
@@ -269,8 +269,8 @@ fn frame_given<'a>(split: &'a [u8], taken: &'a [u8]) -> &'a [u8]
 fn handle_message(link: &mut Link, message: &MessageRef) -> Received
     requires ready { IsReady link.old }
     requires live { IsLive link.old.phase }
-    ensures event { heard_value result (Ok message.now)
-        ≡ event_told message.now (react (standing_in link.old) message.now).verdict }
+    ensures event { received_event result (Ok message.now)
+        ≡ verdict_event message.now (react (state_in link.old) message.now).verdict }
     ensures after { link.new ≡ link_after link.old (call.Handle message.now) }
 {
     match link.on(message) {
@@ -288,7 +288,7 @@ fn handle_message(link: &mut Link, message: &MessageRef) -> Received
 fn reject(link: &mut Link, fault: Reject) -> Received
     requires ready { IsReady link.old }
     requires live { IsLive link.old.phase }
-    ensures heard { result ≡ heard.Stopped (reject_reason fault) }
+    ensures received { result ≡ received.Stopped (reject_reason fault) }
     ensures after { link.new ≡ link_after link.old (call.Reject fault) }
 {
     link.reject(fault);
@@ -308,7 +308,7 @@ fn answer_in<'a>(frame: &'a [u8], last: bool) -> Option<Event<'a>>
 /// Returns the event of a response: `Rejected` if a critical option is not recognised.
 fn answer<'a>(message: MessageRef<'a>, last: bool) -> Event<'a>
     ensures { event_value result
-        ≡ answer_told message.entry message.entry.token last (first_critical message.entry.options) }
+        ≡ response_event message.entry message.entry.token last (first_critical message.entry.options) }
 {
     if let Some(number) = message.first_critical() {
         return Event::Rejected {

@@ -21,8 +21,8 @@ pub fn limits_are_kept()
         AreAccepted limits tokens calls → length (waiting_of (client_after limits tokens calls)) ≤ limits.queue }
     ensures outstanding { (limits : LimitValues) (tokens : ℕ) (calls : List ClientCall) → AreInRange limits →
         AreAccepted limits tokens calls → length (client_after limits tokens calls).outstanding ≤ limits.outstanding }
-    ensures held { (limits : LimitValues) (tokens : ℕ) (calls : List ClientCall) →
-        (client_after limits tokens calls).held ≡ [] }
+    ensures pending { (limits : LimitValues) (tokens : ℕ) (calls : List ClientCall) →
+        (client_after limits tokens calls).pending ≡ [] }
 {}
 
 /// States that the largest message that a client accepts is the one that it announced last (RFC 8323 section 5.3.1).

@@ -3,7 +3,7 @@
 ghost use Rattle.std.specs.Prelude.{◌≡◌, ◌||◌, false, is_err, IfOk, IfSome};
 ghost use Rattle.coap_client_engine.specs.Prelude.{is_output_fault, IfMemory, IsStatus, IsFresh, IsClientRun};
 ghost use Rattle.coap_client_engine.specs.Prelude.{IsExplainedRun};
-ghost use Rattle.coap_client_engine.specs.Prelude.{FailedBeforeStart, seen, with_outlets, with_all, HasReadClock};
+ghost use Rattle.coap_client_engine.specs.Prelude.{FailedBeforeStart, records, with_outlets, with_all, HasReadClock};
 ghost use Rattle.coap_client_engine.specs.Prelude.{IsFinished, IsFlushed, ExtendsTrace};
 
 mod deadlines;
@@ -35,8 +35,8 @@ const TURNS: u64 = 1_000_000_000_000;
 ///
 /// If a message, a failed request or the time ends the run, its last iteration still tries to write the queued bytes.
 ///
-/// The devices of the programs record nothing. The proved test `run_told` has the clause `run` for devices that record.
-/// No clause gives the order of calls across devices.
+/// The devices of the programs record nothing. The proved test `run_recorded` has the clause `run` for devices that
+/// record. No clause gives the order of calls across devices.
 ///
 /// # Errors
 ///
@@ -57,15 +57,15 @@ pub fn run_client<W: Wire, C: Clock, O: Outlet, E: Outlet>(
     requires out_works { O.is_failed out.old ≡ false }
     requires err_works { E.is_failed err.old ≡ false }
     // A trace of the run agrees with the records of its devices, and ends with the returned status.
-    ensures run { IfOk result (IsClientRun plan.now (seen (W.given wire.old) (W.written wire.old) (W.answers wire.old)
-        (C.moments clock.old) (O.written out.old) (E.written err.old))
-        (seen (W.given wire.new) (W.written wire.new) (W.answers wire.new) (C.moments clock.new) (O.written out.new)
+    ensures run { IfOk result (IsClientRun plan.now (records (W.given wire.old) (W.written wire.old)
+        (W.answers wire.old) (C.moments clock.old) (O.written out.old) (E.written err.old))
+        (records (W.given wire.new) (W.written wire.new) (W.answers wire.new) (C.moments clock.new) (O.written out.new)
         (E.written err.new))) }
     ensures status { IfOk result IsStatus }
     // If allocation fails, nothing was read or written before.
     ensures memory { IfMemory result (FailedBeforeStart plan.now
-        (seen (W.given wire.old) (W.written wire.old) (W.answers wire.old) (C.moments clock.old) (O.written out.old)
-        (E.written err.old)) (seen (W.given wire.new) (W.written wire.new) (W.answers wire.new) (C.moments clock.new)
+        (records (W.given wire.old) (W.written wire.old) (W.answers wire.old) (C.moments clock.old) (O.written out.old)
+        (E.written err.old)) (records (W.given wire.new) (W.written wire.new) (W.answers wire.new) (C.moments clock.new)
         (O.written out.new) (E.written err.new))) }
     // `Output` is returned if and only if an outlet failed.
     ensures output { (O.is_failed out.new || E.is_failed err.new) ≡ is_output_fault result }
@@ -96,15 +96,15 @@ pub fn run_to_end<W: Wire, C: Clock, O: Outlet, E: Outlet>(
     requires err_works { E.is_failed err.old ≡ false }
     // A trace of the run agrees with the records of its devices. It ends with the returned status and cause.
     ensures run { IfOk result
-        (IsExplainedRun plan.now (seen (W.given wire.old) (W.written wire.old) (W.answers wire.old)
+        (IsExplainedRun plan.now (records (W.given wire.old) (W.written wire.old) (W.answers wire.old)
         (C.moments clock.old) (O.written out.old) (E.written err.old))
-        (seen (W.given wire.new) (W.written wire.new) (W.answers wire.new) (C.moments clock.new) (O.written out.new)
+        (records (W.given wire.new) (W.written wire.new) (W.answers wire.new) (C.moments clock.new) (O.written out.new)
         (E.written err.new))) }
     ensures status { IfOk result (λ end. IsStatus end.status) }
     // If allocation fails, nothing was read or written before.
     ensures memory { IfMemory result (FailedBeforeStart plan.now
-        (seen (W.given wire.old) (W.written wire.old) (W.answers wire.old) (C.moments clock.old) (O.written out.old)
-        (E.written err.old)) (seen (W.given wire.new) (W.written wire.new) (W.answers wire.new) (C.moments clock.new)
+        (records (W.given wire.old) (W.written wire.old) (W.answers wire.old) (C.moments clock.old) (O.written out.old)
+        (E.written err.old)) (records (W.given wire.new) (W.written wire.new) (W.answers wire.new) (C.moments clock.new)
         (O.written out.new) (E.written err.new))) }
     // `Output` is returned if and only if an outlet failed.
     ensures output { (O.is_failed out.new || E.is_failed err.new) ≡ is_output_fault result }

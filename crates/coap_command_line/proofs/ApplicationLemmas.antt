@@ -3,7 +3,7 @@ use Rattle.std.proofs.Common.{◌≡◌, ◌∙◌, ◌<◌, ◌+◌, ◌++◌, 
 use Rattle.std.proofs.Common.{Option, Some, None, option_map, Result, Err, refl, sym, ap, append_assoc, append-nil}
 use Rattle.std.proofs.lemmas.List.{at_drop_more}
 use Rattle.coap_path.specs.Applications.{ApplicationsValue}
-use Rattle.coap_command_line.specs.Prelude.{Bor, Text, TellsEntries, AddsText, codes_of, method_in, with_text}
+use Rattle.coap_command_line.specs.Prelude.{Bor, Text, GivesEntries, AddsText, codes_of, method_in, with_text}
 use Rattle.coap_command_line.specs.Prelude.{with_texts}
 use Rattle.coap_command_line.specs.ApplicationWords.{found_entries}
 use Rattle.coap_command_line.specs.declared.arguments.applications.EntryFault.{EntryFault}
@@ -59,22 +59,22 @@ module _ (all : Result ApplicationsValue Text) (texts : List (Bor Text)) (index 
   abbrev text : Text
   text = (get_or texts index other).now
 
-  abbrev behind : List Text
-  behind = map (λ t. t.now) (drop (index + 1) texts)
+  abbrev later : List Text
+  later = map (λ t. t.now) (drop (index + 1) texts)
 
-  here : with_texts v (text ∷ behind) ≡ all
+  here : with_texts v (text ∷ later) ≡ all
   here = sym (at_drop_more (λ left. with_texts v (map (λ t. t.now) left)) texts index other within) ∙ same
 
   -- An entry was added.
-  pub entry_added : added ≡ true → with_texts w behind ≡ all
-  entry_added so = sym (goes_on v w text behind added (with_text v text) refl adds so) ∙ here
+  pub entry_added : added ≡ true → with_texts w later ≡ all
+  entry_added so = sym (goes_on v w text later added (with_text v text) refl adds so) ∙ here
 
   -- A text names no entry.
   pub entry_refused : added ≡ false → all ≡ Err text
-  entry_refused so = sym here ∙ stops v w text behind added (with_text v text) refl adds so
+  entry_refused so = sym here ∙ stops v w text later added (with_text v text) refl adds so
 
 pub found_refused : (answer : Result ApplicationsValue Text) (why : EntryFault)
-    → TellsEntries {A = ApplicationsValue} answer (Err why)
-    → TellsEntries {A = Option ApplicationsValue} (found_entries answer) (Err why)
+    → GivesEntries {A = ApplicationsValue} answer (Err why)
+    → GivesEntries {A = Option ApplicationsValue} (found_entries answer) (Err why)
 found_refused answer (fault.Refused text) is = ap found_entries is
 found_refused answer fault.Memory is = tt

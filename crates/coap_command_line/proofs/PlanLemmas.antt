@@ -1,15 +1,15 @@
 -- From the options that `clap` found to the plan.
 use Rattle.std.proofs.Common.{◌≡◌, ◌∙◌, List, [], ◌∷◌, Result, sym, ap, refl, subst}
 use Rattle.coap_command_line.specs.Prelude.{App, Kinds, Row, Text, fault_of, matches_of, WordsFaultValue, IsTurnedDown}
-use Rattle.coap_command_line.specs.Prelude.{TellsClientPlan, TellsServerPlan, client_app, client_plan_in}
+use Rattle.coap_command_line.specs.Prelude.{GivesClientPlan, GivesServerPlan, client_app, client_plan_in}
 use Rattle.coap_command_line.specs.Prelude.{client_plan_of}
 use Rattle.coap_command_line.specs.Prelude.{server_app, server_plan_in, server_plan_of, ClientPlan, ServerPlan}
 use Rattle.coap_command_line.specs.Prelude.{WordsFault}
 use Rattle.coap_command_line.specs.CommandLines.{unless_refused}
-use Rattle.coap_command_line.specs.ExplainWords.{explain_app, explain_plan_in, explain_plan_of, TellsExplainPlan}
+use Rattle.coap_command_line.specs.ExplainWords.{explain_app, explain_plan_in, explain_plan_of, GivesExplainPlan}
 use Rattle.coap_command_line.specs.declared.arguments.explain.ExplainPlan.{ExplainPlan}
 use Rattle.coap_command_line.specs.DirectoryWords.{directory_app, directory_plan_in, directory_plan_of}
-use Rattle.coap_command_line.specs.DirectoryWords.{TellsDirectoryPlan}
+use Rattle.coap_command_line.specs.DirectoryWords.{GivesDirectoryPlan}
 use Rattle.coap_command_line.specs.declared.arguments.directory.DirectoryPlan.{DirectoryPlan}
 use Rattle.coap_command_line.specs.PlanViews.{IsRefused}
 use Rattle.coap_command_line.specs.declared.arguments.WordsFault.TheVariants as faults
@@ -38,13 +38,14 @@ turned_down kinds answer (faults.Value name) h = absurd h
 turned_down kinds answer faults.Clash h = absurd h
 turned_down kinds answer faults.Memory h = tt
 
-pub server_told : (app : App) (words : List Text) (rows : List Row) (answer : Result ServerPlan WordsFault)
+pub server_gives : (app : App) (words : List Text) (rows : List Row) (answer : Result ServerPlan WordsFault)
     → app ≡ server_app → fault_of app words ≡ []
-    → rows ≡ matches_of app words → TellsServerPlan (server_plan_in rows) answer
-    → TellsServerPlan (server_plan_of words) answer
+    → rows ≡ matches_of app words → GivesServerPlan (server_plan_in rows) answer
+    → GivesServerPlan (server_plan_of words) answer
 unfolding server_plan_of
-server_told app words rows answer is taken found told =
-    subst (λ a. TellsServerPlan a answer) (read_of_shape app server_app words rows server_plan_in is taken found) told
+server_gives app words rows answer is taken found reported =
+    subst (λ a. GivesServerPlan a answer) (read_of_shape app server_app words rows server_plan_in is taken found)
+    reported
 
 pub server_refused : (app : App) (words : List Text) (fault : WordsFault) → app ≡ server_app
     → IsTurnedDown (fault_of app words) fault
@@ -54,13 +55,14 @@ server_refused app words fault is h =
     turned_down (fault_of server_app words) (server_plan_in (matches_of server_app words)) fault
     (subst (λ (a : App). IsTurnedDown (fault_of a words) fault) is h)
 
-pub client_told : (app : App) (words : List Text) (rows : List Row) (answer : Result ClientPlan WordsFault)
+pub client_gives : (app : App) (words : List Text) (rows : List Row) (answer : Result ClientPlan WordsFault)
     → app ≡ client_app → fault_of app words ≡ []
-    → rows ≡ matches_of app words → TellsClientPlan (client_plan_in rows) answer
-    → TellsClientPlan (client_plan_of words) answer
+    → rows ≡ matches_of app words → GivesClientPlan (client_plan_in rows) answer
+    → GivesClientPlan (client_plan_of words) answer
 unfolding client_plan_of
-client_told app words rows answer is taken found told =
-    subst (λ a. TellsClientPlan a answer) (read_of_shape app client_app words rows client_plan_in is taken found) told
+client_gives app words rows answer is taken found reported =
+    subst (λ a. GivesClientPlan a answer) (read_of_shape app client_app words rows client_plan_in is taken found)
+    reported
 
 pub client_refused : (app : App) (words : List Text) (fault : WordsFault) → app ≡ client_app
     → IsTurnedDown (fault_of app words) fault
@@ -70,14 +72,14 @@ client_refused app words fault is h =
     turned_down (fault_of client_app words) (client_plan_in (matches_of client_app words)) fault
     (subst (λ (a : App). IsTurnedDown (fault_of a words) fault) is h)
 
-pub explain_told : (app : App) (words : List Text) (rows : List Row) (answer : Result ExplainPlan WordsFault)
+pub explain_gives : (app : App) (words : List Text) (rows : List Row) (answer : Result ExplainPlan WordsFault)
     → app ≡ explain_app → fault_of app words ≡ []
-    → rows ≡ matches_of app words → TellsExplainPlan (explain_plan_in rows) answer
-    → TellsExplainPlan (explain_plan_of words) answer
+    → rows ≡ matches_of app words → GivesExplainPlan (explain_plan_in rows) answer
+    → GivesExplainPlan (explain_plan_of words) answer
 unfolding explain_plan_of
-explain_told app words rows answer is taken found told =
-    subst (λ a. TellsExplainPlan a answer)
-    (read_of_shape app explain_app words rows explain_plan_in is taken found) told
+explain_gives app words rows answer is taken found reported =
+    subst (λ a. GivesExplainPlan a answer)
+    (read_of_shape app explain_app words rows explain_plan_in is taken found) reported
 
 pub explain_refused : (app : App) (words : List Text) (fault : WordsFault) → app ≡ explain_app
     → IsTurnedDown (fault_of app words) fault
@@ -87,14 +89,14 @@ explain_refused app words fault is h =
     turned_down (fault_of explain_app words) (explain_plan_in (matches_of explain_app words)) fault
     (subst (λ (a : App). IsTurnedDown (fault_of a words) fault) is h)
 
-pub directory_told : (app : App) (words : List Text) (rows : List Row) (answer : Result DirectoryPlan WordsFault)
+pub directory_gives : (app : App) (words : List Text) (rows : List Row) (answer : Result DirectoryPlan WordsFault)
     → app ≡ directory_app → fault_of app words ≡ []
-    → rows ≡ matches_of app words → TellsDirectoryPlan (directory_plan_in rows) answer
-    → TellsDirectoryPlan (directory_plan_of words) answer
+    → rows ≡ matches_of app words → GivesDirectoryPlan (directory_plan_in rows) answer
+    → GivesDirectoryPlan (directory_plan_of words) answer
 unfolding directory_plan_of
-directory_told app words rows answer is taken found told =
-    subst (λ a. TellsDirectoryPlan a answer)
-    (read_of_shape app directory_app words rows directory_plan_in is taken found) told
+directory_gives app words rows answer is taken found reported =
+    subst (λ a. GivesDirectoryPlan a answer)
+    (read_of_shape app directory_app words rows directory_plan_in is taken found) reported
 
 pub directory_refused : (app : App) (words : List Text) (fault : WordsFault) → app ≡ directory_app
     → IsTurnedDown (fault_of app words) fault

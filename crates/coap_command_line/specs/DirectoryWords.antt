@@ -111,13 +111,13 @@ directory_plan_of words =
     unless_refused (fault_of directory_app words) (directory_plan_in (matches_of directory_app words))
 
 -- Says that a plan or an error of the code is the expected result `answer`.
-abbrev pub TellsDirectoryPlan : Result DirectoryPlanValue WordsFaultValue → Result DirectoryPlan WordsFault → Type 0
-TellsDirectoryPlan answer (Ok plan) = answer ≡ Ok (directory_value plan)
-TellsDirectoryPlan answer (Err refusal) = IsRefused answer refusal
+abbrev pub GivesDirectoryPlan : Result DirectoryPlanValue WordsFaultValue → Result DirectoryPlan WordsFault → Type 0
+GivesDirectoryPlan answer (Ok plan) = answer ≡ Ok (directory_value plan)
+GivesDirectoryPlan answer (Err refusal) = IsRefused answer refusal
 
 -- Says that a plan or an error of the code is the one for these arguments.
 abbrev pub IsDirectoryPlan : List Text → Result DirectoryPlan WordsFault → Type 0
-IsDirectoryPlan words answer = TellsDirectoryPlan (directory_plan_of words) answer
+IsDirectoryPlan words answer = GivesDirectoryPlan (directory_plan_of words) answer
 
 -- ---- reasons
 

@@ -62,13 +62,13 @@ unfoldable pub explain_plan_of : List Text → Result ExplainPlanValue WordsFaul
 explain_plan_of words = unless_refused (fault_of explain_app words) (explain_plan_in (matches_of explain_app words))
 
 -- Says that a plan or an error of the code is the expected result `answer`.
-abbrev pub TellsExplainPlan : Result ExplainPlanValue WordsFaultValue → Result ExplainPlan WordsFault → Type 0
-TellsExplainPlan answer (Ok plan) = answer ≡ Ok (explain_value plan)
-TellsExplainPlan answer (Err refusal) = IsRefused answer refusal
+abbrev pub GivesExplainPlan : Result ExplainPlanValue WordsFaultValue → Result ExplainPlan WordsFault → Type 0
+GivesExplainPlan answer (Ok plan) = answer ≡ Ok (explain_value plan)
+GivesExplainPlan answer (Err refusal) = IsRefused answer refusal
 
 -- Says that a plan or an error of the code is the one for these arguments.
 abbrev pub IsExplainPlan : List Text → Result ExplainPlan WordsFault → Type 0
-IsExplainPlan words answer = TellsExplainPlan (explain_plan_of words) answer
+IsExplainPlan words answer = GivesExplainPlan (explain_plan_of words) answer
 
 -- ---- reasons
 

@@ -71,14 +71,14 @@ words_fault_number faults.Clash = 4
 words_fault_number faults.Memory = 5
 
 -- True if `clap` reports a text that the user asked for: the help or the version.
-abbrev pub is_asked_for : ErrorKind → Bool
-is_asked_for kind.DisplayHelp = true
-is_asked_for kind.DisplayVersion = true
-is_asked_for other = false
+abbrev pub is_requested_text : ErrorKind → Bool
+is_requested_text kind.DisplayHelp = true
+is_requested_text kind.DisplayVersion = true
+is_requested_text other = false
 
 -- True if the error of a command line is a request for help or for the version.
 abbrev pub is_help_or_version : WordsFault → Bool
-is_help_or_version (faults.Usage error) = is_asked_for (kind_of error)
+is_help_or_version (faults.Usage error) = is_requested_text (kind_of error)
 is_help_or_version other = false
 
 -- Says that a result is this error. An error of `clap` is of one of the kinds in the result. Nothing is known if
@@ -98,25 +98,25 @@ IsTurnedDown kinds faults.Memory = ⊤
 IsTurnedDown kinds other = ⊥
 
 -- Says that a plan or an error of the code is the expected result `answer`.
-abbrev pub TellsServerPlan : Result ServerPlanValue WordsFaultValue → Result ServerPlan WordsFault → Type 0
-TellsServerPlan answer (Ok plan) = answer ≡ Ok (server_value plan)
-TellsServerPlan answer (Err refusal) = IsRefused answer refusal
+abbrev pub GivesServerPlan : Result ServerPlanValue WordsFaultValue → Result ServerPlan WordsFault → Type 0
+GivesServerPlan answer (Ok plan) = answer ≡ Ok (server_value plan)
+GivesServerPlan answer (Err refusal) = IsRefused answer refusal
 
 -- Says that the entries of an application, or the first value that names none, are the expected result `answer`.
 -- Nothing is known if allocation failed.
-abbrev pub TellsEntries : {A : Type 0} → Result A Text → Result A EntryFault → Type 0
-TellsEntries answer (Ok found) = answer ≡ Ok found
-TellsEntries answer (Err (entries.Refused text)) = answer ≡ Err text.now
-TellsEntries answer (Err entries.Memory) = ⊤
+abbrev pub GivesEntries : {A : Type 0} → Result A Text → Result A EntryFault → Type 0
+GivesEntries answer (Ok found) = answer ≡ Ok found
+GivesEntries answer (Err (entries.Refused text)) = answer ≡ Err text.now
+GivesEntries answer (Err entries.Memory) = ⊤
 
 -- Says that a plan or an error of the code is the one for these arguments.
 abbrev pub IsServerPlan : List Text → Result ServerPlan WordsFault → Type 0
-IsServerPlan words answer = TellsServerPlan (server_plan_of words) answer
+IsServerPlan words answer = GivesServerPlan (server_plan_of words) answer
 
 -- Says that a plan or an error of the code is the expected result `answer`.
-abbrev pub TellsClientPlan : Result ClientPlanValue WordsFaultValue → Result ClientPlan WordsFault → Type 0
-TellsClientPlan answer (Ok plan) = answer ≡ Ok (client_value plan)
-TellsClientPlan answer (Err refusal) = IsRefused answer refusal
+abbrev pub GivesClientPlan : Result ClientPlanValue WordsFaultValue → Result ClientPlan WordsFault → Type 0
+GivesClientPlan answer (Ok plan) = answer ≡ Ok (client_value plan)
+GivesClientPlan answer (Err refusal) = IsRefused answer refusal
 
 -- Says that the extra option, if there is one, or an error of the code is the expected result `answer`.
 abbrev pub TellsExtra : {A : Type 0} → Result (Option (ℕ × Text)) Text → Result (Option (ℕ × Vec ℕ A)) WordsFault
@@ -126,4 +126,4 @@ TellsExtra answer (Err refusal) = IsRefused (spoken answer) refusal
 
 -- Says that a plan or an error of the code is the one for these arguments.
 abbrev pub IsClientPlan : List Text → Result ClientPlan WordsFault → Type 0
-IsClientPlan words answer = TellsClientPlan (client_plan_of words) answer
+IsClientPlan words answer = GivesClientPlan (client_plan_of words) answer

@@ -41,8 +41,8 @@ unfoldable pub use Rattle.coap_command_line.specs.ClientWords.{request_said, uri
 pub use Rattle.coap_command_line.specs.CommandLines.{named, option_value, Clash, Usage, Value, WordsFaultValue}
 unfoldable pub use Rattle.coap_command_line.specs.CommandLines.{number_within, is_used, level_in}
 pub use Rattle.coap_command_line.specs.PlanViews.{IsClientPlan, IsServerPlan, is_help_or_version, words_fault_number}
-pub use Rattle.coap_command_line.specs.PlanViews.{TellsClientPlan, TellsExtra, client_value, extra_value, IsTurnedDown}
-pub use Rattle.coap_command_line.specs.PlanViews.{TellsServerPlan, mode_value, TellsEntries}
+pub use Rattle.coap_command_line.specs.PlanViews.{GivesClientPlan, TellsExtra, client_value, extra_value, IsTurnedDown}
+pub use Rattle.coap_command_line.specs.PlanViews.{GivesServerPlan, mode_value, GivesEntries}
 pub use Rattle.coap_command_line.specs.ServerWords.{server_app, Listen, Script, Stdio, every_address}
 unfoldable pub use Rattle.coap_command_line.specs.ServerWords.{address_of, limits_said, server_plan_in, server_plan_of}
 unfoldable pub use Rattle.coap_command_line.specs.ServerWords.{values_said, excludes_mode, three_in, starts_in}

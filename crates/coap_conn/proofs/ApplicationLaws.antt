@@ -5,8 +5,8 @@ use Rattle.coap_conn.specs.Prelude.{list_any, AllByRecursion, is_none, position,
 use Rattle.coap_conn.specs.Prelude.{Phase, Reason, Reply, Whole, Bare, Stopped, AllFit, fit, fitted, bare_response}
 use Rattle.coap_conn.specs.Prelude.{answers, PendingEntryValue, Engine, Application, Answer, Pong}
 use Rattle.coap_conn.specs.Prelude.{is_request_for, has_request, without_request, IsFirstRequest, ConnectionState}
-use Rattle.coap_conn.specs.Prelude.{send, send_as, response_refusal, History, link_of, limit_now, standing_now}
-use Rattle.coap_conn.specs.Prelude.{standing_without, after, without_at, with_effect, RespondFault}
+use Rattle.coap_conn.specs.Prelude.{send, send_as, response_refusal, History, link_of, limit_now, state_now}
+use Rattle.coap_conn.specs.Prelude.{state_without, after, without_at, with_effect, RespondFault}
 use Rattle.coap_conn.specs.declared.phase.Phase.TheVariants as phase
 use Rattle.coap_conn.specs.Calls as call
 use Rattle.std.proofs.lemmas.Option.{slice_get-get_or}
@@ -26,68 +26,69 @@ request_with token (Answer Application other moment) is =
     (moment, ap (λ (t : List ℕ). Answer Application t moment) ((bytes_decides other token).0 is))
 request_with token (Pong other) is = absurd cc
 
-none_passes : (p : PendingEntryValue → Bool) (held : List PendingEntryValue) → AllByRecursion (λ e. p e ≡ false) held
-    → list_any p held ≡ false
+none_passes : (p : PendingEntryValue → Bool) (pending : List PendingEntryValue)
+    → AllByRecursion (λ e. p e ≡ false) pending → list_any p pending ≡ false
 none_passes p [] each = refl
-none_passes p (e ∷ held) each = ap (λ (b : Bool). b || list_any p held) each.0 ∙ none_passes p held each.1
+none_passes p (e ∷ pending) each = ap (λ (b : Bool). b || list_any p pending) each.0 ∙ none_passes p pending each.1
 
-pub absent_request : (held : List PendingEntryValue) (token : List ℕ) → position (is_request_for token) held ≡ None
-    → has_request token held ≡ false
-absent_request held token none = none_passes (is_request_for token) held (no_position (is_request_for token) held none)
+pub absent_request : (pending : List PendingEntryValue) (token : List ℕ)
+    → position (is_request_for token) pending ≡ None → has_request token pending ≡ false
+absent_request pending token none = none_passes (is_request_for token) pending
+    (no_position (is_request_for token) pending none)
 
-pub there_request : (held : List PendingEntryValue) (token : List ℕ) (i : ℕ)
-    → position (is_request_for token) held ≡ Some i → has_request token held ≡ true
-there_request held token i found =
+pub there_request : (pending : List PendingEntryValue) (token : List ℕ) (i : ℕ)
+    → position (is_request_for token) pending ≡ Some i → has_request token pending ≡ true
+there_request pending token i found =
     let d : PendingEntryValue = Pong [] in
-    let at = position-Some (is_request_for token) held i d found in
-    list_any_at (is_request_for token) held i d at.0 at.1
+    let at = position-Some (is_request_for token) pending i d found in
+    list_any_at (is_request_for token) pending i d at.0 at.1
 
 -- If a request with the token waits, the entry at the first position of one is that request.
-request_at : (held : List PendingEntryValue) (token : List ℕ) (i : ℕ) → position (is_request_for token) held ≡ Some i
-    → IsFirstRequest held token (remove held i)
-request_at held token i found =
+request_at : (pending : List PendingEntryValue) (token : List ℕ) (i : ℕ)
+    → position (is_request_for token) pending ≡ Some i → IsFirstRequest pending token (remove pending i)
+request_at pending token i found =
     let d : PendingEntryValue = Pong [] in
-    let at = position-Some (is_request_for token) held i d found in
-    let is = request_with token (get_or held i d) at.1 in
+    let at = position-Some (is_request_for token) pending i d found in
+    let is = request_with token (get_or pending i d) at.1 in
     record {
-      before = take i held;
-      after = drop (suc i) held;
+      before = take i pending;
+      after = drop (suc i) pending;
       moment = is.0;
       there =
-          split_at held i (Answer Application token is.0)
-          (slice_get-get_or held i d at.0 ∙ ap (λ (e : PendingEntryValue). Some e) is.1);
+          split_at pending i (Answer Application token is.0)
+          (slice_get-get_or pending i d at.0 ∙ ap (λ (e : PendingEntryValue). Some e) is.1);
       without = refl;
-      earliest = none_before (is_request_for token) held i d at.2;
+      earliest = none_before (is_request_for token) pending i d at.2;
     }
 
-found_request : (held : List PendingEntryValue) (token : List ℕ) (at : Option ℕ)
-    → position (is_request_for token) held ≡ at → has_request token held ≡ true
-    → IsFirstRequest held token (without_at held at)
-found_request held token None none has =
-    let bad : ◌≡◌ {A = Bool} false true = sym (absent_request held token none) ∙ has in absurd cc
-found_request held token (Some i) found has = request_at held token i found
+found_request : (pending : List PendingEntryValue) (token : List ℕ) (at : Option ℕ)
+    → position (is_request_for token) pending ≡ at → has_request token pending ≡ true
+    → IsFirstRequest pending token (without_at pending at)
+found_request pending token None none has =
+    let bad : ◌≡◌ {A = Bool} false true = sym (absent_request pending token none) ∙ has in absurd cc
+found_request pending token (Some i) found has = request_at pending token i found
 
-pub first_request : (held : List PendingEntryValue) (token : List ℕ) → has_request token held ≡ true
-    → IsFirstRequest held token (without_request token held)
+pub first_request : (pending : List PendingEntryValue) (token : List ℕ) → has_request token pending ≡ true
+    → IsFirstRequest pending token (without_request token pending)
 unfolding without_request
-first_request held token = found_request held token (position (is_request_for token) held) refl
+first_request pending token = found_request pending token (position (is_request_for token) pending) refl
 
-no_request : (held : List PendingEntryValue) (token : List ℕ) (at : Option ℕ)
-    → position (is_request_for token) held ≡ at → has_request token held ≡ false → without_at held at ≡ held
-no_request held token None none has = refl
-no_request held token (Some i) found has =
-    let bad : ◌≡◌ {A = Bool} false true = sym has ∙ there_request held token i found in absurd cc
+no_request : (pending : List PendingEntryValue) (token : List ℕ) (at : Option ℕ)
+    → position (is_request_for token) pending ≡ at → has_request token pending ≡ false → without_at pending at ≡ pending
+no_request pending token None none has = refl
+no_request pending token (Some i) found has =
+    let bad : ◌≡◌ {A = Bool} false true = sym has ∙ there_request pending token i found in absurd cc
 
-pub others_stay : (held : List PendingEntryValue) (token : List ℕ) → has_request token held ≡ false
-    → without_request token held ≡ held
+pub others_stay : (pending : List PendingEntryValue) (token : List ℕ) → has_request token pending ≡ false
+    → without_request token pending ≡ pending
 unfolding without_request
-others_stay held token = no_request held token (position (is_request_for token) held) refl
+others_stay pending token = no_request pending token (position (is_request_for token) pending) refl
 
 -- ---- the link after a response
 
 pub responded_fits : (h : History) (m : Message)
-    → AllFit (limit_now h) (send (standing_without m.token (standing_now h)) m (bare_response m)).queued
-responded_fits h m = send_fit (standing_without m.token (standing_now h)) m (bare_response m)
+    → AllFit (limit_now h) (send (state_without m.token (state_now h)) m (bare_response m)).queued
+responded_fits h m = send_fit (state_without m.token (state_now h)) m (bare_response m)
 
 sent_queued : (s : ConnectionState) (m less : Message) (r : Reply) → (send_as s m less r).queued ≡ fitted m less r
 sent_queued s m less Whole = refl
@@ -102,33 +103,34 @@ may_respond h m answering allowed =
     ∙ ap (λ (o : Option RespondFault). is_none o) allowed
 
 respond_does : (h : History) (m : Message) → answers h.phase ≡ true → response_refusal (link_of h) m ≡ None
-    → after h (call.Respond m) ≡ with_effect h (send (standing_without m.token (standing_now h)) m (bare_response m))
+    → after h (call.Respond m) ≡ with_effect h (send (state_without m.token (state_now h)) m (bare_response m))
 respond_does h m answering allowed =
-    ap (λ (b : Bool). cond b (with_effect h (send (standing_without m.token (standing_now h)) m (bare_response m))) h)
+    ap (λ (b : Bool). cond b (with_effect h (send (state_without m.token (state_now h)) m (bare_response m))) h)
     (may_respond h m answering allowed)
 
 pub responds_fitted : (h : History) (m : Message) → answers h.phase ≡ true → response_refusal (link_of h) m ≡ None
     → (after h (call.Respond m)).queued ≡ h.queued ++ fitted m (bare_response m) (fit (limit_now h) m (bare_response m))
 responds_fitted h m answering allowed =
     ap (λ (k : History). k.queued) (respond_does h m answering allowed)
-    ∙ ap (λ (ms : List Message). h.queued ++ ms) (sent_queued (standing_without m.token (standing_now h)) m
+    ∙ ap (λ (ms : List Message). h.queued ++ ms) (sent_queued (state_without m.token (state_now h)) m
     (bare_response m) (fit (limit_now h) m (bare_response m)))
 
-held_as_sent : (s : ConnectionState) (m less : Message) (r : Reply) → r ≡ Whole → (send_as s m less r).held ≡ s.held
-held_as_sent s m less Whole is = refl
-held_as_sent s m less Bare is = absurd cc
-held_as_sent s m less Stopped is = absurd cc
+pending_as_sent : (s : ConnectionState) (m less : Message) (r : Reply) → r ≡ Whole
+    → (send_as s m less r).pending ≡ s.pending
+pending_as_sent s m less Whole is = refl
+pending_as_sent s m less Bare is = absurd cc
+pending_as_sent s m less Stopped is = absurd cc
 
 pub whole_answers : (h : History) (m : Message) → answers h.phase ≡ true → response_refusal (link_of h) m ≡ None
     → fit (limit_now h) m (bare_response m) ≡ Whole
-    → (after h (call.Respond m)).held ≡ without_request m.token h.held
+    → (after h (call.Respond m)).pending ≡ without_request m.token h.pending
 whole_answers h m answering allowed whole =
-    ap (λ (k : History). k.held) (respond_does h m answering allowed)
-    ∙ held_as_sent (standing_without m.token (standing_now h)) m (bare_response m)
+    ap (λ (k : History). k.pending) (respond_does h m answering allowed)
+    ∙ pending_as_sent (state_without m.token (state_now h)) m (bare_response m)
     (fit (limit_now h) m (bare_response m)) whole
 
 -- Nothing happens without a request, and after a stop.
-not_allowed : (h : History) (m : Message) → has_request m.token h.held ≡ false
+not_allowed : (h : History) (m : Message) → has_request m.token h.pending ≡ false
     → is_none (response_refusal (link_of h) m) ≡ false
 unfolding response_refusal
 not_allowed h m none = rw none refl
@@ -137,14 +139,14 @@ never : (b : Bool) (h k : History) → cond (b && false) k h ≡ h
 never true h k = refl
 never false h k = refl
 
-pub absent_stays : (h : History) (m : Message) → has_request m.token h.held ≡ false → after h (call.Respond m) ≡ h
+pub absent_stays : (h : History) (m : Message) → has_request m.token h.pending ≡ false → after h (call.Respond m) ≡ h
 absent_stays h m none =
     ap (λ (b : Bool). cond (answers h.phase && b)
-    (with_effect h (send (standing_without m.token (standing_now h)) m (bare_response m))) h) (not_allowed h m none)
+    (with_effect h (send (state_without m.token (state_now h)) m (bare_response m))) h) (not_allowed h m none)
     ∙ never (answers h.phase) h _
 
 pub responds_never : (h : History) (m : Message) (why : Reason) → h.phase ≡ phase.Stopped why
     → after h (call.Respond m) ≡ h
 responds_never h m why stopped =
     ap (λ (p : Phase). cond (answers p && is_none (response_refusal (link_of h) m))
-    (with_effect h (send (standing_without m.token (standing_now h)) m (bare_response m))) h) stopped
+    (with_effect h (send (state_without m.token (state_now h)) m (bare_response m))) h) stopped

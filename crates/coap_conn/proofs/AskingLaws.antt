@@ -53,13 +53,13 @@ has_new a =
     (λ opened. has_token a opened) (λ e is. absurd cc)
 
 -- An allowed request has a new token and is small enough.
-pub asked_new : (a : RequestState) (m : Message) → asking_refusal a m ≡ None → HasNew a
+pub requested_new : (a : RequestState) (m : Message) → asking_refusal a m ≡ None → HasNew a
 unfolding asking_refusal
-asked_new a m e = has_new a (both_none (new_refusal a) (size_refusal a (length (spelling m))) e).0
+requested_new a m e = has_new a (both_none (new_refusal a) (size_refusal a (length (spelling m))) e).0
 
-pub asked_size : (a : RequestState) (m : Message) → asking_refusal a m ≡ None → IsRightSize a (length (spelling m))
+pub requested_size : (a : RequestState) (m : Message) → asking_refusal a m ≡ None → IsRightSize a (length (spelling m))
 unfolding asking_refusal
-asked_size a m e =
+requested_size a m e =
     right_size a (length (spelling m)) (both_none (new_refusal a) (size_refusal a (length (spelling m))) e).1
 
 -- The message of an allowed cancellation is small enough.
@@ -76,9 +76,9 @@ cancel_size a token m =
 -- ---- not allowed
 
 -- No request is allowed if the connection is not open.
-pub not_asked : (a : RequestState) (m : Message) → is_open a.phase ≡ false → is_none (asking_refusal a m) ≡ false
+pub not_requested : (a : RequestState) (m : Message) → is_open a.phase ≡ false → is_none (asking_refusal a m) ≡ false
 unfolding asking_refusal new_refusal
-not_asked a m closed =
+not_requested a m closed =
     ap (λ (b : Bool).
     is_none (else_refusal (cond b (token_refusal a) (Some NotOpen)) (size_refusal a (length (spelling m))))) closed
 

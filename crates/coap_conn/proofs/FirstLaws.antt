@@ -41,8 +41,8 @@ call_first h c first =
 
 pub no_request_waiting : (s : ConnectionState) (m : Message) → s.phase ≡ phase.Waiting
     → (react s m).verdict ≡ verdict.Request → ⊥
-no_request_waiting s m waits asked =
-    let bad = sym (react_asks s m asked).not_waiting ∙ ap is_waiting waits in
+no_request_waiting s m waits requested =
+    let bad = sym (react_asks s m requested).not_waiting ∙ ap is_waiting waits in
     let no : ◌≡◌ {A = Bool} false true = bad in
     cc
 

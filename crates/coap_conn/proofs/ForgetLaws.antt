@@ -43,14 +43,14 @@ left_only false is = is
 
 -- The token of an entry, which no other token equals.
 abbrev pub its_token : OutstandingValue → List ℕ
-its_token (Request asked) = asked
-its_token (Observation asked cancelled) = asked
-its_token (Ping asked) = asked
+its_token (Request own) = own
+its_token (Observation own cancelled) = own
+its_token (Ping own) = own
 
 pub is_its_token : (token : List ℕ) (e : OutstandingValue) → is_entry_of token e ≡ true → its_token e ≡ token
-is_its_token token (Request asked) is = (bytes_eq-Decides asked token).0 (left_only _ is)
-is_its_token token (Observation asked cancelled) is = (bytes_eq-Decides asked token).0 (left_only _ is)
-is_its_token token (Ping asked) is = (bytes_eq-Decides asked token).0 is
+is_its_token token (Request own) is = (bytes_eq-Decides own token).0 (left_only _ is)
+is_its_token token (Observation own cancelled) is = (bytes_eq-Decides own token).0 (left_only _ is)
+is_its_token token (Ping own) is = (bytes_eq-Decides own token).0 is
 
 -- The entries with other tokens stay, in their order.
 pub others_left : (token other : List ℕ) (entries : List OutstandingValue) → (token ≡ other → ⊥)
@@ -86,19 +86,19 @@ pub response_stranger : (s : ConnectionState) (m : Message) → s.phase ≡ phas
     → is_signal m.code ≡ false → is_method m.code ≡ false → list_any (is_entry_of m.token) s.outstanding ≡ false
     → (react s m).verdict ≡ verdict.Stranger
 response_stranger s m opened reserved signal method none =
-    let unasked : list_any (matches_response m.token) s.outstanding ≡ false =
+    let unrequested : list_any (matches_response m.token) s.outstanding ≡ false =
     none_pass (matches_response m.token) (is_entry_of m.token)
     (λ e is. or_left (matches_response m.token e) (matches_pong m.token e) is) s.outstanding none in
     ap (λ (r : Reaction). r.verdict)
     (react_live s m (ap stop_of opened) ∙ response_taken s m opened reserved signal method
-    ∙ ap (answered s m) (none_found (matches_response m.token) s.outstanding unasked))
+    ∙ ap (answered s m) (none_found (matches_response m.token) s.outstanding unrequested))
 
 pub pong_stranger : (s : ConnectionState) (m : Message) → s.phase ≡ phase.Open → m.code ≡ code.pong
     → has_critical_option m ≡ false → list_any (is_entry_of m.token) s.outstanding ≡ false
     → (react s m).verdict ≡ verdict.Stranger
 pong_stranger s m opened is plain none =
-    let unasked : list_any (matches_pong m.token) s.outstanding ≡ false =
+    let unrequested : list_any (matches_pong m.token) s.outstanding ≡ false =
     none_pass (matches_pong m.token) (is_entry_of m.token)
     (λ e has. or_right (matches_response m.token e) (matches_pong m.token e) has) s.outstanding none in
     ap (λ (r : Reaction). r.verdict) (react_live s m (ap stop_of opened) ∙ live_reaction_to_pong s m opened is plain
-    ∙ cond-false (list_any (matches_pong m.token) s.outstanding) _ _ unasked)
+    ∙ cond-false (list_any (matches_pong m.token) s.outstanding) _ _ unrequested)

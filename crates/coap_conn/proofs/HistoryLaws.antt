@@ -4,7 +4,7 @@ use Rattle.std.proofs.Common.{None, refl, ap, ◌∙◌, arith}
 use Rattle.coap_conn.specs.Prelude.{nat_le, nat_lt, find, AllByRecursion, filter_map, list_any, Message, spelling}
 use Rattle.coap_conn.specs.Prelude.{Reason, Role, Server, Client, Reply, Whole, Bare, Stopped, stop_of, is_waiting}
 use Rattle.coap_conn.specs.Prelude.{abort_of, announcement, announced, token_announcement, announced_token, last_or}
-use Rattle.coap_conn.specs.Prelude.{last_told, has_critical_option, bad_csm_option, AllFit, fit, fitted}
+use Rattle.coap_conn.specs.Prelude.{last_reported, has_critical_option, bad_csm_option, AllFit, fit, fitted}
 use Rattle.coap_conn.specs.Prelude.{abort_fitted, without_payload, without_options, bare_response, LimitValues}
 use Rattle.coap_conn.specs.Prelude.{AreInRange, PendingEntryValue, Answer, Pong, OutstandingValue, matches_response}
 use Rattle.coap_conn.specs.Prelude.{is_last}
@@ -13,41 +13,41 @@ use Rattle.coap_conn.specs.Prelude.{reaction_unless, live_reaction, open_reactio
 use Rattle.coap_conn.specs.Prelude.{send, send_as, abort, is_reserved, is_signal, is_method, checks_critical_options}
 use Rattle.coap_conn.specs.Prelude.{asks_custody, pong_with, pong_of, ping_reaction, pong_reaction, answered}
 use Rattle.coap_conn.specs.Prelude.{response_reaction, not_implemented, due_effect, History, new_history, limit_now}
-use Rattle.coap_conn.specs.Prelude.{standing_now, asking_now, release}
+use Rattle.coap_conn.specs.Prelude.{state_now, asking_now, release}
 use Rattle.std.proofs.lemmas.Bool.{cond_both, leb-true}
 use Rattle.std.proofs.lemmas.List.Elements.{filter_map-append}
 use Rattle.coap_conn.specs.declared.reason.Reason.TheVariants as reason
 use Rattle.coap_wire.specs.Codes as code
-use Rattle.coap_conn.proofs.AskingLaws.{asked_size, cancel_size}
+use Rattle.coap_conn.proofs.AskingLaws.{requested_size, cancel_size}
 use Rattle.coap_conn.proofs.LinkLemmas.{announced_none}
 use Rattle.coap_conn.proofs.SmallLemmas.{first_csm_small, release_small}
 
 -- ---- the last announcement
 
-last_behind : (n x : ℕ) (xs ys : List ℕ) → last_or n (xs ++ x ∷ ys) ≡ last_or x ys
-last_behind n x [] ys = refl
-last_behind n x (y ∷ xs) ys = last_behind y x xs ys
+last_after : (n x : ℕ) (xs ys : List ℕ) → last_or n (xs ++ x ∷ ys) ≡ last_or x ys
+last_after n x [] ys = refl
+last_after n x (y ∷ xs) ys = last_after y x xs ys
 
-module _ (tells : Message → Option ℕ) where
-  nothing_told : (n : ℕ) (ms : List Message) → AllByRecursion (λ m. tells m ≡ None) ms → last_told tells n ms ≡ n
-  nothing_told n [] each = refl
-  nothing_told n (m ∷ ms) each = rw each.0 (nothing_told n ms each.1)
+module _ (reports : Message → Option ℕ) where
+  no_verdict : (n : ℕ) (ms : List Message) → AllByRecursion (λ m. reports m ≡ None) ms → last_reported reports n ms ≡ n
+  no_verdict n [] each = refl
+  no_verdict n (m ∷ ms) each = rw each.0 (no_verdict n ms each.1)
 
-  told_first : (m : Message) (n : ℕ) (ms : List Message) → tells m ≡ Some n
-      → filter_map tells (m ∷ ms) ≡ n ∷ filter_map tells ms
-  told_first m n ms e = rw e refl
+  announced_first : (m : Message) (n : ℕ) (ms : List Message) → reports m ≡ Some n
+      → filter_map reports (m ∷ ms) ≡ n ∷ filter_map reports ms
+  announced_first m n ms e = rw e refl
 
-  last_counts : (base : ℕ) (before after : List Message) (m : Message) (n : ℕ) → tells m ≡ Some n
-      → AllByRecursion (λ m. tells m ≡ None) after → last_told tells base (before ++ m ∷ after) ≡ n
+  last_counts : (base : ℕ) (before after : List Message) (m : Message) (n : ℕ) → reports m ≡ Some n
+      → AllByRecursion (λ m. reports m ≡ None) after → last_reported reports base (before ++ m ∷ after) ≡ n
   last_counts base before after m n e each =
-      ap (last_or base) (filter_map-append tells before (m ∷ after)
-      ∙ ap (λ (xs : List ℕ). filter_map tells before ++ xs) (told_first m n after e))
-      ∙ last_behind base n (filter_map tells before) (filter_map tells after)
-      ∙ nothing_told n after each
+      ap (last_or base) (filter_map-append reports before (m ∷ after)
+      ∙ ap (λ (xs : List ℕ). filter_map reports before ++ xs) (announced_first m n after e))
+      ∙ last_after base n (filter_map reports before) (filter_map reports after)
+      ∙ no_verdict n after each
 
 pub base_where_none : (ms : List Message) → AllByRecursion (λ m. announcement m ≡ None) ms → announced ms ≡ 1152
 unfolding announced
-base_where_none ms each = nothing_told announcement 1152 ms each
+base_where_none ms each = no_verdict announcement 1152 ms each
 
 pub last_announced : (before after : List Message) (m : Message) (n : ℕ) → announcement m ≡ Some n
     → AllByRecursion (λ m. announcement m ≡ None) after → announced (before ++ m ∷ after) ≡ n
@@ -57,7 +57,7 @@ last_announced before after m n e each = last_counts announcement 1152 before af
 pub base_token_where_none : (ms : List Message) → AllByRecursion (λ m. token_announcement m ≡ None) ms
     → announced_token ms ≡ 8
 unfolding announced_token
-base_token_where_none ms each = nothing_told token_announcement 8 ms each
+base_token_where_none ms each = no_verdict token_announcement 8 ms each
 
 pub last_token : (before after : List Message) (m : Message) (n : ℕ) → token_announcement m ≡ Some n
     → AllByRecursion (λ m. token_announcement m ≡ None) after → announced_token (before ++ m ∷ after) ≡ n
@@ -112,8 +112,8 @@ pong_fit s m = cond_both (list_any (matches_pong m.token) s.outstanding) _ _ (Fi
 
 ping_fit : (s : ConnectionState) (m : Message) → Fits s (ping_reaction s m)
 ping_fit s m =
-    cond_both (asks_custody m && nat_lt 0 (length s.held)) _ _ (Fits s)
-    (λ e. cond_both (nat_lt (length s.held) s.most) _ _ (Fits s) (λ f. tt)
+    cond_both (asks_custody m && nat_lt 0 (length s.pending)) _ _ (Fits s)
+    (λ e. cond_both (nat_lt (length s.pending) s.most) _ _ (Fits s) (λ f. tt)
     (λ f. send_fit s (pong_with false m.token) (pong_with false m.token)))
     (λ e. send_fit s (pong_of m) (without_options (pong_of m)))
 
@@ -150,14 +150,14 @@ new_fits role limits tokens ranges =
     let low = ranges.sent_low in
     (omega (arith, low, first_csm_small limits.max_message, ap (λ (n : ℕ). min limits.max_sent n) announced_none), tt)
 
-pub reaction_fits : (h : History) (m : Message) → AllFit (limit_now h) (react (standing_now h) m).effect.queued
-reaction_fits h m = react_fit (standing_now h) m
+pub reaction_fits : (h : History) (m : Message) → AllFit (limit_now h) (react (state_now h) m).effect.queued
+reaction_fits h m = react_fit (state_now h) m
 
-pub sent_fits : (h : History) (m less : Message) → AllFit (limit_now h) (send (standing_now h) m less).queued
-sent_fits h m less = send_fit (standing_now h) m less
+pub sent_fits : (h : History) (m less : Message) → AllFit (limit_now h) (send (state_now h) m less).queued
+sent_fits h m less = send_fit (state_now h) m less
 
-pub stopped_fits : (h : History) (why : Reason) → AllFit (limit_now h) (abort (standing_now h) why).queued
-stopped_fits h why = aborted_fit (standing_now h) why
+pub stopped_fits : (h : History) (why : Reason) → AllFit (limit_now h) (abort (state_now h) why).queued
+stopped_fits h why = aborted_fit (state_now h) why
 
 pub released_fits : (h : History) → 2 ≤ limit_now h → AllFit (limit_now h) (release ∷ [])
 released_fits h enough = (omega (arith, enough, release_small), tt)
@@ -168,11 +168,12 @@ due_fit s (Some (Answer by token moment)) = tt
 due_fit s (Some (Pong token)) = send_fit s (pong_with true token) (pong_with false token)
 
 pub due_fits : (h : History) (e : Option PendingEntryValue)
-    → AllFit (limit_now h) (due_effect (standing_now h) e).queued
-due_fits h e = due_fit (standing_now h) e
+    → AllFit (limit_now h) (due_effect (state_now h) e).queued
+due_fits h e = due_fit (state_now h) e
 
-pub asked_fits : (h : History) (m : Message) → asking_refusal (asking_now h) m ≡ None → AllFit (limit_now h) (m ∷ [])
-asked_fits h m may = ((asked_size (asking_now h) m may).within, tt)
+pub requested_fits : (h : History) (m : Message) → asking_refusal (asking_now h) m ≡ None
+    → AllFit (limit_now h) (m ∷ [])
+requested_fits h m may = ((requested_size (asking_now h) m may).within, tt)
 
 pub cancelled_fits : (h : History) (token : List ℕ) (m : Message) → cancel_refusal (asking_now h) token m ≡ None
     → AllFit (limit_now h) (m ∷ [])

@@ -2,7 +2,7 @@
 use Rattle.std.proofs.Common.{◌≡◌, ℕ, ◌≤◌, Bool, true, false, cond, List, [], ◌∷◌, ◌++◌, length, drop, Option, Some}
 use Rattle.std.proofs.Common.{None, refl, sym, ap, subst, ◌∙◌, arith}
 use Rattle.coap_conn.specs.Prelude.{unwrap_or, filter_map, Message, spelling, Phase, Role, LimitValues, announcement}
-use Rattle.coap_conn.specs.Prelude.{announced, token_announcement, announced_token, last_or, last_told}
+use Rattle.coap_conn.specs.Prelude.{announced, token_announcement, announced_token, last_or, last_reported}
 use Rattle.coap_conn.specs.Prelude.{PendingEntryValue}
 use Rattle.coap_conn.specs.Prelude.{OutstandingValue, ReactionResult, LinkValue, bytes_of, own_csm, first_csm, new_link}
 use Rattle.coap_conn.specs.Prelude.{link_with, Call, CallEffect, Handles, Does, Holds, Asks, Announces, Writes}
@@ -34,7 +34,7 @@ history_more h ms is = omega (
 
 -- The link that represents a history, with other queued bytes, phase, entries and sizes of the peer.
 abbrev link_at : History → List ℕ → Phase → List PendingEntryValue → List OutstandingValue → ℕ → ℕ → LinkValue
-link_at h waiting phase held outstanding peer_max peer_token =
+link_at h waiting phase pending outstanding peer_max peer_token =
     record {
       role = h.role;
       limits = h.limits;
@@ -43,7 +43,7 @@ link_at h waiting phase held outstanding peer_max peer_token =
       own_max = h.own_max;
       peer_max = peer_max;
       peer_token = peer_token;
-      held = held;
+      pending = pending;
       outstanding = outstanding;
       tokens = h.tokens;
     }
@@ -51,7 +51,7 @@ link_at h waiting phase held outstanding peer_max peer_token =
 -- An effect on the link is the same effect on the history.
 effect_of : (h : History) (e : ReactionResult) → IsHistory h → link_with (link_of h) e ≡ link_of (with_effect h e)
 effect_of h e is =
-    ap (λ (w : List ℕ). link_at h w e.phase e.held e.outstanding (announced h.handled) (announced_token h.handled))
+    ap (λ (w : List ℕ). link_at h w e.phase e.pending e.outstanding (announced h.handled) (announced_token h.handled))
     (sym (waiting_more h e.queued is))
 
 -- ---- announcements
@@ -60,27 +60,27 @@ last_more : (n x : ℕ) (xs : List ℕ) → last_or n (xs ++ x ∷ []) ≡ x
 last_more n x [] = refl
 last_more n x (y ∷ xs) = last_more y x xs
 
-module _ (tells : Message → Option ℕ) (base : ℕ) where
-  told_by : (xs : List ℕ) (m : Message) (o : Option ℕ) → tells m ≡ o
-      → last_or base (xs ++ filter_map tells (m ∷ [])) ≡ unwrap_or o (last_or base xs)
-  told_by xs m None e = rw e (ap (last_or base) (append-nil xs))
-  told_by xs m (Some n) e = rw e (last_more base n xs)
+module _ (reports : Message → Option ℕ) (base : ℕ) where
+  reported_by : (xs : List ℕ) (m : Message) (o : Option ℕ) → reports m ≡ o
+      → last_or base (xs ++ filter_map reports (m ∷ [])) ≡ unwrap_or o (last_or base xs)
+  reported_by xs m None e = rw e (ap (last_or base) (append-nil xs))
+  reported_by xs m (Some n) e = rw e (last_more base n xs)
 
-  -- One more message replaces the last number that `tells` gives, if it gives one for the message.
-  told_more : (ms : List Message) (m : Message)
-      → last_told tells base (ms ++ m ∷ []) ≡ unwrap_or (tells m) (last_told tells base ms)
-  told_more ms m =
-      ap (last_or base) (filter_map-append tells ms (m ∷ [])) ∙ told_by (filter_map tells ms) m (tells m) refl
+  -- One more message replaces the last number that `reports` gives, if it gives one for the message.
+  reported_more : (ms : List Message) (m : Message)
+      → last_reported reports base (ms ++ m ∷ []) ≡ unwrap_or (reports m) (last_reported reports base ms)
+  reported_more ms m =
+      ap (last_or base) (filter_map-append reports ms (m ∷ [])) ∙ reported_by (filter_map reports ms) m (reports m) refl
 
 pub announced_more : (ms : List Message) (m : Message)
     → announced (ms ++ m ∷ []) ≡ unwrap_or (announcement m) (announced ms)
 unfolding announced
-announced_more ms m = told_more announcement 1152 ms m
+announced_more ms m = reported_more announcement 1152 ms m
 
 token_more : (ms : List Message) (m : Message)
     → announced_token (ms ++ m ∷ []) ≡ unwrap_or (token_announcement m) (announced_token ms)
 unfolding announced_token
-token_more ms m = told_more token_announcement 8 ms m
+token_more ms m = reported_more token_announcement 8 ms m
 
 -- Without messages, the size is the base size.
 pub announced_none : announced [] ≡ 1152
@@ -93,40 +93,40 @@ token_none = refl
 
 -- ---- effects
 
-heard_of : (h : History) (m : Message) (e : ReactionResult) → IsHistory h
+handled_of : (h : History) (m : Message) (e : ReactionResult) → IsHistory h
     → link_with_deed (link_of h) (Handles m e) ≡ link_of (with_deed h (Handles m e))
-heard_of h m e is =
+handled_of h m e is =
     let max : ℕ = unwrap_or (announcement m) (announced h.handled) in
     let token : ℕ = unwrap_or (token_announcement m) (announced_token h.handled) in
     let waiting : List ℕ = drop h.written (bytes_of (h.queued ++ e.queued)) in
-    ap (λ (w : List ℕ). link_at h w e.phase e.held e.outstanding max token) (sym (waiting_more h e.queued is))
-    ∙ ap (λ (n : ℕ). link_at h waiting e.phase e.held e.outstanding n token) (sym (announced_more h.handled m))
-    ∙ ap (link_at h waiting e.phase e.held e.outstanding (announced (h.handled ++ m ∷ [])))
+    ap (λ (w : List ℕ). link_at h w e.phase e.pending e.outstanding max token) (sym (waiting_more h e.queued is))
+    ∙ ap (λ (n : ℕ). link_at h waiting e.phase e.pending e.outstanding n token) (sym (announced_more h.handled m))
+    ∙ ap (link_at h waiting e.phase e.pending e.outstanding (announced (h.handled ++ m ∷ [])))
     (sym (token_more h.handled m))
 
-asked_of : (h : History) (m : Message) (outstanding : List OutstandingValue) (tokens : ℕ) → IsHistory h
+requested_of : (h : History) (m : Message) (outstanding : List OutstandingValue) (tokens : ℕ) → IsHistory h
     → link_with_deed (link_of h) (Asks m outstanding tokens) ≡ link_of (with_deed h (Asks m outstanding tokens))
-asked_of h m outstanding tokens is =
-    ap (λ (w : List ℕ). link_at (record h { tokens = tokens }) w h.phase h.held outstanding (announced h.handled)
+requested_of h m outstanding tokens is =
+    ap (λ (w : List ℕ). link_at (record h { tokens = tokens }) w h.phase h.pending outstanding (announced h.handled)
     (announced_token h.handled)) (sym (waiting_more h (m ∷ []) is))
 
 announces_of : (h : History) (size : ℕ) → IsHistory h
     → link_with_deed (link_of h) (Announces size) ≡ link_of (with_deed h (Announces size))
 announces_of h size is =
-    ap (λ (w : List ℕ). link_at (record h { own_max = size }) w h.phase h.held h.outstanding (announced h.handled)
+    ap (λ (w : List ℕ). link_at (record h { own_max = size }) w h.phase h.pending h.outstanding (announced h.handled)
     (announced_token h.handled)) (sym (waiting_more h (own_csm size ∷ []) is))
 
 written_of : (h : History) (n : ℕ) → link_with_deed (link_of h) (Writes n) ≡ link_of (with_deed h (Writes n))
 written_of h n =
-    ap (λ (w : List ℕ). link_at h w h.phase h.held h.outstanding (announced h.handled) (announced_token h.handled))
+    ap (λ (w : List ℕ). link_at h w h.phase h.pending h.outstanding (announced h.handled) (announced_token h.handled))
     (drop-drop n h.written (bytes_of h.queued))
 
 -- An effect of a call on the link is the same effect on the history.
 deed_of : (h : History) (d : CallEffect) → IsHistory h → link_with_deed (link_of h) d ≡ link_of (with_deed h d)
-deed_of h (Handles m e) is = heard_of h m e is
+deed_of h (Handles m e) is = handled_of h m e is
 deed_of h (Does e) is = effect_of h e is
 deed_of h (Holds e) is = refl
-deed_of h (Asks m outstanding tokens) is = asked_of h m outstanding tokens is
+deed_of h (Asks m outstanding tokens) is = requested_of h m outstanding tokens is
 deed_of h (Announces size) is = announces_of h size is
 deed_of h (Writes n) is = written_of h n
 

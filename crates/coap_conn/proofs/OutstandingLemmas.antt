@@ -73,7 +73,7 @@ link_left v outstanding fewer is =
       enough = is.enough;
       small = is.small;
       few = is.few;
-      few_asked = omega (arith, fewer, is.few_asked);
+      few_requested = omega (arith, fewer, is.few_requested);
       answering = is.answering;
     }
 
@@ -114,12 +114,12 @@ refused_size a m sent o same new size =
     ∙ ap (λ (n : Message). size_refusal a (length (spelling n))) (sym same) ∙ size
 
 -- After a request the link has the queued message and the new entry.
-pub asked_after : (v queued new : LinkValue) (m sent : Message) (e entered : OutstandingValue)
+pub requested_after : (v queued new : LinkValue) (m sent : Message) (e entered : OutstandingValue)
     → asking_refusal (asking_in v) m ≡ None → sent ≡ m → entered ≡ e
     → queued ≡ record v { waiting = v.waiting ++ bytes_of (sent ∷ []) }
     → new ≡ record queued { outstanding = queued.outstanding ++ entered ∷ []; tokens = queued.tokens + 1 }
     → new ≡ link_done v (asks_one v m e)
-asked_after v queued new m sent e entered allowed same same_entry put enters =
+requested_after v queued new m sent e entered allowed same same_entry put enters =
     enters ∙ ap (λ (w : LinkValue). record w { outstanding = w.outstanding ++ entered ∷ []; tokens = w.tokens + 1 }) put
     ∙ ap (λ (n : Message). record v {
       waiting = v.waiting ++ bytes_of (n ∷ []);

@@ -6,7 +6,7 @@ use Rattle.coap_conn.specs.Prelude.{filter, Responder, slice_get, nat_le, nat_lt
 use Rattle.coap_conn.specs.Prelude.{list_any}
 use Rattle.coap_conn.specs.Prelude.{filter_map, cons_option, fold, reduce, position, position_from, remove}
 use Rattle.coap_conn.specs.Prelude.{CoapOption, Message, Reason, Phase, Role, Server, Client, Reply, Whole, Bare}
-use Rattle.coap_conn.specs.Prelude.{Stopped, stop_of, is_waiting, abort_text, number_told, abort_options, abort_with}
+use Rattle.coap_conn.specs.Prelude.{Stopped, stop_of, is_waiting, abort_text, abort_number, abort_options, abort_with}
 use Rattle.coap_conn.specs.Prelude.{abort_of, has_critical_option, bad_csm_option, fit, fitted, abort_fitted}
 use Rattle.coap_conn.specs.Prelude.{bare_response, without_options, without_payload, OutstandingValue, matches_response}
 use Rattle.coap_conn.specs.Prelude.{is_last, matches_pong, ConnectionState}
@@ -18,7 +18,7 @@ use Rattle.coap_conn.specs.Prelude.{pong_with, pong_of, is_custody_pong, not_imp
 use Rattle.coap_conn.specs.Prelude.{Pong}
 use Rattle.coap_conn.specs.Prelude.{due_moment, earliest_due, is_answer_at, answer_index, pong_index, else_index}
 use Rattle.coap_conn.specs.Prelude.{due_index}
-use Rattle.coap_conn.specs.Prelude.{held_at, without_at, first_due, without_due, NothingIsDue, IsDueFirst}
+use Rattle.coap_conn.specs.Prelude.{entry_at, without_at, first_due, without_due, NothingIsDue, IsDueFirst}
 use Rattle.std.proofs.lemmas.Bool.{cond_both, cases_lt, leb-true, ltb-true, ltb-false, eqb-true, eq-eqb, or_cases}
 use Rattle.std.proofs.lemmas.List.{append-nil, length-append}
 use Rattle.std.proofs.lemmas.List.Edits.{length-remove}
@@ -96,34 +96,35 @@ come_at now other (Answer by token moment) =
     (λ is e. let same : moment ≡ other = cc in eq-eqb moment other same) (λ is e. absurd cc)
 come_at now other (Pong token) = λ e. absurd cc
 
-all_within : (now : ℕ) (held : List PendingEntryValue)
-    → AllByRecursion (λ x. x ≤ now) (filter_map (due_moment now) held)
+all_within : (now : ℕ) (pending : List PendingEntryValue)
+    → AllByRecursion (λ x. x ≤ now) (filter_map (due_moment now) pending)
 all_within now [] = tt
-all_within now (e ∷ held) =
-    cons_all (λ x. x ≤ now) (due_moment now e) (filter_map (due_moment now) held)
-    (λ x is. come_within now x e is) (all_within now held)
+all_within now (e ∷ pending) =
+    cons_all (λ x. x ≤ now) (due_moment now e) (filter_map (due_moment now) pending)
+    (λ x is. come_within now x e is) (all_within now pending)
 
-all_least : (now m : ℕ) (held : List PendingEntryValue) → AllByRecursion (λ x. m ≤ x) (filter_map (due_moment now) held)
-    → AllByRecursion (λ e. (other : ℕ) → due_moment now e ≡ Some other → m ≤ other) held
+all_least : (now m : ℕ) (pending : List PendingEntryValue) → AllByRecursion (λ x. m ≤ x)
+    (filter_map (due_moment now) pending)
+    → AllByRecursion (λ e. (other : ℕ) → due_moment now e ≡ Some other → m ≤ other) pending
 all_least now m [] each = tt
-all_least now m (e ∷ held) each =
-    let parts = cons_parts (λ x. m ≤ x) (due_moment now e) (filter_map (due_moment now) held) each in
-    (parts.0, all_least now m held parts.1)
+all_least now m (e ∷ pending) each =
+    let parts = cons_parts (λ x. m ≤ x) (due_moment now e) (filter_map (due_moment now) pending) each in
+    (parts.0, all_least now m pending parts.1)
 
-all_apart : (now m : ℕ) (held : List PendingEntryValue) → AllByRecursion (λ e. is_answer_at m e ≡ false) held
-    → AllByRecursion (λ x. x ≡ m → ⊥) (filter_map (due_moment now) held)
+all_apart : (now m : ℕ) (pending : List PendingEntryValue) → AllByRecursion (λ e. is_answer_at m e ≡ false) pending
+    → AllByRecursion (λ x. x ≡ m → ⊥) (filter_map (due_moment now) pending)
 all_apart now m [] each = tt
-all_apart now m (e ∷ held) each =
-    cons_all (λ x. x ≡ m → ⊥) (due_moment now e) (filter_map (due_moment now) held)
+all_apart now m (e ∷ pending) each =
+    cons_all (λ x. x ≡ m → ⊥) (due_moment now e) (filter_map (due_moment now) pending)
     (λ x is same. let here : is_answer_at m e ≡ true =
-    subst (λ (n : ℕ). is_answer_at n e ≡ true) same (come_at now x e is) in cc) (all_apart now m held each.1)
+    subst (λ (n : ℕ). is_answer_at n e ≡ true) same (come_at now x e is) in cc) (all_apart now m pending each.1)
 
-none_come : (now : ℕ) (held : List PendingEntryValue) → filter_map (due_moment now) held ≡ []
-    → AllByRecursion (λ e. due_moment now e ≡ None) held
+none_come : (now : ℕ) (pending : List PendingEntryValue) → filter_map (due_moment now) pending ≡ []
+    → AllByRecursion (λ e. due_moment now e ≡ None) pending
 none_come now [] e = tt
-none_come now (x ∷ held) e =
-    let parts = cons_none (due_moment now x) (filter_map (due_moment now) held) e in
-    (parts.0, none_come now held parts.1)
+none_come now (x ∷ pending) e =
+    let parts = cons_none (due_moment now x) (filter_map (due_moment now) pending) e in
+    (parts.0, none_come now pending parts.1)
 
 -- ---- positions
 
@@ -161,40 +162,42 @@ no_position p xs e = none_from p 0 xs (sym (position_from-zero p xs) ∙ e)
 
 -- This index is that of the entry that is due first: a response of the earliest time, a Pong that no entry precedes, or
 -- none.
-pub record HasIndex (now : ℕ) (held : List PendingEntryValue) (index : Option ℕ) : Type 0 where
-  pub answer : (by : Responder) (token : List ℕ) (moment : ℕ) → held_at held index ≡ Some (Answer by token moment)
-      → IsDueFirst now held by token moment (without_at held index)
-  pub pong : (token : List ℕ) → held_at held index ≡ Some (Pong token) → held ≡ Pong token ∷ without_at held index
-  pub nothing : held_at held index ≡ None → NothingIsDue now held × (without_at held index ≡ held)
-  pub alone : (token : List ℕ) → held_at held index ≡ Some (Pong token)
-      → AllByRecursion (λ e. due_moment now e ≡ None) held
+pub record HasIndex (now : ℕ) (pending : List PendingEntryValue) (index : Option ℕ) : Type 0 where
+  pub answer : (by : Responder) (token : List ℕ) (moment : ℕ) → entry_at pending index ≡ Some (Answer by token moment)
+      → IsDueFirst now pending by token moment (without_at pending index)
+  pub pong : (token : List ℕ) → entry_at pending index ≡ Some (Pong token)
+      → pending ≡ Pong token ∷ without_at pending index
+  pub nothing : entry_at pending index ≡ None → NothingIsDue now pending × (without_at pending index ≡ pending)
+  pub alone : (token : List ℕ) → entry_at pending index ≡ Some (Pong token)
+      → AllByRecursion (λ e. due_moment now e ≡ None) pending
 
 -- The first response of the earliest time is due first.
-answer_found : (now least : ℕ) (held : List PendingEntryValue) (i : ℕ) (e : PendingEntryValue)
-    → reduce min (filter_map (due_moment now) held) ≡ Some least → position (is_answer_at least) held ≡ Some i
-    → slice_get held i ≡ Some e → is_answer_at least e ≡ true →
+answer_found : (now least : ℕ) (pending : List PendingEntryValue) (i : ℕ) (e : PendingEntryValue)
+    → reduce min (filter_map (due_moment now) pending) ≡ Some least → position (is_answer_at least) pending ≡ Some i
+    → slice_get pending i ≡ Some e → is_answer_at least e ≡ true →
     (by : Responder) (token : List ℕ) (moment : ℕ) → e ≡ Answer by token moment
-    → IsDueFirst now held by token moment (remove held i)
-answer_found now least held i e come_least found there passes by token moment is =
+    → IsDueFirst now pending by token moment (remove pending i)
+answer_found now least pending i e come_least found there passes by token moment is =
     let at : is_answer_at least (Answer by token moment) ≡ true =
     subst (λ (x : PendingEntryValue). is_answer_at least x ≡ true) is passes in
     let same : moment ≡ least = eqb-true moment least at in
     record {
-      before = take i held;
-      after = drop (suc i) held;
-      there = split_at held i (Answer by token moment) (there ∙ ap (λ (x : PendingEntryValue). Some x) is);
+      before = take i pending;
+      after = drop (suc i) pending;
+      there = split_at pending i (Answer by token moment) (there ∙ ap (λ (x : PendingEntryValue). Some x) is);
       without = refl;
       has_come = omega (
         arith,
         same,
-        reduce_within least now (filter_map (due_moment now) held) (all_within now held) come_least,
+        reduce_within least now (filter_map (due_moment now) pending) (all_within now pending) come_least,
       );
       least =
-          subst (λ (n : ℕ). AllByRecursion (λ x. (other : ℕ) → due_moment now x ≡ Some other → n ≤ other) held)
-          (sym same) (all_least now least held (reduce_least least (filter_map (due_moment now) held) come_least));
+          subst (λ (n : ℕ). AllByRecursion (λ x. (other : ℕ) → due_moment now x ≡ Some other → n ≤ other) pending)
+          (sym same) (all_least now least pending (reduce_least least (filter_map (due_moment now) pending)
+          come_least));
       earliest =
-          subst (λ (n : ℕ). AllByRecursion (λ x. is_answer_at n x ≡ false) (take i held)) (sym same)
-          (none_before (is_answer_at least) held i e (position-Some (is_answer_at least) held i e found).2);
+          subst (λ (n : ℕ). AllByRecursion (λ x. is_answer_at n x ≡ false) (take i pending)) (sym same)
+          (none_before (is_answer_at least) pending i e (position-Some (is_answer_at least) pending i e found).2);
     }
 
 no_pong_passes : (least : ℕ) (e : PendingEntryValue) (token : List ℕ) → is_answer_at least e ≡ true → e ≡ Pong token → ⊥
@@ -202,100 +205,102 @@ no_pong_passes least e token passes is =
     let bad : ◌≡◌ {A = Bool} false true = subst (λ (x : PendingEntryValue). is_answer_at least x ≡ true) is passes in
     cc
 
-answer_index_has : (now least : ℕ) (held : List PendingEntryValue) (i : ℕ) (e : PendingEntryValue)
-    → reduce min (filter_map (due_moment now) held) ≡ Some least → position (is_answer_at least) held ≡ Some i
-    → slice_get held i ≡ Some e → is_answer_at least e ≡ true →
-    HasIndex now held (Some i)
-answer_index_has now least held i e come_least found there passes = record {
+answer_index_has : (now least : ℕ) (pending : List PendingEntryValue) (i : ℕ) (e : PendingEntryValue)
+    → reduce min (filter_map (due_moment now) pending) ≡ Some least → position (is_answer_at least) pending ≡ Some i
+    → slice_get pending i ≡ Some e → is_answer_at least e ≡ true →
+    HasIndex now pending (Some i)
+answer_index_has now least pending i e come_least found there passes = record {
   answer = λ by token moment is. let same : e ≡ Answer by token moment = cc in
-      answer_found now least held i e come_least found there passes by token moment same;
+      answer_found now least pending i e come_least found there passes by token moment same;
   pong = λ token is. let same : e ≡ Pong token = cc in absurd (no_pong_passes least e token passes same);
   nothing = λ is. absurd cc;
   alone = λ token is. let same : e ≡ Pong token = cc in absurd (no_pong_passes least e token passes same);
 }
 
 -- A position that is found has the entry that is due first.
-found_has : (now least : ℕ) (held : List PendingEntryValue) (i : ℕ)
-    → reduce min (filter_map (due_moment now) held) ≡ Some least → position (is_answer_at least) held ≡ Some i
-    → HasIndex now held (Some i)
-found_has now least held i come_least found =
+found_has : (now least : ℕ) (pending : List PendingEntryValue) (i : ℕ)
+    → reduce min (filter_map (due_moment now) pending) ≡ Some least → position (is_answer_at least) pending ≡ Some i
+    → HasIndex now pending (Some i)
+found_has now least pending i come_least found =
     let d : PendingEntryValue = Pong [] in
-    let at = position-Some (is_answer_at least) held i d found in
-    answer_index_has now least held i (get_or held i d) come_least found (slice_get-get_or held i d at.0) at.1
+    let at = position-Some (is_answer_at least) pending i d found in
+    answer_index_has now least pending i (get_or pending i d) come_least found (slice_get-get_or pending i d at.0) at.1
 
 -- The case in which no response is due.
-pong_index_has : (now : ℕ) (held : List PendingEntryValue) → AllByRecursion (λ e. due_moment now e ≡ None) held
-    → HasIndex now held (pong_index held)
+pong_index_has : (now : ℕ) (pending : List PendingEntryValue) → AllByRecursion (λ e. due_moment now e ≡ None) pending
+    → HasIndex now pending (pong_index pending)
 pong_index_has now [] none = record {
   answer = λ by token moment is. absurd cc;
   pong = λ token is. absurd cc;
   nothing = λ is. ((none, refl), refl);
   alone = λ token is. none;
 }
-pong_index_has now (Answer by token moment ∷ held) none = record {
+pong_index_has now (Answer by token moment ∷ pending) none = record {
   answer = λ other_by other at is. absurd cc;
   pong = λ other is. absurd cc;
   nothing = λ is. ((none, refl), refl);
   alone = λ other is. none;
 }
-pong_index_has now (Pong token ∷ held) none = record {
+pong_index_has now (Pong token ∷ pending) none = record {
   answer = λ other_by other at is. absurd cc;
-  pong = λ other is. let same : token ≡ other = cc in ap (λ (t : List ℕ). Pong t ∷ held) same;
+  pong = λ other is. let same : token ≡ other = cc in ap (λ (t : List ℕ). Pong t ∷ pending) same;
   nothing = λ is. absurd cc;
   alone = λ other is. none;
 }
 
 -- Both cases, by the earliest time and the position of its response.
-index_at : (now : ℕ) (held : List PendingEntryValue) (least : Option ℕ) (found : Option ℕ)
-    → reduce min (filter_map (due_moment now) held) ≡ least → answer_index least held ≡ found
-    → HasIndex now held (else_index found (pong_index held))
-index_at now held None None e f =
-    pong_index_has now held (none_come now held (reduce_none (filter_map (due_moment now) held) e))
-index_at now held None (Some i) e f = absurd cc
-index_at now held (Some least) None e f =
-    absurd (reduce_apart least (filter_map (due_moment now) held)
-    (all_apart now least held (no_position (is_answer_at least) held f)) e)
-index_at now held (Some least) (Some i) e f = found_has now least held i e f
+index_at : (now : ℕ) (pending : List PendingEntryValue) (least : Option ℕ) (found : Option ℕ)
+    → reduce min (filter_map (due_moment now) pending) ≡ least → answer_index least pending ≡ found
+    → HasIndex now pending (else_index found (pong_index pending))
+index_at now pending None None e f =
+    pong_index_has now pending (none_come now pending (reduce_none (filter_map (due_moment now) pending) e))
+index_at now pending None (Some i) e f = absurd cc
+index_at now pending (Some least) None e f =
+    absurd (reduce_apart least (filter_map (due_moment now) pending)
+    (all_apart now least pending (no_position (is_answer_at least) pending f)) e)
+index_at now pending (Some least) (Some i) e f = found_has now least pending i e f
 
-has_index : (now : ℕ) (held : List PendingEntryValue) → HasIndex now held (due_index now held)
+has_index : (now : ℕ) (pending : List PendingEntryValue) → HasIndex now pending (due_index now pending)
 unfolding due_index
-has_index now held = index_at now held (earliest_due now held) (answer_index (earliest_due now held) held) refl refl
+has_index now pending = index_at now pending (earliest_due now pending)
+    (answer_index (earliest_due now pending) pending) refl refl
 
-pub due_answer : (now : ℕ) (held : List PendingEntryValue) (by : Responder) (token : List ℕ) (moment : ℕ)
-    → first_due now held ≡ Some (Answer by token moment) → IsDueFirst now held by token moment (without_due now held)
+pub due_answer : (now : ℕ) (pending : List PendingEntryValue) (by : Responder) (token : List ℕ) (moment : ℕ)
+    → first_due now pending ≡ Some (Answer by token moment) → IsDueFirst now pending by token moment
+    (without_due now pending)
 unfolding first_due without_due
-due_answer now held = (has_index now held).answer
+due_answer now pending = (has_index now pending).answer
 
-pub due_pong : (now : ℕ) (held : List PendingEntryValue) (token : List ℕ) → first_due now held ≡ Some (Pong token)
-    → held ≡ Pong token ∷ without_due now held
+pub due_pong : (now : ℕ) (pending : List PendingEntryValue) (token : List ℕ) → first_due now pending ≡ Some (Pong token)
+    → pending ≡ Pong token ∷ without_due now pending
 unfolding first_due without_due
-due_pong now held = (has_index now held).pong
+due_pong now pending = (has_index now pending).pong
 
-pub due_alone : (now : ℕ) (held : List PendingEntryValue) (token : List ℕ) → first_due now held ≡ Some (Pong token)
-    → AllByRecursion (λ e. due_moment now e ≡ None) held
+pub due_alone : (now : ℕ) (pending : List PendingEntryValue) (token : List ℕ)
+    → first_due now pending ≡ Some (Pong token) → AllByRecursion (λ e. due_moment now e ≡ None) pending
 unfolding first_due
-due_alone now held = (has_index now held).alone
+due_alone now pending = (has_index now pending).alone
 
-pub due_nothing : (now : ℕ) (held : List PendingEntryValue) → first_due now held ≡ None
-    → NothingIsDue now held × (without_due now held ≡ held)
+pub due_nothing : (now : ℕ) (pending : List PendingEntryValue) → first_due now pending ≡ None
+    → NothingIsDue now pending × (without_due now pending ≡ pending)
 unfolding first_due without_due
-due_nothing now held = (has_index now held).nothing
+due_nothing now pending = (has_index now pending).nothing
 
-fewer_at : (held : List PendingEntryValue) (index : Option ℕ) (e : PendingEntryValue) → held_at held index ≡ Some e
-    → length held ≡ 1 + length (without_at held index)
-fewer_at held None e is = absurd cc
-fewer_at held (Some i) e is = omega (arith, length-remove held i (slice_get_within held i e is))
+fewer_at : (pending : List PendingEntryValue) (index : Option ℕ) (e : PendingEntryValue)
+    → entry_at pending index ≡ Some e → length pending ≡ 1 + length (without_at pending index)
+fewer_at pending None e is = absurd cc
+fewer_at pending (Some i) e is = omega (arith, length-remove pending i (slice_get_within pending i e is))
 
-pub due_fewer : (now : ℕ) (held : List PendingEntryValue) (e : PendingEntryValue) → first_due now held ≡ Some e
-    → length held ≡ 1 + length (without_due now held)
+pub due_fewer : (now : ℕ) (pending : List PendingEntryValue) (e : PendingEntryValue) → first_due now pending ≡ Some e
+    → length pending ≡ 1 + length (without_due now pending)
 unfolding first_due without_due
-due_fewer now held e = fewer_at held (due_index now held) e
+due_fewer now pending e = fewer_at pending (due_index now pending) e
 
 -- ---- effects of messages
 
 -- If the message is a Pong with Custody, no entry is pending.
 abbrev MayQueue : ConnectionState → Message → Type 0
-MayQueue s m = is_custody_pong m ≡ true → s.held ≡ []
+MayQueue s m = is_custody_pong m ≡ true → s.pending ≡ []
 
 -- The cases of a proof that P holds for every effect of a message.
 pub record EffectCases (s : ConnectionState) (P : ReactionResult → Type 0) : Type 0 where
@@ -305,7 +310,7 @@ pub record EffectCases (s : ConnectionState) (P : ReactionResult → Type 0) : T
   pub stops : (why : Reason) (farewell : List Message) → list_any is_custody_pong farewell ≡ false
       → P (stop s why farewell)
   pub queues : (m : Message) → MayQueue s m → P (record (stay s) { queued = m ∷ [] })
-  pub keeps : (token : List ℕ) → length s.held < s.most → P (holds s (Pong token)).effect
+  pub keeps : (token : List ℕ) → length s.pending < s.most → P (holds s (Pong token)).effect
   pub ends : (test : OutstandingValue → Bool) → P (record (stay s) { outstanding = filter test s.outstanding })
 
 -- P holds for the effect of a reaction.
@@ -338,7 +343,7 @@ abort_no_custody limit options (Some text) =
 aborts_does : (s : ConnectionState) (P : ReactionResult → Type 0) → EffectCases s P → (why : Reason) → P (abort s why)
 aborts_does s P cases why =
     cases.stops why (abort_fitted s.limit (abort_of why))
-    (abort_no_custody s.limit (abort_options (number_told why)) (abort_text why))
+    (abort_no_custody s.limit (abort_options (abort_number why)) (abort_text why))
 
 csm_does : (s : ConnectionState) (P : ReactionResult → Type 0) → EffectCases s P → (bad : Option ℕ)
     → Does P (csm_reaction s bad)
@@ -353,22 +358,22 @@ request_does s P cases m Client =
     sends_does s P cases answer (bare_response answer) (fit s.limit answer (bare_response answer))
     (no_custody s answer refl) (no_custody s (bare_response answer) refl)
 
-nothing_held : (held : List PendingEntryValue) → nat_lt 0 (length held) ≡ false → held ≡ []
-nothing_held [] e = refl
-nothing_held (x ∷ held) e = absurd (omega (arith, ltb-false 0 (length (x ∷ held)) e))
+nothing_pending : (pending : List PendingEntryValue) → nat_lt 0 (length pending) ≡ false → pending ≡ []
+nothing_pending [] e = refl
+nothing_pending (x ∷ pending) e = absurd (omega (arith, ltb-false 0 (length (x ∷ pending)) e))
 
-pong_may : (s : ConnectionState) (custody : Bool) (token : List ℕ) → (custody && nat_lt 0 (length s.held)) ≡ false
+pong_may : (s : ConnectionState) (custody : Bool) (token : List ℕ) → (custody && nat_lt 0 (length s.pending)) ≡ false
     → MayQueue s (pong_with custody token)
-pong_may s true token e is = nothing_held s.held e
+pong_may s true token e is = nothing_pending s.pending e
 pong_may s false token e is = absurd cc
 
 ping_does : (s : ConnectionState) (P : ReactionResult → Type 0) → EffectCases s P → (m : Message)
     → Does P (ping_reaction s m)
 ping_does s P cases m =
     let late : Message = pong_with false m.token in
-    cond_both (asks_custody m && nat_lt 0 (length s.held)) _ _ (Does P)
-    (λ e. cond_both (nat_lt (length s.held) s.most) _ _ (Does P)
-    (λ f. cases.keeps m.token (ltb-true (length s.held) s.most f))
+    cond_both (asks_custody m && nat_lt 0 (length s.pending)) _ _ (Does P)
+    (λ e. cond_both (nat_lt (length s.pending) s.most) _ _ (Does P)
+    (λ f. cases.keeps m.token (ltb-true (length s.pending) s.most f))
     (λ f. sends_does s P cases late late (fit s.limit late late) (no_custody s late refl) (no_custody s late refl)))
     (λ e. sends_does s P cases (pong_of m) (without_options (pong_of m))
     (fit s.limit (pong_of m) (without_options (pong_of m))) (pong_may s (asks_custody m) m.token e)
@@ -426,8 +431,8 @@ custody_only : (m : Message) → list_any is_custody_pong (m ∷ []) ≡ true �
 custody_only m e = elim (or_cases (is_custody_pong m) false e) [ inl is ↦ is | inr other ↦ absurd cc ]
 
 pub custody_at_once : (s : ConnectionState) (m : Message)
-    → list_any is_custody_pong (react s m).effect.queued ≡ true → s.held ≡ []
-custody_at_once s = react_does s (λ e. list_any is_custody_pong e.queued ≡ true → s.held ≡ []) (record {
+    → list_any is_custody_pong (react s m).effect.queued ≡ true → s.pending ≡ []
+custody_at_once s = react_does s (λ e. list_any is_custody_pong e.queued ≡ true → s.pending ≡ []) (record {
   stays = λ is. absurd cc;
   opens = λ is. absurd cc;
   releases = λ is. absurd cc;
@@ -437,31 +442,32 @@ custody_at_once s = react_does s (λ e. list_any is_custody_pong e.queued ≡ tr
   ends = λ test is. absurd cc;
 })
 
-pub held_few : (s : ConnectionState) (m : Message) → length s.held ≤ s.most → length (react s m).effect.held ≤ s.most
-held_few s m few = react_does s (λ e. length e.held ≤ s.most) (record {
+pub pending_few : (s : ConnectionState) (m : Message) → length s.pending ≤ s.most
+    → length (react s m).effect.pending ≤ s.most
+pending_few s m few = react_does s (λ e. length e.pending ≤ s.most) (record {
   stays = few;
   opens = few;
   releases = few;
   stops = λ why farewell other. omega arith;
   queues = λ m may. few;
-  keeps = λ token room. omega (arith, room, length-append s.held (Pong token ∷ []));
+  keeps = λ token room. omega (arith, room, length-append s.pending (Pong token ∷ []));
   ends = λ test. few;
 }) m
 
 -- Pending entries stay in the list, and others may be appended.
 abbrev HoldsMore : ConnectionState → ReactionResult → Type 0
-HoldsMore s e = (more : List PendingEntryValue) × (e.held ≡ s.held ++ more)
+HoldsMore s e = (more : List PendingEntryValue) × (e.pending ≡ s.pending ++ more)
 
-pub held_more : (s : ConnectionState) (m : Message) → stop_of (react s m).effect.phase ≡ None
-    → (more : List PendingEntryValue) × ((react s m).effect.held ≡ s.held ++ more)
-held_more s m = react_does s (λ e. stop_of e.phase ≡ None → HoldsMore s e) (record {
-  stays = λ live. ([], sym (append-nil s.held));
-  opens = λ live. ([], sym (append-nil s.held));
-  releases = λ live. ([], sym (append-nil s.held));
+pub pending_more : (s : ConnectionState) (m : Message) → stop_of (react s m).effect.phase ≡ None
+    → (more : List PendingEntryValue) × ((react s m).effect.pending ≡ s.pending ++ more)
+pending_more s m = react_does s (λ e. stop_of e.phase ≡ None → HoldsMore s e) (record {
+  stays = λ live. ([], sym (append-nil s.pending));
+  opens = λ live. ([], sym (append-nil s.pending));
+  releases = λ live. ([], sym (append-nil s.pending));
   stops = λ why farewell other live. absurd cc;
-  queues = λ m may live. ([], sym (append-nil s.held));
+  queues = λ m may live. ([], sym (append-nil s.pending));
   keeps = λ token room live. (Pong token ∷ [], refl);
-  ends = λ test live. ([], sym (append-nil s.held));
+  ends = λ test live. ([], sym (append-nil s.pending));
 }) m
 
 open_not_released : (p : Phase) (why : Reason) → p ≡ phase.Open → p ≡ phase.Releasing why → ⊥
@@ -470,9 +476,9 @@ open_not_released p why opened releasing =
     cc
 
 -- A Release keeps the pending entries.
-pub held_released : (s : ConnectionState) (m : Message) (why : Reason) → s.phase ≡ phase.Open
-    → (react s m).effect.phase ≡ phase.Releasing why → (react s m).effect.held ≡ s.held
-held_released s m why opened = react_does s (λ e. e.phase ≡ phase.Releasing why → e.held ≡ s.held) (record {
+pub pending_released : (s : ConnectionState) (m : Message) (why : Reason) → s.phase ≡ phase.Open
+    → (react s m).effect.phase ≡ phase.Releasing why → (react s m).effect.pending ≡ s.pending
+pending_released s m why opened = react_does s (λ e. e.phase ≡ phase.Releasing why → e.pending ≡ s.pending) (record {
   stays = λ is. refl;
   opens = λ is. refl;
   releases = λ is. refl;
@@ -488,9 +494,9 @@ live_not_stopped p why live stopped =
     cc
 
 -- A stop drops the pending entries.
-pub held_given_up : (s : ConnectionState) (m : Message) (why : Reason) → stop_of s.phase ≡ None
-    → (react s m).effect.phase ≡ phase.Stopped why → (react s m).effect.held ≡ []
-held_given_up s m why live = react_does s (λ e. e.phase ≡ phase.Stopped why → e.held ≡ []) (record {
+pub pending_given_up : (s : ConnectionState) (m : Message) (why : Reason) → stop_of s.phase ≡ None
+    → (react s m).effect.phase ≡ phase.Stopped why → (react s m).effect.pending ≡ []
+pending_given_up s m why live = react_does s (λ e. e.phase ≡ phase.Stopped why → e.pending ≡ []) (record {
   stays = λ is. absurd (live_not_stopped s.phase why live is);
   opens = λ is. absurd cc;
   releases = λ is. absurd cc;

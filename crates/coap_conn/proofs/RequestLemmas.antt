@@ -9,10 +9,10 @@ use Rattle.coap_conn.specs.Prelude.{bare_response, without_options, PendingEntry
 use Rattle.coap_conn.specs.Prelude.{matches_response, is_last}
 use Rattle.coap_conn.specs.Prelude.{matches_pong, ConnectionState, ReactionResult, Reaction, react, reaction_unless}
 use Rattle.coap_conn.specs.Prelude.{live_reaction}
-use Rattle.coap_conn.specs.Prelude.{open_reaction, csm_reaction, request_reaction, told_of, becomes, is_reserved}
+use Rattle.coap_conn.specs.Prelude.{open_reaction, csm_reaction, request_reaction, reply_verdict, becomes, is_reserved}
 use Rattle.coap_conn.specs.Prelude.{is_signal, is_method, checks_critical_options, asks_custody, pong_with, pong_of}
 use Rattle.coap_conn.specs.Prelude.{late_pong, ping_reaction, not_implemented, answered, pong_reaction, bytes_of}
-use Rattle.coap_conn.specs.Prelude.{LinkValue, standing_in, link_handled, link_heard, link_after}
+use Rattle.coap_conn.specs.Prelude.{LinkValue, state_in, link_handled, link_received, link_after}
 use Rattle.std.proofs.lemmas.Bool.{cond_both}
 use Rattle.std.proofs.lemmas.List.{append-nil}
 use Rattle.coap_conn.specs.declared.phase.Phase.TheVariants as phase
@@ -30,7 +30,7 @@ pub handled_is : (v : LinkValue) (m : Message) → IsLive v.phase → link_after
 unfolding react
 handled_is v m live =
     ap
-    (λ (over : Option Reason). cond (is_none over) (link_heard v m (reaction_unless (standing_in v) m over).effect) v)
+    (λ (over : Option Reason). cond (is_none over) (link_received v m (reaction_unless (state_in v) m over).effect) v)
     live
 
 -- ---- requests
@@ -39,20 +39,20 @@ handled_is v m live =
 pub record IsQuiet (s : ConnectionState) (m : Message) (e : ReactionResult) : Type 0 where
   pub nothing : e.queued ≡ []
   pub same : e.phase ≡ s.phase
-  pub kept : e.held ≡ s.held
-  pub kept_asked : e.outstanding ≡ s.outstanding
+  pub kept : e.pending ≡ s.pending
+  pub kept_requested : e.outstanding ≡ s.outstanding
   pub not_waiting : is_waiting s.phase ≡ false
   pub announces : announcement m ≡ None
-  pub tells_none : token_announcement m ≡ None
+  pub reports_none : token_announcement m ≡ None
 
 -- The effect is such if the verdict is `Request`.
 abbrev Asks : ConnectionState → Message → Reaction → Type 0
 Asks s m r = r.verdict ≡ verdict.Request → IsQuiet s m r.effect
 
-told_no_request : (r : Reply) → told_of r ≡ verdict.Request → ⊥
-told_no_request Whole e = cc
-told_no_request Bare e = cc
-told_no_request Stopped e = cc
+reply_no_request : (r : Reply) → reply_verdict r ≡ verdict.Request → ⊥
+reply_no_request Whole e = cc
+reply_no_request Bare e = cc
+reply_no_request Stopped e = cc
 
 opened_no_request : (waiting : Bool) (s : ConnectionState)
     → (becomes s phase.Open (if waiting then verdict.Opened else verdict.Done)).verdict ≡ verdict.Request → ⊥
@@ -69,23 +69,23 @@ request_asks s m Server now other e = record {
   nothing = refl;
   same = refl;
   kept = refl;
-  kept_asked = refl;
+  kept_requested = refl;
   not_waiting = now;
   announces = ap (λ (b : Bool). if b then csm_size m else None) other;
-  tells_none = ap (λ (b : Bool). if b then csm_token m else None) other;
+  reports_none = ap (λ (b : Bool). if b then csm_token m else None) other;
 }
 request_asks s m Client now other e =
-    absurd (told_no_request (fit s.limit (not_implemented m) (bare_response (not_implemented m))) e)
+    absurd (reply_no_request (fit s.limit (not_implemented m) (bare_response (not_implemented m))) e)
 
 late_pong_asks : (s : ConnectionState) (m : Message) → Asks s m (late_pong s m)
 late_pong_asks s m =
-    cond_both (nat_lt (length s.held) s.most) _ _ (Asks s m) (λ e is. absurd cc)
-    (λ e is. absurd (told_no_request (fit s.limit (pong_with false m.token) (pong_with false m.token)) is))
+    cond_both (nat_lt (length s.pending) s.most) _ _ (Asks s m) (λ e is. absurd cc)
+    (λ e is. absurd (reply_no_request (fit s.limit (pong_with false m.token) (pong_with false m.token)) is))
 
 ping_asks : (s : ConnectionState) (m : Message) → Asks s m (ping_reaction s m)
 ping_asks s m =
-    cond_both (asks_custody m && nat_lt 0 (length s.held)) _ _ (Asks s m) (λ e. late_pong_asks s m)
-    (λ e is. absurd (told_no_request (fit s.limit (pong_of m) (without_options (pong_of m))) is))
+    cond_both (asks_custody m && nat_lt 0 (length s.pending)) _ _ (Asks s m) (λ e. late_pong_asks s m)
+    (λ e is. absurd (reply_no_request (fit s.limit (pong_of m) (without_options (pong_of m))) is))
 
 -- The verdict on a response is not `Request`.
 answered_asks : (s : ConnectionState) (m : Message) (e : Option OutstandingValue) → Asks s m (answered s m e)
@@ -125,28 +125,28 @@ pub react_asks : (s : ConnectionState) (m : Message) → Asks s m (react s m)
 unfolding react
 react_asks s m = unless_asks s m (stop_of s.phase)
 
-stays_by : (v : LinkValue) (m : Message) (e : ReactionResult) (takes : Bool) → IsQuiet (standing_in v) m e
-    → cond takes (link_heard v m e) v ≡ v
+stays_by : (v : LinkValue) (m : Message) (e : ReactionResult) (takes : Bool) → IsQuiet (state_in v) m e
+    → cond takes (link_received v m e) v ≡ v
 stays_by v m e true quiet =
     let max : ℕ = unwrap_or (announcement m) v.peer_max in
     let token : ℕ = unwrap_or (token_announcement m) v.peer_token in
     ap (λ (w : List ℕ). record v {
       waiting = w;
       phase = e.phase;
-      held = e.held;
+      pending = e.pending;
       outstanding = e.outstanding;
       peer_max = max;
       peer_token = token;
     }) (ap (λ (ms : List Message). v.waiting ++ bytes_of ms) quiet.nothing ∙ append-nil v.waiting)
     ∙ ap (λ (p : Phase). record v {
       phase = p;
-      held = e.held;
+      pending = e.pending;
       outstanding = e.outstanding;
       peer_max = max;
       peer_token = token;
     }) quiet.same
-    ∙ ap (λ (held : List PendingEntryValue). record v {
-      held = held;
+    ∙ ap (λ (pending : List PendingEntryValue). record v {
+      pending = pending;
       outstanding = e.outstanding;
       peer_max = max;
       peer_token = token;
@@ -155,16 +155,16 @@ stays_by v m e true quiet =
       outstanding = outstanding;
       peer_max = max;
       peer_token = token;
-    }) quiet.kept_asked
+    }) quiet.kept_requested
     ∙ ap (λ (n : Option ℕ). record v { peer_max = unwrap_or n v.peer_max; peer_token = token }) quiet.announces
-    ∙ ap (λ (n : Option ℕ). record v { peer_token = unwrap_or n v.peer_token }) quiet.tells_none
+    ∙ ap (λ (n : Option ℕ). record v { peer_token = unwrap_or n v.peer_token }) quiet.reports_none
 stays_by v m e false quiet = refl
 
 -- A request leaves the link unchanged.
-pub request_stays : (v : LinkValue) (m : Message) → (react (standing_in v) m).verdict ≡ verdict.Request
+pub request_stays : (v : LinkValue) (m : Message) → (react (state_in v) m).verdict ≡ verdict.Request
     → link_after v (call.Handle m) ≡ v
-request_stays v m asked =
-    stays_by v m (react (standing_in v) m).effect (takes_messages v.phase) (react_asks (standing_in v) m asked)
+request_stays v m requested =
+    stays_by v m (react (state_in v) m).effect (takes_messages v.phase) (react_asks (state_in v) m requested)
 
 answering_at : (p : Phase) → IsLive p → is_waiting p ≡ false → IsAnswering p
 answering_at phase.Waiting live e = absurd cc
@@ -174,5 +174,5 @@ answering_at (phase.Stopped why) live e = absurd cc
 
 -- The link may then send a response.
 pub request_answering : (v : LinkValue) (m : Message) → IsLive v.phase
-    → (react (standing_in v) m).verdict ≡ verdict.Request → IsAnswering v.phase
-request_answering v m live asked = answering_at v.phase live (react_asks (standing_in v) m asked).not_waiting
+    → (react (state_in v) m).verdict ≡ verdict.Request → IsAnswering v.phase
+request_answering v m live requested = answering_at v.phase live (react_asks (state_in v) m requested).not_waiting

@@ -55,14 +55,14 @@ abbrev pub last_or : ℕ → List ℕ → ℕ
 last_or n [] = n
 last_or n (x ∷ xs) = last_or x xs
 
--- The last of the numbers that `tells` gives for these messages, or `base` if it gives none.
-abbrev pub last_told : (Message → Option ℕ) → ℕ → List Message → ℕ
-last_told tells base ms = last_or base (filter_map tells ms)
+-- The last of the numbers that `reports` gives for these messages, or `base` if it gives none.
+abbrev pub last_reported : (Message → Option ℕ) → ℕ → List Message → ℕ
+last_reported reports base ms = last_or base (filter_map reports ms)
 
 -- The Max-Message-Size of the peer after these messages: the last one announced, or `BASE_MESSAGE_SIZE` if there is
 -- none.
 unfoldable pub announced : List Message → ℕ
-announced ms = last_told announcement BASE_MESSAGE_SIZE ms
+announced ms = last_reported announcement BASE_MESSAGE_SIZE ms
 
 -- ---- tokens (RFC 8974 section 2.2.1)
 
@@ -86,15 +86,15 @@ token_length value =
     then Some (min (uint_of value) MAX_EXTENDED_LENGTH) else None
 
 -- The length that an Extended-Token-Length announces, if the option is present and its value announces one.
-abbrev pub token_told : Option CoapOption → Option ℕ
-token_told None = None
-token_told (Some o) = token_length o.value
+abbrev pub token_length_in : Option CoapOption → Option ℕ
+token_length_in None = None
+token_length_in (Some o) = token_length o.value
 
 -- The length that a CSM announces by its first Extended-Token-Length. None is announced if the first argument is the
 -- number of an option that stops the connection.
 abbrev pub token_unless : Option ℕ → Message → Option ℕ
 token_unless (Some bad) m = None
-token_unless None m = token_told (first_token_length m)
+token_unless None m = token_length_in (first_token_length m)
 
 -- The token length that a CSM announces, if it announces one and does not stop the connection.
 abbrev pub csm_token : Message → Option ℕ
@@ -107,7 +107,7 @@ token_announcement m = if m.code == code.csm then csm_token m else None
 -- The length of the longest token that the peer accepts after these messages: the last one announced, or `base_token`
 -- if there is none.
 unfoldable pub announced_token : List Message → ℕ
-announced_token ms = last_told token_announcement base_token ms
+announced_token ms = last_reported token_announcement base_token ms
 
 -- The size of the largest message that may be sent: the smaller of the local limit and the peer's Max-Message-Size.
 abbrev pub size_limit : ℕ → ℕ → ℕ

@@ -17,8 +17,8 @@ use Rattle.coap_conn.specs.Outstanding.{OutstandingValue, is_entry_of, without_e
 use Rattle.coap_conn.specs.Outstanding as outstanding
 use Rattle.coap_conn.specs.RequestState.{asking_refusal, cancel_refusal, next_token, with_token, entry_of, ping_with}
 use Rattle.coap_conn.specs.Reaction.{ConnectionState, ReactionResult, stay, stop, abort, send, react, due_effect}
-use Rattle.coap_conn.specs.LinkValue.{LinkValue, can_hold, standing_in, asking_in, bytes_of, own_csm, limit_in}
-use Rattle.coap_conn.specs.LinkValue.{link_with, link_heard}
+use Rattle.coap_conn.specs.LinkValue.{LinkValue, can_hold, state_in, asking_in, bytes_of, own_csm, limit_in}
+use Rattle.coap_conn.specs.LinkValue.{link_with, link_received}
 
 -- A call with its arguments:
 -- - `Handle`: a message was received.
@@ -89,17 +89,17 @@ abbrev pub release : Message
 release = record { code = code.release; token = []; options = []; payload = [] }
 
 -- The state without the pending entry that is due first at `now`.
-abbrev pub standing_due : ℕ → ConnectionState → ConnectionState
-standing_due now s = record s { held = without_due now s.held }
+abbrev pub state_due : ℕ → ConnectionState → ConnectionState
+state_due now s = record s { pending = without_due now s.pending }
 
 -- The state without the first request with this token that waits for a response of the application.
-abbrev pub standing_without : List ℕ → ConnectionState → ConnectionState
-standing_without token s = record s { held = without_request token s.held }
+abbrev pub state_without : List ℕ → ConnectionState → ConnectionState
+state_without token s = record s { pending = without_request token s.pending }
 
 -- The effect of sending `m`, or `less` if `m` is too large, in the phases that send responses. In other phases there is
 -- none.
 abbrev pub sends_one : LinkValue → Message → Message → Doing
-sends_one v m less = where_so (answers v.phase) (Does (send (standing_in v) m less))
+sends_one v m less = where_so (answers v.phase) (Does (send (state_in v) m less))
 
 -- The effect of sending `m`, which has the next token, after which `e` is outstanding. There is none if
 -- `asking_refusal` gives an error.
@@ -119,18 +119,18 @@ may_announce v size = is_open v.phase && fits (limit_in v) (own_csm size)
 -- The effect of a call. Messages, malformed bytes and the end of input have an effect only in phases that accept
 -- messages.
 abbrev pub call_effect : LinkValue → Call → Doing
-call_effect v (Handle m) = where_so (takes_messages v.phase) (Handles m (react (standing_in v) m).effect)
-call_effect v (Reject fault) = where_so (takes_messages v.phase) (Does (abort (standing_in v) (reject_reason fault)))
-call_effect v (End cut) = where_so (takes_messages v.phase) (Does (stop (standing_in v) (end_reason cut) []))
+call_effect v (Handle m) = where_so (takes_messages v.phase) (Handles m (react (state_in v) m).effect)
+call_effect v (Reject fault) = where_so (takes_messages v.phase) (Does (abort (state_in v) (reject_reason fault)))
+call_effect v (End cut) = where_so (takes_messages v.phase) (Does (stop (state_in v) (end_reason cut) []))
 call_effect v (Reply m) = sends_one v m (bare_response m)
 call_effect v (Hold token moment) = where_so (is_open v.phase && can_hold v) (Holds (Answer Engine token moment))
 call_effect v (HoldRequest token moment) =
     where_so (is_open v.phase && can_hold v) (Holds (Answer Application token moment))
 call_effect v (Respond m) =
     where_so (answers v.phase && is_none (response_refusal v m))
-    (Does (send (standing_without m.token (standing_in v)) m (bare_response m)))
-call_effect v (Due now) = where_so true (Does (due_effect (standing_due now (standing_in v)) (first_due now v.held)))
-call_effect v Release = where_so (is_open v.phase) (Does (stop (standing_in v) ReleasedHere (release ∷ [])))
+    (Does (send (state_without m.token (state_in v)) m (bare_response m)))
+call_effect v (Due now) = where_so true (Does (due_effect (state_due now (state_in v)) (first_due now v.pending)))
+call_effect v Release = where_so (is_open v.phase) (Does (stop (state_in v) ReleasedHere (release ∷ [])))
 call_effect v (Request m observe) =
     asks_one v (with_token m (next_token v.tokens)) (entry_of observe (next_token v.tokens))
 call_effect v (Cancel token m) =
@@ -140,7 +140,7 @@ call_effect v (Ping custody) =
     asks_one v (ping_with custody (next_token v.tokens)) (outstanding.Ping (next_token v.tokens))
 call_effect v (Forget token) =
     where_so (may_forget v token)
-    (Does (record (stay (standing_in v)) { outstanding = without_entry_of token v.outstanding }))
+    (Does (record (stay (state_in v)) { outstanding = without_entry_of token v.outstanding }))
 call_effect v (Announce size) = where_so (may_announce v size) (Announces size)
 call_effect v (Written n) = where_so true (Writes n)
 
@@ -148,9 +148,9 @@ call_effect v (Written n) = where_so true (Writes n)
 
 -- The link after an effect.
 abbrev pub link_with_deed : LinkValue → CallEffect → LinkValue
-link_with_deed v (Handles m e) = link_heard v m e
+link_with_deed v (Handles m e) = link_received v m e
 link_with_deed v (Does e) = link_with v e
-link_with_deed v (Holds e) = record v { held = v.held ++ e ∷ [] }
+link_with_deed v (Holds e) = record v { pending = v.pending ++ e ∷ [] }
 link_with_deed v (Asks m outstanding tokens) =
     record v { waiting = v.waiting ++ bytes_of (m ∷ []); outstanding = outstanding; tokens = tokens }
 link_with_deed v (Announces size) = record v { waiting = v.waiting ++ bytes_of (own_csm size ∷ []); own_max = size }

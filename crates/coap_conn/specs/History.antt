@@ -11,14 +11,14 @@ use Rattle.coap_conn.specs.PendingEntries.{PendingEntryValue}
 use Rattle.coap_conn.specs.Outstanding.{OutstandingValue}
 use Rattle.coap_conn.specs.RequestState.{RequestState}
 use Rattle.coap_conn.specs.Reaction.{ConnectionState, ReactionResult}
-use Rattle.coap_conn.specs.LinkValue.{LinkValue, bytes_of, own_csm, first_csm, limit_in, standing_in, asking_in}
+use Rattle.coap_conn.specs.LinkValue.{LinkValue, bytes_of, own_csm, first_csm, limit_in, state_in, asking_in}
 use Rattle.coap_conn.specs.LinkValue.{can_hold}
 use Rattle.coap_conn.specs.Calls.{Call, CallEffect, Handles, Does, Holds, Asks, Announces, Writes, Doing, call_effect}
 use Rattle.coap_conn.specs.Calls.{sends_one, asks_one}
 
 -- The history of one end of a connection. `handled` and `queued` are the messages handled and queued, in order, and
 -- `written` is the number of queued bytes that were written. The other fields are the state: `own_max` is the size of
--- the largest message accepted, as announced last. `held` are the pending entries, and `tokens` is the number of the
+-- the largest message accepted, as announced last. `pending` are the pending entries, and `tokens` is the number of the
 -- last token.
 pub record History : Type 0 where
   pub role : Role
@@ -28,7 +28,7 @@ pub record History : Type 0 where
   pub written : ℕ
   pub phase : Phase
   pub own_max : ℕ
-  pub held : List PendingEntryValue
+  pub pending : List PendingEntryValue
   pub outstanding : List OutstandingValue
   pub tokens : ℕ
 
@@ -43,7 +43,7 @@ new_history role limits tokens =
       written = 0;
       phase = Waiting;
       own_max = limits.max_message;
-      held = [];
+      pending = [];
       outstanding = [];
       tokens = tokens;
     }
@@ -73,7 +73,7 @@ link_of h =
       own_max = h.own_max;
       peer_max = announced h.handled;
       peer_token = announced_token h.handled;
-      held = h.held;
+      pending = h.pending;
       outstanding = h.outstanding;
       tokens = h.tokens;
     }
@@ -88,8 +88,8 @@ abbrev pub limit_now : History → ℕ
 limit_now h = limit_in (link_of h)
 
 -- The state that decides the reaction to a message after a history.
-abbrev pub standing_now : History → ConnectionState
-standing_now h = standing_in (link_of h)
+abbrev pub state_now : History → ConnectionState
+state_now h = state_in (link_of h)
 
 -- The state that decides whether a request may be sent after a history.
 abbrev pub asking_now : History → RequestState
@@ -104,13 +104,13 @@ may_hold h = can_hold (link_of h)
 -- The history after an effect.
 abbrev pub with_effect : History → ReactionResult → History
 with_effect h e =
-    record h { queued = h.queued ++ e.queued; phase = e.phase; held = e.held; outstanding = e.outstanding }
+    record h { queued = h.queued ++ e.queued; phase = e.phase; pending = e.pending; outstanding = e.outstanding }
 
 -- The history after the effect of a call.
 abbrev pub with_deed : History → CallEffect → History
 with_deed h (Handles m e) = record (with_effect h e) { handled = h.handled ++ m ∷ [] }
 with_deed h (Does e) = with_effect h e
-with_deed h (Holds e) = record h { held = h.held ++ e ∷ [] }
+with_deed h (Holds e) = record h { pending = h.pending ++ e ∷ [] }
 with_deed h (Asks m outstanding tokens) =
     record h { queued = h.queued ++ m ∷ []; outstanding = outstanding; tokens = tokens }
 with_deed h (Announces size) = record h { queued = h.queued ++ own_csm size ∷ []; own_max = size }

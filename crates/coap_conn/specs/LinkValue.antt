@@ -23,7 +23,7 @@ use Rattle.coap_wire.specs.declared.sizes.TheConstants.{BASE_MESSAGE_SIZE}
 
 -- The value of a `Link`. `waiting` are the bytes queued for writing. `own_max` is the size of the largest message
 -- accepted, as announced last. `peer_max` and `peer_token` are the size of the largest message and the length of the
--- longest token that the peer accepts. `held` are the pending entries, and `tokens` is the number of the last token.
+-- longest token that the peer accepts. `pending` are the pending entries, and `tokens` is the number of the last token.
 pub record LinkValue : Type 0 where
   pub role : Role
   pub limits : LimitValues
@@ -32,7 +32,7 @@ pub record LinkValue : Type 0 where
   pub own_max : ℕ
   pub peer_max : ℕ
   pub peer_token : ℕ
-  pub held : List PendingEntryValue
+  pub pending : List PendingEntryValue
   pub outstanding : List OutstandingValue
   pub tokens : ℕ
 
@@ -43,9 +43,9 @@ pub record IsLink (v : LinkValue) : Type 0 where
   pub within : length v.waiting ≤ v.limits.queue
   pub enough : v.limits.max_sent ≤ v.limits.queue
   pub small : v.peer_max < 2 ^ 32
-  pub few : length v.held ≤ v.limits.pending
-  pub few_asked : length v.outstanding ≤ v.limits.outstanding
-  pub answering : (v.held ≡ []) ⊎ (answers v.phase ≡ true)
+  pub few : length v.pending ≤ v.limits.pending
+  pub few_requested : length v.outstanding ≤ v.limits.outstanding
+  pub answering : (v.pending ≡ []) ⊎ (answers v.phase ≡ true)
 
 -- ---- properties
 
@@ -59,11 +59,11 @@ IsReady v = v.limits.max_sent ≤ free_in v
 
 -- True if nothing is left to write: no message is accepted, no entry is pending, and no byte is queued.
 abbrev pub is_finished : LinkValue → Bool
-is_finished v = is_over v.phase && (length v.held == 0 && length v.waiting == 0)
+is_finished v = is_over v.phase && (length v.pending == 0 && length v.waiting == 0)
 
 -- True if the pending list is not full.
 abbrev pub can_hold : LinkValue → Bool
-can_hold v = nat_lt (length v.held) v.limits.pending
+can_hold v = nat_lt (length v.pending) v.limits.pending
 
 -- The size of the largest message that may be sent.
 abbrev pub limit_in : LinkValue → ℕ
@@ -74,12 +74,12 @@ abbrev pub sizes_of : LinkValue → LimitValues × ℕ
 sizes_of l = (l.limits, l.own_max)
 
 -- The state that decides the reaction to a message.
-abbrev pub standing_in : LinkValue → ConnectionState
-standing_in v = record {
+abbrev pub state_in : LinkValue → ConnectionState
+state_in v = record {
   role = v.role;
   phase = v.phase;
   limit = limit_in v;
-  held = v.held;
+  pending = v.pending;
   most = v.limits.pending;
   outstanding = v.outstanding;
 }
@@ -137,7 +137,7 @@ new_link role limits tokens =
       own_max = limits.max_message;
       peer_max = BASE_MESSAGE_SIZE;
       peer_token = base_token;
-      held = [];
+      pending = [];
       outstanding = [];
       tokens = tokens;
     }
@@ -145,11 +145,16 @@ new_link role limits tokens =
 -- The link after an effect.
 abbrev pub link_with : LinkValue → ReactionResult → LinkValue
 link_with v e =
-    record v { waiting = v.waiting ++ bytes_of e.queued; phase = e.phase; held = e.held; outstanding = e.outstanding }
+    record v {
+      waiting = v.waiting ++ bytes_of e.queued;
+      phase = e.phase;
+      pending = e.pending;
+      outstanding = e.outstanding;
+    }
 
 -- The link after a message with this effect. The sizes that the message announces become those of the peer.
-abbrev pub link_heard : LinkValue → Message → ReactionResult → LinkValue
-link_heard v m e =
+abbrev pub link_received : LinkValue → Message → ReactionResult → LinkValue
+link_received v m e =
     record (link_with v e) {
       peer_max = unwrap_or (announcement m) v.peer_max;
       peer_token = unwrap_or (token_announcement m) v.peer_token;
@@ -159,10 +164,10 @@ link_heard v m e =
 
 -- The link after a message, in a phase that accepts messages.
 abbrev pub link_handled : LinkValue → Message → LinkValue
-link_handled v m = link_heard v m (live_reaction (standing_in v) m).effect
+link_handled v m = link_received v m (live_reaction (state_in v) m).effect
 
 -- The link after a CSM, in a phase that accepts messages.
 abbrev pub link_after_csm : LinkValue → Message → LinkValue
 link_after_csm v m =
-    record (link_with v (csm_reaction (standing_in v) (bad_csm_option m)).effect)
+    record (link_with v (csm_reaction (state_in v) (bad_csm_option m)).effect)
     { peer_max = unwrap_or (csm_size m) v.peer_max; peer_token = unwrap_or (csm_token m) v.peer_token }

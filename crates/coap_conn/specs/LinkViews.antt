@@ -2,7 +2,7 @@
 use Rattle.std.specs.Prelude.{◌≡◌, ◌≤◌, map}
 use Rattle.std.specs.Vec.{vec_capacity}
 use Rattle.coap_conn.specs.LinkValue.{LinkValue, IsLink}
-use Rattle.coap_conn.specs.PendingEntryViews.{held_value}
+use Rattle.coap_conn.specs.PendingEntryViews.{pending_value}
 use Rattle.coap_conn.specs.OutstandingViews.{outstanding_value}
 use Rattle.coap_conn.specs.Verdicts.{VerdictValue}
 use Rattle.coap_conn.specs.Verdicts as value
@@ -21,8 +21,8 @@ link_value l =
       own_max = l.own_max;
       peer_max = l.peer_max;
       peer_token = l.peer_token;
-      held = map held_value l.pending.items;
-      outstanding = map outstanding_value l.asked.items;
+      pending = map pending_value l.pending.items;
+      outstanding = map outstanding_value l.outstanding.items;
       tokens = l.tokens;
     }
 
@@ -31,7 +31,7 @@ link_value l =
 abbrev pub is_link : Inside → Type 0
 is_link l =
     IsLink (link_value l) × (l.queue.bytes ≡ l.limits.queue) × (l.limits.pending ≤ vec_capacity l.pending)
-    × (l.limits.outstanding ≤ vec_capacity l.asked)
+    × (l.limits.outstanding ≤ vec_capacity l.outstanding)
 
 -- The value of a `Verdict`, with the token as a list of bytes.
 abbrev pub verdict_value : Verdict → VerdictValue

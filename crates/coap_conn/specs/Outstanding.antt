@@ -23,9 +23,9 @@ same_token one other = pointwise nat_eq one other
 -- True if a response with this token matches the entry, which is then a request or an observation (RFC 7252 section
 -- 5.3.2).
 abbrev pub matches_response : List ℕ → OutstandingValue → Bool
-matches_response token (Request asked) = same_token asked token
-matches_response token (Observation asked cancelled) = same_token asked token
-matches_response token (Ping asked) = false
+matches_response token (Request own) = same_token own token
+matches_response token (Observation own cancelled) = same_token own token
+matches_response token (Ping own) = false
 
 -- True if a response has an Observe option that is recognised (RFC 7641 section 2).
 abbrev pub has_observe : Message → Bool
@@ -53,22 +53,22 @@ is_request_entry (Ping token) = false
 
 -- True if a Pong with this token matches the entry, which is then a Ping.
 abbrev pub matches_pong : List ℕ → OutstandingValue → Bool
-matches_pong token (Request asked) = false
-matches_pong token (Observation asked cancelled) = false
+matches_pong token (Request own) = false
+matches_pong token (Observation own cancelled) = false
 matches_pong token (Ping pinged) = same_token pinged token
 
 -- ---- cancellation
 
 -- True if the entry is an observation with this token that was not cancelled (RFC 7641 section 3.6).
 abbrev pub may_cancel : List ℕ → OutstandingValue → Bool
-may_cancel token (Request asked) = false
-may_cancel token (Observation asked cancelled) = same_token asked token && not cancelled
+may_cancel token (Request own) = false
+may_cancel token (Observation own cancelled) = same_token own token && not cancelled
 may_cancel token (Ping pinged) = false
 
 -- The entry after the cancellation of the observation with this token.
 abbrev pub cancelled_by : List ℕ → OutstandingValue → OutstandingValue
-cancelled_by token (Request asked) = Request asked
-cancelled_by token (Observation asked cancelled) = Observation asked (same_token asked token || cancelled)
+cancelled_by token (Request own) = Request own
+cancelled_by token (Observation own cancelled) = Observation own (same_token own token || cancelled)
 cancelled_by token (Ping pinged) = Ping pinged
 
 -- ---- both
@@ -80,8 +80,8 @@ is_entry_of token e = matches_response token e || matches_pong token e
 -- ---- lists
 
 -- The entries without the requests and observations with this token.
-abbrev pub without_asked : List ℕ → List OutstandingValue → List OutstandingValue
-without_asked token entries = filter (λ e. not (matches_response token e)) entries
+abbrev pub without_matching : List ℕ → List OutstandingValue → List OutstandingValue
+without_matching token entries = filter (λ e. not (matches_response token e)) entries
 
 -- The entries without the Pings with this token.
 abbrev pub without_pinged : List ℕ → List OutstandingValue → List OutstandingValue

@@ -24,7 +24,7 @@ due_moment now (Pong token) = None
 
 -- The earliest time of the responses that are due at `now` or earlier.
 abbrev pub earliest_due : ℕ → List PendingEntryValue → Option ℕ
-earliest_due now held = reduce min (filter_map (due_moment now) held)
+earliest_due now pending = reduce min (filter_map (due_moment now) pending)
 
 -- True if an entry is a response that is due at exactly this time.
 abbrev pub is_answer_at : ℕ → PendingEntryValue → Bool
@@ -33,8 +33,8 @@ is_answer_at moment (Pong token) = false
 
 -- The index of the first response that is due at exactly this time, if there is a time.
 abbrev pub answer_index : Option ℕ → List PendingEntryValue → Option ℕ
-answer_index None held = None
-answer_index (Some moment) held = position (is_answer_at moment) held
+answer_index None pending = None
+answer_index (Some moment) pending = position (is_answer_at moment) pending
 
 -- The index of a Pong that no entry precedes.
 abbrev pub pong_index : List PendingEntryValue → Option ℕ
@@ -50,7 +50,7 @@ else_index (Some i) other = Some i
 -- The index of the entry that is due first at `now`. Responses whose time has come precede Pongs: the earliest time
 -- first, and of equal times the first entry. Otherwise a Pong is due if no entry precedes it.
 unfoldable pub due_index : ℕ → List PendingEntryValue → Option ℕ
-due_index now held = else_index (answer_index (earliest_due now held) held) (pong_index held)
+due_index now pending = else_index (answer_index (earliest_due now pending) pending) (pong_index pending)
 
 -- ---- the next time
 
@@ -61,42 +61,42 @@ future_moment now (Pong token) = None
 
 -- The earliest time after `now` at which a response is due.
 abbrev pub next_moment : ℕ → List PendingEntryValue → Option ℕ
-next_moment now held = reduce min (filter_map (future_moment now) held)
+next_moment now pending = reduce min (filter_map (future_moment now) pending)
 
 -- ---- removal
 
 -- The entry at an index, if there is an index.
-abbrev pub held_at : List PendingEntryValue → Option ℕ → Option PendingEntryValue
-held_at held None = None
-held_at held (Some i) = slice_get held i
+abbrev pub entry_at : List PendingEntryValue → Option ℕ → Option PendingEntryValue
+entry_at pending None = None
+entry_at pending (Some i) = slice_get pending i
 
 -- The entries without that at an index, or all of them if there is no index.
 abbrev pub without_at : List PendingEntryValue → Option ℕ → List PendingEntryValue
-without_at held None = held
-without_at held (Some i) = remove held i
+without_at pending None = pending
+without_at pending (Some i) = remove pending i
 
 -- The entry that is due first at `now`, if any is due.
 unfoldable pub first_due : ℕ → List PendingEntryValue → Option PendingEntryValue
-first_due now held = held_at held (due_index now held)
+first_due now pending = entry_at pending (due_index now pending)
 
 -- The entries without that which is due first at `now`.
 unfoldable pub without_due : ℕ → List PendingEntryValue → List PendingEntryValue
-without_due now held = without_at held (due_index now held)
+without_due now pending = without_at pending (due_index now pending)
 
 -- Holds if no entry is due at `now`: each response is due later, and no Pong is the first entry.
 abbrev pub NothingIsDue : ℕ → List PendingEntryValue → Type 0
-NothingIsDue now held = AllByRecursion (λ e. due_moment now e ≡ None) held × (pong_index held ≡ None)
+NothingIsDue now pending = AllByRecursion (λ e. due_moment now e ≡ None) pending × (pong_index pending ≡ None)
 
 -- Holds if this response is due first at `now`, and `rest` are the entries without it. Its time has come, no time that
 -- has come is earlier, and all responses before it have other times.
-pub record IsDueFirst (now : ℕ) (held : List PendingEntryValue) (by : Responder) (token : List ℕ) (moment : ℕ)
+pub record IsDueFirst (now : ℕ) (pending : List PendingEntryValue) (by : Responder) (token : List ℕ) (moment : ℕ)
     (rest : List PendingEntryValue) : Type 0 where
   pub before : List PendingEntryValue
   pub after : List PendingEntryValue
-  pub there : held ≡ before ++ Answer by token moment ∷ after
+  pub there : pending ≡ before ++ Answer by token moment ∷ after
   pub without : rest ≡ before ++ after
   pub has_come : moment ≤ now
-  pub least : AllByRecursion (λ e. (other : ℕ) → due_moment now e ≡ Some other → moment ≤ other) held
+  pub least : AllByRecursion (λ e. (other : ℕ) → due_moment now e ≡ Some other → moment ≤ other) pending
   pub earliest : AllByRecursion (λ e. is_answer_at moment e ≡ false) before
 
 -- ---- requests for the application
@@ -109,20 +109,20 @@ is_request_for token (Pong other) = false
 
 -- True if a request with this token waits for a response of the application.
 abbrev pub has_request : List ℕ → List PendingEntryValue → Bool
-has_request token held = list_any (is_request_for token) held
+has_request token pending = list_any (is_request_for token) pending
 
 -- The entries without the first request with this token that waits for a response of the application.
 unfoldable pub without_request : List ℕ → List PendingEntryValue → List PendingEntryValue
-without_request token held = without_at held (position (is_request_for token) held)
+without_request token pending = without_at pending (position (is_request_for token) pending)
 
 -- Holds if a request with this token waits for a response of the application, and `rest` are the entries without it. No
 -- entry before it is another request with the token.
-pub record IsFirstRequest (held : List PendingEntryValue) (token : List ℕ)
+pub record IsFirstRequest (pending : List PendingEntryValue) (token : List ℕ)
     (rest : List PendingEntryValue) : Type 0 where
   pub before : List PendingEntryValue
   pub after : List PendingEntryValue
   pub moment : ℕ
-  pub there : held ≡ before ++ Answer Application token moment ∷ after
+  pub there : pending ≡ before ++ Answer Application token moment ∷ after
   pub without : rest ≡ before ++ after
   pub earliest : AllByRecursion (λ e. is_request_for token e ≡ false) before
 
@@ -137,12 +137,12 @@ pub data DueValue : Type 0 where
   Nothing : DueValue
 
 -- The result for a response that is due.
-abbrev pub answer_told : Responder → List ℕ → DueValue
-answer_told Engine token = AnAnswer token
-answer_told Application token = AnExpired token
+abbrev pub answer_by : Responder → List ℕ → DueValue
+answer_by Engine token = AnAnswer token
+answer_by Application token = AnExpired token
 
 -- The result of `Link::due`, by the entry that is due first.
-abbrev pub due_told : Option PendingEntryValue → DueValue
-due_told None = Nothing
-due_told (Some (Answer by token moment)) = answer_told by token
-due_told (Some (Pong token)) = APong
+abbrev pub due_result : Option PendingEntryValue → DueValue
+due_result None = Nothing
+due_result (Some (Answer by token moment)) = answer_by by token
+due_result (Some (Pong token)) = APong

@@ -7,9 +7,9 @@ use Rattle.coap_conn.specs.declared.phase.Due.{Due}
 use Rattle.coap_conn.specs.declared.phase.Due.TheVariants as due
 
 -- The value of a pending entry, with the token as a list of bytes.
-abbrev pub held_value : PendingEntry → PendingEntryValue
-held_value (Answer responder token moment) = value.Answer responder token.items moment
-held_value (Pong token) = value.Pong token.items
+abbrev pub pending_value : PendingEntry → PendingEntryValue
+pending_value (Answer responder token moment) = value.Answer responder token.items moment
+pending_value (Pong token) = value.Pong token.items
 
 -- The value of a result of `Link::due`, with the token as a list of bytes.
 abbrev pub due_value : Due → DueValue

@@ -13,7 +13,7 @@ pub use mathlib.Core.Option.{none}
 pub use Rattle.coap_wire.specs.Forms.{length_form, option_form, token_form}
 pub use Rattle.coap_wire.specs.Message.{Message, CoapOption}
 pub use Rattle.coap_wire.specs.Recognition.{is_critical}
-unfoldable pub use Rattle.coap_wire.specs.Recognition.{first_critical_behind, is_recognised, kind_of, known_behind}
+unfoldable pub use Rattle.coap_wire.specs.Recognition.{first_critical_given, is_recognised, kind_of, known_given}
 unfoldable pub use Rattle.coap_wire.specs.Reading.{message_of}
 pub use Rattle.coap_wire.specs.Refusal.{RefusedBy}
 pub use Rattle.coap_wire.specs.Spelling.{body_spelling, head_spelling, option_spelling}
@@ -26,8 +26,8 @@ pub use Rattle.coap_wire.specs.declared.sizes.TheConstants.{BASE_MESSAGE_SIZE, L
 pub use Rattle.coap_wire.specs.declared.sizes.TheConstants.{LARGEST_SENT_MESSAGE, LARGEST_QUEUE}
 -- ---- coap_conn
 pub use Rattle.coap_conn.specs.Announced.{is_bad, first_size, has_critical_option, bad_csm_option, first_token_length}
-pub use Rattle.coap_conn.specs.Announced.{token_length, token_told, announcement, token_announcement, csm_size}
-pub use Rattle.coap_conn.specs.Announced.{csm_token, is_size, is_token_length, last_or, last_told}
+pub use Rattle.coap_conn.specs.Announced.{token_length, token_length_in, announcement, token_announcement, csm_size}
+pub use Rattle.coap_conn.specs.Announced.{csm_token, is_size, is_token_length, last_or, last_reported}
 unfoldable pub use Rattle.coap_conn.specs.Announced.{announced, announced_token}
 pub use Rattle.coap_conn.specs.RequestState.{next_token, observation_refusal, size_refusal, with_token, ping_with}
 pub use Rattle.coap_conn.specs.RequestState.{RequestState}
@@ -38,28 +38,29 @@ pub use Rattle.coap_conn.specs.Calls.{Call, release, may_announce, link_after, A
 pub use Rattle.coap_conn.specs.Calls.{may_forget}
 pub use Rattle.coap_conn.specs.Calls.{Handles, Holds, IsWithin, Writes, asks_one, call_effect, link_done}
 pub use Rattle.coap_conn.specs.Calls.{link_with_deed}
-pub use Rattle.coap_conn.specs.Calls.{standing_due, standing_without}
+pub use Rattle.coap_conn.specs.Calls.{state_due, state_without}
 pub use Rattle.coap_conn.specs.Fit.{AllFit, fit, fits, fitted, bare_response, abort_fitted, without_options}
 pub use Rattle.coap_conn.specs.Fit.{without_payload}
 pub use Rattle.coap_conn.specs.PendingEntries.{PendingEntryValue, Answer, Pong, NothingIsDue, IsDueFirst, due_moment}
 pub use Rattle.coap_conn.specs.PendingEntries.{next_moment}
-pub use Rattle.coap_conn.specs.PendingEntries.{AnAnswer, due_told, is_answer_at, earliest_due, answer_index, pong_index}
+pub use Rattle.coap_conn.specs.PendingEntries.{AnAnswer, due_result, is_answer_at, earliest_due, answer_index}
+pub use Rattle.coap_conn.specs.PendingEntries.{pong_index}
 pub use Rattle.coap_conn.specs.PendingEntries.{future_moment}
-pub use Rattle.coap_conn.specs.PendingEntries.{else_index, held_at, without_at}
-pub use Rattle.coap_conn.specs.PendingEntries.{answer_told, is_request_for, has_request, IsFirstRequest, AnExpired}
+pub use Rattle.coap_conn.specs.PendingEntries.{else_index, entry_at, without_at}
+pub use Rattle.coap_conn.specs.PendingEntries.{answer_by, is_request_for, has_request, IsFirstRequest, AnExpired}
 unfoldable pub use Rattle.coap_conn.specs.PendingEntries.{first_due, without_due, due_index, without_request}
-pub use Rattle.coap_conn.specs.PendingEntryViews.{due_value, held_value}
-pub use Rattle.coap_conn.specs.History.{History, AnnouncedFirst, link_of, new_history, limit_now, standing_now, after}
+pub use Rattle.coap_conn.specs.PendingEntryViews.{due_value, pending_value}
+pub use Rattle.coap_conn.specs.History.{History, AnnouncedFirst, link_of, new_history, limit_now, state_now, after}
 pub use Rattle.coap_conn.specs.History.{after_send, asking_now, after_asking, LinkShows, IsHistory, may_hold}
 pub use Rattle.coap_conn.specs.History.{with_deed, with_effect}
 pub use Rattle.coap_conn.specs.Limits.{LimitValues, AreInRange, limits_of, limit_refusal, default_limits}
 pub use Rattle.coap_conn.specs.LinkValue.{own_csm, IsLink, IsReady, free_in, limit_in, is_finished, new_link}
-pub use Rattle.coap_conn.specs.LinkValue.{bytes_of, asking_in, standing_in, link_with, link_handled, link_after_csm}
-pub use Rattle.coap_conn.specs.LinkValue.{can_hold, csm_with, first_csm_with, first_csm, LinkValue, link_heard}
+pub use Rattle.coap_conn.specs.LinkValue.{bytes_of, asking_in, state_in, link_with, link_handled, link_after_csm}
+pub use Rattle.coap_conn.specs.LinkValue.{can_hold, csm_with, first_csm_with, first_csm, LinkValue, link_received}
 pub use Rattle.coap_conn.specs.LinkValue.{own_token_length, sizes_of}
 pub use Rattle.coap_conn.specs.LinkViews.{verdict_value, link_value}
 pub use Rattle.coap_conn.specs.Outstanding.{matches_response, matches_pong, may_cancel, is_last, has_observe}
-pub use Rattle.coap_conn.specs.Outstanding.{without_asked}
+pub use Rattle.coap_conn.specs.Outstanding.{without_matching}
 pub use Rattle.coap_conn.specs.Outstanding.{without_pinged, with_cancelled, cancelled_by, OutstandingValue}
 pub use Rattle.coap_conn.specs.Outstanding.{is_request_entry, Observation, Ping, is_entry_of, without_entry_of}
 unfoldable pub use Rattle.coap_conn.specs.Outstanding.{is_notification}
@@ -69,12 +70,12 @@ pub use Rattle.coap_conn.specs.QueueValue.{IsNextPart, free_of, IsQueue}
 pub use Rattle.coap_conn.specs.Reaction.{asks_custody, ConnectionState, send, abort, stay, due_effect, is_custody_pong}
 pub use Rattle.coap_conn.specs.Reaction.{is_reserved, is_signal, is_method, checks_critical_options, csm_reaction}
 pub use Rattle.coap_conn.specs.Reaction.{open_reaction, ping_reaction, request_reaction, release_reaction}
-pub use Rattle.coap_conn.specs.Reaction.{response_reaction, pong_reaction, stop, told_of, pong_with, sends}
+pub use Rattle.coap_conn.specs.Reaction.{response_reaction, pong_reaction, stop, reply_verdict, pong_with, sends}
 pub use Rattle.coap_conn.specs.Reaction.{ReactionResult}
 pub use Rattle.coap_conn.specs.Reaction.{Reaction, answered, becomes, holds, late_pong, leaves, not_implemented}
-pub use Rattle.coap_conn.specs.Reaction.{pong_of, reaction_unless, send_as, tells, aborts, is_asking, is_response}
+pub use Rattle.coap_conn.specs.Reaction.{pong_of, reaction_unless, send_as, reports, aborts, is_asking, is_response}
 unfoldable pub use Rattle.coap_conn.specs.Reaction.{react, live_reaction}
-pub use Rattle.coap_conn.specs.Reasons.{abort_text, abort_with, number_told, told_options, reason_number, abort_of}
+pub use Rattle.coap_conn.specs.Reasons.{abort_text, abort_with, abort_number, abort_option, reason_number, abort_of}
 pub use Rattle.coap_conn.specs.Reasons.{abort_options, message_reason}
 pub use Rattle.coap_conn.specs.Rejects.{reject_of_frame, reject_reason}
 pub use Rattle.coap_conn.specs.Release.{release_refusal}

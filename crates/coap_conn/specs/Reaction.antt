@@ -19,18 +19,18 @@ use Rattle.coap_conn.specs.Reasons.{abort_of}
 use Rattle.coap_conn.specs.Announced.{has_critical_option, bad_csm_option}
 use Rattle.coap_conn.specs.Fit.{fit, bare_response, without_options, abort_fitted}
 use Rattle.coap_conn.specs.PendingEntries.{PendingEntryValue, Answer, Pong}
-use Rattle.coap_conn.specs.Outstanding.{OutstandingValue, matches_response, is_last, matches_pong, without_asked}
+use Rattle.coap_conn.specs.Outstanding.{OutstandingValue, matches_response, is_last, matches_pong, without_matching}
 use Rattle.coap_conn.specs.Outstanding.{without_pinged}
 use Rattle.coap_conn.specs.Verdicts.{VerdictValue}
 use Rattle.coap_conn.specs.Verdicts as verdict
 
--- The state that decides a reaction. `limit` is the size of the largest message that may be sent, `held` are the
+-- The state that decides a reaction. `limit` is the size of the largest message that may be sent, `pending` are the
 -- pending entries, and `most` is their limit.
 pub record ConnectionState : Type 0 where
   pub role : Role
   pub phase : Phase
   pub limit : ℕ
-  pub held : List PendingEntryValue
+  pub pending : List PendingEntryValue
   pub most : ℕ
   pub outstanding : List OutstandingValue
 
@@ -38,7 +38,7 @@ pub record ConnectionState : Type 0 where
 pub record ReactionResult : Type 0 where
   pub queued : List Message
   pub phase : Phase
-  pub held : List PendingEntryValue
+  pub pending : List PendingEntryValue
   pub outstanding : List OutstandingValue
 
 -- A reaction: its effect, and the verdict that the caller receives.
@@ -50,12 +50,12 @@ pub record Reaction : Type 0 where
 
 -- No change.
 abbrev pub stay : ConnectionState → ReactionResult
-stay s = record { queued = []; phase = s.phase; held = s.held; outstanding = s.outstanding }
+stay s = record { queued = []; phase = s.phase; pending = s.pending; outstanding = s.outstanding }
 
 -- A stop of the connection, the only one defined. These messages are the last ones queued, and all pending and
 -- outstanding entries are dropped.
 abbrev pub stop : ConnectionState → Reason → List Message → ReactionResult
-stop s why farewell = record { queued = farewell; phase = phase.Stopped why; held = []; outstanding = [] }
+stop s why farewell = record { queued = farewell; phase = phase.Stopped why; pending = []; outstanding = [] }
 
 -- A stop with the Abort for its reason, if there is one, reduced to fit the peer's limit.
 abbrev pub abort : ConnectionState → Reason → ReactionResult
@@ -74,8 +74,8 @@ send s m less = send_as s m less (fit s.limit m less)
 -- ---- parts of reactions
 
 -- No change, and this verdict.
-abbrev pub tells : ConnectionState → VerdictValue → Reaction
-tells s what = record { effect = stay s; verdict = what }
+abbrev pub reports : ConnectionState → VerdictValue → Reaction
+reports s what = record { effect = stay s; verdict = what }
 
 -- Another phase, and this verdict. No message is queued.
 abbrev pub becomes : ConnectionState → Phase → VerdictValue → Reaction
@@ -86,14 +86,14 @@ abbrev pub aborts : ConnectionState → Reason → Reaction
 aborts s why = record { effect = abort s why; verdict = verdict.Stopped why }
 
 -- The verdict on a message to which a reply was sent with this result.
-abbrev pub told_of : Reply → VerdictValue
-told_of reply.Whole = verdict.Done
-told_of reply.Bare = verdict.Done
-told_of reply.Stopped = verdict.Stopped PeerTooSmall
+abbrev pub reply_verdict : Reply → VerdictValue
+reply_verdict reply.Whole = verdict.Done
+reply_verdict reply.Bare = verdict.Done
+reply_verdict reply.Stopped = verdict.Stopped PeerTooSmall
 
 -- The reply `m` to a message, or `less` if `m` is too large, and the verdict on that message.
 abbrev pub sends : ConnectionState → Message → Message → Reaction
-sends s m less = record { effect = send s m less; verdict = told_of (fit s.limit m less) }
+sends s m less = record { effect = send s m less; verdict = reply_verdict (fit s.limit m less) }
 
 -- ---- codes
 
@@ -152,20 +152,20 @@ is_custody_pong m = m.code == code.pong && asks_custody m
 
 -- The reaction that appends this entry to the pending list, and the verdict `Done`.
 abbrev pub holds : ConnectionState → PendingEntryValue → Reaction
-holds s e = record { effect = record (stay s) { held = s.held ++ e ∷ [] }; verdict = verdict.Done }
+holds s e = record { effect = record (stay s) { pending = s.pending ++ e ∷ [] }; verdict = verdict.Done }
 
 -- The reaction to a Ping with Custody if entries are pending: the Pong is appended to the pending list. If the list is
 -- full, the Pong is sent at once without Custody.
 abbrev pub late_pong : ConnectionState → Message → Reaction
 late_pong s m =
-    if nat_lt (length s.held) s.most then holds s (Pong m.token)
+    if nat_lt (length s.pending) s.most then holds s (Pong m.token)
     else sends s (pong_with false m.token) (pong_with false m.token)
 
 -- The reaction to a Ping. A Pong with Custody says that all requests before the Ping were answered, so it waits for the
 -- pending entries (RFC 8323 section 5.4.1).
 abbrev pub ping_reaction : ConnectionState → Message → Reaction
 ping_reaction s m =
-    if asks_custody m && nat_lt 0 (length s.held) then late_pong s m
+    if asks_custody m && nat_lt 0 (length s.pending) then late_pong s m
     else sends s (pong_of m) (without_options (pong_of m))
 
 -- The response 5.01 (Not Implemented) to a request.
@@ -174,7 +174,7 @@ not_implemented m = record { code = code.not_implemented; token = m.token; optio
 
 -- The reaction to a request. At a server the caller responds; at a client the response is 5.01.
 abbrev pub request_reaction : ConnectionState → Message → Role → Reaction
-request_reaction s m Server = tells s verdict.Request
+request_reaction s m Server = reports s verdict.Request
 request_reaction s m Client = sends s (not_implemented m) (bare_response (not_implemented m))
 
 -- The reaction to a Release. No more messages are accepted, and outstanding entries are dropped. Pending entries are
@@ -193,10 +193,10 @@ leaves s outstanding what = record { effect = record (stay s) { outstanding = ou
 
 -- The reaction to a response that matches this entry, or none. The last response removes the entry.
 abbrev pub answered : ConnectionState → Message → Option OutstandingValue → Reaction
-answered s m None = tells s verdict.Stranger
+answered s m None = reports s verdict.Stranger
 answered s m (Some e) =
-    if is_last m e then leaves s (without_asked m.token s.outstanding) (verdict.Answer m.token true)
-    else tells s (verdict.Answer m.token false)
+    if is_last m e then leaves s (without_matching m.token s.outstanding) (verdict.Answer m.token true)
+    else reports s (verdict.Answer m.token false)
 
 -- The reaction to a response, which matches the request or observation with its token, or none (RFC 7252 section
 -- 5.3.2).
@@ -208,7 +208,7 @@ abbrev pub pong_reaction : ConnectionState → Message → Reaction
 pong_reaction s m =
     if list_any (matches_pong m.token) s.outstanding
     then leaves s (without_pinged m.token s.outstanding) (verdict.Pong m.token (asks_custody m))
-    else tells s verdict.Stranger
+    else reports s verdict.Stranger
 
 -- The reaction of an open connection to a message that is neither Empty nor CSM nor Abort, and whose code is not
 -- reserved. The first case that applies decides.
@@ -218,7 +218,7 @@ open_reaction s m =
     else (if m.code == code.ping then ping_reaction s m
     else (if m.code == code.release then release_reaction s
     else (if m.code == code.pong then pong_reaction s m
-    else (if is_signal m.code then tells s verdict.Done
+    else (if is_signal m.code then reports s verdict.Done
     else (if is_method m.code then request_reaction s m s.role
     else response_reaction s m)))))
 
@@ -227,7 +227,7 @@ open_reaction s m =
 unfoldable pub live_reaction : ConnectionState → Message → Reaction
 live_reaction s m =
     if is_reserved m.code then aborts s ReservedCode
-    else (if m.code == code.empty then tells s verdict.Done
+    else (if m.code == code.empty then reports s verdict.Done
     else (if m.code == code.abort then aborts s PeerAbort
     else (if m.code == code.csm then csm_reaction s (bad_csm_option m)
     else (if is_waiting s.phase then aborts s CsmExpected
@@ -236,7 +236,7 @@ live_reaction s m =
 -- The reaction to a message, which changes nothing if there is a reason to accept none.
 abbrev pub reaction_unless : ConnectionState → Message → Option Reason → Reaction
 reaction_unless s m None = live_reaction s m
-reaction_unless s m (Some why) = tells s (verdict.Stopped why)
+reaction_unless s m (Some why) = reports s (verdict.Stopped why)
 
 -- The reaction to a message.
 unfoldable pub react : ConnectionState → Message → Reaction

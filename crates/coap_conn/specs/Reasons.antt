@@ -43,29 +43,29 @@ abort_text Cut = None
 abort_text ReleasedHere = None
 
 -- The option number that the Abort for a reason reports.
-abbrev pub number_told : Reason → Option ℕ
-number_told Format = None
-number_told TooLarge = None
-number_told TokenLength = None
-number_told ReservedCode = None
-number_told CsmExpected = None
-number_told (BadCsm number) = Some number
-number_told BadSignalOption = None
-number_told PeerAbort = None
-number_told PeerRelease = None
-number_told PeerTooSmall = None
-number_told Ended = None
-number_told Cut = None
-number_told ReleasedHere = None
+abbrev pub abort_number : Reason → Option ℕ
+abort_number Format = None
+abort_number TooLarge = None
+abort_number TokenLength = None
+abort_number ReservedCode = None
+abort_number CsmExpected = None
+abort_number (BadCsm number) = Some number
+abort_number BadSignalOption = None
+abort_number PeerAbort = None
+abort_number PeerRelease = None
+abort_number PeerTooSmall = None
+abort_number Ended = None
+abort_number Cut = None
+abort_number ReleasedHere = None
 
 -- The option Bad-CSM-Option with this value, if there is a number (RFC 8323 section 5.6).
-abbrev pub told_options : Option ℕ → List ℕ → List CoapOption
-told_options None value = []
-told_options (Some number) value = record { number = option.bad_csm_option; value = value } ∷ []
+abbrev pub abort_option : Option ℕ → List ℕ → List CoapOption
+abort_option None value = []
+abort_option (Some number) value = record { number = option.bad_csm_option; value = value } ∷ []
 
 -- The options of an Abort that reports this number, if there is one.
 abbrev pub abort_options : Option ℕ → List CoapOption
-abort_options number = told_options number (bytes_of_uint (unwrap_or number 0))
+abort_options number = abort_option number (bytes_of_uint (unwrap_or number 0))
 
 -- The Abort with these options and this text.
 abbrev pub abort_with : List CoapOption → List ℕ → Message
@@ -73,7 +73,7 @@ abort_with options text = record { code = code.abort; token = []; options = opti
 
 -- The Abort for a reason, if one is sent.
 abbrev pub abort_of : Reason → Option Message
-abort_of why = option_map (abort_with (abort_options (number_told why))) (abort_text why)
+abort_of why = option_map (abort_with (abort_options (abort_number why))) (abort_text why)
 
 -- The number of messages that a stop for a reason handles: 0 if the bytes are malformed, otherwise 1.
 abbrev pub message_reason : Reason → ℕ

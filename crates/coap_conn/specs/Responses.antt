@@ -33,7 +33,7 @@ room_refusal v m = if nat_lt (free_in v) (sent_length (limit_in v) m) then Some 
 -- The error of `Link::respond` for this message, if it fails.
 unfoldable pub response_refusal : LinkValue → Message → Option RespondFault
 response_refusal v m =
-    if has_request m.token v.held
+    if has_request m.token v.pending
     then (if is_plain_response m then room_refusal v m else Some NotAResponse)
     else Some NoSuchRequest
 

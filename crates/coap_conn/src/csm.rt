@@ -3,8 +3,8 @@
 ghost use Rattle.std.specs.Prelude.{◌≡◌, Some, None, option_map, find, IfOk, IfErr, OnOk};
 ghost use Rattle.coap_conn.specs.Prelude.{uint_of, coap_option, is_bad, first_size as first_size_in};
 ghost use Rattle.coap_conn.specs.Prelude.{has_critical_option as critical_option_in, bad_csm_option as bad_option_in};
-ghost use Rattle.coap_conn.specs.Prelude.{first_token_length as first_token_length_in, token_length as told_length};
-ghost use Rattle.coap_conn.specs.Prelude.{token_told, asks_custody as custody_asked};
+ghost use Rattle.coap_conn.specs.Prelude.{first_token_length as first_token_length_in, token_length as token_length_of};
+ghost use Rattle.coap_conn.specs.Prelude.{token_length_in, asks_custody as has_custody};
 
 use coap_wire::{MAX_EXTENDED_LENGTH, MessageRef, OptionRef, uint_value};
 
@@ -30,7 +30,7 @@ pub(crate) fn has_critical_option(message: &MessageRef) -> bool
 
 /// Returns `true` if a Ping or a Pong has Custody, which is an empty option 2.
 pub(crate) fn asks_custody(message: &MessageRef) -> bool
-    ensures { result ≡ custody_asked message.now }
+    ensures { result ≡ has_custody message.now }
 {
     message.options().any(|option| option.number == CUSTODY && option.value.is_empty())
 }
@@ -90,7 +90,7 @@ fn first_token_length<'a>(message: &MessageRef<'a>) -> Option<OptionRef<'a>>
 /// Returns the length that a value of Extended-Token-Length announces, at most that of the longest token of a message.
 /// Returns `None` if the value has more than 3 bytes or is below 8.
 fn token_length(value: &[u8]) -> Option<u32>
-    ensures { result ≡ told_length value.now }
+    ensures { result ≡ token_length_of value.now }
 {
     if value.len() > 3 {
         return None;
@@ -109,7 +109,7 @@ fn token_length(value: &[u8]) -> Option<u32>
 
 /// Returns the length of the longest token that a CSM announces, or `None` if it announces none.
 pub(crate) fn announced_token(message: &MessageRef) -> Option<u32>
-    ensures { result ≡ token_told (first_token_length_in message.now) }
+    ensures { result ≡ token_length_in (first_token_length_in message.now) }
 {
     match first_token_length(message) {
         None => None,

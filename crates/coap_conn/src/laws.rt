@@ -5,18 +5,18 @@ ghost use Rattle.std.specs.Prelude.{Option, Some, None};
 ghost use Rattle.coap_conn.specs.Prelude.{BASE_MESSAGE_SIZE, AllByRecursion, list_any, Message, own_csm};
 ghost use Rattle.coap_conn.specs.Prelude.{bad_csm_option, has_critical_option, announcement, announced};
 ghost use Rattle.coap_conn.specs.Prelude.{token_announcement, announced_token, AllFit, LimitValues, AreInRange};
-ghost use Rattle.coap_conn.specs.Prelude.{History, AnnouncedFirst, link_of, new_history, limit_now, standing_now};
+ghost use Rattle.coap_conn.specs.Prelude.{History, AnnouncedFirst, link_of, new_history, limit_now, state_now};
 ghost use Rattle.coap_conn.specs.Prelude.{after, after_send, asking_now, after_asking, Call, release, may_announce};
 ghost use Rattle.coap_conn.specs.Prelude.{needs_live, gives_token, announces, asking_refusal, cancel_refusal};
 ghost use Rattle.coap_conn.specs.Prelude.{next_token, OutstandingValue, matches_response, matches_pong};
-ghost use Rattle.coap_conn.specs.Prelude.{is_notification, is_request_entry, without_asked, without_pinged, stop_of};
+ghost use Rattle.coap_conn.specs.Prelude.{is_notification, is_request_entry, without_matching, without_pinged, stop_of};
 ghost use Rattle.coap_conn.specs.Prelude.{PendingEntryValue, Responder, Answer, Pong, NothingIsDue, IsDueFirst};
 ghost use Rattle.coap_conn.specs.Prelude.{due_moment};
 ghost use Rattle.coap_conn.specs.Prelude.{first_due, without_due, ConnectionState, react, send, abort, stay};
 ghost use Rattle.coap_conn.specs.Prelude.{due_effect, is_custody_pong, asks_custody, is_reserved, is_signal, is_method};
 ghost use Rattle.coap_conn.specs.Prelude.{Request, Reject, Role, Reason, Whole, fit, fitted, bare_response, answers};
 ghost use Rattle.coap_conn.specs.Prelude.{has_request, without_request, IsFirstRequest, response_refusal};
-ghost use Rattle.coap_conn.specs.Prelude.{standing_without, filter, may_forget, is_entry_of, without_entry_of};
+ghost use Rattle.coap_conn.specs.Prelude.{state_without, filter, may_forget, is_entry_of, without_entry_of};
 ghost use Rattle.coap_conn.specs.Calls as call;
 ghost use Rattle.coap_wire.specs.Codes as code;
 ghost use Rattle.coap_conn.specs.Verdicts as verdict;
@@ -40,15 +40,15 @@ pub fn last_announcement_counts()
 pub fn queued_messages_fit_limit()
     ensures new { (role : Role) (limits : LimitValues) (tokens : ℕ) → AreInRange limits →
         AllFit (limit_now (new_history role limits tokens)) (new_history role limits tokens).queued }
-    ensures message { (h : History) (m : Message) → AllFit (limit_now h) (react (standing_now h) m).effect.queued }
-    ensures sent { (h : History) (m less : Message) → AllFit (limit_now h) (send (standing_now h) m less).queued }
-    ensures stopped { (h : History) (why : Reason) → AllFit (limit_now h) (abort (standing_now h) why).queued }
+    ensures message { (h : History) (m : Message) → AllFit (limit_now h) (react (state_now h) m).effect.queued }
+    ensures sent { (h : History) (m less : Message) → AllFit (limit_now h) (send (state_now h) m less).queued }
+    ensures stopped { (h : History) (why : Reason) → AllFit (limit_now h) (abort (state_now h) why).queued }
     ensures released { (h : History) → 2 ≤ limit_now h → AllFit (limit_now h) (release ∷ []) }
     ensures responded { (h : History) (m : Message) →
-        AllFit (limit_now h) (send (standing_without m.token (standing_now h)) m (bare_response m)).queued }
+        AllFit (limit_now h) (send (state_without m.token (state_now h)) m (bare_response m)).queued }
     ensures due { (h : History) (e : Option PendingEntryValue)
-        → AllFit (limit_now h) (due_effect (standing_now h) e).queued }
-    ensures asked { (h : History) (m : Message) → asking_refusal (asking_now h) m ≡ None →
+        → AllFit (limit_now h) (due_effect (state_now h) e).queued }
+    ensures requested { (h : History) (m : Message) → asking_refusal (asking_now h) m ≡ None →
         AllFit (limit_now h) (m ∷ []) }
     ensures announced { (h : History) (size : ℕ) → may_announce (link_of h) size ≡ true
         → AllFit (limit_now h) (own_csm size ∷ []) }
@@ -90,7 +90,7 @@ pub fn peer_announces_before_requests()
 pub fn nothing_follows_a_stop()
     ensures call { (h : History) (c : Call) (why : Reason) → needs_live c ≡ true → stop_of h.phase ≡ Some why →
         after h c ≡ h }
-    ensures told { (s : ConnectionState) (m : Message) (why : Reason) → stop_of s.phase ≡ Some why →
+    ensures reported { (s : ConnectionState) (m : Message) (why : Reason) → stop_of s.phase ≡ Some why →
         (react s m).verdict ≡ verdict.Stopped why }
     ensures sent { (h : History) (m less : Message) (why : Reason) → h.phase ≡ Stopped why → after_send h m less ≡ h }
 {}
@@ -99,35 +99,36 @@ pub fn nothing_follows_a_stop()
 /// the earliest time first, and of equal times the first entry. Otherwise a Pong is due that no entry precedes. No
 /// entry is returned only if none is due.
 pub fn due_entry_is_first()
-    ensures answer { (now : ℕ) (held : List PendingEntryValue) (by : Responder) (token : List ℕ) (moment : ℕ) →
-        first_due now held ≡ Some (Answer by token moment)
-        → IsDueFirst now held by token moment (without_due now held) }
-    ensures pong { (now : ℕ) (held : List PendingEntryValue) (token : List ℕ) → first_due now held ≡ Some (Pong token) →
-        held ≡ Pong token ∷ without_due now held }
-    ensures alone { (now : ℕ) (held : List PendingEntryValue) (token : List ℕ)
-        → first_due now held ≡ Some (Pong token) →
-        AllByRecursion (λ e. due_moment now e ≡ None) held }
-    ensures nothing { (now : ℕ) (held : List PendingEntryValue) → first_due now held ≡ None →
-        NothingIsDue now held × (without_due now held ≡ held) }
-    ensures fewer { (now : ℕ) (held : List PendingEntryValue) (e : PendingEntryValue) → first_due now held ≡ Some e →
-        length held ≡ 1 + length (without_due now held) }
+    ensures answer { (now : ℕ) (pending : List PendingEntryValue) (by : Responder) (token : List ℕ) (moment : ℕ) →
+        first_due now pending ≡ Some (Answer by token moment)
+        → IsDueFirst now pending by token moment (without_due now pending) }
+    ensures pong { (now : ℕ) (pending : List PendingEntryValue) (token : List ℕ)
+        → first_due now pending ≡ Some (Pong token) → pending ≡ Pong token ∷ without_due now pending }
+    ensures alone { (now : ℕ) (pending : List PendingEntryValue) (token : List ℕ)
+        → first_due now pending ≡ Some (Pong token) →
+        AllByRecursion (λ e. due_moment now e ≡ None) pending }
+    ensures nothing { (now : ℕ) (pending : List PendingEntryValue) → first_due now pending ≡ None →
+        NothingIsDue now pending × (without_due now pending ≡ pending) }
+    ensures fewer { (now : ℕ) (pending : List PendingEntryValue) (e : PendingEntryValue)
+        → first_due now pending ≡ Some e → length pending ≡ 1 + length (without_due now pending) }
 {}
 
 /// States that a response of the application answers the first pending request with its token, and no other. The
 /// response that is queued is reduced as `fit` says. If it is sent whole, that request alone is removed. Without such a
 /// request, or in phase `Stopped`, nothing changes.
 pub fn application_answers_first_request()
-    ensures first { (held : List PendingEntryValue) (token : List ℕ) → has_request token held ≡ true →
-        IsFirstRequest held token (without_request token held) }
-    ensures others { (held : List PendingEntryValue) (token : List ℕ) → has_request token held ≡ false →
-        without_request token held ≡ held }
+    ensures first { (pending : List PendingEntryValue) (token : List ℕ) → has_request token pending ≡ true →
+        IsFirstRequest pending token (without_request token pending) }
+    ensures others { (pending : List PendingEntryValue) (token : List ℕ) → has_request token pending ≡ false →
+        without_request token pending ≡ pending }
     ensures sent { (h : History) (m : Message) → answers h.phase ≡ true → response_refusal (link_of h) m ≡ None →
         (after h (call.Respond m)).queued
         ≡ h.queued ++ fitted m (bare_response m) (fit (limit_now h) m (bare_response m)) }
     ensures answered { (h : History) (m : Message) → answers h.phase ≡ true → response_refusal (link_of h) m ≡ None →
         fit (limit_now h) m (bare_response m) ≡ Whole
-        → (after h (call.Respond m)).held ≡ without_request m.token h.held }
-    ensures absent { (h : History) (m : Message) → has_request m.token h.held ≡ false → after h (call.Respond m) ≡ h }
+        → (after h (call.Respond m)).pending ≡ without_request m.token h.pending }
+    ensures absent { (h : History) (m : Message) → has_request m.token h.pending ≡ false
+        → after h (call.Respond m) ≡ h }
     ensures stopped { (h : History) (m : Message) (why : Reason) → h.phase ≡ Stopped why
         → after h (call.Respond m) ≡ h }
 {}
@@ -135,17 +136,17 @@ pub fn application_answers_first_request()
 /// States that a Pong with Custody is queued at once only if no entry is pending (RFC 8323 section 5.4.1). The number
 /// of pending entries stays within its limit. A message only appends to the list, a Release leaves it unchanged, and a
 /// message that stops the connection empties it.
-pub fn custody_waits_for_what_is_held()
+pub fn custody_waits_for_pending()
     ensures at_once { (s : ConnectionState) (m : Message) → list_any is_custody_pong (react s m).effect.queued ≡ true →
-        s.held ≡ [] }
-    ensures few { (s : ConnectionState) (m : Message) → length s.held ≤ s.most
-        → length (react s m).effect.held ≤ s.most }
+        s.pending ≡ [] }
+    ensures few { (s : ConnectionState) (m : Message) → length s.pending ≤ s.most
+        → length (react s m).effect.pending ≤ s.most }
     ensures kept { (s : ConnectionState) (m : Message) → stop_of (react s m).effect.phase ≡ None →
-        (more : List PendingEntryValue) × ((react s m).effect.held ≡ s.held ++ more) }
+        (more : List PendingEntryValue) × ((react s m).effect.pending ≡ s.pending ++ more) }
     ensures released { (s : ConnectionState) (m : Message) (why : Reason) → s.phase ≡ Open →
-        (react s m).effect.phase ≡ Releasing why → (react s m).effect.held ≡ s.held }
+        (react s m).effect.phase ≡ Releasing why → (react s m).effect.pending ≡ s.pending }
     ensures given_up { (s : ConnectionState) (m : Message) (why : Reason) → stop_of s.phase ≡ None →
-        (react s m).effect.phase ≡ Stopped why → (react s m).effect.held ≡ [] }
+        (react s m).effect.phase ≡ Stopped why → (react s m).effect.pending ≡ [] }
 {}
 
 /// States that the number of outstanding entries stays within its limit. A message adds none, and a cancellation leaves
@@ -170,9 +171,9 @@ pub fn responses_end_requests()
         (token ≡ m.token) × (list_any (matches_response token) s.outstanding ≡ true) }
     ensures last { (s : ConnectionState) (m : Message) (token : List ℕ)
         → (react s m).verdict ≡ verdict.Answer token true →
-        (react s m).effect ≡ record (stay s) { outstanding = without_asked token s.outstanding } }
+        (react s m).effect ≡ record (stay s) { outstanding = without_matching token s.outstanding } }
     ensures gone { (token : List ℕ) (outstanding : List OutstandingValue) →
-        list_any (matches_response token) (without_asked token outstanding) ≡ false }
+        list_any (matches_response token) (without_matching token outstanding) ≡ false }
     ensures notified { (s : ConnectionState) (m : Message) (token : List ℕ) →
         (react s m).verdict ≡ verdict.Answer token false → (is_notification m ≡ true) × ((react s m).effect ≡ stay s) }
     ensures ended { (s : ConnectionState) (m : Message) (token : List ℕ)
@@ -184,10 +185,10 @@ pub fn responses_end_requests()
         × ((react s m).effect ≡ record (stay s) { outstanding = without_pinged token s.outstanding }) }
     ensures stranger { (s : ConnectionState) (m : Message) → (react s m).verdict ≡ verdict.Stranger →
         (react s m).effect ≡ stay s }
-    ensures response_told { (s : ConnectionState) (m : Message) → s.phase ≡ Open → is_reserved m.code ≡ false →
+    ensures response_reported { (s : ConnectionState) (m : Message) → s.phase ≡ Open → is_reserved m.code ≡ false →
         is_signal m.code ≡ false → is_method m.code ≡ false → list_any (matches_response m.token) s.outstanding ≡ true →
         (last : Bool) × ((react s m).verdict ≡ verdict.Answer m.token last) }
-    ensures pong_told { (s : ConnectionState) (m : Message) → s.phase ≡ Open → m.code ≡ code.pong →
+    ensures pong_reported { (s : ConnectionState) (m : Message) → s.phase ≡ Open → m.code ≡ code.pong →
         has_critical_option m ≡ false → list_any (matches_pong m.token) s.outstanding ≡ true →
         (react s m).verdict ≡ verdict.Pong m.token (asks_custody m) }
 {}
@@ -216,7 +217,7 @@ pub fn forgotten_entries_are_gone()
 pub fn tokens_are_new()
     ensures different { (one other : ℕ) → one < 18446744073709551615 → other < 18446744073709551615 →
         next_token one ≡ next_token other → one ≡ other }
-    ensures asked { (h : History) (m : Message) → asking_refusal (asking_now h) m ≡ None →
+    ensures requested { (h : History) (m : Message) → asking_refusal (asking_now h) m ≡ None →
         h.tokens < 18446744073709551615 }
     ensures given { (h : History) (m : Message) (e : OutstandingValue) → asking_refusal (asking_now h) m ≡ None →
         (after_asking h m e).tokens ≡ h.tokens + 1 }

@@ -34,7 +34,7 @@ pub struct Link {
     /// Delayed responses and Pongs. The memory is reserved once.
     pending: Vec<PendingEntry>,
     /// Outstanding requests, observations and Pings. The memory is reserved once.
-    asked: Vec<Outstanding>,
+    outstanding: Vec<Outstanding>,
     tokens: u64,
 }
 
@@ -75,7 +75,7 @@ impl Link {
     {
         let mut queue = OutQueue::new(alloc, limits.queue())?;
         let pending = Vec::with_capacity(alloc, limits.pending())?;
-        let asked = Vec::with_capacity(alloc, limits.outstanding())?;
+        let outstanding = Vec::with_capacity(alloc, limits.outstanding())?;
         announce_first(&mut queue, limits.max_message());
         Ok(Link {
             role,
@@ -86,7 +86,7 @@ impl Link {
             peer_max: BASE_MESSAGE_SIZE as u32,
             peer_token: BASE_TOKEN,
             pending,
-            asked,
+            outstanding,
             tokens: tokens_from,
         })
     }
@@ -176,8 +176,8 @@ impl Link {
 
     /// Returns the number of pending entries: delayed responses and Pongs.
     pub fn pending(&self) -> usize
-        ensures count { result ≡ length self.now.held }
-        ensures within { length self.now.held ≤ self.now.limits.pending }
+        ensures count { result ≡ length self.now.pending }
+        ensures within { length self.now.pending ≤ self.now.limits.pending }
     {
         self.pending.len()
     }
@@ -185,7 +185,7 @@ impl Link {
     /// Returns the earliest time, in seconds and after `now`, at which a pending response is due. The caller uses it as
     /// the deadline of its next call of `due`.
     pub fn next_moment(&self, now: u64) -> Option<u64>
-        ensures { result ≡ moment_next now self.now.held }
+        ensures { result ≡ moment_next now self.now.pending }
     {
         next_of(&self.pending, now)
     }
@@ -195,7 +195,7 @@ impl Link {
         ensures count { result ≡ length self.now.outstanding }
         ensures within { length self.now.outstanding ≤ self.now.limits.outstanding }
     {
-        self.asked.len()
+        self.outstanding.len()
     }
 
     /// Returns `true` if nothing is left to write: no more messages are accepted, no entry is pending, and no byte is

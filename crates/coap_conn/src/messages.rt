@@ -2,8 +2,8 @@
 //! bare responses.
 
 ghost use Rattle.std.specs.Prelude.{◌≡◌, ◌≤◌, ◌∷◌, ◌++◌, [], length, option_copied};
-ghost use Rattle.coap_conn.specs.Prelude.{abort_text as text_for, abort_with as abort_message, number_told};
-ghost use Rattle.coap_conn.specs.Prelude.{told_options, ping_with, pong_with, bare_response, spelling, encoded_size};
+ghost use Rattle.coap_conn.specs.Prelude.{abort_text as text_for, abort_with as abort_message, abort_number};
+ghost use Rattle.coap_conn.specs.Prelude.{abort_option, ping_with, pong_with, bare_response, spelling, encoded_size};
 ghost use Rattle.coap_conn.specs.Prelude.{bytes_of, csm_with as csm_of, own_csm, first_csm_with as first_csm_of};
 ghost use Rattle.coap_conn.specs.Prelude.{first_csm, release, free_of};
 
@@ -119,7 +119,7 @@ pub(crate) fn bare_of<'a>(code: Code, token: &TokenRef<'a>) -> ShortBuilder<'a>
 
 /// Returns the number that Bad-CSM-Option reports, if the reason is `BadCsm`.
 pub(crate) fn bad_csm_number(reason: Reason) -> Option<u16>
-    ensures { result ≡ number_told reason }
+    ensures { result ≡ abort_number reason }
 {
     match reason {
         Reason::BadCsm(number) => Some(number),
@@ -153,7 +153,7 @@ pub(crate) fn abort_text(reason: Reason) -> Option<&'static [u8]>
 pub(crate) fn abort_with<'a>(number: Option<u16>, bytes: &[u8], text: &'a [u8]) -> ShortBuilder<'a>
     requires short { length bytes.now ≤ 8 }
     requires small { length text.now ≤ 100 }
-    ensures { result ≡ abort_message (told_options number bytes.now) text.now }
+    ensures { result ≡ abort_message (abort_option number bytes.now) text.now }
 {
     let mut abort = ShortBuilder::new(Code::ABORT, TokenRef::empty());
     if let Some(_) = number {

@@ -5,7 +5,7 @@ ghost use Rattle.std.specs.Prelude.{◌≡◌, ◌≤◌, length, map, find, opt
 ghost use Rattle.std.specs.Prelude.{nat_lt, IfOk};
 ghost use Rattle.coap_conn.specs.Prelude.{list_any, matches_response as asks, matches_pong as pings};
 ghost use Rattle.coap_conn.specs.Prelude.{may_cancel as cancellable, is_last as is_last_of};
-ghost use Rattle.coap_conn.specs.Prelude.{is_notification as notifies, has_observe as observe_in, without_asked};
+ghost use Rattle.coap_conn.specs.Prelude.{is_notification as notifies, has_observe as observe_in, without_matching};
 ghost use Rattle.coap_conn.specs.Prelude.{without_pinged, with_cancelled, outstanding_value, cancelled_by};
 ghost use Rattle.coap_conn.specs.Prelude.{is_entry_of, without_entry_of};
 
@@ -34,8 +34,8 @@ impl Outstanding {
         ensures { result ≡ asks token.now (outstanding_value self.now) }
     {
         match self {
-            Outstanding::Request(asked) => token.equals(asked),
-            Outstanding::Observation { token: asked, .. } => token.equals(asked),
+            Outstanding::Request(own) => token.equals(own),
+            Outstanding::Observation { token: own, .. } => token.equals(own),
             Outstanding::Ping(_) => false,
         }
     }
@@ -65,9 +65,9 @@ impl Outstanding {
         match self {
             Outstanding::Request(_) => false,
             Outstanding::Observation {
-                token: asked,
+                token: own,
                 cancelled,
-            } => token.equals(asked) && !*cancelled,
+            } => token.equals(own) && !*cancelled,
             Outstanding::Ping(_) => false,
         }
     }
@@ -90,10 +90,10 @@ impl Outstanding {
         match self {
             Outstanding::Request(_) => {}
             Outstanding::Observation {
-                token: asked,
+                token: own,
                 cancelled,
             } => {
-                if token.equals(asked) {
+                if token.equals(own) {
                     *cancelled = true;
                 }
             }
@@ -149,7 +149,7 @@ pub(crate) fn cancel_in(entries: &mut Vec<Outstanding>, token: &TokenRef)
 /// Removes the requests and observations with this token.
 pub(crate) fn remove_request_in(entries: &mut Vec<Outstanding>, token: &TokenRef)
     ensures others { map outstanding_value entries.new.items
-        ≡ without_asked token.now (map outstanding_value entries.old.items) }
+        ≡ without_matching token.now (map outstanding_value entries.old.items) }
     ensures fewer { length entries.new.items ≤ length entries.old.items }
     ensures capacity { vec_capacity entries.new ≡ vec_capacity entries.old }
 {

@@ -6,7 +6,7 @@ ghost use Rattle.std.specs.Prelude.{length, not, nat_lt, IfOk, IfSome, Some, sli
 ghost use Rattle.coap_conn.specs.Prelude.{reduce, due_moment as moment_come, is_answer_at as is_answer_due_at};
 ghost use Rattle.coap_conn.specs.Prelude.{earliest_due as least_moment, answer_index as index_of_answer};
 ghost use Rattle.coap_conn.specs.Prelude.{due_index as index_due, next_moment as moment_next, pong_index};
-ghost use Rattle.coap_conn.specs.Prelude.{future_moment as moment_to_come, held_value};
+ghost use Rattle.coap_conn.specs.Prelude.{future_moment as moment_to_come, pending_value};
 ghost use Rattle.coap_conn.specs.Prelude.{is_request_for as is_request_with};
 
 use coap_wire::{Token, TokenRef};
@@ -39,7 +39,7 @@ pub(crate) enum PendingEntry {
 impl PendingEntry {
     /// Returns the time of a response that is due at `now` or earlier.
     fn due_moment(&self, now: u64) -> Option<u64>
-        ensures { result ≡ moment_come now (held_value self.now) }
+        ensures { result ≡ moment_come now (pending_value self.now) }
     {
         match self {
             PendingEntry::Answer { moment, .. } if *moment <= now => Some(*moment),
@@ -49,7 +49,7 @@ impl PendingEntry {
 
     /// Returns the time of a response that is due after `now`.
     fn future_moment(&self, now: u64) -> Option<u64>
-        ensures { result ≡ moment_to_come now (held_value self.now) }
+        ensures { result ≡ moment_to_come now (pending_value self.now) }
     {
         match self {
             PendingEntry::Answer { moment, .. } if *moment > now => Some(*moment),
@@ -59,7 +59,7 @@ impl PendingEntry {
 
     /// Returns `true` if the entry is a response that is due at exactly this time.
     fn is_answer_at(&self, due: u64) -> bool
-        ensures { result ≡ is_answer_due_at due (held_value self.now) }
+        ensures { result ≡ is_answer_due_at due (pending_value self.now) }
     {
         match self {
             PendingEntry::Answer { moment, .. } => *moment == due,
@@ -69,14 +69,14 @@ impl PendingEntry {
 
     /// Returns `true` if the entry is a request with this token that waits for a response of the application.
     fn is_request_for(&self, token: &TokenRef) -> bool
-        ensures { result ≡ is_request_with token.now (held_value self.now) }
+        ensures { result ≡ is_request_with token.now (pending_value self.now) }
     {
         match self {
             PendingEntry::Answer {
                 responder: Responder::Application,
-                token: asked,
+                token: own,
                 ..
-            } => token.equals(asked),
+            } => token.equals(own),
             PendingEntry::Answer { .. } => false,
             PendingEntry::Pong(_) => false,
         }
@@ -85,51 +85,55 @@ impl PendingEntry {
 
 /// Returns the index of the entry that is due first at `now`. Responses whose time has come precede Pongs: the earliest
 /// time first, and of equal times the first entry. Otherwise a Pong is due if it is the first entry of the list.
-pub(crate) fn due_in(held: &[PendingEntry], now: u64) -> Option<usize>
-    ensures first { result ≡ index_due now (map held_value held.now) }
-    ensures within { IfSome result (λ i. i < length held.now) }
+pub(crate) fn due_in(pending: &[PendingEntry], now: u64) -> Option<usize>
+    ensures first { result ≡ index_due now (map pending_value pending.now) }
+    ensures within { IfSome result (λ i. i < length pending.now) }
 {
-    match answer_in(held, now) {
+    match answer_in(pending, now) {
         Some(index) => Some(index),
-        None => pong_in(held),
+        None => pong_in(pending),
     }
 }
 
 /// Returns the index of the response that is due first at `now`: of the earliest time, the first entry.
-fn answer_in(held: &[PendingEntry], now: u64) -> Option<usize>
-    ensures { result ≡ index_of_answer (least_moment now (map held_value held.now)) (map held_value held.now) }
+fn answer_in(pending: &[PendingEntry], now: u64) -> Option<usize>
+    ensures { result ≡ index_of_answer (least_moment now (map pending_value pending.now))
+        (map pending_value pending.now) }
 {
-    let least = earliest_due(held, now)?;
-    held.iter().position(|one| one.is_answer_at(least))
+    let least = earliest_due(pending, now)?;
+    pending.iter().position(|one| one.is_answer_at(least))
 }
 
 /// Returns the index of the first request with this token that waits for a response of the application.
-pub(crate) fn request_in(held: &[PendingEntry], token: &TokenRef) -> Option<usize>
-    ensures first { result ≡ position (is_request_with token.now) (map held_value held.now) }
-    ensures within { IfSome result (λ i. i < length held.now) }
+pub(crate) fn request_in(pending: &[PendingEntry], token: &TokenRef) -> Option<usize>
+    ensures first { result ≡ position (is_request_with token.now) (map pending_value pending.now) }
+    ensures within { IfSome result (λ i. i < length pending.now) }
 {
-    held.iter().position(|one| one.is_request_for(token))
+    pending.iter().position(|one| one.is_request_for(token))
 }
 
 /// Returns the earliest time of the responses that are due at `now`.
-fn earliest_due(held: &[PendingEntry], now: u64) -> Option<u64>
-    ensures { result ≡ least_moment now (map held_value held.now) }
+fn earliest_due(pending: &[PendingEntry], now: u64) -> Option<u64>
+    ensures { result ≡ least_moment now (map pending_value pending.now) }
 {
-    held.iter().filter_map(|one| one.due_moment(now)).min()
+    pending.iter().filter_map(|one| one.due_moment(now)).min()
 }
 
 /// Returns the earliest time, after `now`, at which a response is due.
-pub(crate) fn next_of(held: &[PendingEntry], now: u64) -> Option<u64>
-    ensures { result ≡ moment_next now (map held_value held.now) }
+pub(crate) fn next_of(pending: &[PendingEntry], now: u64) -> Option<u64>
+    ensures { result ≡ moment_next now (map pending_value pending.now) }
 {
-    held.iter().filter_map(|one| one.future_moment(now)).min()
+    pending
+        .iter()
+        .filter_map(|one| one.future_moment(now))
+        .min()
 }
 
 /// Returns the index of a Pong that no entry precedes, which is 0.
-fn pong_in(held: &[PendingEntry]) -> Option<usize>
-    ensures { result ≡ pong_index (map held_value held.now) }
+fn pong_in(pending: &[PendingEntry]) -> Option<usize>
+    ensures { result ≡ pong_index (map pending_value pending.now) }
 {
-    match held {
+    match pending {
         [PendingEntry::Pong(_), ..] => Some(0),
         _ => None,
     }

@@ -8,7 +8,7 @@ use Rattle.coap_frame.specs.Prelude.{copied_alone, copied_of, framer_after, with
 use Rattle.coap_frame.specs.Prelude.{with_frame_back, FramerCall, Next, Unread, Clear, Raise, MayCall, after_call}
 use Rattle.coap_frame.specs.Prelude.{IsCountedNext, IsCountedUnread, IsCounted, AreCounted}
 use Rattle.coap_wire.proofs.StreamSteps.{whole_parts}
-use Rattle.coap_frame.proofs.RaiseLemmas.{asked_is_framer, asked_copied}
+use Rattle.coap_frame.proofs.RaiseLemmas.{raise_is_framer, raise_copied}
 use Rattle.coap_frame.proofs.FramingLemmas.{empty_framer, framing_is_framer, unread_is_framer}
 
 -- ---- a chunk
@@ -81,13 +81,13 @@ call_counted : (v : FramerValue) (call : FramerCall) → IsFramer v → IsCounte
 call_counted v (Next piece) is = next_counted v piece is
 call_counted v (Unread piece) is = unread_counted v piece is
 call_counted v Clear is = refl
-call_counted v (Raise new) is = asked_copied v new
+call_counted v (Raise new) is = raise_copied v new
 
 call_is_framer : (v : FramerValue) (call : FramerCall) → IsFramer v → MayCall v call → IsFramer (after_call v call)
 call_is_framer v (Next piece) is may = framing_is_framer v piece is
 call_is_framer v (Unread piece) is may = unread_is_framer v piece is may
 call_is_framer v Clear is may = empty_framer v.max [] v.copied is.low is.high is.countable refl
-call_is_framer v (Raise new) is may = asked_is_framer v new is
+call_is_framer v (Raise new) is may = raise_is_framer v new is
 
 pub are_counted : (v : FramerValue) (calls : List FramerCall) → IsFramer v → AreCounted v calls
 unfolding AreCounted

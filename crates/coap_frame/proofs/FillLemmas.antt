@@ -13,23 +13,23 @@ use Rattle.coap_wire.proofs.StreamSteps.{fault_at_last, fault_has_bytes}
 use Rattle.coap_frame.specs.Prelude.{FrameLayout, outline_of}
 use Rattle.coap_wire.specs.declared.layout.Outline.TheVariants.{Known}
 use Rattle.coap_wire.proofs.LayoutLaws.{outline_more, outline_front}
-use Rattle.coap_frame.specs.declared.filling.FrameStatus.TheVariants as standing
+use Rattle.coap_frame.specs.declared.filling.FrameStatus.TheVariants as status
 use Rattle.std.proofs.Math.Seq.{take-append-add}
 
 -- An unfinished frame with a known size has fewer bytes than that, and the size is not too large.
-pub told_unfinished : (M : ℕ) (s : List ℕ) (n : ℕ) → prefix_kind M s ≡ Unfinished → declared_of s ≡ Size n
+pub size_unfinished : (M : ℕ) (s : List ℕ) (n : ℕ) → prefix_kind M s ≡ Unfinished → declared_of s ≡ Size n
     → (n ≤ M) × (length s < n)
-told_unfinished M s n unfinished told =
+size_unfinished M s n unfinished known_size =
     elim (cases_lt M n) [
       | inl large ↦
           let bad : ◌≡◌ {A = StreamPrefix} Unfinished (Faulty TooLarge) =
-          sym unfinished ∙ begin_too_large M s n told large in
+          sym unfinished ∙ begin_too_large M s n known_size large in
           absurd cc
       | inr fits ↦ elim (cases_lt (length s) n) [
         | inl short ↦ (fits, short)
         | inr long ↦
             let bad : ◌≡◌ {A = StreamPrefix} Unfinished (Whole (take n s) (drop n s)) =
-            sym unfinished ∙ begin_whole M s n told fits long in
+            sym unfinished ∙ begin_whole M s n known_size fits long in
             absurd cc
       ]
     ]
@@ -38,13 +38,13 @@ told_unfinished M s n unfinished told =
 module _ (M : ℕ) (old piece new : List ℕ) (taken : ℕ) (size : Declared) (unfinished : prefix_kind M old ≡ Unfinished)
     (h : IsTakenTo old piece new taken size) where
   -- The bytes of the chunk that are not taken.
-  abbrev behind : List ℕ
-  behind = drop taken piece
+  abbrev later : List ℕ
+  later = drop taken piece
 
-  pub all_bytes : old ++ piece ≡ new ++ behind
+  pub all_bytes : old ++ piece ≡ new ++ later
   all_bytes =
       ap (λ (p : List ℕ). old ++ p) (sym (take-append-drop taken piece))
-      ∙ sym (append_assoc old (take taken piece) behind) ∙ ap (λ (n : List ℕ). n ++ behind) (sym h.bytes)
+      ∙ sym (append_assoc old (take taken piece) later) ∙ ap (λ (n : List ℕ). n ++ later) (sym h.bytes)
 
   pub length_new : length new ≡ length old + taken
   length_new = omega (arith, ap length h.bytes, length-append old (take taken piece), length-take taken piece, h.within)
@@ -66,7 +66,7 @@ module _ (M : ℕ) (old piece new : List ℕ) (taken : ℕ) (size : Declared) (u
       elim h.first [
         | inl none ↦
             (let same = none_taken none in
-            rw same (told_unfinished M old n unfinished (ap declared_of (sym same) ∙ now)).1)
+            rw same (size_unfinished M old n unfinished (ap declared_of (sym same) ∙ now)).1)
         | inr more ↦ (let e = last_byte_taken more.0 more.1 in
             let last =
             size_at_last (old ++ take more.0 piece) (get_or piece more.0 0) n more.2 (ap declared_of (sym e) ∙ now) in
@@ -86,47 +86,47 @@ module _ (M : ℕ) (old piece new : List ℕ) (taken : ℕ) (size : Declared) (u
             ap fault_bytes e ∙ last ∙ sym e)
       ]
 
-  fault_stands : (fault : FrameFault) → prefix_kind M new ≡ Faulty fault
-      → IsFilled M old piece new taken (standing.Fault fault)
-  fault_stands fault faulty =
+  fault_sound : (fault : FrameFault) → prefix_kind M new ≡ Faulty fault
+      → IsFilled M old piece new taken (status.Fault fault)
+  fault_sound fault faulty =
       let bytes : fault_bytes (old ++ piece) ≡ new =
-      ap fault_bytes all_bytes ∙ fault_bytes_more M new behind fault faulty ∙ fault_is_new fault faulty in
+      ap fault_bytes all_bytes ∙ fault_bytes_more M new later fault faulty ∙ fault_is_new fault faulty in
       record {
         within = h.within;
-        stands = (
-          ap (prefix_kind M) all_bytes ∙ faulty_more M new behind fault faulty,
+        has_status = (
+          ap (prefix_kind M) all_bytes ∙ faulty_more M new later fault faulty,
           sym length_new ∙ sym (ap (λ (s : List ℕ). length s) bytes),
         );
       }
 
-  pub filled_bad_token : size ≡ BadToken → IsFilled M old piece new taken (standing.Fault TokenLength)
-  filled_bad_token is = fault_stands TokenLength (begin_bad_token M new (sym h.size_is ∙ is))
+  pub filled_bad_token : size ≡ BadToken → IsFilled M old piece new taken (status.Fault TokenLength)
+  filled_bad_token is = fault_sound TokenLength (begin_bad_token M new (sym h.size_is ∙ is))
 
-  pub filled_too_large : (n : ℕ) → size ≡ Size n → M < n → IsFilled M old piece new taken (standing.Fault TooLarge)
-  filled_too_large n is large = fault_stands TooLarge (begin_too_large M new n (sym h.size_is ∙ is) large)
+  pub filled_too_large : (n : ℕ) → size ≡ Size n → M < n → IsFilled M old piece new taken (status.Fault TooLarge)
+  filled_too_large n is large = fault_sound TooLarge (begin_too_large M new n (sym h.size_is ∙ is) large)
 
-  pub filled_unknown : size ≡ Unknown → taken ≡ length piece → IsFilled M old piece new taken standing.Unfinished
+  pub filled_unknown : size ≡ Unknown → taken ≡ length piece → IsFilled M old piece new taken status.Unfinished
   filled_unknown is all =
       let bytes : new ≡ old ++ piece =
       h.bytes ∙ ap (λ (p : List ℕ). old ++ p) (take_all taken piece (omega (arith, all))) in
       record {
         within = h.within;
-        stands = (ap (prefix_kind M) (sym bytes) ∙ begin_unknown M new (sym h.size_is ∙ is), all, bytes);
+        has_status = (ap (prefix_kind M) (sym bytes) ∙ begin_unknown M new (sym h.size_is ∙ is), all, bytes);
       }
 
   -- The size stays the same with the bytes that follow.
   size_of_all : (n : ℕ) → size ≡ Size n → declared_of (old ++ piece) ≡ Size n
-  size_of_all n is = ap declared_of all_bytes ∙ declared_more new behind n (sym h.size_is ∙ is)
+  size_of_all n is = ap declared_of all_bytes ∙ declared_more new later n (sym h.size_is ∙ is)
 
-  length_all : length (old ++ piece) ≡ length new + length behind
-  length_all = ap (λ (s : List ℕ). length s) all_bytes ∙ length-append new behind
+  length_all : length (old ++ piece) ≡ length new + length later
+  length_all = ap (λ (s : List ℕ). length s) all_bytes ∙ length-append new later
 
-  pub filled_short : (n : ℕ) (after : List ℕ) → size ≡ Size n → n ≤ M → length behind < n - length new
-      → after ≡ new ++ behind → IsFilled M old piece after (length piece) standing.Unfinished
+  pub filled_short : (n : ℕ) (after : List ℕ) → size ≡ Size n → n ≤ M → length later < n - length new
+      → after ≡ new ++ later → IsFilled M old piece after (length piece) status.Unfinished
   filled_short n after is fits short e =
       record {
         within = omega arith;
-        stands = (
+        has_status = (
           begin_short M (old ++ piece) n (size_of_all n is) fits (omega (arith, length_all)),
           refl,
           e ∙ sym all_bytes,
@@ -134,32 +134,32 @@ module _ (M : ℕ) (old piece new : List ℕ) (taken : ℕ) (size : Declared) (u
       }
 
   pub filled_whole : (n : ℕ) (layout : FrameLayout) (after : List ℕ) → size ≡ Size n → outline_of new ≡ Known n layout
-      → n ≤ M → n - length new ≤ length behind → after ≡ new ++ take (n - length new) behind
-      → IsFilled M old piece after (taken + (n - length new)) (standing.Whole layout)
+      → n ≤ M → n - length new ≤ length later → after ≡ new ++ take (n - length new) later
+      → IsFilled M old piece after (taken + (n - length new)) (status.Whole layout)
   filled_whole n layout after is laid fits long e =
       let more : length new < n = size_above_filled n is in
       let size_now : length new + (n - length new) ≡ n = omega arith in
       let enough : n ≤ length (old ++ piece) = omega (arith, length_all) in
       let frame : take n (old ++ piece) ≡ after =
-      ap (take n) all_bytes ∙ ap (λ (k : ℕ). take k (new ++ behind)) (sym size_now)
-      ∙ take-append-add new behind (n - length new) ∙ sym e in
+      ap (take n) all_bytes ∙ ap (λ (k : ℕ). take k (new ++ later)) (sym size_now)
+      ∙ take-append-add new later (n - length new) ∙ sym e in
       let rest = drop n (old ++ piece) in
       let left : length rest ≡ length (old ++ piece) - n = length-drop n (old ++ piece) in
       let size_is : n ≡ length after = omega (
         arith,
         ap (λ (s : List ℕ). length s) e,
-        length-append new (take (n - length new) behind),
-        length-take (n - length new) behind,
+        length-append new (take (n - length new) later),
+        length-take (n - length new) later,
         long,
         size_now,
       ) in
       record {
         within = omega (arith, length_all, length_new, length-append old piece);
-        stands = (
+        has_status = (
           rest,
           begin_whole M (old ++ piece) n (size_of_all n is) fits enough ∙ ap (λ (f : List ℕ). Whole f rest) frame,
           omega (arith, length_all, length_new, length-append old piece),
-          ap outline_of e ∙ outline_more new (take (n - length new) behind) n layout laid
+          ap outline_of e ∙ outline_more new (take (n - length new) later) n layout laid
               ∙ ap (λ (k : ℕ). Known k layout) size_is,
         );
       }
@@ -168,36 +168,36 @@ module _ (M : ℕ) (old piece new : List ℕ) (taken : ℕ) (size : Declared) (u
 
 module _ (M : ℕ) (piece : List ℕ) where
   -- All of an unfinished chunk is taken.
-  pub stands_more : prefix_kind M piece ≡ Unfinished
-      → IsFilled M [] piece (take (length piece) piece) (length piece) standing.Unfinished
-  stands_more unfinished = record {
+  pub status_more : prefix_kind M piece ≡ Unfinished
+      → IsFilled M [] piece (take (length piece) piece) (length piece) status.Unfinished
+  status_more unfinished = record {
     within = omega arith;
-    stands = (unfinished, refl, take_all (length piece) piece (omega arith));
+    has_status = (unfinished, refl, take_all (length piece) piece (omega arith));
   }
 
   -- An error is known at the last byte that states the size.
-  stands_fault : (fault : FrameFault) → prefix_kind M piece ≡ Faulty fault
-      → IsFilled M [] piece (take (size_bytes piece) piece) (size_bytes piece) (standing.Fault fault)
-  stands_fault fault faulty =
+  status_fault : (fault : FrameFault) → prefix_kind M piece ≡ Faulty fault
+      → IsFilled M [] piece (take (size_bytes piece) piece) (size_bytes piece) (status.Fault fault)
+  status_fault fault faulty =
       let there = fault_has_bytes M piece fault faulty in
       record {
         within = there;
-        stands = (faulty, omega (arith, length-take (size_bytes piece) piece, there));
+        has_status = (faulty, omega (arith, length-take (size_bytes piece) piece, there));
       }
 
-  pub stands_bad_token : declared_of piece ≡ BadToken
-      → IsFilled M [] piece (take (size_bytes piece) piece) (size_bytes piece) (standing.Fault TokenLength)
-  stands_bad_token is = stands_fault TokenLength (begin_bad_token M piece is)
+  pub status_bad_token : declared_of piece ≡ BadToken
+      → IsFilled M [] piece (take (size_bytes piece) piece) (size_bytes piece) (status.Fault TokenLength)
+  status_bad_token is = status_fault TokenLength (begin_bad_token M piece is)
 
-  pub stands_too_large : (n : ℕ) → declared_of piece ≡ Size n → M < n
-      → IsFilled M [] piece (take (size_bytes piece) piece) (size_bytes piece) (standing.Fault TooLarge)
-  stands_too_large n is large = stands_fault TooLarge (begin_too_large M piece n is large)
+  pub status_too_large : (n : ℕ) → declared_of piece ≡ Size n → M < n
+      → IsFilled M [] piece (take (size_bytes piece) piece) (size_bytes piece) (status.Fault TooLarge)
+  status_too_large n is large = status_fault TooLarge (begin_too_large M piece n is large)
 
-  pub stands_whole : (n : ℕ) (layout : FrameLayout) → declared_of piece ≡ Size n → outline_of piece ≡ Known n layout
-      → n ≤ M → n ≤ length piece → IsFilled M [] piece (take n piece) n (standing.Whole layout)
-  stands_whole n layout is laid fits long = record {
+  pub status_whole : (n : ℕ) (layout : FrameLayout) → declared_of piece ≡ Size n → outline_of piece ≡ Known n layout
+      → n ≤ M → n ≤ length piece → IsFilled M [] piece (take n piece) n (status.Whole layout)
+  status_whole n layout is laid fits long = record {
     within = long;
-    stands = (
+    has_status = (
       drop n piece,
       begin_whole M piece n is fits long,
       omega (arith, length-drop n piece, long),

@@ -3,16 +3,16 @@ use Rattle.std.proofs.Common.{◌≡◌, ℕ, List, [], take, sym, ap, ◌∙◌
 use Rattle.coap_frame.specs.Prelude.{Nothing, AFrame, AFault, framing, spent_in, frame_in, finding_in, finding_of_ref}
 use Rattle.coap_frame.specs.Prelude.{lent_of_ref, IsFramedRef, BufferContent, FrameRefEvent, FrameStatus, FrameFault}
 use Rattle.coap_frame.specs.Prelude.{FrameLayout}
-use Rattle.coap_frame.specs.declared.framer.BufferContent.TheVariants as held
+use Rattle.coap_frame.specs.declared.framer.BufferContent.TheVariants as content
 use Rattle.coap_frame.specs.declared.frame_ref_event.FrameRefEvent.TheVariants as found
-use Rattle.coap_frame.specs.declared.filling.FrameStatus.TheVariants as standing
+use Rattle.coap_frame.specs.declared.filling.FrameStatus.TheVariants as status
 use Rattle.coap_frame.proofs.FramingLemmas.{none_spent}
 
-module _ (max : ℕ) (kept piece buffer : List ℕ) (taken : ℕ) (now : BufferContent) (stands : FrameStatus)
+module _ (max : ℕ) (kept piece buffer : List ℕ) (taken : ℕ) (now : BufferContent) (state : FrameStatus)
     (what : FrameRefEvent) (count : taken ≡ (framing max kept piece).taken)
-    (finds : finding_in (frame_in now buffer (take taken piece)) stands ≡ (framing max kept piece).finding)
+    (finds : finding_in (frame_in now buffer (take taken piece)) state ≡ (framing max kept piece).finding)
     (spends : spent_in now buffer ≡ (framing max kept piece).spent) where
-  pub given_more : stands ≡ standing.Unfinished → what ≡ found.More
+  pub given_more : state ≡ status.Unfinished → what ≡ found.More
       → IsFramedRef (record { taken = taken; what = what }) (framing max kept piece)
   given_more is given =
       let nothing = sym (ap (finding_in (frame_in now buffer (take taken piece))) is) ∙ finds in
@@ -22,7 +22,7 @@ module _ (max : ℕ) (kept piece buffer : List ℕ) (taken : ℕ) (now : BufferC
         lent = ap lent_of_ref given ∙ sym (none_spent max kept piece Nothing (sym nothing) tt);
       }
 
-  pub given_fault : (fault : FrameFault) → stands ≡ standing.Fault fault → what ≡ found.Fault fault
+  pub given_fault : (fault : FrameFault) → state ≡ status.Fault fault → what ≡ found.Fault fault
       → IsFramedRef (record { taken = taken; what = what }) (framing max kept piece)
   given_fault fault is given =
       let faulty = sym (ap (finding_in (frame_in now buffer (take taken piece))) is) ∙ finds in
@@ -32,7 +32,7 @@ module _ (max : ℕ) (kept piece buffer : List ℕ) (taken : ℕ) (now : BufferC
         lent = ap lent_of_ref given ∙ sym (none_spent max kept piece (AFault fault) (sym faulty) tt);
       }
 
-  pub given_whole : (layout : FrameLayout) → stands ≡ standing.Whole layout → now ≡ held.Prefix
+  pub given_whole : (layout : FrameLayout) → state ≡ status.Whole layout → now ≡ content.Prefix
       → finding_of_ref what ≡ AFrame (take taken piece) → lent_of_ref what ≡ []
       → IsFramedRef (record { taken = taken; what = what }) (framing max kept piece)
   given_whole layout is stays gives lends =
@@ -44,7 +44,7 @@ module _ (max : ℕ) (kept piece buffer : List ℕ) (taken : ℕ) (now : BufferC
         lent = lends ∙ sym (ap (λ (h : BufferContent). spent_in h buffer) stays) ∙ spends;
       }
 
-  pub given_split : (layout : FrameLayout) → stands ≡ standing.Whole layout → now ≡ held.Split
+  pub given_split : (layout : FrameLayout) → state ≡ status.Whole layout → now ≡ content.Split
       → finding_of_ref what ≡ AFrame buffer → lent_of_ref what ≡ buffer
       → IsFramedRef (record { taken = taken; what = what }) (framing max kept piece)
   given_split layout is stays gives lends =

@@ -11,33 +11,33 @@ use Rattle.coap_frame.specs.Prelude.{with_frame_back, MayUnread, framer_of, spen
 use Rattle.coap_frame.specs.Prelude.{BufferContent, FrameLayout}
 use Rattle.coap_wire.proofs.StreamSteps.{unfinished_empty, unfinished_below, whole_parts, whole_itself, whole_more}
 use Rattle.coap_wire.proofs.StreamSteps.{faulty_more}
-use Rattle.coap_frame.specs.declared.framer.BufferContent.TheVariants as held
-use Rattle.coap_frame.specs.declared.filling.FrameStatus.TheVariants as standing
+use Rattle.coap_frame.specs.declared.framer.BufferContent.TheVariants as content
+use Rattle.coap_frame.specs.declared.filling.FrameStatus.TheVariants as status
 
 module _ (max : ℕ) (kept piece new : List ℕ) (taken : ℕ) where
-  pub framing_unfinished : IsFilled max kept piece new taken standing.Unfinished
+  pub framing_unfinished : IsFilled max kept piece new taken status.Unfinished
       → framing max kept piece ≡ record { taken = taken; finding = Nothing; kept = new; spent = [] }
   unfolding framing
   framing_unfinished filled =
-      let s = filled.stands in
+      let s = filled.has_status in
       ap (framing_at kept piece) s.0
       ∙ ap (λ (n : ℕ). record { taken = n; finding = Nothing; kept = kept ++ piece; spent = [] }) (sym s.1)
       ∙ ap (λ (k : List ℕ). record { taken = taken; finding = Nothing; kept = k; spent = [] }) (sym s.2)
 
-  pub framing_whole : (layout : FrameLayout) → IsFilled max kept piece new taken (standing.Whole layout)
+  pub framing_whole : (layout : FrameLayout) → IsFilled max kept piece new taken (status.Whole layout)
       → framing max kept piece ≡ record { taken = taken; finding = AFrame new; kept = []; spent = split_frame kept new }
   unfolding framing
   framing_whole layout filled =
-      let s = filled.stands in
+      let s = filled.has_status in
       let count : length piece - length s.0 ≡ taken = omega (arith, s.2) in
       ap (framing_at kept piece) s.1
       ∙ ap (λ (n : ℕ). record { taken = n; finding = AFrame new; kept = []; spent = split_frame kept new }) count
 
-  pub framing_fault : (fault : FrameFault) → IsFilled max kept piece new taken (standing.Fault fault)
+  pub framing_fault : (fault : FrameFault) → IsFilled max kept piece new taken (status.Fault fault)
       → framing max kept piece ≡ record { taken = taken; finding = AFault fault; kept = []; spent = [] }
   unfolding framing
   framing_fault fault filled =
-      let s = filled.stands in
+      let s = filled.has_status in
       let count : length (fault_bytes (kept ++ piece)) - length kept ≡ taken = omega (arith, s.1) in
       ap (framing_at kept piece) s.0
       ∙ ap (λ (n : ℕ). record { taken = n; finding = AFault fault; kept = []; spent = [] }) count
@@ -47,15 +47,15 @@ module _ (max : ℕ) (kept piece new : List ℕ) (taken : ℕ) where
 module _ (max c taken : ℕ) (piece : List ℕ) where
   -- A framer that keeps no byte.
   abbrev bare : FramerValue
-  bare = framer_of max held.Prefix [] c
+  bare = framer_of max content.Prefix [] c
 
   -- The chunk begins a frame that it does not end.
-  pub alone_more : (buffer : List ℕ) (copied : ℕ) → IsFilled max [] piece (take taken piece) taken standing.Unfinished
+  pub alone_more : (buffer : List ℕ) (copied : ℕ) → IsFilled max [] piece (take taken piece) taken status.Unfinished
       → buffer ≡ piece → copied ≡ count_after c taken
-      → framer_of max held.Prefix buffer copied ≡ framer_after bare piece
+      → framer_of max content.Prefix buffer copied ≡ framer_after bare piece
   alone_more buffer copied filled lies count =
-      ap (λ (b : List ℕ). framer_of max held.Prefix b copied) (lies ∙ sym (filled.stands.2))
-      ∙ ap (λ (n : ℕ). framer_of max held.Prefix (take taken piece) n) count
+      ap (λ (b : List ℕ). framer_of max content.Prefix b copied) (lies ∙ sym (filled.has_status.2))
+      ∙ ap (λ (n : ℕ). framer_of max content.Prefix (take taken piece) n) count
       ∙ sym (ap (framed bare) (framing_unfinished max [] piece (take taken piece) taken filled))
 
   -- The chunk alone has the frame or the error.
@@ -63,60 +63,60 @@ module _ (max c taken : ℕ) (piece : List ℕ) where
       → copied_of [] f ≡ 0 → bare ≡ framer_after bare piece
   alone_found f count is kept spent none =
       let same : c ≡ count_after c (copied_of [] f) = omega (arith, count, none) in
-      ap (λ (n : ℕ). framer_of max held.Prefix [] n) same
-      ∙ ap (λ (k : List ℕ). framer_of max held.Prefix k (count_after c (copied_of [] f))) (sym kept)
+      ap (λ (n : ℕ). framer_of max content.Prefix [] n) same
+      ∙ ap (λ (k : List ℕ). framer_of max content.Prefix k (count_after c (copied_of [] f))) (sym kept)
       ∙ ap (λ (s : List ℕ). record { max = max; kept = f.kept; spent = s; copied = count_after c (copied_of [] f) })
       (sym spent)
       ∙ sym (ap (framed bare) is)
 
   pub alone_frame : (layout : FrameLayout) → c ≤ 18446744073709551615
-      → IsFilled max [] piece (take taken piece) taken (standing.Whole layout) → bare ≡ framer_after bare piece
+      → IsFilled max [] piece (take taken piece) taken (status.Whole layout) → bare ≡ framer_after bare piece
   alone_frame layout count filled =
       alone_found _ count (framing_whole max [] piece (take taken piece) taken layout filled) refl refl refl
 
   pub alone_fault : (fault : FrameFault) → c ≤ 18446744073709551615
-      → IsFilled max [] piece (take taken piece) taken (standing.Fault fault) → bare ≡ framer_after bare piece
+      → IsFilled max [] piece (take taken piece) taken (status.Fault fault) → bare ≡ framer_after bare piece
   alone_fault fault count filled =
       alone_found _ count (framing_fault max [] piece (take taken piece) taken fault filled) refl refl refl
 
 -- ---- bytes were kept
 
-copied_behind : (kept : List ℕ) (f : Framing) → 0 < length kept → copied_of kept f ≡ f.taken
-copied_behind [] f some = absurd (omega arith)
-copied_behind (b ∷ kept) f some = refl
+copied_after : (kept : List ℕ) (f : Framing) → 0 < length kept → copied_of kept f ≡ f.taken
+copied_after [] f some = absurd (omega arith)
+copied_after (b ∷ kept) f some = refl
 
-split_behind : (kept frame : List ℕ) → 0 < length kept → split_frame kept frame ≡ frame
-split_behind [] frame some = absurd (omega arith)
-split_behind (b ∷ kept) frame some = refl
+split_after : (kept frame : List ℕ) → 0 < length kept → split_frame kept frame ≡ frame
+split_after [] frame some = absurd (omega arith)
+split_after (b ∷ kept) frame some = refl
 
 module _ (max c : ℕ) (kept piece new : List ℕ) (taken copied : ℕ) (some : 0 < length kept)
     (count : copied ≡ count_after c taken) where
   -- A framer that keeps these bytes.
   abbrev keeping : FramerValue
-  keeping = framer_of max held.Prefix kept c
+  keeping = framer_of max content.Prefix kept c
 
-  behind_found : (f : Framing) → framing max kept piece ≡ f → f.taken ≡ taken
+  rest_found : (f : Framing) → framing max kept piece ≡ f → f.taken ≡ taken
       → record { max = max; kept = f.kept; spent = f.spent; copied = copied } ≡ framer_after keeping piece
-  behind_found f is all =
+  rest_found f is all =
       let more : copied ≡ count_after c (copied_of kept f) =
-      count ∙ ap (count_after c) (sym all ∙ sym (copied_behind kept f some)) in
+      count ∙ ap (count_after c) (sym all ∙ sym (copied_after kept f some)) in
       ap (λ (n : ℕ). record { max = max; kept = f.kept; spent = f.spent; copied = n }) more
       ∙ sym (ap (framed keeping) is)
 
-  pub behind_more : IsFilled max kept piece new taken standing.Unfinished
-      → framer_of max held.Prefix new copied ≡ framer_after keeping piece
-  behind_more filled = behind_found _ (framing_unfinished max kept piece new taken filled) refl
+  pub rest_more : IsFilled max kept piece new taken status.Unfinished
+      → framer_of max content.Prefix new copied ≡ framer_after keeping piece
+  rest_more filled = rest_found _ (framing_unfinished max kept piece new taken filled) refl
 
-  pub behind_frame : (layout : FrameLayout) → IsFilled max kept piece new taken (standing.Whole layout)
-      → framer_of max held.Split new copied ≡ framer_after keeping piece
-  behind_frame layout filled =
+  pub rest_frame : (layout : FrameLayout) → IsFilled max kept piece new taken (status.Whole layout)
+      → framer_of max content.Split new copied ≡ framer_after keeping piece
+  rest_frame layout filled =
       ap (λ (s : List ℕ). record { max = max; kept = []; spent = s; copied = copied })
-      (sym (split_behind kept new some))
-      ∙ behind_found _ (framing_whole max kept piece new taken layout filled) refl
+      (sym (split_after kept new some))
+      ∙ rest_found _ (framing_whole max kept piece new taken layout filled) refl
 
-  pub behind_fault : (fault : FrameFault) → IsFilled max kept piece new taken (standing.Fault fault)
-      → framer_of max held.Prefix [] copied ≡ framer_after keeping piece
-  behind_fault fault filled = behind_found _ (framing_fault max kept piece new taken fault filled) refl
+  pub rest_is_faulty : (fault : FrameFault) → IsFilled max kept piece new taken (status.Fault fault)
+      → framer_of max content.Prefix [] copied ≡ framer_after keeping piece
+  rest_is_faulty fault filled = rest_found _ (framing_fault max kept piece new taken fault filled) refl
 
 -- No frame was found.
 abbrev HasNoFrame : FrameEventValue → Type 0
@@ -188,15 +188,15 @@ last_is_some : (frame : List ℕ) → 1 ≤ length frame → length (drop (lengt
 last_is_some frame some = omega (arith, length-drop (length frame - 1) frame)
 
 -- Without its last byte, a frame is unfinished.
-front_stands : (M : ℕ) (front last : List ℕ) (b : StreamPrefix) → length last ≡ 1
+front_needs_more : (M : ℕ) (front last : List ℕ) (b : StreamPrefix) → length last ≡ 1
     → prefix_kind M (front ++ last) ≡ Whole (front ++ last) [] → prefix_kind M front ≡ b
     → prefix_kind M front ≡ Unfinished
-front_stands M front last Unfinished one e is = is
-front_stands M front last (Whole frame rest) one e is =
+front_needs_more M front last Unfinished one e is = is
+front_needs_more M front last (Whole frame rest) one e is =
     let same : Whole (front ++ last) [] ≡ Whole frame (rest ++ last) = sym e ∙ whole_more M front last frame rest is in
     let none : ◌≡◌ {A = List ℕ} [] (rest ++ last) = cc in
     absurd (omega (arith, one, ap (λ (s : List ℕ). length s) none, length-append rest last))
-front_stands M front last (Faulty fault) one e is =
+front_needs_more M front last (Faulty fault) one e is =
     let bad : ◌≡◌ {A = StreamPrefix} (Whole (front ++ last) []) (Faulty fault) =
     sym e ∙ faulty_more M front last fault is in
     absurd cc
@@ -206,7 +206,7 @@ pub front_unfinished : (M : ℕ) (frame : List ℕ) → prefix_kind M frame ≡ 
 front_unfinished M frame e =
     let some = (whole_parts M frame frame [] e).some in
     let parts = without_last_then frame (omega arith) in
-    front_stands M (without_last frame) (drop (length frame - 1) frame) _ (last_is_some frame (omega arith))
+    front_needs_more M (without_last frame) (drop (length frame - 1) frame) _ (last_is_some frame (omega arith))
     (ap (prefix_kind M) (sym parts) ∙ e ∙ ap (λ (f : List ℕ). Whole f []) parts) refl
 
 pub frame_is_small : (M : ℕ) (frame : List ℕ) → prefix_kind M frame ≡ Whole frame []
@@ -243,10 +243,10 @@ pub back_piece : (v : FramerValue) (piece : List ℕ)
 back_piece v piece back none = piece_back v piece v.spent refl back none
 
 -- The bytes of a split frame are those of the buffer.
-pub spent_lies : (held : BufferContent) (bytes : List ℕ) → 0 < length (spent_in held bytes)
-    → spent_in held bytes ≡ bytes
-spent_lies held.Prefix bytes some = absurd (omega arith)
-spent_lies held.Split bytes some = refl
+pub spent_lies : (content : BufferContent) (bytes : List ℕ) → 0 < length (spent_in content bytes)
+    → spent_in content bytes ≡ bytes
+spent_lies content.Prefix bytes some = absurd (omega arith)
+spent_lies content.Split bytes some = refl
 
 -- A framer that keeps a frame without its last byte.
 pub front_framer : (max : ℕ) (bytes frame : List ℕ) (copied : ℕ) → 1152 ≤ max → max ≤ 1048576

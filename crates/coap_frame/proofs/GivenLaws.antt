@@ -6,20 +6,20 @@ use Rattle.std.proofs.lemmas.List.{append-nil, take-append-drop, take-append-le,
 use Rattle.std.proofs.lemmas.List.{length-drop}
 use Rattle.std.proofs.Math.Seq.{take-append-add}
 use Rattle.coap_frame.specs.Prelude.{FrameFault, StreamPrefix, Unfinished, Whole, Faulty, prefix_kind, size_bytes}
-use Rattle.coap_frame.specs.Prelude.{fault_bytes, Frames, Sizes, constant_size, sizes_first, size_for, sizes_behind}
+use Rattle.coap_frame.specs.Prelude.{fault_bytes, Frames, Sizes, constant_size, sizes_first, size_for, sizes_after}
 use Rattle.coap_frame.specs.Prelude.{with_frame, sized_frames, FramerValue, IsFramer, FrameEventValue, Nothing, AFrame}
 use Rattle.coap_frame.specs.Prelude.{AFault, Framing, split_frame, framing_at, framing, framing_of, framer_after}
-use Rattle.coap_frame.specs.Prelude.{without_last, frame_back, MayUnread, raise_refusal, with_size, asked_for}
+use Rattle.coap_frame.specs.Prelude.{without_last, frame_back, MayUnread, raise_refusal, with_size, raise_result}
 use Rattle.coap_frame.specs.Prelude.{FramerInput, Piece, FramerOutput, given_then, output_of, stream_given, IsGiven}
 use Rattle.coap_frame.specs.Prelude.{taken_of}
 use Rattle.coap_frame.specs.Prelude.{unread_after, last_byte}
 use Rattle.coap_wire.proofs.StreamSteps.{whole_parts, whole_itself, whole_more, faulty_more, fault_bytes_more}
-use Rattle.coap_wire.proofs.StreamSteps.{fault_at_last, size_has_bytes, size_bytes_more, AreAlikeBehind}
+use Rattle.coap_wire.proofs.StreamSteps.{fault_at_last, size_has_bytes, size_bytes_more, AreAlikeAfter}
 use Rattle.coap_wire.proofs.StreamSteps.{frames_unfinished, frames_faulty, frames_whole, frames_alike}
-use Rattle.coap_wire.proofs.SizesLaws.{first_in, first_past, behind_first, first_none, first_always}
+use Rattle.coap_wire.proofs.SizesLaws.{first_in, first_past, rest_first, first_none, first_always}
 use Rattle.coap_frame.specs.FramerOutput.{Size}
 use Rattle.coap_frame.proofs.FramingLemmas.{framing_is_framer, frame_is_small, front_unfinished}
-use Rattle.coap_frame.proofs.RaiseLemmas.{unfinished_with, allowed_by, asked_is_framer}
+use Rattle.coap_frame.proofs.RaiseLemmas.{unfinished_with, allowed_by, raise_is_framer}
 
 -- ---- the byte at which an error is known
 
@@ -216,15 +216,15 @@ given_step v after piece taken go (AFrame frame) max found again =
     ≡ Whole frame more =
     ap (λ (m : ℕ). prefix_kind m (frame ++ more)) (size_at_frame v.max frame more S found.1)
     ∙ whole_more v.max frame more frame [] found.1 in
-    let behind : sized_frames (sizes_behind (length frame) (sizes_first (length frame) v.max S)) more
+    let further : sized_frames (sizes_after (length frame) (sizes_first (length frame) v.max S)) more
     ≡ stream_given after (go after) =
-    ap (λ (f : Sizes). sized_frames f more) (behind_first (length frame) v.max S ∙ sym (first_none after.max S))
+    ap (λ (f : Sizes). sized_frames f more) (rest_first (length frame) v.max S ∙ sym (first_none after.max S))
     ∙ ap (λ (k : List ℕ). sized_frames (sizes_first (length k) after.max S) (k ++ more)) (sym found.2) in
     let same : stream_given v (given_then go (take taken piece) v.max after (AFrame frame))
     ≡ with_frame frame (stream_given after (go after)) =
     first_bytes v.max v.kept (take taken piece) more frame S found.0
     ∙ frames_whole (sizes_first (length frame) v.max S) (frame ++ more) frame more whole
-    ∙ ap (with_frame frame) behind in
+    ∙ ap (with_frame frame) further in
     record {
       frames = ap (λ (f : Frames). f.frames) same ∙ ap (λ (fs : List (List ℕ)). frame ∷ fs) again.frames;
       rest = λ none. ap (λ (f : Frames). f.rest) same ∙ again.rest none;
@@ -244,7 +244,7 @@ given_step v after piece taken go (AFault fault) max found again =
 
 -- The result is the same if the kept bytes were taken with a larger maximum.
 raised_alike : (max new : ℕ) (kept : List ℕ) (S : Sizes) → prefix_kind max kept ≡ Unfinished → max ≤ new
-    → AreAlikeBehind (sizes_first (length kept) max S) (sizes_first (length kept) new S) kept
+    → AreAlikeAfter (sizes_first (length kept) max S) (sizes_first (length kept) new S) kept
 raised_alike max new kept S u le =
     let at : ℕ = size_bytes kept - 1 in
     let n : ℕ = length kept in
@@ -271,11 +271,11 @@ given_raised v new given is le again =
       nothing_kept = again.nothing_kept;
     }
 
-given_asked : (v : FramerValue) (new : ℕ) (given : FramerOutput) (allowed : Bool)
+given_raise : (v : FramerValue) (new : ℕ) (given : FramerOutput) (allowed : Bool)
     → is_none (raise_refusal v.max new) ≡ allowed → IsFramer v
     → IsGiven (if allowed then with_size v new else v) given → IsGiven v given
-given_asked v new given true e is again = given_raised v new given is (allowed_by v.max new e).0 again
-given_asked v new given false e is again = again
+given_raise v new given true e is again = given_raised v new given is (allowed_by v.max new e).0 again
+given_raise v new given false e is again = again
 
 -- The output of a framer agrees with the stream.
 pub given_is : (v : FramerValue) (handed : List FramerInput) → IsFramer v → IsGiven v (output_of v handed)
@@ -292,8 +292,8 @@ given_is v [] is =
       nothing_kept = λ fault some. absurd cc;
     }
 given_is v (Size new ∷ more) is =
-    given_asked v new (output_of (asked_for v new) more) (is_none (raise_refusal v.max new)) refl is
-    (given_is (asked_for v new) more (asked_is_framer v new is))
+    given_raise v new (output_of (raise_result v new) more) (is_none (raise_refusal v.max new)) refl is
+    (given_is (raise_result v new) more (raise_is_framer v new is))
 given_is v (Piece p ∷ more) is =
     given_step v (framer_after v p) p (framing_of v p).taken (λ now. output_of now more) (framing_of v p).finding refl
     (call_is v.max v.kept p is.unfinished).found (given_is (framer_after v p) more (framing_is_framer v p is))

@@ -4,21 +4,21 @@ use Rattle.std.proofs.Common.{subst, ◌∙◌, arith, inl, inr, is_none, if◌t
 use Rattle.std.proofs.lemmas.Bool.{cases_lt, lt-ltb, le-ltb}
 use Rattle.coap_frame.specs.Prelude.{declared_of, StreamPrefix, Unfinished, Faulty, prefix_kind, size_bytes, Declared}
 use Rattle.coap_frame.specs.Prelude.{Unknown, Size, BadToken, TokenLength, FramerValue, IsFramer, raise_refusal}
-use Rattle.coap_frame.specs.Prelude.{with_size, asked_for, framer_of, kept_in, BufferContent, RaiseFault, Lower}
+use Rattle.coap_frame.specs.Prelude.{with_size, raise_result, framer_of, kept_in, BufferContent, RaiseFault, Lower}
 use Rattle.coap_wire.proofs.StreamSteps.{begin_unknown, begin_bad_token, begin_short, size_has_bytes, declared_some}
 use Rattle.coap_wire.proofs.StreamSteps.{unfinished_larger, unknown_not_size}
-use Rattle.coap_frame.specs.declared.framer.BufferContent.TheVariants as held
+use Rattle.coap_frame.specs.declared.framer.BufferContent.TheVariants as content
 use Rattle.coap_frame.specs.declared.fault.RaiseFault.TheVariants.{TooLarge}
-use Rattle.coap_frame.proofs.FillLemmas.{told_unfinished}
+use Rattle.coap_frame.proofs.FillLemmas.{size_unfinished}
 
 still_unfinished : (M N : ℕ) (s : List ℕ) (d : Declared) → prefix_kind M s ≡ Unfinished
     → (size_bytes s - 1 < length s → M ≤ N) → declared_of s ≡ d → prefix_kind N s ≡ Unfinished
 still_unfinished M N s Unknown u larger e = begin_unknown N s e
 still_unfinished M N s (Size n) u larger e =
-    let told = told_unfinished M s n u e in
+    let known_size = size_unfinished M s n u e in
     let some = declared_some s (λ unknown. unknown_not_size n (sym unknown ∙ e)) in
     let more : M ≤ N = larger (omega (arith, size_has_bytes s n e, some)) in
-    begin_short N s n e (omega (arith, told.0, more)) told.1
+    begin_short N s n e (omega (arith, known_size.0, more)) known_size.1
 still_unfinished M N s BadToken u larger e =
     let bad : ◌≡◌ {A = StreamPrefix} Unfinished (Faulty TokenLength) = sym u ∙ begin_bad_token M s e in
     absurd cc
@@ -67,24 +67,24 @@ raised_is_framer v new is larger small = record {
 -- The same for a framer given by its buffer, in which only the kept bytes stay.
 pub raised_holds : (max new copied : ℕ) (was now : BufferContent) (bytes left : List ℕ)
     → IsFramer (framer_of max was bytes copied) → max ≤ new → new ≤ 1048576
-    → now ≡ held.Prefix → left ≡ kept_in was bytes → IsFramer (framer_of new now left copied)
+    → now ≡ content.Prefix → left ≡ kept_in was bytes → IsFramer (framer_of new now left copied)
 raised_holds max new copied was now bytes left is larger small begins keeps =
-    let begun : IsFramer (framer_of new held.Prefix (kept_in was bytes) copied) =
+    let begun : IsFramer (framer_of new content.Prefix (kept_in was bytes) copied) =
     raised_is_framer (framer_of max was bytes copied) new is larger small in
     subst (λ (h : BufferContent). IsFramer (framer_of new h left copied)) (sym begins)
-    (subst (λ (b : List ℕ). IsFramer (framer_of new held.Prefix b copied)) (sym keeps) begun)
+    (subst (λ (b : List ℕ). IsFramer (framer_of new content.Prefix b copied)) (sym keeps) begun)
 
 framer_where_allowed : (v : FramerValue) (new : ℕ) (allowed : Bool) → is_none (raise_refusal v.max new) ≡ allowed
     → IsFramer v → IsFramer (if allowed then with_size v new else v)
 framer_where_allowed v new true e is = let fits = allowed_by v.max new e in raised_is_framer v new is fits.0 fits.1
 framer_where_allowed v new false e is = is
 
-pub asked_is_framer : (v : FramerValue) (new : ℕ) → IsFramer v → IsFramer (asked_for v new)
-asked_is_framer v new is = framer_where_allowed v new (is_none (raise_refusal v.max new)) refl is
+pub raise_is_framer : (v : FramerValue) (new : ℕ) → IsFramer v → IsFramer (raise_result v new)
+raise_is_framer v new is = framer_where_allowed v new (is_none (raise_refusal v.max new)) refl is
 
 copied_by : (v : FramerValue) (new : ℕ) (allowed : Bool) → (if allowed then with_size v new else v).copied ≡ v.copied
 copied_by v new true = refl
 copied_by v new false = refl
 
-pub asked_copied : (v : FramerValue) (new : ℕ) → (asked_for v new).copied ≡ v.copied
-asked_copied v new = copied_by v new (is_none (raise_refusal v.max new))
+pub raise_copied : (v : FramerValue) (new : ℕ) → (raise_result v new).copied ≡ v.copied
+raise_copied v new = copied_by v new (is_none (raise_refusal v.max new))

@@ -5,7 +5,7 @@ use Rattle.coap_frame.specs.Framing.{FramerValue, FrameEventValue, Nothing, AFra
 use Rattle.coap_frame.specs.declared.framer.BufferContent.{BufferContent}
 use Rattle.coap_frame.specs.declared.framer.BufferContent.TheVariants.{Prefix, Split}
 use Rattle.coap_frame.specs.declared.filling.FrameStatus.{FrameStatus}
-use Rattle.coap_frame.specs.declared.filling.FrameStatus.TheVariants as standing
+use Rattle.coap_frame.specs.declared.filling.FrameStatus.TheVariants as status
 
 -- The bytes of an unfinished frame in a buffer with these bytes.
 abbrev pub kept_in : BufferContent → List ℕ → List ℕ
@@ -19,8 +19,8 @@ spent_in Split bytes = bytes
 
 -- The model value of a framer with this maximum, these bytes in its buffer, and this count of copied bytes.
 abbrev pub framer_of : ℕ → BufferContent → List ℕ → ℕ → FramerValue
-framer_of max held bytes copied =
-    record { max = max; kept = kept_in held bytes; spent = spent_in held bytes; copied = copied }
+framer_of max content bytes copied =
+    record { max = max; kept = kept_in content bytes; spent = spent_in content bytes; copied = copied }
 
 -- The frame that was found: the split frame in the buffer, or otherwise the bytes taken of the chunk.
 abbrev pub frame_in : BufferContent → List ℕ → List ℕ → List ℕ
@@ -29,12 +29,12 @@ frame_in Split bytes taken = bytes
 
 -- The finding for a status, if these are the bytes of the frame.
 abbrev pub finding_in : List ℕ → FrameStatus → FrameEventValue
-finding_in bytes standing.Unfinished = Nothing
-finding_in bytes (standing.Whole layout) = AFrame bytes
-finding_in bytes (standing.Fault fault) = AFault fault
+finding_in bytes status.Unfinished = Nothing
+finding_in bytes (status.Whole layout) = AFrame bytes
+finding_in bytes (status.Fault fault) = AFault fault
 
 -- If the status is a whole frame, these bytes have its layout.
 abbrev pub HasLayoutIn : List ℕ → FrameStatus → Type 0
-HasLayoutIn bytes standing.Unfinished = Unit {0}
-HasLayoutIn bytes (standing.Whole layout) = IsLaidOut bytes layout
-HasLayoutIn bytes (standing.Fault fault) = Unit {0}
+HasLayoutIn bytes status.Unfinished = Unit {0}
+HasLayoutIn bytes (status.Whole layout) = IsLaidOut bytes layout
+HasLayoutIn bytes (status.Fault fault) = Unit {0}

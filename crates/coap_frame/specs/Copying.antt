@@ -2,7 +2,7 @@
 use Rattle.std.specs.Prelude.{◌≡◌, ◌≢◌, ℕ, ◌+◌, ◌-◌, ◌≤◌, ◌<◌, List, [], ◌∷◌, length}
 use Rattle.coap_frame.specs.Framing.{FramerValue, AFrame, framing_of, count_after, framer_after, with_frame_back}
 use Rattle.coap_frame.specs.Framing.{MayUnread}
-use Rattle.coap_frame.specs.Raising.{asked_for}
+use Rattle.coap_frame.specs.Raising.{raise_result}
 
 -- A call that changes a framer.
 pub data FramerCall : Type 0 where
@@ -23,7 +23,7 @@ abbrev pub after_call : FramerValue → FramerCall → FramerValue
 after_call v (Next piece) = framer_after v piece
 after_call v (Unread piece) = with_frame_back v piece
 after_call v Clear = record v { kept = []; spent = [] }
-after_call v (Raise new) = asked_for v new
+after_call v (Raise new) = raise_result v new
 
 -- The number of bytes in the buffer.
 abbrev pub buffered_length : FramerValue → ℕ

@@ -6,7 +6,7 @@ use Rattle.coap_wire.specs.StreamPrefix.{Unfinished, Whole, Faulty, prefix_kind,
 use Rattle.coap_wire.specs.declared.declaration.Declared.{Declared}
 use Rattle.coap_wire.specs.declared.declaration.Declared.TheVariants.{Unknown}
 use Rattle.coap_frame.specs.declared.filling.FrameStatus.{FrameStatus}
-use Rattle.coap_frame.specs.declared.filling.FrameStatus.TheVariants as standing
+use Rattle.coap_frame.specs.declared.filling.FrameStatus.TheVariants as status
 
 -- The first `taken` bytes of the chunk are appended, one at a time while the size is not known.
 pub record IsTakenTo (old piece new : List ℕ) (taken : ℕ) (size : Declared) : Type 0 where
@@ -22,15 +22,15 @@ pub record IsHead (old piece new : List ℕ) (taken : ℕ) (size : Declared) : T
 
 -- The status describes the old bytes followed by the chunk, as one stream of frames of at most `M` bytes.
 abbrev pub HasStatus : ℕ → List ℕ → List ℕ → List ℕ → ℕ → FrameStatus → Type 0
-HasStatus M old piece new taken standing.Unfinished =
+HasStatus M old piece new taken status.Unfinished =
     (prefix_kind M (old ++ piece) ≡ Unfinished) × (taken ≡ length piece) × (new ≡ old ++ piece)
-HasStatus M old piece new taken (standing.Whole layout) =
+HasStatus M old piece new taken (status.Whole layout) =
     (rest : List ℕ) × (prefix_kind M (old ++ piece) ≡ Whole new rest) × (taken + length rest ≡ length piece)
     × IsLaidOut new layout
-HasStatus M old piece new taken (standing.Fault fault) =
+HasStatus M old piece new taken (status.Fault fault) =
     (prefix_kind M (old ++ piece) ≡ Faulty fault) × (length old + taken ≡ length (fault_bytes (old ++ piece)))
 
 -- The buffer is filled: these bytes of the chunk are taken, and the status describes the buffer.
 pub record IsFilled (M : ℕ) (old piece new : List ℕ) (taken : ℕ) (s : FrameStatus) : Type 0 where
   pub within : taken ≤ length piece
-  pub stands : HasStatus M old piece new taken s
+  pub has_status : HasStatus M old piece new taken s

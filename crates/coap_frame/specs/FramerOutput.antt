@@ -1,7 +1,7 @@
 -- Defined by this project: the output of a framer over a list of calls, and its relation to the frames of the stream.
 use Rattle.std.specs.Prelude.{◌≡◌, ℕ, ◌-◌, List, [], ◌∷◌, ◌++◌, Option, Some, None, length, take, drop}
 use Rattle.coap_wire.specs.Frames.{Frames, Sizes, constant_size, sizes_first, sized_frames}
-use Rattle.coap_frame.specs.Raising.{asked_for}
+use Rattle.coap_frame.specs.Raising.{raise_result}
 use Rattle.coap_frame.specs.Framing.{FramerValue, FrameEventValue, Nothing, AFrame, AFault, framing_of, framer_after}
 use Rattle.coap_frame.specs.Framing.{with_frame_back}
 use Rattle.coap_wire.specs.declared.fault.FrameFault.{FrameFault}
@@ -41,7 +41,7 @@ given_then go bytes max after (AFault fault) =
 -- chunk.
 unfoldable pub output_of : FramerValue → List FramerInput → FramerOutput
 output_of v [] = record { taken = []; sizes = constant_size v.max; frames = []; fault = None; after = v }
-output_of v (Size new ∷ more) = output_of (asked_for v new) more
+output_of v (Size new ∷ more) = output_of (raise_result v new) more
 output_of v (Piece p ∷ more) =
     given_then (λ now. output_of now more) (take (framing_of v p).taken p) v.max
     (framer_after v p) (framing_of v p).finding

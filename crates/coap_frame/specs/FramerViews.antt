@@ -6,7 +6,7 @@ use Rattle.coap_frame.specs.BufferViews.{framer_of}
 use Rattle.coap_frame.specs.declared.framer.Framer.TheInside.{Inside}
 
 abbrev pub framer_value : Inside → FramerValue
-framer_value f = framer_of f.max f.held f.buffer.items f.copied
+framer_value f = framer_of f.max f.content f.buffer.items f.copied
 
 abbrev pub is_framer : Inside → Type 0
 is_framer f = IsFramer (framer_value f) × (f.max ≤ vec_capacity f.buffer)

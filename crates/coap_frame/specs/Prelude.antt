@@ -9,7 +9,7 @@ pub use Rattle.coap_wire.specs.StreamPrefix.{Unfinished, token_bytes, size_bytes
 pub use Rattle.coap_wire.specs.StreamPrefix.{Whole}
 unfoldable pub use Rattle.coap_wire.specs.StreamPrefix.{prefix_kind}
 pub use Rattle.coap_wire.specs.Forms.{extension_of}
-pub use Rattle.coap_wire.specs.Frames.{Frames, Sizes, constant_size, size_for, sizes_behind, sizes_first, with_frame}
+pub use Rattle.coap_wire.specs.Frames.{Frames, Sizes, constant_size, size_for, sizes_after, sizes_first, with_frame}
 unfoldable pub use Rattle.coap_wire.specs.Frames.{frames_within, sized_frames}
 pub use Rattle.coap_wire.specs.Layout.{declared_in, IsLaidOut}
 unfoldable pub use Rattle.coap_wire.specs.Layout.{outline_of}
@@ -43,7 +43,7 @@ pub use Rattle.coap_frame.specs.FramerOutput.{FramerInput, IsGiven, taken_of, un
 pub use Rattle.coap_frame.specs.FramerOutput.{Piece, given_then}
 pub use Rattle.coap_frame.specs.FramerOutput.{stream_given}
 unfoldable pub use Rattle.coap_frame.specs.FramerOutput.{output_of}
-pub use Rattle.coap_frame.specs.Raising.{raised, IsRaiseAnswer, asked_for, raise_refusal, with_size}
+pub use Rattle.coap_frame.specs.Raising.{raised, IsRaiseAnswer, raise_result, raise_refusal, with_size}
 -- ---- coap_frame, declared
 pub use Rattle.coap_frame.specs.declared.fault.RaiseFault.{RaiseFault}
 pub use Rattle.coap_frame.specs.declared.fault.RaiseFault.TheVariants.{Lower}

@@ -27,5 +27,5 @@ IsRaiseAnswer max new (Err TooLarge) = raise_refusal max new ≡ Some TooLarge
 IsRaiseAnswer max new (Err Memory) = (raise_refusal max new ≡ None) × (max < new)
 
 -- The framer after a call of `raise` whose allocation does not fail.
-abbrev pub asked_for : FramerValue → ℕ → FramerValue
-asked_for v new = if is_none (raise_refusal v.max new) then with_size v new else v
+abbrev pub raise_result : FramerValue → ℕ → FramerValue
+raise_result v new = if is_none (raise_refusal v.max new) then with_size v new else v

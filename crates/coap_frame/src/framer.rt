@@ -5,7 +5,7 @@ ghost use Rattle.coap_frame.specs.Prelude.{Unfinished, prefix_kind, framing, fra
 ghost use Rattle.coap_frame.specs.Prelude.{kept_in, frame_in, finding_in, finding_of, finding_read, sem, follows_so};
 ghost use Rattle.coap_frame.specs.Prelude.{none, IsFramer, MayUnread, with_frame_back, IsFramed, raised, IsRaiseAnswer};
 ghost use Rattle.coap_frame.specs.Prelude.{BASE_MESSAGE_SIZE, LARGEST_MESSAGE, HasLayoutIn, IsFramedRef};
-ghost use Rattle.coap_frame.specs.declared.framer.BufferContent.TheVariants as held_as;
+ghost use Rattle.coap_frame.specs.declared.framer.BufferContent.TheVariants as content_as;
 ghost use Rattle.coap_frame.specs.contracts.framer.Framer.{the_row};
 
 use crate::fault::RaiseFault;
@@ -88,7 +88,7 @@ enum BufferContent {
 pub struct Framer {
     max: usize,
     buffer: Vec<u8>,
-    held: BufferContent,
+    content: BufferContent,
     copied: u64,
 }
 
@@ -122,7 +122,7 @@ impl Framer {
         Ok(Framer {
             max,
             buffer: Vec::with_capacity(alloc, max)?,
-            held: BufferContent::Prefix,
+            content: BufferContent::Prefix,
             copied: 0,
         })
     }
@@ -159,17 +159,17 @@ impl Framer {
         ensures framed { IsFramedRef result (framing_of self.old piece.now) }
         ensures within { result.taken ≤ length piece.now }
     {
-        let (taken, standing) = advance(
+        let (taken, status) = advance(
             &mut self.buffer,
-            &mut self.held,
+            &mut self.content,
             &mut self.copied,
             self.max,
             piece,
         );
-        let what = match standing {
+        let what = match status {
             FrameStatus::Unfinished => FrameRefEvent::More,
             FrameStatus::Fault(fault) => FrameRefEvent::Fault(fault),
-            FrameStatus::Whole(layout) => match self.held {
+            FrameStatus::Whole(layout) => match self.content {
                 BufferContent::Prefix => FrameRefEvent::Whole(FrameRef {
                     bytes: &piece[..taken],
                     layout,
@@ -188,7 +188,7 @@ impl Framer {
         ensures { self.new ≡ record self.old { kept = []; spent = [] } }
     {
         self.buffer.clear();
-        self.held = BufferContent::Prefix;
+        self.content = BufferContent::Prefix;
     }
 
     /// Raises the maximum size of a frame to `new` bytes.
@@ -215,7 +215,7 @@ impl Framer {
         let Ok(()) = grow(&mut self.buffer, new) else {
             return Err(RaiseFault::Memory);
         };
-        keep_beginning(&mut self.buffer, &mut self.held);
+        keep_beginning(&mut self.buffer, &mut self.content);
         self.max = new;
         Ok(())
     }
@@ -226,7 +226,7 @@ impl Framer {
         ensures below { result < self.now.max }
         ensures invariant { IsFramer self.now }
     {
-        match self.held {
+        match self.content {
             BufferContent::Prefix => self.buffer.len(),
             BufferContent::Split => 0,
         }
@@ -236,7 +236,7 @@ impl Framer {
     pub fn spent(&self) -> usize
         ensures { result ≡ length self.now.spent }
     {
-        match self.held {
+        match self.content {
             BufferContent::Split => self.buffer.len(),
             BufferContent::Prefix => 0,
         }
@@ -246,7 +246,7 @@ impl Framer {
     pub fn split_frame(&self) -> &[u8]
         ensures { result.now ≡ self.now.spent }
     {
-        match self.held {
+        match self.content {
             BufferContent::Split => &self.buffer,
             BufferContent::Prefix => &[],
         }
@@ -293,7 +293,7 @@ impl Framer {
             append(&mut self.buffer, front);
             self.copied = self.copied.saturating_add(front.len() as u64);
         }
-        self.held = BufferContent::Prefix;
+        self.content = BufferContent::Prefix;
     }
 }
 
@@ -309,16 +309,16 @@ fn grow(buffer: &mut Vec<u8>, room: usize) -> Result<(), AllocError>
 }
 
 /// Discards a split frame, and keeps the bytes of an unfinished frame.
-fn keep_beginning(buffer: &mut Vec<u8>, held: &mut BufferContent)
-    ensures items { buffer.new.items ≡ kept_in held.old buffer.old.items }
-    ensures held { held.new ≡ held_as.Prefix }
+fn keep_beginning(buffer: &mut Vec<u8>, content: &mut BufferContent)
+    ensures items { buffer.new.items ≡ kept_in content.old buffer.old.items }
+    ensures content { content.new ≡ content_as.Prefix }
     ensures capacity { vec_capacity buffer.old ≤ vec_capacity buffer.new }
 {
-    match *held {
+    match *content {
         BufferContent::Prefix => {}
         BufferContent::Split => {
             buffer.clear();
-            *held = BufferContent::Prefix;
+            *content = BufferContent::Prefix;
         }
     }
 }
@@ -326,29 +326,29 @@ fn keep_beginning(buffer: &mut Vec<u8>, held: &mut BufferContent)
 /// Takes bytes of a chunk. Those of a split frame are copied into the buffer.
 fn advance(
     buffer: &mut Vec<u8>,
-    held: &mut BufferContent,
+    content: &mut BufferContent,
     copied: &mut u64,
     max: usize,
     piece: &[u8],
 ) -> (usize, FrameStatus)
-    requires unfinished { prefix_kind max (kept_in held.old buffer.old.items) ≡ Unfinished }
+    requires unfinished { prefix_kind max (kept_in content.old buffer.old.items) ≡ Unfinished }
     requires countable { copied.old ≤ 18446744073709551615 }
     requires low { BASE_MESSAGE_SIZE ≤ max }
     requires room { max ≤ vec_capacity buffer.old }
-    ensures after { framer_of max held.new buffer.new.items copied.new
-        ≡ framer_after (framer_of max held.old buffer.old.items copied.old) piece.now }
-    ensures taken { result.0 ≡ (framing max (kept_in held.old buffer.old.items) piece.now).taken }
+    ensures after { framer_of max content.new buffer.new.items copied.new
+        ≡ framer_after (framer_of max content.old buffer.old.items copied.old) piece.now }
+    ensures taken { result.0 ≡ (framing max (kept_in content.old buffer.old.items) piece.now).taken }
     ensures within { result.0 ≤ length piece.now }
-    ensures layout { HasLayoutIn (frame_in held.new buffer.new.items (take result.0 piece.now)) result.1 }
-    ensures found { finding_in (frame_in held.new buffer.new.items (take result.0 piece.now)) result.1
-        ≡ (framing max (kept_in held.old buffer.old.items) piece.now).finding }
+    ensures layout { HasLayoutIn (frame_in content.new buffer.new.items (take result.0 piece.now)) result.1 }
+    ensures found { finding_in (frame_in content.new buffer.new.items (take result.0 piece.now)) result.1
+        ≡ (framing max (kept_in content.old buffer.old.items) piece.now).finding }
     ensures capacity { max ≤ vec_capacity buffer.new }
 {
-    keep_beginning(buffer, held);
+    keep_beginning(buffer, content);
     if buffer.is_empty() {
         advance_in_piece(buffer, copied, max, piece)
     } else {
-        advance_in_buffer(buffer, held, copied, max, piece)
+        advance_in_buffer(buffer, content, copied, max, piece)
     }
 }
 
@@ -363,16 +363,16 @@ fn advance_in_piece(
     requires countable { copied.old ≤ 18446744073709551615 }
     requires low { BASE_MESSAGE_SIZE ≤ max }
     requires room { max ≤ vec_capacity buffer.old }
-    ensures after { framer_of max held_as.Prefix buffer.new.items copied.new
-        ≡ framer_after (framer_of max held_as.Prefix [] copied.old) piece.now }
+    ensures after { framer_of max content_as.Prefix buffer.new.items copied.new
+        ≡ framer_after (framer_of max content_as.Prefix [] copied.old) piece.now }
     ensures taken { result.0 ≡ (framing max [] piece.now).taken }
     ensures within { result.0 ≤ length piece.now }
     ensures layout { HasLayoutIn (take result.0 piece.now) result.1 }
     ensures found { finding_in (take result.0 piece.now) result.1 ≡ (framing max [] piece.now).finding }
     ensures capacity { max ≤ vec_capacity buffer.new }
 {
-    let (taken, standing) = classify(piece, max);
-    match standing {
+    let (taken, status) = classify(piece, max);
+    match status {
         FrameStatus::Unfinished => {
             append(buffer, piece);
             *copied = copied.saturating_add(taken as u64);
@@ -380,13 +380,13 @@ fn advance_in_piece(
         FrameStatus::Whole(_) => {}
         FrameStatus::Fault(_) => {}
     }
-    (taken, standing)
+    (taken, status)
 }
 
 /// Takes bytes of a chunk, and appends them to the kept bytes of an unfinished frame.
 fn advance_in_buffer(
     buffer: &mut Vec<u8>,
-    held: &mut BufferContent,
+    content: &mut BufferContent,
     copied: &mut u64,
     max: usize,
     piece: &[u8],
@@ -395,18 +395,18 @@ fn advance_in_buffer(
     requires some { 0 < length buffer.old.items }
     requires low { BASE_MESSAGE_SIZE ≤ max }
     requires room { max ≤ vec_capacity buffer.old }
-    ensures after { framer_of max held.new buffer.new.items copied.new
-        ≡ framer_after (framer_of max held_as.Prefix buffer.old.items copied.old) piece.now }
+    ensures after { framer_of max content.new buffer.new.items copied.new
+        ≡ framer_after (framer_of max content_as.Prefix buffer.old.items copied.old) piece.now }
     ensures taken { result.0 ≡ (framing max buffer.old.items piece.now).taken }
     ensures within { result.0 ≤ length piece.now }
-    ensures layout { HasLayoutIn (frame_in held.new buffer.new.items (take result.0 piece.now)) result.1 }
-    ensures found { finding_in (frame_in held.new buffer.new.items (take result.0 piece.now)) result.1
+    ensures layout { HasLayoutIn (frame_in content.new buffer.new.items (take result.0 piece.now)) result.1 }
+    ensures found { finding_in (frame_in content.new buffer.new.items (take result.0 piece.now)) result.1
         ≡ (framing max buffer.old.items piece.now).finding }
     ensures capacity { max ≤ vec_capacity buffer.new }
 {
-    let (taken, standing) = fill(buffer, max, piece);
+    let (taken, status) = fill(buffer, max, piece);
     *copied = copied.saturating_add(taken as u64);
-    *held = match standing {
+    *content = match status {
         FrameStatus::Unfinished => BufferContent::Prefix,
         FrameStatus::Whole(_) => BufferContent::Split,
         FrameStatus::Fault(_) => {
@@ -414,5 +414,5 @@ fn advance_in_buffer(
             BufferContent::Prefix
         }
     };
-    (taken, standing)
+    (taken, status)
 }

@@ -10,7 +10,7 @@ use std::io::{Read, Write};
 pub trait Source {
     /// Chunks that the reads returned so far, in order, and the bytes left to read, each if the source records them. A
     /// read that found the end gives an empty chunk.
-    ghost told: { Self → DeviceTrace };
+    ghost trace: { Self → DeviceTrace };
 
     /// `true` if a read has failed.
     ghost is_failed: { Self → Bool };
@@ -19,8 +19,8 @@ pub trait Source {
     /// Returns `None` if reading fails.
     fn read(&mut self, buffer: &mut [u8]) -> Option<usize>
         ensures within { IfSome result (λ n. n ≤ length buffer.new) }
-        ensures given { IfSome result (λ n. HasGiven (told self.old) (told self.new) (pieces_read buffer.new n)) }
-        ensures nothing { IfNone result (HasGiven (told self.old) (told self.new) []) }
+        ensures given { IfSome result (λ n. HasGiven (trace self.old) (trace self.new) (pieces_read buffer.new n)) }
+        ensures nothing { IfNone result (HasGiven (trace self.old) (trace self.new) []) }
         ensures failure { is_failed self.new ≡ (is_failed self.old || is_none result) };
 
     /// Returns `true` if a read has failed.
@@ -60,7 +60,7 @@ impl<R: Read> ReadSource<R> {
     /// Creates a source that has not failed.
     pub fn new(reader: R) -> ReadSource<R>
         ensures works { ⟦<ReadSource<R> as Source>⟧.is_failed result ≡ false }
-        ensures told { ⟦<ReadSource<R> as Source>⟧.told result
+        ensures trace { ⟦<ReadSource<R> as Source>⟧.trace result
             ≡ record { pieces = None; remaining = R.remaining reader } }
     {
         ReadSource {
@@ -71,7 +71,7 @@ impl<R: Read> ReadSource<R> {
 }
 
 impl<R: Read> Source for ReadSource<R> {
-    ghost told = { λ s. record { pieces = None; remaining = R.remaining s.reader } };
+    ghost trace = { λ s. record { pieces = None; remaining = R.remaining s.reader } };
 
     ghost is_failed = { λ s. s.failed };
 

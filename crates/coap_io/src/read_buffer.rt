@@ -1,7 +1,7 @@
 //! Read buffer of a connection: bytes read from a wire that are not accepted yet.
 
 ghost use Rattle.std.specs.Prelude.{◌≡◌, ◌≤◌, length, ◌==◌, ◌-◌, [], ◌∷◌, drop, IfOk};
-ghost use Rattle.coap_io.specs.Prelude.{AddsBytes, TellsMore, count_passed, READ_SIZE};
+ghost use Rattle.coap_io.specs.Prelude.{AddsBytes, AddsCalls, count_passed, READ_SIZE};
 
 use crate::wire::{Got, Wire};
 use std::alloc::{AllocError, Global};
@@ -86,8 +86,8 @@ impl ReadBuffer {
         ensures count { length self.new ≡ count_passed result }
         ensures gave { AddsBytes (W.given wire.old) (W.given wire.new) self.new }
         ensures wrote { AddsBytes (W.written wire.old) (W.written wire.new) [] }
-        ensures answered { TellsMore (W.answers wire.old) (W.answers wire.new) (result ∷ []) }
-        ensures had_room { TellsMore (W.rooms wire.old) (W.rooms wire.new) (READ_SIZE ∷ []) }
+        ensures answered { AddsCalls (W.answers wire.old) (W.answers wire.new) (result ∷ []) }
+        ensures had_room { AddsCalls (W.rooms wire.old) (W.rooms wire.new) (READ_SIZE ∷ []) }
     {
         self.from = 0;
         self.to = 0;

@@ -1,7 +1,7 @@
 //! Transport connections, the listener that hands them out, and the clock.
 
 ghost use Rattle.std.specs.Prelude.{◌≡◌, ℕ, Bool, List, [], ◌∷◌, length, Option, None, option_and_then};
-ghost use Rattle.coap_io.specs.Prelude.{AddsBytes, TellsMore, DoorCall, Asked, Waited, IsWithin, MatchesTrace};
+ghost use Rattle.coap_io.specs.Prelude.{AddsBytes, AddsCalls, DoorCall, Requested, Waited, IsWithin, MatchesTrace};
 ghost use Rattle.coap_io.specs.Prelude.{bytes_passed, Got, wait_at_most};
 
 /// Result of a read or a write of a wire.
@@ -38,8 +38,8 @@ pub trait Wire {
         ensures within { IsWithin (length buffer.new) result }
         ensures gave { AddsBytes (given self.old) (given self.new) (bytes_passed buffer.new result) }
         ensures wrote { AddsBytes (written self.old) (written self.new) [] }
-        ensures answered { TellsMore (answers self.old) (answers self.new) (result ∷ []) }
-        ensures had_room { TellsMore (rooms self.old) (rooms self.new) (length buffer.new ∷ []) };
+        ensures answered { AddsCalls (answers self.old) (answers self.new) (result ∷ []) }
+        ensures had_room { AddsCalls (rooms self.old) (rooms self.new) (length buffer.new ∷ []) };
 
     /// Writes a prefix of `bytes`, at least 1 byte. Returns `Later` if no byte can be written now, and `Failed` or
     /// `End` if writing fails.
@@ -47,8 +47,8 @@ pub trait Wire {
         ensures within { IsWithin (length bytes.now) result }
         ensures wrote { AddsBytes (written self.old) (written self.new) (bytes_passed bytes.now result) }
         ensures gave { AddsBytes (given self.old) (given self.new) [] }
-        ensures answered { TellsMore (answers self.old) (answers self.new) (result ∷ []) }
-        ensures no_read { TellsMore (rooms self.old) (rooms self.new) [] };
+        ensures answered { AddsCalls (answers self.old) (answers self.new) (result ∷ []) }
+        ensures no_read { AddsCalls (rooms self.old) (rooms self.new) [] };
 }
 
 /// Readiness of a wire, as far as its owner knows it without a system call. `Tried` implements it for any wire.
@@ -109,13 +109,13 @@ pub trait Door {
 
     /// Returns the next wire, if a peer has opened a connection that was not handed out yet. Never blocks.
     fn next(&mut self) -> Option<Self::Wire>
-        ensures { TellsMore (calls self.old) (calls self.new) (Asked result ∷ []) };
+        ensures { AddsCalls (calls self.old) (calls self.new) (Requested result ∷ []) };
 
     /// Waits until a wire becomes ready, at most as long as `wait` says, and learns which wires are ready. With
     /// `opens`, a peer that opens a connection ends the wait too, and the wait is zero if such a peer is waiting
     /// already.
     fn wait(&mut self, wait: Wait, opens: bool)
-        ensures { TellsMore (calls self.old) (calls self.new) (Waited wait opens ∷ []) };
+        ensures { AddsCalls (calls self.old) (calls self.new) (Waited wait opens ∷ []) };
 
     /// Returns the places of the wires that may have become ready since the last call, and perhaps others. The default
     /// is `None`: any wire may have become ready. While no call names a wire with a place and nobody uses the wire, its
@@ -132,7 +132,7 @@ pub trait Clock {
 
     /// Returns the time, in seconds.
     fn now(&mut self) -> u64
-        ensures { TellsMore (moments self.old) (moments self.new) (result ∷ []) };
+        ensures { AddsCalls (moments self.old) (moments self.new) (result ∷ []) };
 }
 
 /// Clock that may be absent. An absent one always returns 0, and records nothing.
@@ -140,7 +140,7 @@ impl<C: Clock> Clock for Option<C> {
     ghost moments = { λ clock. option_and_then C.moments clock };
 
     fn now(&mut self) -> u64
-        ensures told { TellsMore (option_and_then C.moments self.old)
+        ensures reported { AddsCalls (option_and_then C.moments self.old)
             (option_and_then C.moments self.new) (result ∷ []) }
         ensures absent { self.old ≡ None → result ≡ 0 }
         ensures stays { self.old ≡ None → self.new ≡ None }

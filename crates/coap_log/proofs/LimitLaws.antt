@@ -67,13 +67,13 @@ record BoundAt (second n : ℕ) (l : LineLimit) : Type 0 where
   pub during : l.second ≡ second → n ≤ 100 - l.written
 
 -- The present second after a call is that of the call, or that of before if it has no time.
-seen : (second : ℕ) (l : LineLimit) (call : LimitCall) → IsAt second call
+present_second : (second : ℕ) (l : LineLimit) (call : LimitCall) → IsAt second call
     → ((after_call l call).second ≡ second) ⊎ ((lines_of_call l call ≡ 0) × ((after_call l call).second ≡ l.second))
 unfolding report after_report missed admission after_admission last_report after_end
-seen second l (Admit at) is = inl (grind (arith, nat_tests, is))
-seen second l (Report at) is = inl (grind (arith, nat_tests, is))
-seen second l (End at) is = inl (grind (arith, nat_tests, is))
-seen second l (Miss count) is = inr (refl, refl)
+present_second second l (Admit at) is = inl (grind (arith, nat_tests, is))
+present_second second l (Report at) is = inl (grind (arith, nat_tests, is))
+present_second second l (End at) is = inl (grind (arith, nat_tests, is))
+present_second second l (Miss count) is = inr (refl, refl)
 
 at_step : (second more n : ℕ) (l after : LineLimit) → Step l n after
     → (after.second ≡ second) ⊎ ((n ≡ 0) × (after.second ≡ l.second)) → BoundAt second more after
@@ -93,7 +93,7 @@ unfolding lines_of
 bounded_at second l [] at = record { all = omega arith; during = λ e. omega arith }
 bounded_at second l (call ∷ calls) at =
     at_step second (lines_of (after_call l call) calls) (lines_of_call l call) l (after_call l call) (of_call l call)
-    (seen second l call at.0) (bounded_at second (after_call l call) calls at.1)
+    (present_second second l call at.0) (bounded_at second (after_call l call) calls at.1)
 
 pub limited_at : (second : ℕ) (l : LineLimit) (calls : List LimitCall) → AreAt second calls → lines_of l calls ≤ 100
 limited_at second l calls at = (bounded_at second l calls at).all

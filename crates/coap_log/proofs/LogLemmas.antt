@@ -3,7 +3,7 @@ use Rattle.std.proofs.Common.{◌≡◌, ℕ, List, [], ◌∷◌, ◌++◌, Opt
 use Rattle.std.specs.List.{flat_map}
 use Rattle.std.proofs.lemmas.Grind.{flat_map-append}
 use Rattle.coap_io.specs.Prelude.{AddsBytes}
-use Rattle.coap_io.proofs.streams.DeviceLemmas.{bytes_then, told_then}
+use Rattle.coap_io.proofs.streams.DeviceLemmas.{bytes_then, calls_then}
 use Rattle.coap_log.specs.Writers.{Offer, AddsOffers, bytes_of}
 use Rattle.coap_log.specs.Logs.{IsDated, IsOffered, IsReported, report_text, limit_after}
 use Rattle.coap_log.specs.declared.limit.LineLimit.{LineLimit}
@@ -14,7 +14,7 @@ use Rattle.coap_log.specs.declared.limit.Admission.TheVariants.{AfterReport}
 pub offers_then : (a b c : Option (List Offer)) (x y z : Option (List ℕ)) (ps qs : List Offer) → AddsOffers a b x y ps
     → AddsOffers b c y z qs → AddsOffers a c x z (ps ++ qs)
 offers_then a b c x y z ps qs first second = (
-  told_then a b c ps qs first.0 second.0,
+  calls_then a b c ps qs first.0 second.0,
   subst (AddsBytes x z) (sym (flat_map-append bytes_of ps qs))
       (bytes_then x y z (flat_map bytes_of ps) (flat_map bytes_of qs) first.1 second.1),
 )

@@ -27,7 +27,7 @@ record Follows (v : TapValue) (r : List ℕ) : Type 0 where
   pub whole : v.is_whole ≡ false
   pub live : v.is_silent ≡ false
   pub kept : v.kept ≡ take v.room r
-  pub seen : v.seen ≡ length r
+  pub passed : v.passed ≡ length r
   pub unfinished : prefix_kind M r ≡ Unfinished
 
 -- The tap shows a whole frame.
@@ -36,7 +36,7 @@ record Shows (most : ℕ) (v : TapValue) (frame : List ℕ) : Type 0 where
   pub whole : v.is_whole ≡ true
   pub live : v.is_silent ≡ false
   pub kept : v.kept ≡ take most frame
-  pub seen : v.seen ≡ length frame
+  pub passed : v.passed ≡ length frame
 
 -- The tap shows nothing any more.
 record IsDead (v : TapValue) : Type 0 where
@@ -85,7 +85,7 @@ module _ (v : TapValue) (r piece : List ℕ) (f : Follows v r) where
     whole = f.whole;
     live = f.live;
     kept = kept_after bytes ∙ ap (λ (b : List ℕ). take v.room (r ++ b)) all;
-    seen = omega (arith, f.seen, ap (λ (b : List ℕ). length b) all, length-append r piece);
+    passed = omega (arith, f.passed, ap (λ (b : List ℕ). length b) all, length-append r piece);
     unfinished = u;
   }
 
@@ -94,38 +94,38 @@ module _ (v : TapValue) (r piece : List ℕ) (f : Follows v r) where
 
   -- A frame that goes on past the piece.
   short : (n : ℕ) → declared_of (r ++ piece) ≡ Size n → n ≤ M → length (r ++ piece) < n
-      → IsStep v r piece (min (n - v.seen) (length piece))
-      (ended_at n (with_bytes v (take (min (n - v.seen) (length piece)) piece))) (prefix_kind M (r ++ piece))
+      → IsStep v r piece (min (n - v.passed) (length piece))
+      (ended_at n (with_bytes v (take (min (n - v.passed) (length piece)) piece))) (prefix_kind M (r ++ piece))
   short n e small less =
-      let t = min (n - v.seen) (length piece) in
-      let all : take t piece ≡ piece = all_of t (omega (arith, less, f.seen, length-append r piece)) in
+      let t = min (n - v.passed) (length piece) in
+      let all : take t piece ≡ piece = all_of t (omega (arith, less, f.passed, length-append r piece)) in
       let u = begin_short M (r ++ piece) n e small less in
       let next = goes_on (take t piece) all u in
-      let seen : v.seen + length (take t piece) < n = omega (arith, less, next.seen) in
+      let passed : v.passed + length (take t piece) < n = omega (arith, less, next.passed) in
       let not_yet : ended_at n (with_bytes v (take t piece)) ≡ with_bytes v (take t piece) =
-      cond-false _ _ _ (ne_eqb (v.seen + length (take t piece)) n (λ same. absurd (omega (arith, same, seen)))) in
+      cond-false _ _ _ (ne_eqb (v.passed + length (take t piece)) n (λ same. absurd (omega (arith, same, passed)))) in
       subst (IsStep v r piece t (ended_at n (with_bytes v (take t piece)))) (sym u)
       (subst (λ (a : TapValue). IsStep v r piece t a Unfinished) (sym not_yet) (all, next, refl))
 
   -- A frame that ends within the piece.
   long : (n : ℕ) → declared_of (r ++ piece) ≡ Size n → n ≤ M → n ≤ length (r ++ piece)
-      → IsStep v r piece (min (n - v.seen) (length piece))
-      (ended_at n (with_bytes v (take (min (n - v.seen) (length piece)) piece))) (prefix_kind M (r ++ piece))
+      → IsStep v r piece (min (n - v.passed) (length piece))
+      (ended_at n (with_bytes v (take (min (n - v.passed) (length piece)) piece))) (prefix_kind M (r ++ piece))
   long n e small enough =
-      let t = min (n - v.seen) (length piece) in
+      let t = min (n - v.passed) (length piece) in
       let w = begin_whole M (r ++ piece) n e small enough in
       let size : length (take n (r ++ piece)) ≡ n = omega (arith, enough, length-take n (r ++ piece)) in
       let some : length r ≤ n =
       omega (arith, size, within_frame r piece (take n (r ++ piece)) (drop n (r ++ piece)) f.unfinished w) in
-      let count : t ≡ n - length r = omega (arith, f.seen, enough, length-append r piece) in
+      let count : t ≡ n - length r = omega (arith, f.passed, enough, length-append r piece) in
       let frame : r ++ take t piece ≡ take n (r ++ piece) =
       ap (λ (k : ℕ). r ++ take k piece) count ∙ sym (filled n r piece some) in
       let taken : length (take t piece) ≡ n - length r =
       omega (arith, count, enough, length-append r piece, length-take t piece) in
-      let seen : v.seen + length (take t piece) ≡ n = omega (arith, f.seen, taken, some) in
+      let passed : v.passed + length (take t piece) ≡ n = omega (arith, f.passed, taken, some) in
       let ended : ended_at n (with_bytes v (take t piece))
       ≡ record (with_bytes v (take t piece)) { is_whole = true; messages = counted v.messages 1 } =
-      cond-true _ _ _ (eq-eqb (v.seen + length (take t piece)) n seen) in
+      cond-true _ _ _ (eq-eqb (v.passed + length (take t piece)) n passed) in
       subst (IsStep v r piece t (ended_at n (with_bytes v (take t piece)))) (sym w)
       (subst (λ (a : TapValue). IsStep v r piece t a (Whole (take n (r ++ piece)) (drop n (r ++ piece)))) (sym ended) (
         frame,
@@ -134,7 +134,7 @@ module _ (v : TapValue) (r piece : List ℕ) (f : Follows v r) where
           whole = refl;
           live = f.live;
           kept = kept_after (take t piece) ∙ ap (take v.room) frame;
-          seen = seen ∙ sym size;
+          passed = passed ∙ sym size;
         },
       ))
 
@@ -149,19 +149,20 @@ module _ (v : TapValue) (r piece : List ℕ) (f : Follows v r) where
             subst (IsStep v r piece _ _) (sym (begin_too_large M (r ++ piece) n e large))
             (all_of (taken_at v piece (Size n)) (omega (arith, t)), subst IsDead (sym after) dies)
         | inr small ↦
-            let t : taken_at v piece (Size n) ≡ min (n - v.seen) (length piece) = cond-false _ _ _ (le-ltb M n small) in
+            let t : taken_at v piece (Size n) ≡ min (n - v.passed) (length piece) = cond-false _ _ _ (le-ltb M n small)
+            in
             let after : (k : ℕ) → followed_at v (take k piece) (Size n) ≡ ended_at n (with_bytes v (take k piece)) =
             λ k. cond-false _ _ _ (le-ltb M n small) in
-            let at : IsStep v r piece (min (n - v.seen) (length piece))
-            (ended_at n (with_bytes v (take (min (n - v.seen) (length piece)) piece))) (prefix_kind M (r ++ piece)) =
+            let at : IsStep v r piece (min (n - v.passed) (length piece))
+            (ended_at n (with_bytes v (take (min (n - v.passed) (length piece)) piece))) (prefix_kind M (r ++ piece)) =
             elim (cases_lt (length (r ++ piece)) n) [
               | inl less ↦ short n e small less
               | inr enough ↦ long n e small enough
             ] in
             subst (λ (k : ℕ). IsStep v r piece k (followed_at v (take k piece) (Size n)) (prefix_kind M (r ++ piece)))
             (sym t)
-            (subst (λ (a : TapValue). IsStep v r piece (min (n - v.seen) (length piece)) a (prefix_kind M (r ++ piece)))
-            (sym (after (min (n - v.seen) (length piece)))) at)
+            (subst (λ (a : TapValue). IsStep v r piece (min (n - v.passed) (length piece)) a
+            (prefix_kind M (r ++ piece))) (sym (after (min (n - v.passed) (length piece)))) at)
       ]
 
   step_at : (d : Declared) → declared_of (r ++ piece) ≡ d → IsStep v r piece (taken_at v piece d)
@@ -193,8 +194,8 @@ abbrev sizes : ℕ → ℕ
 sizes = constant_size M
 
 -- The glimpses of the frames of a stream.
-abbrev seen_of : ℕ → List ℕ → List Glimpse
-seen_of room s = map (glimpse room) (sized_frames sizes s).frames
+abbrev glimpses_of : ℕ → List ℕ → List Glimpse
+glimpses_of room s = map (glimpse room) (sized_frames sizes s).frames
 
 -- A tap without a whole frame has nothing to discard.
 clean : (v : TapValue) → v.is_whole ≡ false → begun v ≡ v
@@ -203,13 +204,20 @@ clean v none = cond-false v.is_whole _ _ none
 counted_follows : (v : TapValue) (r : List ℕ) (n : ℕ) → Follows v r → Follows (begun (record v { bytes = n })) r
 counted_follows v r n f =
     subst (λ (w : TapValue). Follows w r) (sym (clean (record v { bytes = n }) f.whole))
-    (record { room = f.room; whole = f.whole; live = f.live; kept = f.kept; seen = f.seen; unfinished = f.unfinished })
+    (record {
+      room = f.room;
+      whole = f.whole;
+      live = f.live;
+      kept = f.kept;
+      passed = f.passed;
+      unfinished = f.unfinished;
+    })
 
 -- After a whole frame, the next one begins.
 next_follows : (room : ℕ) (v : TapValue) (frame : List ℕ) (n : ℕ) → 8 ≤ room → Shows room v frame
     → Follows (begun (record v { bytes = n })) []
 next_follows room v frame n long s =
-    let is : begun (record v { bytes = n }) ≡ record v { kept = []; seen = 0; is_whole = false; bytes = n } =
+    let is : begun (record v { bytes = n }) ≡ record v { kept = []; passed = 0; is_whole = false; bytes = n } =
     cond-true v.is_whole _ _ s.whole in
     subst (λ (w : TapValue). Follows w []) (sym is)
     (record {
@@ -217,12 +225,12 @@ next_follows room v frame n long s =
       whole = refl;
       live = s.live;
       kept = sym (take_all v.room [] (omega arith));
-      seen = refl;
+      passed = refl;
       unfinished = unfinished_empty M;
     })
 
 room_at : (whole : Bool) (v : TapValue)
-    → (if whole then record v { kept = []; seen = 0; is_whole = false } else v).room ≡ v.room
+    → (if whole then record v { kept = []; passed = 0; is_whole = false } else v).room ≡ v.room
 room_at true v = refl
 room_at false v = refl
 
@@ -251,19 +259,19 @@ dead_output v (p ∷ ps) d =
 module _ (room : ℕ) (v : TapValue) (r p : List ℕ) (n : ℕ) (others : TapOutput) (t : ℕ) (a : TapValue)
     (long : 8 ≤ room) (fits : v.room ≡ room)
     (again : (s : List ℕ) → (begun (record a { bytes = n })).room ≡ room → Follows (begun (record a { bytes = n })) s
-    → others.frames ≡ seen_of room (s ++ others.taken))
+    → others.frames ≡ glimpses_of room (s ++ others.taken))
     (none : IsDead a → others.frames ≡ []) where
   abbrev now : TapValue
   now = record a { bytes = n }
 
   by_step : (b : StreamPrefix) → prefix_kind M (r ++ p) ≡ b → IsStep v r p t a b
-      → (output_then (take t p) now others).frames ≡ seen_of room (r ++ (take t p ++ others.taken))
+      → (output_then (take t p) now others).frames ≡ glimpses_of room (r ++ (take t p ++ others.taken))
   by_step Unfinished e s =
       let next = counted_follows a (r ++ p) n s.1 in
       let bytes : r ++ (take t p ++ others.taken) ≡ (r ++ p) ++ others.taken =
       ap (λ (l : List ℕ). r ++ (l ++ others.taken)) s.0 ∙ sym (append_assoc r p others.taken) in
       cond-false a.is_whole _ _ s.1.whole ∙ again (r ++ p) (room_begun now ∙ s.2 ∙ fits) next
-      ∙ ap (seen_of room) (sym bytes)
+      ∙ ap (glimpses_of room) (sym bytes)
   by_step (Whole frame rest) e s =
       let is : Shows room a frame = subst (λ (k : ℕ). Shows k a frame) fits s.1 in
       let next = next_follows room a frame n long is in
@@ -271,25 +279,25 @@ module _ (room : ℕ) (v : TapValue) (r p : List ℕ) (n : ℕ) (others : TapOut
       sym (append_assoc r (take t p) others.taken) ∙ ap (λ (l : List ℕ). l ++ others.taken) s.0 in
       let whole : prefix_kind M (frame ++ others.taken) ≡ Whole frame others.taken =
       whole_more M frame others.taken frame [] (whole_itself M (r ++ p) frame rest e) in
-      let found : seen_of room (frame ++ others.taken) ≡ glimpse room frame ∷ seen_of room others.taken =
+      let found : glimpses_of room (frame ++ others.taken) ≡ glimpse room frame ∷ glimpses_of room others.taken =
       ap (λ (f : Frames). map (glimpse room) f.frames)
       (frames_whole sizes (frame ++ others.taken) frame others.taken whole) in
-      let shown : record { head = a.kept; size = a.seen } ≡ glimpse room frame =
-      ap (λ (k : List ℕ). record { head = k; size = a.seen }) is.kept
-      ∙ ap (λ (k : ℕ). record { head = take room frame; size = k }) is.seen in
+      let shown : record { head = a.kept; size = a.passed } ≡ glimpse room frame =
+      ap (λ (k : List ℕ). record { head = k; size = a.passed }) is.kept
+      ∙ ap (λ (k : ℕ). record { head = take room frame; size = k }) is.passed in
       cond-true a.is_whole _ _ is.whole
       ∙ ap (λ (g : Glimpse). g ∷ others.frames) shown
       ∙ ap (λ (l : List Glimpse). glimpse room frame ∷ l) (again [] (room_begun now ∙ is.room) next)
-      ∙ sym found ∙ ap (seen_of room) (sym bytes)
+      ∙ sym found ∙ ap (glimpses_of room) (sym bytes)
   by_step (Faulty fault) e s =
       let bytes : r ++ (take t p ++ others.taken) ≡ (r ++ p) ++ others.taken =
       ap (λ (l : List ℕ). r ++ (l ++ others.taken)) s.0 ∙ sym (append_assoc r p others.taken) in
-      let ends : seen_of room ((r ++ p) ++ others.taken) ≡ [] = ap (λ (f : Frames). map (glimpse room) f.frames)
+      let ends : glimpses_of room ((r ++ p) ++ others.taken) ≡ [] = ap (λ (f : Frames). map (glimpse room) f.frames)
       (frames_faulty sizes ((r ++ p) ++ others.taken) fault (faulty_more M (r ++ p) others.taken fault e)) in
-      cond-false a.is_whole _ _ s.1.whole ∙ none s.1 ∙ sym ends ∙ ap (seen_of room) (sym bytes)
+      cond-false a.is_whole _ _ s.1.whole ∙ none s.1 ∙ sym ends ∙ ap (glimpses_of room) (sym bytes)
 
 shown : (room : ℕ) (v : TapValue) (pieces : List (List ℕ)) (r : List ℕ) → 8 ≤ room → (begun v).room ≡ room
-    → Follows (begun v) r → (output_of v pieces).frames ≡ seen_of room (r ++ (output_of v pieces).taken)
+    → Follows (begun v) r → (output_of v pieces).frames ≡ glimpses_of room (r ++ (output_of v pieces).taken)
 unfolding output_of
 shown room v [] r long fits f =
     sym (ap (λ (f : Frames). map (glimpse room) f.frames)
@@ -312,7 +320,7 @@ new_tap_shows room pieces long =
       whole = refl;
       live = refl;
       kept = sym (take_all room [] (omega arith));
-      seen = refl;
+      passed = refl;
       unfinished = unfinished_empty M;
     })
 
@@ -375,8 +383,8 @@ takes_at v r piece (Size n) f e some =
           let t : taken_at v piece (Size n) ≡ length piece = cond-true _ _ _ (lt-ltb M n large) in
           omega (arith, t, some)
       | inr small ↦
-          let t : taken_at v piece (Size n) ≡ min (n - v.seen) (length piece) = cond-false _ _ _ (le-ltb M n small) in
-          omega (arith, t, some, missing r piece n f.unfinished e small, f.seen)
+          let t : taken_at v piece (Size n) ≡ min (n - v.passed) (length piece) = cond-false _ _ _ (le-ltb M n small) in
+          omega (arith, t, some, missing r piece n f.unfinished e small, f.passed)
     ]
 
 takes : (room : ℕ) (v : TapValue) (piece : List ℕ) → IsReached room v → 1 ≤ length piece → 1 ≤ taken v piece
@@ -405,7 +413,7 @@ takes_a_byte room pieces piece long some =
         whole = refl;
         live = refl;
         kept = sym (take_all room [] (omega arith));
-        seen = refl;
+        passed = refl;
         unfinished = unfinished_empty M;
       },
       refl,

@@ -59,7 +59,7 @@ declared_kept n r s long =
     sym (declared_by_head n (take n r ++ s) long) ∙ ap declared_of (cut_twice n r s) ∙ declared_by_head n (r ++ s) long
 
 -- If no size is declared yet, all bytes of the frame are kept, and there are fewer than eight.
-pub unknown_few : (room seen : ℕ) (kept piece : List ℕ) → 8 ≤ room → length kept ≡ min room seen
-    → declared_of (kept ++ piece) ≡ Unknown → seen + length piece < 8
-unknown_few room seen kept piece long len e =
+pub unknown_few : (room passed : ℕ) (kept piece : List ℕ) → 8 ≤ room → length kept ≡ min room passed
+    → declared_of (kept ++ piece) ≡ Unknown → passed + length piece < 8
+unknown_few room passed kept piece long len e =
     omega (arith, unknown_small (kept ++ piece) e, length-append kept piece, len)

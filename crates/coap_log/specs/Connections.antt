@@ -55,7 +55,7 @@ LogsLast text before after =
 
 -- The text of the present message of a tap.
 abbrev pub tap_text : TapValue → List ℕ
-tap_text tap = head_text (take DESCRIBED tap.kept) tap.seen
+tap_text tap = head_text (take DESCRIBED tap.kept) tap.passed
 
 -- The line of the present message of a tap, after other text.
 abbrev pub message_line : List ℕ → TapValue → List ℕ

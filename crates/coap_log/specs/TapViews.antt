@@ -8,7 +8,7 @@ abbrev pub tap_value : Inside → TapValue
 tap_value t = record {
   room = t.room;
   kept = t.kept.items;
-  seen = t.seen;
+  passed = t.passed;
   is_whole = t.is_whole;
   is_silent = t.is_silent;
   messages = t.messages;

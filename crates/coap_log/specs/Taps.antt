@@ -8,11 +8,11 @@ use Rattle.coap_wire.specs.declared.declaration.Declared.{Declared}
 use Rattle.coap_wire.specs.declared.declaration.Declared.TheVariants.{Unknown, Size, BadToken}
 
 -- The model value of a tap. `room` is the number of bytes that it keeps of a frame. `kept` are these first bytes of the
--- present frame, of which `seen` bytes passed. `messages` and `bytes` count what passed.
+-- present frame, of which `passed` bytes passed. `messages` and `bytes` count what passed.
 pub record TapValue : Type 0 where
   pub room : ℕ
   pub kept : List ℕ
-  pub seen : ℕ
+  pub passed : ℕ
   pub is_whole : Bool
   pub is_silent : Bool
   pub messages : ℕ
@@ -21,15 +21,15 @@ pub record TapValue : Type 0 where
 -- The invariant of a tap. The first eight bytes of a frame declare its size, so they are always kept.
 pub record IsTap (v : TapValue) : Type 0 where
   pub room : 8 ≤ v.room
-  pub kept : length v.kept ≡ min v.room v.seen
-  pub seen : v.seen ≤ LARGEST_MESSAGE
+  pub kept : length v.kept ≡ min v.room v.passed
+  pub passed : v.passed ≤ LARGEST_MESSAGE
 
 -- A tap before the first byte.
 abbrev pub new_tap : ℕ → TapValue
 new_tap room = record {
   room = room;
   kept = [];
-  seen = 0;
+  passed = 0;
   is_whole = false;
   is_silent = false;
   messages = 0;
@@ -42,15 +42,15 @@ counted count more = min (count + more) (2 ^ 64 - 1)
 
 -- The tap before the next byte: a whole frame is discarded.
 abbrev pub begun : TapValue → TapValue
-begun v = if v.is_whole then record v { kept = []; seen = 0; is_whole = false } else v
+begun v = if v.is_whole then record v { kept = []; passed = 0; is_whole = false } else v
 
 -- The tap after these bytes of its frame.
 abbrev pub with_bytes : TapValue → List ℕ → TapValue
-with_bytes v bytes = record v { kept = take v.room (v.kept ++ bytes); seen = v.seen + length bytes }
+with_bytes v bytes = record v { kept = take v.room (v.kept ++ bytes); passed = v.passed + length bytes }
 
 -- The tap after bytes of a frame of this size.
 abbrev pub ended_at : ℕ → TapValue → TapValue
-ended_at size v = if v.seen == size then record v { is_whole = true; messages = counted v.messages 1 } else v
+ended_at size v = if v.passed == size then record v { is_whole = true; messages = counted v.messages 1 } else v
 
 -- The tap after malformed input.
 abbrev pub silenced : TapValue → TapValue
@@ -60,7 +60,8 @@ silenced v = record v { is_silent = true }
 abbrev pub taken_at : TapValue → List ℕ → Declared → ℕ
 taken_at v piece Unknown = length piece
 taken_at v piece BadToken = length piece
-taken_at v piece (Size size) = if nat_lt LARGEST_MESSAGE size then length piece else min (size - v.seen) (length piece)
+taken_at v piece (Size size) = if nat_lt LARGEST_MESSAGE size then length piece else min (size - v.passed)
+    (length piece)
 
 -- The tap after these bytes of a piece, apart from the count of bytes, if its frame declares this.
 abbrev pub followed_at : TapValue → List ℕ → Declared → TapValue
@@ -110,7 +111,7 @@ pub record TapOutput : Type 0 where
 abbrev pub output_then : List ℕ → TapValue → TapOutput → TapOutput
 output_then bytes now others = record {
   taken = bytes ++ others.taken;
-  frames = if now.is_whole then record { head = now.kept; size = now.seen } ∷ others.frames else others.frames;
+  frames = if now.is_whole then record { head = now.kept; size = now.passed } ∷ others.frames else others.frames;
 }
 
 -- The output of a tap for these pieces.

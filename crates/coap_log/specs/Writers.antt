@@ -1,7 +1,7 @@
 -- Defined by this project: lines offered to a writer.
 use Rattle.std.specs.Prelude.{ℕ, Bool, List, [], ◌∷◌, ◌++◌, Option, option_map, if◌then◌else◌}
 use Rattle.std.specs.List.{flat_map}
-use Rattle.coap_io.specs.Prelude.{AddsBytes, TellsMore}
+use Rattle.coap_io.specs.Prelude.{AddsBytes, AddsCalls}
 
 -- A line that was offered to a writer, and whether the writer accepted it.
 pub record Offer : Type 0 where
@@ -21,7 +21,7 @@ bytes_of offer = if offer.accepted then ended offer.line else []
 abbrev pub AddsOffers : Option (List Offer) → Option (List Offer) → Option (List ℕ)
     → Option (List ℕ) → List Offer → Type 0
 AddsOffers offered now_offered accepted now_accepted offers =
-    TellsMore offered now_offered offers × AddsBytes accepted now_accepted (flat_map bytes_of offers)
+    AddsCalls offered now_offered offers × AddsBytes accepted now_accepted (flat_map bytes_of offers)
 
 -- The bytes accepted by a writer to an outlet: those written to the outlet, followed by the rest of the last line. None
 -- if the outlet records no bytes.

@@ -1,7 +1,7 @@
 //! `LoggedWire`, a wire whose messages are written to a log.
 
 ghost use Rattle.std.specs.Prelude.{◌≡◌, ◌≤◌, ◌++◌, ℕ, IfOk, [], ◌∷◌, true, length, codes};
-ghost use Rattle.coap_io.specs.Prelude.{AddsBytes, TellsMore, IsWithin, bytes_passed};
+ghost use Rattle.coap_io.specs.Prelude.{AddsBytes, AddsCalls, IsWithin, bytes_passed};
 ghost use Rattle.coap_io.specs.streams.Wires.{write_outcome};
 ghost use Rattle.coap_print.specs.Texts.{is_text};
 ghost use Rattle.coap_print.specs.Lines.{appended};
@@ -122,8 +122,8 @@ impl<'a, W: Wire, L: LogWriter, C: time::Clock> Wire for LoggedWire<'a, W, L, C>
         ensures within { IsWithin (length buffer.new) result }
         ensures gave { AddsBytes (W.given self.old.wire) (W.given self.new.wire) (bytes_passed buffer.new result) }
         ensures wrote { AddsBytes (W.written self.old.wire) (W.written self.new.wire) [] }
-        ensures answered { TellsMore (W.answers self.old.wire) (W.answers self.new.wire) (result ∷ []) }
-        ensures had_room { TellsMore (W.rooms self.old.wire) (W.rooms self.new.wire) (length buffer.new ∷ []) }
+        ensures answered { AddsCalls (W.answers self.old.wire) (W.answers self.new.wire) (result ∷ []) }
+        ensures had_room { AddsCalls (W.rooms self.old.wire) (W.rooms self.new.wire) (length buffer.new ∷ []) }
         // A failure is logged, and so are the messages that end with the bytes read.
         ensures logged { LogsResult self.old.number (codes " in: ") result buffer.new
             self.old.incoming self.new.incoming
@@ -151,8 +151,8 @@ impl<'a, W: Wire, L: LogWriter, C: time::Clock> Wire for LoggedWire<'a, W, L, C>
         ensures wrote { AddsBytes (W.written self.old.wire) (W.written self.new.wire)
             (bytes_passed bytes.now result) }
         ensures gave { AddsBytes (W.given self.old.wire) (W.given self.new.wire) [] }
-        ensures answered { TellsMore (W.answers self.old.wire) (W.answers self.new.wire) (result ∷ []) }
-        ensures no_read { TellsMore (W.rooms self.old.wire) (W.rooms self.new.wire) [] }
+        ensures answered { AddsCalls (W.answers self.old.wire) (W.answers self.new.wire) (result ∷ []) }
+        ensures no_read { AddsCalls (W.rooms self.old.wire) (W.rooms self.new.wire) [] }
         // A failure is logged, and so are the messages that end with the bytes written.
         ensures logged { LogsResult self.old.number (codes " out: ") (write_outcome result) bytes.now
             self.old.outgoing self.new.outgoing

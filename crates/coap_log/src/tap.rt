@@ -27,7 +27,7 @@ const HEAD: usize = 8;
 pub struct Tap {
     room: usize,
     kept: Vec<u8>,
-    seen: u64,
+    passed: u64,
     is_whole: bool,
     is_silent: bool,
     messages: u64,
@@ -64,7 +64,7 @@ impl Tap {
         Ok(Tap {
             room,
             kept: Vec::with_capacity(alloc, room)?,
-            seen: 0,
+            passed: 0,
             is_whole: false,
             is_silent: false,
             messages: 0,
@@ -103,9 +103,9 @@ impl Tap {
 
     /// Returns the number of bytes taken of the present message. After its last byte, this is its size.
     pub fn size(&self) -> u64
-        ensures { result ≡ self.now.seen }
+        ensures { result ≡ self.now.passed }
     {
-        self.seen
+        self.passed
     }
 
     /// Returns the number of whole messages so far. It saturates at the maximum of `u64`.
@@ -128,7 +128,7 @@ impl Tap {
     {
         if self.is_whole {
             self.kept.clear();
-            self.seen = 0;
+            self.passed = 0;
             self.is_whole = false;
         }
     }
@@ -175,14 +175,14 @@ impl Tap {
     /// Takes bytes up to the end of a message of this size.
     fn follow_to(&mut self, size: u64, piece: &[u8]) -> usize
         requires { size ≤ LARGEST_MESSAGE }
-        ensures taken { result ≡ min (size - self.old.seen) (length piece.now) }
+        ensures taken { result ≡ min (size - self.old.passed) (length piece.now) }
         ensures after { self.new ≡ spec.ended_at size (spec.with_bytes self.old (take result piece.now)) }
         ensures within { result ≤ length piece.now }
     {
-        let missing = size.saturating_sub(self.seen);
+        let missing = size.saturating_sub(self.passed);
         let taken = missing.min(piece.len() as u64) as usize;
         self.append(&piece[..taken]);
-        if self.seen == size {
+        if self.passed == size {
             self.is_whole = true;
             self.messages = self.messages.saturating_add(1);
         }
@@ -191,12 +191,12 @@ impl Tap {
 
     /// Counts bytes of the present message, and keeps those for which there is room.
     fn append(&mut self, bytes: &[u8])
-        requires { self.old.seen + length bytes.now ≤ LARGEST_MESSAGE }
+        requires { self.old.passed + length bytes.now ≤ LARGEST_MESSAGE }
         ensures { self.new ≡ spec.with_bytes self.old bytes.now }
     {
         let room = self.room - self.kept.len();
         append_first(&mut self.kept, room, bytes);
-        self.seen += bytes.len() as u64;
+        self.passed += bytes.len() as u64;
     }
 }
 

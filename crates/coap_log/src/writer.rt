@@ -2,7 +2,7 @@
 
 ghost use Rattle.std.specs.Prelude.{◌≡◌, ◌≤◌, ◌++◌, ℕ, List, [], ◌∷◌, length, take, drop, Bool, Option, None, true};
 ghost use Rattle.std.specs.Prelude.{false};
-ghost use Rattle.coap_io.specs.Prelude.{AddsBytes, TellsMore};
+ghost use Rattle.coap_io.specs.Prelude.{AddsBytes, AddsCalls};
 ghost use Rattle.coap_log.specs.Writers.{Offer, bytes_of, ended, with_rest};
 
 use arrayvec::ArrayVec;
@@ -29,7 +29,7 @@ pub trait LogWriter {
     /// Writes a line and a newline, and returns `true`. Returns `false` if the line cannot be written now or fails:
     /// then none of its bytes is written.
     fn write(&mut self, line: &Line) -> bool
-        ensures offered { TellsMore (offers self.old) (offers self.new)
+        ensures offered { AddsCalls (offers self.old) (offers self.new)
             (record { line = line.now; accepted = result } ∷ []) }
         ensures bytes { AddsBytes (accepted self.old) (accepted self.new)
             (bytes_of (record { line = line.now; accepted = result })) }
@@ -37,7 +37,7 @@ pub trait LogWriter {
 
     /// Writes what is left of the last line that was accepted, as far as it can be written now.
     fn flush(&mut self)
-        ensures offered { TellsMore (offers self.old) (offers self.new) [] }
+        ensures offered { AddsCalls (offers self.old) (offers self.new) [] }
         ensures bytes { AddsBytes (accepted self.old) (accepted self.new) [] }
         ensures works { is_failed self.new ≡ false → left self.new ≡ [] };
 }

@@ -15,10 +15,11 @@ pub use Rattle.coap_wire.specs.Codes.{class_of}
 pub use Rattle.coap_wire.specs.Frames.{constant_size, sizes_first}
 pub use Rattle.coap_wire.specs.Message.{Message, CoapOption}
 unfoldable pub use Rattle.coap_wire.specs.Reading.{message_of}
-unfoldable pub use Rattle.coap_wire.specs.Recognition.{first_critical_behind, is_recognised, kind_of, known_behind}
+unfoldable pub use Rattle.coap_wire.specs.Recognition.{first_critical_given, is_recognised, kind_of, known_given}
 pub use Rattle.coap_wire.specs.Refusal.{RefusedBy}
 unfoldable pub use Rattle.coap_wire.specs.Spelling.{spelling}
-pub use Rattle.coap_wire.specs.Stream.{StreamFault, Format, OfFrame, Stream, behind, frame_then, continued, split_on}
+pub use Rattle.coap_wire.specs.Stream.{StreamFault, Format, OfFrame, Stream, stream_after, frame_then, continued}
+pub use Rattle.coap_wire.specs.Stream.{split_on}
 unfoldable pub use Rattle.coap_wire.specs.Stream.{sized_split, split}
 pub use Rattle.coap_wire.specs.declared.fault.FormatFault.{FormatFault}
 pub use Rattle.coap_wire.specs.declared.fault.FrameFault.{FrameFault}
@@ -29,14 +30,14 @@ pub use Rattle.coap_wire.specs.declared.sizes.TheConstants.{LARGEST_MESSAGE}
 -- ---- coap_conn
 pub use Rattle.coap_conn.specs.Announced.{announcement, bad_csm_option, csm_size, size_limit, size_unless}
 unfoldable pub use Rattle.coap_conn.specs.Announced.{announced}
-pub use Rattle.coap_conn.specs.Calls.{standing_due, standing_without, end_reason, Call, call_effect, may_announce}
+pub use Rattle.coap_conn.specs.Calls.{state_due, state_without, end_reason, Call, call_effect, may_announce}
 pub use Rattle.coap_conn.specs.Calls.{release}
 pub use Rattle.coap_conn.specs.Fit.{AllFit, bare_response, fit, bare_code, fits}
 pub use Rattle.coap_conn.specs.PendingEntries.{PendingEntryValue, Answer, Pong, NothingIsDue, answer_index, due_moment}
 pub use Rattle.coap_conn.specs.PendingEntries.{else_index}
-pub use Rattle.coap_conn.specs.PendingEntries.{held_at, pong_index}
+pub use Rattle.coap_conn.specs.PendingEntries.{entry_at, pong_index}
 unfoldable pub use Rattle.coap_conn.specs.PendingEntries.{first_due, without_due, due_index}
-pub use Rattle.coap_conn.specs.History.{limit_now, standing_now, after, History, IsHistory, link_of, may_hold}
+pub use Rattle.coap_conn.specs.History.{limit_now, state_now, after, History, IsHistory, link_of, may_hold}
 pub use Rattle.coap_conn.specs.History.{new_history, with_effect}
 pub use Rattle.coap_conn.specs.Limits.{LimitValues, AreInRange}
 pub use Rattle.coap_conn.specs.LinkValue.{limit_in, LinkValue, bytes_of, free_in, own_csm}
@@ -76,7 +77,7 @@ unfoldable pub use Rattle.coap_path.specs.Applications.{is_answered}
 -- ---- coap_store
 pub use Rattle.coap_store.specs.Answer.{changed, Change, Delete, Nothing, Put, Response, content, deletion, etag_at}
 pub use Rattle.coap_store.specs.Answer.{with_observe_rule, delayed_response, is_among, only, read_answer, removes_watch}
-pub use Rattle.coap_store.specs.Answer.{stored_under, unheld_by, valid}
+pub use Rattle.coap_store.specs.Answer.{stored_under, without_hold_if, valid}
 unfoldable pub use Rattle.coap_store.specs.Answer.{answer_of, answer_at, get_answer, method_answer, immediate_answer}
 unfoldable pub use Rattle.coap_store.specs.Answer.{resource_answer, store_answer}
 pub use Rattle.coap_store.specs.Answer.{says}
@@ -105,15 +106,16 @@ pub use Rattle.coap_model.specs.views.ConfigViews.{start_values}
 -- ---- coap_model, world
 pub use Rattle.coap_model.specs.world.PongOrder.{FollowsAnswers, HasResponse}
 unfoldable pub use Rattle.coap_model.specs.world.PongOrder.{HaveDistinctAnswers}
-pub use Rattle.coap_model.specs.world.Custody.{QueuesCustody, IsFirstHeld, KeepsPending, KeepsPendingOver, AddsAsked}
+pub use Rattle.coap_model.specs.world.Custody.{QueuesCustody, IsFirstPending, KeepsPending, KeepsPendingOver}
+pub use Rattle.coap_model.specs.world.Custody.{AddsRequested}
 pub use Rattle.coap_model.specs.world.Custody.{asks_pending, asks_pong, asks_delayed, KeepsBut}
 unfoldable pub use Rattle.coap_model.specs.world.Custody.{CorrespondTo}
 pub use Rattle.coap_model.specs.world.Events.{AcceptedCall, Ticked, Stored, Removed, Opened, Ended, Took, stream_on}
 pub use Rattle.coap_model.specs.world.Events.{AreAccepted, Wrote, Released, Announced, Responded, Dropped, IfSide}
 pub use Rattle.coap_model.specs.world.Events.{OnSide}
 pub use Rattle.coap_model.specs.world.Events.{beyond, new_fault, size_by, spelled_on, taken_in, takes_of}
-unfoldable pub use Rattle.coap_model.specs.world.Events.{size_on, steps_of, world_after, takes, AreAcceptedBehind}
-unfoldable pub use Rattle.coap_model.specs.world.Events.{IsAccepted, sizes_on, steps_behind, steps_by, taken_on}
+unfoldable pub use Rattle.coap_model.specs.world.Events.{size_on, steps_of, world_after, takes, AreAcceptedAfter}
+unfoldable pub use Rattle.coap_model.specs.world.Events.{IsAccepted, sizes_on, later_steps, steps_by, taken_on}
 pub use Rattle.coap_model.specs.world.Fates.{Fate, Unanswered, Answered, ApplicationRequest, is_for_application}
 pub use Rattle.coap_model.specs.world.Fates.{asks_with}
 pub use Rattle.coap_model.specs.world.Fates.{awaits, is_unanswered, messages_of, entry_of, is_of_application}
@@ -130,14 +132,15 @@ unfoldable pub use Rattle.coap_model.specs.world.Fates.{requests_within, request
 unfoldable pub use Rattle.coap_model.specs.world.Fates.{requests_then}
 unfoldable pub use Rattle.coap_model.specs.world.Fates.{requests_by, requests_on}
 pub use Rattle.coap_model.specs.world.EndOfInput.{normalised_step, takes_input}
-unfoldable pub use Rattle.coap_model.specs.world.EndOfInput.{normalised_steps, heard_steps}
+unfoldable pub use Rattle.coap_model.specs.world.EndOfInput.{normalised_steps, received_steps}
 pub use Rattle.coap_model.specs.world.Observers.{asks_entry, is_whole, Observer, entry_for, format_of, goes_on}
 pub use Rattle.coap_model.specs.world.Observers.{has_place, left_of, notification, notification_message, same_state}
 pub use Rattle.coap_model.specs.world.Observers.{with_entry}
 unfoldable pub use Rattle.coap_model.specs.world.Observers.{first_becomes, is_due, without_token}
-pub use Rattle.coap_model.specs.world.Connections.{Connection, waiting_on, IsUpToDate, handles, asks_answer, held_for}
+pub use Rattle.coap_model.specs.world.Connections.{Connection, waiting_on, IsUpToDate, handles, asks_answer, delay_for}
 pub use Rattle.coap_model.specs.world.Connections.{moment_after, Delay, delay_by, delay_or, delay_of, hold_call}
-pub use Rattle.coap_model.specs.world.Connections.{late_response, held_message, next_held, is_cut, after_sent, has_room}
+pub use Rattle.coap_model.specs.world.Connections.{late_response, late_message, next_pending, is_cut, after_sent}
+pub use Rattle.coap_model.specs.world.Connections.{has_room}
 pub use Rattle.coap_model.specs.world.Connections.{kept_open}
 pub use Rattle.coap_model.specs.world.Connections.{may_raise, new_side, next_due, notified, settled_so, side_answered}
 pub use Rattle.coap_model.specs.world.Connections.{side_handled, side_replied, side_with, with_history, kept_on}
@@ -145,15 +148,16 @@ unfoldable pub use Rattle.coap_model.specs.world.Connections.{side_after, side_f
 unfoldable pub use Rattle.coap_model.specs.world.Connections.{side_released, side_announced, settled_once, change_after}
 unfoldable pub use Rattle.coap_model.specs.world.Connections.{side_responded}
 unfoldable pub use Rattle.coap_model.specs.world.Connections.{settled, settled_within}
-pub use Rattle.coap_model.specs.world.LastNotification.{IsLastNotification, TokensAreDistinct, asked_late, ReportsState}
+pub use Rattle.coap_model.specs.world.LastNotification.{IsLastNotification, TokensAreDistinct, requested_late}
+pub use Rattle.coap_model.specs.world.LastNotification.{ReportsState}
 pub use Rattle.coap_model.specs.world.LastNotification.{asks_late}
 pub use Rattle.coap_model.specs.world.LastNotification.{etag_of_state}
 pub use Rattle.coap_model.specs.world.LastNotification.{responds}
 unfoldable pub use Rattle.coap_model.specs.world.LastNotification.{last_response}
-pub use Rattle.coap_model.specs.world.View.{after_view, AreSeen, change_on, change_steps}
+pub use Rattle.coap_model.specs.world.View.{after_view, AllConcern, change_on, change_steps}
 unfoldable pub use Rattle.coap_model.specs.world.View.{view_of, concerns, view_step}
 pub use Rattle.coap_model.specs.world.ViewEvents.{first_number, change_events}
-unfoldable pub use Rattle.coap_model.specs.world.ViewEvents.{view_events, changes_of, view_behind, view_event}
+unfoldable pub use Rattle.coap_model.specs.world.ViewEvents.{view_events, changes_of, later_view, view_event}
 pub use Rattle.coap_model.specs.world.World.{World, Step, new_world, Faulted, Handled, ConnectionEntry, Written}
 pub use Rattle.coap_model.specs.world.World.{all_settled}
 pub use Rattle.coap_model.specs.world.World.{on_side, settled_place, stored_after, ticks}

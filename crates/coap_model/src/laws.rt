@@ -5,17 +5,18 @@ ghost use Rattle.std.specs.Prelude.{◌≡◌, ℕ, Bool, ◌<◌, ◌≤◌, Li
 ghost use Rattle.coap_model.specs.Prelude.{AllByRecursion, Message, StreamFault, LimitValues, AreInRange, AllFit};
 ghost use Rattle.coap_model.specs.Prelude.{Responder, Delay, delay_of};
 ghost use Rattle.coap_model.specs.Prelude.{bare_response, PendingEntryValue, Answer, Pong, without_due, answers, send};
-ghost use Rattle.coap_model.specs.Prelude.{pong_with, is_custody_pong, limit_now, standing_now, after, standing_due};
+ghost use Rattle.coap_model.specs.Prelude.{pong_with, is_custody_pong, limit_now, state_now, after, state_due};
 ghost use Rattle.coap_model.specs.Prelude.{StoreValue, ConfigValues, Connection, waiting_on, handles};
-ghost use Rattle.coap_model.specs.Prelude.{asks_answer, held_for, moment_after, held_message, next_held, side_after};
+ghost use Rattle.coap_model.specs.Prelude.{asks_answer, delay_for, moment_after, late_message, next_pending};
+ghost use Rattle.coap_model.specs.Prelude.{side_after};
 ghost use Rattle.coap_model.specs.Prelude.{side_faulted, side_written, side_ended, side_released, side_announced};
 ghost use Rattle.coap_model.specs.Prelude.{side_responded, response_refusal, IsFirstRequest, without_request, KeepsBut};
 ghost use Rattle.coap_model.specs.Prelude.{fit, fitted, link_of};
-ghost use Rattle.coap_model.specs.Prelude.{settled_once, CorrespondTo, QueuesCustody, IsFirstHeld, KeepsPending};
+ghost use Rattle.coap_model.specs.Prelude.{settled_once, CorrespondTo, QueuesCustody, IsFirstPending, KeepsPending};
 ghost use Rattle.coap_model.specs.Prelude.{KeepsPendingOver, World, Step, new_world, side_of, step, after_steps};
 ghost use Rattle.coap_model.specs.Prelude.{AcceptedCall, size_on, stream_on, steps_of, world_after, AreAccepted};
-ghost use Rattle.coap_model.specs.Prelude.{kept_on, FollowsAnswers, view_of, after_view, AreSeen, first_number};
-ghost use Rattle.coap_model.specs.Prelude.{view_events, IsLastNotification, TokensAreDistinct, asked_late};
+ghost use Rattle.coap_model.specs.Prelude.{kept_on, FollowsAnswers, view_of, after_view, AllConcern, first_number};
+ghost use Rattle.coap_model.specs.Prelude.{view_events, IsLastNotification, TokensAreDistinct, requested_late};
 ghost use Rattle.coap_model.specs.Prelude.{ApplicationsValue, Option, application_deadline, prompt_answer};
 ghost use Rattle.coap_model.specs.Prelude.{passes_checks, immediate_answer, is_answered, is_dynamic, kind_of_path};
 ghost use Rattle.coap_model.specs.Prelude.{path_of, says, only, filter, map, slice_get};
@@ -51,7 +52,8 @@ pub fn queued_messages_fit_limit()
 /// The view of accepted events (`view_events`) is itself a list of accepted events. There the connection is the first
 /// that is opened, so it may have another id. Everything else is the same.
 pub fn connections_interact_only_through_store()
-    ensures seen { (limits : LimitValues) (id : ℕ) (w : World) (ss : List Step) → AreSeen id (view_of limits id w ss) }
+    ensures concern { (limits : LimitValues) (id : ℕ) (w : World) (ss : List Step)
+        → AllConcern id (view_of limits id w ss) }
     ensures side { (c : ConfigValues) (id : ℕ) (ss : List Step) →
         side_of id (after_steps c.limits (new_world c) ss).sides ≡ side_of id (after_view c id ss).sides }
     ensures store { (c : ConfigValues) (id : ℕ) (ss : List Step) →
@@ -87,7 +89,7 @@ pub fn connections_interact_only_through_store()
 /// States that no limit is exceeded, after any events.
 ///
 /// - `waiting`: the queued bytes of a connection do not exceed the size of its output queue.
-/// - `observers`, `held`: the observers and the pending entries do not exceed their limits.
+/// - `observers`, `pending`: the observers and the pending entries do not exceed their limits.
 /// - `kept`: after accepted events, an unfinished message has fewer bytes than the largest message that the connection
 ///   accepts.
 pub fn limits_are_kept()
@@ -95,8 +97,8 @@ pub fn limits_are_kept()
         side_of id (world_after c events).sides ≡ Some s → length (waiting_on s) ≤ c.limits.queue }
     ensures observers { (c : ConfigValues) (events : List AcceptedCall) (id : ℕ) (s : Connection) →
         side_of id (world_after c events).sides ≡ Some s → length s.observers ≤ c.limits.observers }
-    ensures held { (c : ConfigValues) (events : List AcceptedCall) (id : ℕ) (s : Connection) →
-        side_of id (world_after c events).sides ≡ Some s → length s.history.held ≤ c.limits.pending }
+    ensures pending { (c : ConfigValues) (events : List AcceptedCall) (id : ℕ) (s : Connection) →
+        side_of id (world_after c events).sides ≡ Some s → length s.history.pending ≤ c.limits.pending }
     ensures kept { (c : ConfigValues) (events : List AcceptedCall) (id : ℕ) (s : Connection) → AreInRange c.limits →
         AreAccepted c events → side_of id (world_after c events).sides ≡ Some s →
         length (kept_on s (stream_on c.limits.max_message id events).rest) < s.history.own_max }
@@ -114,14 +116,14 @@ pub fn last_announced_size_applies()
 
 /// States that each observer was last sent the state that its entry records, after any events.
 ///
-/// - `told`: consider all responses with the observer's token that were ever queued on its connection. The last one has
-///   Observe. It is the 2.05 with the recorded state, or the 2.03 with the ETag of that state. Observers whose token a
-///   request with a delayed response has also used are exempt: the engine or the application delays it.
+/// - `reported`: consider all responses with the observer's token that were ever queued on its connection. The last one
+///   has Observe. It is the 2.05 with the recorded state, or the 2.03 with the ETag of that state. Observers whose
+///   token a request with a delayed response has also used are exempt: the engine or the application delays it.
 /// - `tokens`: no two observers of a connection have the same token.
 pub fn last_notification_matches_state()
-    ensures told { (c : ConfigValues) (events : List AcceptedCall) (id : ℕ) (s : Connection) →
+    ensures reported { (c : ConfigValues) (events : List AcceptedCall) (id : ℕ) (s : Connection) →
         side_of id (world_after c events).sides ≡ Some s →
-        AllByRecursion (λ o. asked_late c.applications o.token s.history.handled ≡ false →
+        AllByRecursion (λ o. requested_late c.applications o.token s.history.handled ≡ false →
         IsLastNotification s.history.queued o) s.observers }
     ensures tokens { (c : ConfigValues) (events : List AcceptedCall) (id : ℕ) (s : Connection) →
         side_of id (world_after c events).sides ≡ Some s → TokensAreDistinct s.observers }
@@ -135,25 +137,25 @@ pub fn last_notification_matches_state()
 ///   reuses a token, more than one assignment of entries to messages is possible.
 /// - `at_once`: a message queues such a Pong only if no entry is pending.
 /// - `later`: settling queues such a Pong only if a Pong is the first pending entry.
-/// - `held`: if the engine or the application delays a response, its entry is appended to the pending list, if the list
-///   has room.
+/// - `pending`: if the engine or the application delays a response, its entry is appended to the pending list, if the
+///   list has room.
 /// - `sent`: settling sends the response of an entry that is due first. It is 5.04 if the application has not answered.
 /// - `faulted`, `ended`, `released`, `announced`, `responded`, `written`: nothing else queues such a Pong.
 pub fn custody_comes_last()
     ensures order { (c : ConfigValues) (events : List AcceptedCall) (id : ℕ) (s : Connection) →
         side_of id (world_after c events).sides ≡ Some s
-        → CorrespondTo c.applications s.history.handled s.history.held }
+        → CorrespondTo c.applications s.history.handled s.history.pending }
     ensures at_once { (store : StoreValue) (now : ℕ) (s : Connection) (m : Message) →
-        QueuesCustody s (side_after store now s m) → s.history.held ≡ [] }
+        QueuesCustody s (side_after store now s m) → s.history.pending ≡ [] }
     ensures later { (store : StoreValue) (now : ℕ) (s : Connection) → QueuesCustody s (settled_once store now s) →
-        (token : List ℕ) × IsFirstHeld s token }
-    ensures held { (store : StoreValue) (now : ℕ) (s : Connection) (m : Message) (d : Delay) → handles s ≡ true →
-        asks_answer s m ≡ true → held_for (after s.history (call.Handle m)) (delay_of store now m) ≡ Some d →
-        (side_after store now s m).history.held
-        ≡ s.history.held ++ Answer d.by m.token (moment_after now d.seconds) ∷ [] }
+        (token : List ℕ) × IsFirstPending s token }
+    ensures pending { (store : StoreValue) (now : ℕ) (s : Connection) (m : Message) (d : Delay) → handles s ≡ true →
+        asks_answer s m ≡ true → delay_for (after s.history (call.Handle m)) (delay_of store now m) ≡ Some d →
+        (side_after store now s m).history.pending
+        ≡ s.history.pending ++ Answer d.by m.token (moment_after now d.seconds) ∷ [] }
     ensures sent { (store : StoreValue) (now : ℕ) (s : Connection) (by : Responder) (token : List ℕ) (moment : ℕ) →
-        next_held now s ≡ Some (Answer by token moment) → (settled_once store now s).history
-        ≡ after (after s.history (call.Due now)) (call.Reply (held_message by token)) }
+        next_pending now s ≡ Some (Answer by token moment) → (settled_once store now s).history
+        ≡ after (after s.history (call.Due now)) (call.Reply (late_message by token)) }
     ensures faulted { (s : Connection) (fault : StreamFault) → QueuesCustody s (side_faulted s fault) → ⊥ }
     ensures ended { (s : Connection) (cut : Bool) → QueuesCustody s (side_ended s cut) → ⊥ }
     ensures released { (s : Connection) → QueuesCustody s (side_released s) → ⊥ }
@@ -173,9 +175,9 @@ pub fn custody_comes_last()
 pub fn a_pong_with_custody_follows_all_answers()
     ensures { (c : ConfigValues) (events : List AcceptedCall) (id : ℕ) (s : Connection)
         (before : List Message) (pong : Message)
-        (behind : List Message) →
+        (rest : List Message) →
         side_of id (world_after c events).sides ≡ Some s →
-        s.history.queued ≡ before ++ pong ∷ behind →
+        s.history.queued ≡ before ++ pong ∷ rest →
         is_custody_pong pong ≡ true →
         FollowsAnswers s.history.handled pong before }
 {}
@@ -183,7 +185,7 @@ pub fn a_pong_with_custody_follows_all_answers()
 /// States that every pending entry is kept until it is sent, unless the connection stops.
 ///
 /// - `message`: a message keeps the pending entries in their places, and appends at most one that it asks for.
-/// - `faulted`, `ended`, `released`, `announced`, `written`, `told`: an error, the end of input, a Release, an
+/// - `faulted`, `ended`, `released`, `announced`, `written`, `reported`: an error, the end of input, a Release, an
 ///   announcement, written bytes and notifications keep them too.
 /// - `responded`: a response of the application removes the first pending request with its token, and is queued as it
 ///   fits the peer's limit. All other entries are kept.
@@ -199,27 +201,28 @@ pub fn pending_entries_are_sent()
     ensures ended { (s : Connection) (cut : Bool) → KeepsPending s (side_ended s cut) }
     ensures released { (s : Connection) → KeepsPending s (side_released s) }
     ensures announced { (s : Connection) (size : ℕ) → KeepsPending s (side_announced s size) }
-    ensures written { (s : Connection) (n : ℕ) → (side_written s n).history.held ≡ s.history.held }
+    ensures written { (s : Connection) (n : ℕ) → (side_written s n).history.pending ≡ s.history.pending }
     ensures responded { (s : Connection) (m : Message) → answers s.history.phase ≡ true →
         response_refusal (link_of s.history) m ≡ None →
-        IsFirstRequest s.history.held m.token (without_request m.token s.history.held)
+        IsFirstRequest s.history.pending m.token (without_request m.token s.history.pending)
         × ((side_responded s m).history.queued
         ≡ s.history.queued ++ fitted m (bare_response m) (fit (limit_now s.history) m (bare_response m)))
-        × KeepsBut (without_request m.token s.history.held) (side_responded s m) }
-    ensures told { (store : StoreValue) (now : ℕ) (s : Connection) → next_held now s ≡ None →
+        × KeepsBut (without_request m.token s.history.pending) (side_responded s m) }
+    ensures reported { (store : StoreValue) (now : ℕ) (s : Connection) → next_pending now s ≡ None →
         KeepsPending s (settled_once store now s) }
-    ensures taken { (store : StoreValue) (now : ℕ) (s : Connection) (e : PendingEntryValue) → next_held now s ≡ Some e →
+    ensures taken { (store : StoreValue) (now : ℕ) (s : Connection) (e : PendingEntryValue)
+        → next_pending now s ≡ Some e →
         answers s.history.phase ≡ true → (settled_once store now s).history.phase ≡ s.history.phase →
-        (settled_once store now s).history.held ≡ without_due now s.history.held }
+        (settled_once store now s).history.pending ≡ without_due now s.history.pending }
     ensures answer { (store : StoreValue) (now : ℕ) (s : Connection) (by : Responder) (token : List ℕ) (moment : ℕ) →
-        next_held now s ≡ Some (Answer by token moment) → answers s.history.phase ≡ true →
+        next_pending now s ≡ Some (Answer by token moment) → answers s.history.phase ≡ true →
         (settled_once store now s).history.queued
-        ≡ s.history.queued ++ (send (standing_due now (standing_now s.history)) (held_message by token)
-        (bare_response (held_message by token))).queued }
+        ≡ s.history.queued ++ (send (state_due now (state_now s.history)) (late_message by token)
+        (bare_response (late_message by token))).queued }
     ensures pong { (store : StoreValue) (now : ℕ) (s : Connection) (token : List ℕ)
-        → next_held now s ≡ Some (Pong token) →
+        → next_pending now s ≡ Some (Pong token) →
         (settled_once store now s).history.queued
-        ≡ s.history.queued ++ (send (standing_due now (standing_now s.history)) (pong_with true token)
+        ≡ s.history.queued ++ (send (state_due now (state_now s.history)) (pong_with true token)
         (pong_with false token)).queued }
 {}
 
@@ -284,12 +287,12 @@ pub fn application_requests_have_one_fate()
     ensures pending { (c : ConfigValues) (events : List AcceptedCall) (id : ℕ) (s : Connection) →
         side_of id (world_after c events).sides ≡ Some s → has_stopped s.history.phase ≡ false →
         map entry_of (filter (λ r. is_unanswered r.fate) (requests_on c id events))
-        ≡ filter is_of_application s.history.held }
+        ≡ filter is_of_application s.history.pending }
     ensures unanswered { (c : ConfigValues) (events : List AcceptedCall) (id : ℕ) (s : Connection) →
         side_of id (world_after c events).sides ≡ Some s → has_stopped s.history.phase ≡ false →
         AllByRecursion (λ r. is_unanswered r.fate ≡ true → r.handed ≡ true) (requests_on c id events) }
     ensures given_up { (c : ConfigValues) (events : List AcceptedCall) (id : ℕ) (s : Connection) →
-        side_of id (world_after c events).sides ≡ Some s → has_stopped s.history.phase ≡ true → s.history.held ≡ [] }
+        side_of id (world_after c events).sides ≡ Some s → has_stopped s.history.phase ≡ true → s.history.pending ≡ [] }
     ensures gone { (c : ConfigValues) (events : List AcceptedCall) (id : ℕ) → AreAccepted c events →
         side_of id (world_after c events).sides ≡ None → IsGone c id events }
     ensures answered { (c : ConfigValues) (events : List AcceptedCall) (id : ℕ) (s : Connection) →

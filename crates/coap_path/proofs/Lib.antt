@@ -1,7 +1,7 @@
 pub mod PathLemmas
 mod FillLemmas
 mod PlaceLemmas
-pub mod TrailLemmas
+pub mod MatchLemmas
 mod UriPathLemmas
 mod Worked
 pub mod PathStartLemmas

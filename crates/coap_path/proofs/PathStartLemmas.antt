@@ -5,11 +5,11 @@ use Rattle.std.proofs.Math.Seq.{take-append_seam}
 use Rattle.std.proofs.lemmas.Bool.{and_right}
 use Rattle.std.proofs.lemmas.List.{at_drop_more, at_drop_all, append-nil, length-map, take_all}
 use Rattle.coap_path.proofs.PathLemmas.{few_segments}
-use Rattle.coap_path.proofs.TrailLemmas.{place_by_trail}
+use Rattle.coap_path.proofs.MatchLemmas.{place_by_match}
 use Rattle.coap_path.specs.declared.path_match.PathMatch.{PathMatch}
 use Rattle.coap_path.specs.declared.path_match.PathMatch.TheVariants.{Root}
 use Rattle.coap_path.specs.Prelude.{if◌then◌else◌, Bor, Path, AllByRecursion, same_bytes, kind_of_path, segment_list}
-use Rattle.coap_path.specs.Prelude.{trail_behind, place_at}
+use Rattle.coap_path.specs.Prelude.{match_along, place_at}
 use Rattle.coap_path.specs.Prelude.{ApplicationEntryValue, IsEntry, begins_with, longer_entry, entry_for, names_method}
 use Rattle.coap_path.specs.Prelude.{is_dynamic, is_answered, has_prefix, same_path, not}
 
@@ -23,11 +23,11 @@ kind_of_start (s ∷ t ∷ []) = refl
 kind_of_start (s ∷ t ∷ u ∷ p) = refl
 
 pub kind_at_end : (path : List (Bor (List ℕ))) (i : ℕ) (state : PathMatch) → length path ≤ i
-    → trail_behind state (segment_list (drop i path)) ≡ trail_behind Root (segment_list path)
+    → match_along state (segment_list (drop i path)) ≡ match_along Root (segment_list path)
     → place_at state ≡ kind_of_path (segment_list path)
 kind_at_end path i state past so_far =
-    ap place_at (sym (at_drop_all (λ left. trail_behind state (segment_list left)) path i past) ∙ so_far)
-    ∙ place_by_trail (segment_list path)
+    ap place_at (sym (at_drop_all (λ left. match_along state (segment_list left)) path i past) ∙ so_far)
+    ∙ place_by_match (segment_list path)
 
 -- ---- the first segments
 

@@ -7,26 +7,26 @@ use Rattle.coap_path.specs.declared.path_match.PathMatch.{PathMatch}
 use Rattle.coap_path.specs.declared.path_match.PathMatch.TheVariants.{Root, Time, Async, WellKnown, Listing, Elsewhere}
 
 -- The state after a first segment.
-abbrev pub first_trail : List ℕ → PathMatch
-first_trail segment =
+abbrev pub first_match : List ℕ → PathMatch
+first_match segment =
     if same_bytes segment (codes "time") then Time
     else (if same_bytes segment (codes "async") then Async
     else (if same_bytes segment (codes ".well-known") then WellKnown
     else Elsewhere))
 
 -- The state after another segment.
-abbrev pub trail_with : PathMatch → List ℕ → PathMatch
-trail_with Root segment = first_trail segment
-trail_with WellKnown segment = if same_bytes segment (codes "core") then Listing else Elsewhere
-trail_with Time segment = Elsewhere
-trail_with Async segment = Elsewhere
-trail_with Listing segment = Elsewhere
-trail_with Elsewhere segment = Elsewhere
+abbrev pub match_with : PathMatch → List ℕ → PathMatch
+match_with Root segment = first_match segment
+match_with WellKnown segment = if same_bytes segment (codes "core") then Listing else Elsewhere
+match_with Time segment = Elsewhere
+match_with Async segment = Elsewhere
+match_with Listing segment = Elsewhere
+match_with Elsewhere segment = Elsewhere
 
 -- The state after these segments, one after the other.
-abbrev pub trail_behind : PathMatch → Path → PathMatch
-trail_behind trail [] = trail
-trail_behind trail (s ∷ ss) = trail_behind (trail_with trail s) ss
+abbrev pub match_along : PathMatch → Path → PathMatch
+match_along matched [] = matched
+match_along matched (s ∷ ss) = match_along (match_with matched s) ss
 
 -- The kind of resource at a path with this state.
 abbrev pub place_at : PathMatch → ResourceKind

@@ -6,9 +6,9 @@ use Rattle.coap_wire.specs.OptionNumbers as numbers
 use Rattle.coap_path.specs.Paths.{Path}
 
 -- The value of each Uri-Path option, in order.
-abbrev pub segments_told : List CoapOption → Path
-segments_told os = map (λ o. o.value) (filter (λ o. o.number == numbers.uri_path) os)
+abbrev pub uri_segments : List CoapOption → Path
+uri_segments os = map (λ o. o.value) (filter (λ o. o.number == numbers.uri_path) os)
 
 -- The path in the recognised options of a body.
-abbrev pub path_told : BodyValue → Path
-path_told body = segments_told (known_options body.options)
+abbrev pub body_path : BodyValue → Path
+body_path body = uri_segments (known_options body.options)

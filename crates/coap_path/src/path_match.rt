@@ -1,7 +1,7 @@
 //! The state of matching a path, with which a built-in resource is found without a key.
 
 ghost use Rattle.std.specs.Prelude.{◌≡◌};
-ghost use Rattle.coap_path.specs.Prelude.{first_trail, trail_with, place_at};
+ghost use Rattle.coap_path.specs.Prelude.{first_match, match_with, place_at};
 
 use crate::resource_kind::ResourceKind;
 
@@ -24,7 +24,7 @@ pub enum PathMatch {
 
 /// Returns the state after a first segment.
 fn first(segment: &[u8]) -> PathMatch
-    ensures { result ≡ first_trail segment.now }
+    ensures { result ≡ first_match segment.now }
 {
     match segment {
         b"time" => PathMatch::Time,
@@ -37,7 +37,7 @@ fn first(segment: &[u8]) -> PathMatch
 impl PathMatch {
     /// Returns the state after another segment.
     pub fn with(self, segment: &[u8]) -> PathMatch
-        ensures { result ≡ trail_with self segment.now }
+        ensures { result ≡ match_with self segment.now }
     {
         match self {
             PathMatch::Root => first(segment),

@@ -1,7 +1,7 @@
 //! The path of a request, segment by segment.
 
 ghost use Rattle.std.specs.Prelude.{◌≡◌};
-ghost use Rattle.coap_path.specs.Prelude.{path_told, YieldsFirstBy, item_count};
+ghost use Rattle.coap_path.specs.Prelude.{body_path, YieldsFirstBy, item_count};
 
 use coap_wire::option_numbers::URI_PATH;
 use coap_wire::{Body, RecognisedOptions};
@@ -17,17 +17,17 @@ pub struct UriPath<'r> {
 
 impl<'r> Model for UriPath<'r> {
     ghost use Rattle.coap_path.specs.Paths.{Path};
-    ghost use Rattle.coap_path.specs.UriPaths.{segments_told};
+    ghost use Rattle.coap_path.specs.UriPaths.{uri_segments};
 
     ghost Value = { Path };
 
-    ghost view = { λ p. segments_told p.options };
+    ghost view = { λ p. uri_segments p.options };
 }
 
 impl<'r> UriPath<'r> {
     /// Returns an iterator over the path in the options of a request. It borrows the bytes of the request.
     pub fn of(body: &Body<'r>) -> UriPath<'r>
-        ensures { result ≡ path_told body.now }
+        ensures { result ≡ body_path body.now }
     {
         UriPath {
             options: body.known(),

@@ -115,7 +115,7 @@ impl Line {
     fn escape(&mut self, byte: u8)
         ensures { self.new ≡ appended LINE_LENGTH self.old (escape_of byte) }
     {
-        if stands_for_itself(byte) {
+        if is_literal(byte) {
             self.append(&[byte]);
         } else {
             self.append(&[b'\\', b'x', digit(byte / 16), digit(byte % 16)]);
@@ -160,7 +160,7 @@ fn append_all(buffer: &mut ArrayVec<u8, LINE_LENGTH>, bytes: &[u8])
 }
 
 /// Returns `true` if a byte is written as it is in escaped text.
-fn stands_for_itself(byte: u8) -> bool
+fn is_literal(byte: u8) -> bool
     ensures { result ≡ is_plain byte }
 {
     b' ' <= byte && byte <= b'~' && byte != b'\\' && byte != b'"'

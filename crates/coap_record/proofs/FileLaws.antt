@@ -45,7 +45,7 @@ pub file_replays : (v : ServerValue) (header passed queued file lost text : List
     (failed full : Bool) (turns : ℕ) → SaysNoEvent header
     → IsRecordOf header failed full (append_known (Some passed) queued) cs
     → passed ≡ file ++ lost → file ≡ header ++ text → Shows v cs → All CanReplay cs
-    → (front behind : List AcceptedCall) × (cs ≡ front ++ behind)
+    → (front later : List AcceptedCall) × (cs ≡ front ++ later)
     × ReplaysTo (with_turns turns v.config) (header ++ whole_lines_in text)
     (server_of (with_turns turns v.config) front) (writes_of v.config [] front)
 file_replays v header passed queued file lost text cs failed full turns silent is kept begins shows can =

@@ -95,7 +95,7 @@ first_line (b ∷ bytes) tail (f ∷ fs) rest are same =
 -- Whole lines are those of the first of these calls.
 abbrev pub HasFront : List AcceptedCall → List ℕ → Type 0
 HasFront cs lines =
-    (front : List AcceptedCall) × (behind : List AcceptedCall) × (cs ≡ front ++ behind) × (lines ≡ lines_of front)
+    (front : List AcceptedCall) × (later : List AcceptedCall) × (cs ≡ front ++ later) × (lines ≡ lines_of front)
 
 with_first : (c : AcceptedCall) (cs : List AcceptedCall) (b : ℕ) (bytes rest : List ℕ) → IsLine (line_of c)
     → AreWholeLines (b ∷ bytes) → line_of c ++ lines_of cs ≡ (b ∷ bytes) ++ rest

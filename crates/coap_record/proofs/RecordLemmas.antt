@@ -26,7 +26,7 @@ text_and_one header cs c text is =
 whole_or_full : (header text : List ℕ) (cs : List AcceptedCall) (full : Bool) → HasLines header text cs
     → IsRecordOf header false full (Some text) cs
 whole_or_full header text cs false has = has
-whole_or_full header text cs true has = record { front = cs; behind = []; all = sym (append-nil cs); lines = has }
+whole_or_full header text cs true has = record { front = cs; later = []; all = sym (append-nil cs); lines = has }
 
 -- A record after a failed write.
 torn : (header text : List ℕ) (cs : List AcceptedCall) (full : Bool) → HasPart header text cs
@@ -40,7 +40,7 @@ part_of : (header text : List ℕ) (cs : List AcceptedCall) (full : Bool) → Is
 part_of header text cs false is =
     record {
       front = cs;
-      behind = [];
+      later = [];
       all = sym (append-nil cs);
       missing = [];
       lines = sym is.0 ∙ sym (append-nil text);
@@ -49,7 +49,7 @@ part_of header text cs false is =
 part_of header text cs true is =
     record {
       front = is.front;
-      behind = is.behind;
+      later = is.later;
       all = is.all;
       missing = [];
       lines = sym is.lines.0 ∙ sym (append-nil text);
@@ -71,14 +71,14 @@ ended_goes_on header false false (Some text) ended cs more is = absurd (true≢f
 ended_goes_on header false true (Some text) ended cs more is =
     record {
       front = is.front;
-      behind = is.behind ++ more;
-      all = ap (λ ds. ds ++ more) is.all ∙ append_assoc is.front is.behind more;
+      later = is.later ++ more;
+      all = ap (λ ds. ds ++ more) is.all ∙ append_assoc is.front is.later more;
       lines = is.lines;
     }
 ended_goes_on header true full (Some text) ended cs more is = torn header text (cs ++ more) full (record {
   front = is.front;
-  behind = is.behind ++ more;
-  all = ap (λ ds. ds ++ more) is.all ∙ append_assoc is.front is.behind more;
+  later = is.later ++ more;
+  all = ap (λ ds. ds ++ more) is.all ∙ append_assoc is.front is.later more;
   missing = is.missing;
   lines = is.lines;
   ranges = is.ranges;
@@ -106,7 +106,7 @@ record_goes_on header cs c false false fails is_full (Some text) y (Ok v) works 
 record_goes_on header cs c false false fails is_full (Some text) y (Err e) works small wrote err is =
     rw (err, wrote.4) (torn header (text ++ wrote.0) (cs ++ c ∷ []) is_full (record {
       front = cs ++ c ∷ [];
-      behind = [];
+      later = [];
       all = sym (append-nil (cs ++ c ∷ []));
       missing = wrote.1;
       lines =
@@ -147,23 +147,23 @@ record_flushed header cs false fails full (Some w) y queued left works moved is 
 -- ---- the header
 
 -- The first of no calls.
-no_front : (front behind : List AcceptedCall) → [] ≡ front ++ behind → front ≡ []
-no_front [] behind all = refl
-no_front (c ∷ cs) behind all = absurd (omega (arith, ap (λ (ds : List AcceptedCall). length ds) all))
+no_front : (front later : List AcceptedCall) → [] ≡ front ++ later → front ≡ []
+no_front [] later all = refl
+no_front (c ∷ cs) later all = absurd (omega (arith, ap (λ (ds : List AcceptedCall). length ds) all))
 
 -- A record without calls has its header alone.
 header_alone : (header text : List ℕ) (full : Bool) → IsRecordOf header false full (Some text) [] → text ≡ header
 unfolding lines_of
 header_alone header text false is = is.0 ∙ append-nil header
 header_alone header text true is =
-    is.lines.0 ∙ ap (λ ds. header ++ lines_of ds) (no_front is.front is.behind is.all) ∙ append-nil header
+    is.lines.0 ∙ ap (λ ds. header ++ lines_of ds) (no_front is.front is.later is.all) ∙ append-nil header
 
 -- A prefix of a header alone.
 header_part : (header text missing : List ℕ) → header ≡ text ++ missing → HasPart header text []
 unfolding lines_of
 header_part header text missing is = record {
   front = [];
-  behind = [];
+  later = [];
   all = refl;
   missing = missing;
   lines = append-nil header ∙ is;
@@ -194,6 +194,6 @@ header_stays header text false full x ended is = absurd (true≢false (sym ended
 header_stays header text true full None ended is = absurd is
 header_stays header text true full (Some w) ended is =
     let same : header ≡ w ++ is.missing =
-    sym (append-nil header) ∙ sym (ap (λ ds. header ++ lines_of ds) (no_front is.front is.behind is.all)) ∙ is.lines in
+    sym (append-nil header) ∙ sym (ap (λ ds. header ++ lines_of ds) (no_front is.front is.later is.all)) ∙ is.lines in
     torn (header ++ text) w [] full
     (header_part (header ++ text) w (is.missing ++ text) (ap (λ t. t ++ text) same ∙ append_assoc w is.missing text))

@@ -20,7 +20,7 @@ use Rattle.coap_model.specs.streams.Output.{waiting_of}
 use Rattle.coap_model.specs.world.Connections.{Connection, waiting_on}
 use Rattle.coap_model.specs.world.World.{side_of}
 use Rattle.coap_model.specs.world.Events.{AcceptedCall, world_after, stream_on, takes, IsAccepted, AreAccepted}
-use Rattle.coap_model.specs.world.Events.{AreAcceptedBehind}
+use Rattle.coap_model.specs.world.Events.{AreAcceptedAfter}
 use Rattle.coap_model.specs.world.Events as call
 use Rattle.coap_model.proofs.world.StepLaws.{world_same, streams_same, accepted_more}
 use Rattle.coap_model.proofs.world.TookLaws.{no_bytes_steps}
@@ -211,9 +211,9 @@ call_replays v es (call.Dropped id) shows accepted can = dropped_replays v es id
 
 -- ---- all calls
 
-calls_replay : (v : ServerValue) (es cs : List AcceptedCall) → Shows v es → AreAcceptedBehind v.config es cs
+calls_replay : (v : ServerValue) (es cs : List AcceptedCall) → Shows v es → AreAcceptedAfter v.config es cs
     → All CanReplay cs → ShowsLike v (replayed v (all_events_said cs)).server (es ++ cs)
-unfolding AreAcceptedBehind all_events_said replayed
+unfolding AreAcceptedAfter all_events_said replayed
 calls_replay v es [] shows accepted can = rw append-nil (shows, refl)
 calls_replay v es (e ∷ cs) shows accepted can =
     let one = call_replays v es e shows accepted.0 (All-head CanReplay e cs can) in
@@ -227,9 +227,9 @@ first_shows v cs shows =
     new_shows {F = Unit {0}} (Ok (new_server v.config)) v.config (omega (arith, shows.moment)) shows.deadline refl
 
 -- The calls before others were accepted.
-front_accepted : (c : ConfigValues) (earlier es fs : List AcceptedCall) → AreAcceptedBehind c earlier (es ++ fs)
-    → AreAcceptedBehind c earlier es × AreAcceptedBehind c (earlier ++ es) fs
-unfolding AreAcceptedBehind
+front_accepted : (c : ConfigValues) (earlier es fs : List AcceptedCall) → AreAcceptedAfter c earlier (es ++ fs)
+    → AreAcceptedAfter c earlier es × AreAcceptedAfter c (earlier ++ es) fs
+unfolding AreAcceptedAfter
 front_accepted c earlier [] fs all = (tt, rw append-nil all)
 front_accepted c earlier (e ∷ es) fs all =
     let rest = front_accepted c (earlier ++ e ∷ []) es fs all.1 in
@@ -253,9 +253,9 @@ accepted_at turns c es (call.Announced id size) is = is
 accepted_at turns c es (call.Responded id m) is = is
 accepted_at turns c es (call.Dropped id) is = is
 
-all_accepted_at : (turns : ℕ) (c : ConfigValues) (earlier es : List AcceptedCall) → AreAcceptedBehind c earlier es
-    → AreAcceptedBehind (with_turns turns c) earlier es
-unfolding AreAcceptedBehind
+all_accepted_at : (turns : ℕ) (c : ConfigValues) (earlier es : List AcceptedCall) → AreAcceptedAfter c earlier es
+    → AreAcceptedAfter (with_turns turns c) earlier es
+unfolding AreAcceptedAfter
 all_accepted_at turns c earlier [] are = tt
 all_accepted_at turns c earlier (e ∷ es) are =
     (accepted_at turns c earlier e are.0, all_accepted_at turns c (earlier ++ e ∷ []) es are.1)
@@ -308,26 +308,26 @@ drain_line_is v es id n shows accepted =
     rw here.session (ap (λ (s : Option Connection). out_line id (take n (waiting_of s))) (sym here.at))
 
 -- The same after a replay of the calls before it.
-drained_on_new : (v : ServerValue) (before behind : List AcceptedCall) (id n : ℕ)
-    → Shows v (before ++ call.Wrote id n ∷ behind) → All CanReplay before
+drained_on_new : (v : ServerValue) (before later : List AcceptedCall) (id n : ℕ)
+    → Shows v (before ++ call.Wrote id n ∷ later) → All CanReplay before
     → (event_ran (replayed (new_server v.config) (all_events_said before)).server (Drain id (Some n))).text
     ≡ out_line id (take n (waiting_of (side_of id (world_after v.config before).sides)))
-unfolding AreAcceptedBehind
-drained_on_new v before behind id n shows can =
-    let parts = front_accepted v.config [] before (call.Wrote id n ∷ behind) shows.accepted in
+unfolding AreAcceptedAfter
+drained_on_new v before later id n shows can =
+    let parts = front_accepted v.config [] before (call.Wrote id n ∷ later) shows.accepted in
     let front = calls_replay (new_server v.config) [] before
-    (first_shows v (before ++ call.Wrote id n ∷ behind) shows) parts.0 can in
+    (first_shows v (before ++ call.Wrote id n ∷ later) shows) parts.0 can in
     rw front.1 at (drain_line_is (replayed (new_server v.config) (all_events_said before)).server before id n
     front.0 (rw front.1 parts.1.0))
 
-pub drained_alike : (v : ServerValue) (before behind : List AcceptedCall) (id n turns : ℕ)
-    → Shows v (before ++ call.Wrote id n ∷ behind) → All CanReplay before
+pub drained_alike : (v : ServerValue) (before later : List AcceptedCall) (id n turns : ℕ)
+    → Shows v (before ++ call.Wrote id n ∷ later) → All CanReplay before
     → (event_ran (replayed (new_server (with_turns turns v.config)) (all_events_said before)).server
     (Drain id (Some n))).text ≡ out_line id (take n (waiting_of (side_of id (world_after v.config before).sides)))
 unfolding world_after
-drained_alike v before behind id n turns shows can =
-    drained_on_new (server_with_turns turns v) before behind id n
-    (shows_at turns v (before ++ call.Wrote id n ∷ behind) shows) can
+drained_alike v before later id n turns shows can =
+    drained_on_new (server_with_turns turns v) before later id n
+    (shows_at turns v (before ++ call.Wrote id n ∷ later) shows) can
 
 -- The lines of drains in a replay of events in sequence.
 drains_on : (v : ServerValue) (es fs : List ScriptEventValue)
@@ -356,9 +356,9 @@ call_drains v es (call.Responded id m) shows accepted = refl
 call_drains v es (call.Dropped id) shows accepted = refl
 
 -- The lines of drains of all calls.
-calls_drain : (v : ServerValue) (es cs : List AcceptedCall) → Shows v es → AreAcceptedBehind v.config es cs
+calls_drain : (v : ServerValue) (es cs : List AcceptedCall) → Shows v es → AreAcceptedAfter v.config es cs
     → All CanReplay cs → drains_of v (all_events_said cs) ≡ lines_of_writes (writes_of v.config es cs)
-unfolding AreAcceptedBehind all_events_said drains_of writes_of
+unfolding AreAcceptedAfter all_events_said drains_of writes_of
 calls_drain v es [] shows accepted can = refl
 calls_drain v es (e ∷ cs) shows accepted can =
     let one = call_replays v es e shows accepted.0 (All-head CanReplay e cs can) in
@@ -397,50 +397,50 @@ pub whole_replays : (v : ServerValue) (header text : List ℕ) (cs : List Accept
 whole_replays v header text cs turns silent is shows can = lines_replay v header text cs turns silent is shows can
 
 -- A property of all calls is one of the first calls.
-all_front : (P : AcceptedCall → Type 0) (front behind : List AcceptedCall) → All P (front ++ behind) → All P front
-all_front P [] behind all = All-nil P
-all_front P (c ∷ cs) behind all =
-    All-cons P c cs (All-head P c (cs ++ behind) all) (all_front P cs behind (All-tail P c (cs ++ behind) all))
+all_front : (P : AcceptedCall → Type 0) (front later : List AcceptedCall) → All P (front ++ later) → All P front
+all_front P [] later all = All-nil P
+all_front P (c ∷ cs) later all =
+    All-cons P c cs (All-head P c (cs ++ later) all) (all_front P cs later (All-tail P c (cs ++ later) all))
 
 -- The server after the first calls shows them.
-front_shows : (v : ServerValue) (front behind : List AcceptedCall) → Shows v (front ++ behind)
+front_shows : (v : ServerValue) (front later : List AcceptedCall) → Shows v (front ++ later)
     → Shows (server_of v.config front) front
 unfolding server_of
-front_shows v front behind shows = record {
-  accepted = (front_accepted v.config [] front behind shows.accepted).0;
+front_shows v front later shows = record {
+  accepted = (front_accepted v.config [] front later shows.accepted).0;
   same = refl;
   moment = shows.moment;
   deadline = shows.deadline;
 }
 
 -- A header and lines of the first calls.
-front_replays : (v : ServerValue) (header text : List ℕ) (cs front behind : List AcceptedCall) (turns : ℕ)
-    → SaysNoEvent header → cs ≡ front ++ behind → HasLines header text front → Shows v cs → All CanReplay cs
+front_replays : (v : ServerValue) (header text : List ℕ) (cs front later : List AcceptedCall) (turns : ℕ)
+    → SaysNoEvent header → cs ≡ front ++ later → HasLines header text front → Shows v cs → All CanReplay cs
     → ReplaysTo (with_turns turns v.config) text (server_of (with_turns turns v.config) front)
     (writes_of v.config [] front)
 unfolding server_of world_after
-front_replays v header text cs front behind turns silent all has shows can =
-    let shown = front_shows v front behind (subst (Shows v) all shows) in
+front_replays v header text cs front later turns silent all has shows can =
+    let shown = front_shows v front later (subst (Shows v) all shows) in
     lines_replay (server_of v.config front) header text front turns silent has shown
-    (all_front CanReplay front behind (subst (All CanReplay) all can))
+    (all_front CanReplay front later (subst (All CanReplay) all can))
 
 -- A record that has ended at its limit.
 pub full_replays : (v : ServerValue) (header text : List ℕ) (cs : List AcceptedCall) (turns : ℕ) → SaysNoEvent header
     → IsRecordOf header false true (Some text) cs → Shows v cs → All CanReplay cs
-    → (front behind : List AcceptedCall) × (cs ≡ front ++ behind) × ReplaysTo (with_turns turns v.config) text
+    → (front later : List AcceptedCall) × (cs ≡ front ++ later) × ReplaysTo (with_turns turns v.config) text
     (server_of (with_turns turns v.config) front) (writes_of v.config [] front)
 full_replays v header text cs turns silent is shows can = (
   is.front,
-  is.behind,
+  is.later,
   is.all,
-  front_replays v header text cs is.front is.behind turns silent is.all is.lines shows can,
+  front_replays v header text cs is.front is.later turns silent is.all is.lines shows can,
 )
 
 -- Whole lines of a record.
 pub part_replays : (v : ServerValue) (header text lines part : List ℕ) (cs : List AcceptedCall) (failed full : Bool)
     (turns : ℕ) → SaysNoEvent header → IsRecordOf header failed full (Some text) cs
     → text ≡ header ++ (lines ++ part) → AreWholeLines lines → Shows v cs → All CanReplay cs
-    → (front behind : List AcceptedCall) × (cs ≡ front ++ behind) × ReplaysTo (with_turns turns v.config)
+    → (front later : List AcceptedCall) × (cs ≡ front ++ later) × ReplaysTo (with_turns turns v.config)
     (header ++ lines) (server_of (with_turns turns v.config) front) (writes_of v.config [] front)
 part_replays v header text lines part cs failed full turns silent is same whole shows can =
     let has = any_part header text cs failed full is in
@@ -449,12 +449,12 @@ part_replays v header text lines part cs failed full turns silent is same whole 
     ∙ ap (λ t. header ++ t) (append_assoc lines part has.missing) in
     let found = whole_lines has.front has.ranges (part ++ has.missing) lines whole
     (append_cancel_left header (lines_of has.front) (lines ++ (part ++ has.missing)) begins) in
-    let all : cs ≡ found.0 ++ (found.1 ++ has.behind) =
-    has.all ∙ ap (λ ds. ds ++ has.behind) found.2 ∙ append_assoc found.0 found.1 has.behind in
+    let all : cs ≡ found.0 ++ (found.1 ++ has.later) =
+    has.all ∙ ap (λ ds. ds ++ has.later) found.2 ∙ append_assoc found.0 found.1 has.later in
     let ranges = all_front IsInRange found.0 found.1 (subst (All IsInRange) found.2 has.ranges) in (
       found.0,
-      found.1 ++ has.behind,
+      found.1 ++ has.later,
       all,
-      front_replays v header (header ++ lines) cs found.0 (found.1 ++ has.behind) turns silent all
+      front_replays v header (header ++ lines) cs found.0 (found.1 ++ has.later) turns silent all
           (ap (λ t. header ++ t) found.3, ranges) shows can,
     )

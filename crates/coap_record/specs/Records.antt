@@ -16,16 +16,16 @@ HasLines header text calls = (text ≡ header ++ lines_of calls) × All IsInRang
 -- The text is a header and the lines of the first of these calls. So its last line is whole.
 pub record HasFirstLines (header text : List ℕ) (calls : List AcceptedCall) : Type 0 where
   pub front : List AcceptedCall
-  pub behind : List AcceptedCall
-  pub all : calls ≡ front ++ behind
+  pub later : List AcceptedCall
+  pub all : calls ≡ front ++ later
   pub lines : HasLines header text front
 
 -- The text is a prefix of a header and the lines of the first of these calls, whose values are in range. The bytes of
 -- `missing` come after the text.
 pub record HasPart (header text : List ℕ) (calls : List AcceptedCall) : Type 0 where
   pub front : List AcceptedCall
-  pub behind : List AcceptedCall
-  pub all : calls ≡ front ++ behind
+  pub later : List AcceptedCall
+  pub all : calls ≡ front ++ later
   pub missing : List ℕ
   pub lines : header ++ lines_of front ≡ text ++ missing
   pub ranges : All IsInRange front

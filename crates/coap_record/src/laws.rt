@@ -37,8 +37,8 @@ pub fn lines_are_read_back()
 pub fn a_record_replays()
     ensures server { (v : ServerValue) (calls : List AcceptedCall) (turns : ℕ) → Shows v calls → All CanReplay calls →
         (replayed (new_server (with_turns turns v.config)) (all_events_said calls)).server ≡ server_with_turns turns v }
-    ensures drained { (v : ServerValue) (before behind : List AcceptedCall) (id n turns : ℕ) →
-        Shows v (before ++ Wrote id n ∷ behind) → All CanReplay before →
+    ensures drained { (v : ServerValue) (before later : List AcceptedCall) (id n turns : ℕ) →
+        Shows v (before ++ Wrote id n ∷ later) → All CanReplay before →
         (event_ran (replayed (new_server (with_turns turns v.config)) (all_events_said before)).server
         (Drain id (Some n))).text
         ≡ out_line id (take n (waiting_of (side_of id (world_after v.config before).sides))) }
@@ -62,21 +62,21 @@ pub fn a_recorded_run_replays()
         ReplaysTo (with_turns turns v.config) text (server_with_turns turns v) (writes_of v.config [] calls) }
     ensures limit { (v : ServerValue) (header text : List ℕ) (calls : List AcceptedCall) (turns : ℕ) →
         SaysNoEvent header → IsRecordOf header false true (Some text) calls → Shows v calls → All CanReplay calls →
-        (front behind : List AcceptedCall) × (calls ≡ front ++ behind)
+        (front later : List AcceptedCall) × (calls ≡ front ++ later)
         × ReplaysTo (with_turns turns v.config) text (server_of (with_turns turns v.config) front)
         (writes_of v.config [] front) }
     ensures lines { (v : ServerValue) (header text lines part : List ℕ) (calls : List AcceptedCall)
         (has_failed is_full : Bool) (turns : ℕ) →
         SaysNoEvent header → IsRecordOf header has_failed is_full (Some text) calls →
         text ≡ header ++ (lines ++ part) → AreWholeLines lines → Shows v calls → All CanReplay calls →
-        (front behind : List AcceptedCall) × (calls ≡ front ++ behind)
+        (front later : List AcceptedCall) × (calls ≡ front ++ later)
         × ReplaysTo (with_turns turns v.config) (header ++ lines) (server_of (with_turns turns v.config) front)
         (writes_of v.config [] front) }
 {}
 
 /// States that the file of a record replays the first calls, if the system keeps a prefix of the bytes passed to it.
 ///
-/// - The record is of an outlet that notes the bytes passed on, so also of the file of a program.
+/// - The record is of an outlet that keeps the bytes passed on, so also of the file of a program.
 /// - The premise on the file system: the bytes that were passed to the outlet are those of `file`, then
 ///   those of `lost`.
 /// - The file has the whole header. Its whole lines after the header replay the first calls.
@@ -85,7 +85,7 @@ pub fn a_kept_file_replays<O: Outlet + Drop>(recorder: &Recorder<NotedOutlet<O>>
         SaysNoEvent header → ⟦<Recorder<NotedOutlet<O>> as Monitor<()>>⟧.follows recorder.now header calls →
         recorder.now.outlet.outlet.passed.bytes ≡ file ++ lost → file ≡ header ++ text →
         Shows v calls → All CanReplay calls →
-        (front behind : List AcceptedCall) × (calls ≡ front ++ behind)
+        (front later : List AcceptedCall) × (calls ≡ front ++ later)
         × ReplaysTo (with_turns turns v.config) (header ++ whole_lines_in text)
         (server_of (with_turns turns v.config) front) (writes_of v.config [] front) }
 {}

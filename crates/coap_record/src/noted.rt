@@ -34,8 +34,8 @@ impl NotedBytes {
     {}
 }
 
-/// Outlet that notes the bytes that another one accepted. So contracts know them, also if the other outlet records
-/// none, as that of a file does. A write passes the bytes on and notes the accepted ones; no contract joins the two.
+/// Outlet that keeps the bytes that another one accepted. So contracts know them, also if the other outlet records
+/// none, as that of a file does. A write passes the bytes on and keeps the accepted ones; no contract joins the two.
 #[derive(Drop)]
 pub struct NotedOutlet<O> {
     outlet: O,

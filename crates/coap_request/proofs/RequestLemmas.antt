@@ -49,10 +49,10 @@ short_part (part ∷ parts) (suc i) d each within = short_part parts i d each.1 
 abbrev pub place_for : ℕ → List OptionRef → ℕ
 place_for number os = position_or_len (λ o. ltb number o.number) os
 
-inserted_behind : (place : ℕ) (r o : OptionRef) (os : List OptionRef)
+inserted_after : (place : ℕ) (r o : OptionRef) (os : List OptionRef)
     → coap_options (take (1 + place) (o ∷ os) ++ r ∷ drop (1 + place) (o ∷ os))
     ≡ coap_option o ∷ coap_options (take place os ++ r ∷ drop place os)
-inserted_behind place r o os = let e : 1 + place ≡ suc place = omega arith in rw e refl
+inserted_after place r o os = let e : 1 + place ≡ suc place = omega arith in rw e refl
 
 step : (t : Bool) (place : ℕ) (r o : OptionRef) (os : List OptionRef)
     → coap_options (take place os ++ r ∷ drop place os) ≡ insert_option (coap_option r) (coap_options os)
@@ -61,7 +61,7 @@ step : (t : Bool) (place : ℕ) (r o : OptionRef) (os : List OptionRef)
     (coap_option o ∷ insert_option (coap_option r) (coap_options os))
 step true place r o os later = refl
 step false place r o os later =
-    inserted_behind place r o os ∙ ap (λ (rest : List CoapOption). coap_option o ∷ rest) later
+    inserted_after place r o os ∙ ap (λ (rest : List CoapOption). coap_option o ∷ rest) later
 
 pub inserted : (r : OptionRef) (os : List OptionRef)
     → coap_options (take (place_for r.number os) os ++ r ∷ drop (place_for r.number os) os)

@@ -139,11 +139,11 @@ some_groups [] some = absurd (omega (arith, some))
 some_groups (s ∷ rest) some = omega (arith, some_hex s, length-append (hex s) (flat_map (λ t. codes ":" ++ hex t) rest))
 
 -- More bytes after a text, and before it.
-some_before : (some behind : List ℕ) → 0 < length some → 0 < length (some ++ behind)
-some_before some behind least = omega (arith, least, length-append some behind)
+some_before : (some later : List ℕ) → 0 < length some → 0 < length (some ++ later)
+some_before some later least = omega (arith, least, length-append some later)
 
-some_behind : (before some : List ℕ) → 0 < length some → 0 < length (before ++ some)
-some_behind before some least = omega (arith, least, length-append before some)
+some_after : (before some : List ℕ) → 0 < length some → 0 < length (before ++ some)
+some_after before some least = omega (arith, least, length-append before some)
 
 either_some : (t : Bool) (one other : List ℕ) → 0 < length one → 0 < length other → 0 < length (cond t one other)
 either_some true one other some least = some
@@ -156,7 +156,7 @@ some_ipv6 segments some =
     let front = groups_text (take run.0 segments) in
     let back = groups_text (drop (run.0 + run.1) segments) in
     either_some (nat_lt 1 run.1) ((front ++ codes "::") ++ back) (groups_text segments)
-    (some_before (front ++ codes "::") back (some_behind front (codes "::") (omega arith))) (some_groups segments some)
+    (some_before (front ++ codes "::") back (some_after front (codes "::") (omega arith))) (some_groups segments some)
 
 -- The text of an IPv4 address is not empty.
 some_ipv4 : (octets : List ℕ) → 0 < length (ipv4_text octets)
@@ -165,7 +165,7 @@ some_ipv4 octets =
     let b = (a ++ decimal (slice_index octets 1)) ++ codes "." in
     let c = (b ++ decimal (slice_index octets 2)) ++ codes "." in
     some_before c (decimal (slice_index octets 3))
-    (some_behind (b ++ decimal (slice_index octets 2)) (codes ".") (omega arith))
+    (some_after (b ++ decimal (slice_index octets 2)) (codes ".") (omega arith))
 
 some_domain : (t : Bool) (text : List ℕ) → 0 < length text
     → 0 < length (cond t text (map to_ascii_lowercase (percent_decode text)))

@@ -23,7 +23,7 @@ unfoldable pub use Rattle.coap_script.specs.script.Events.{drain_event, event_al
 unfoldable pub use Rattle.coap_script.specs.script.Events.{event_with_two, in_event, number_event, put_event}
 unfoldable pub use Rattle.coap_script.specs.script.Events.{remove_event, respond_event}
 pub use Rattle.coap_script.specs.script.Lines.{phase_text}
-pub use Rattle.coap_script.specs.script.Script.{script_of, said_on, said_behind, said_by_line}
+pub use Rattle.coap_script.specs.script.Script.{script_of, said_on, said_after, said_by_line}
 unfoldable pub use Rattle.coap_script.specs.script.Script.{event_in, events_in, said_by_parts, says_nothing}
 pub use Rattle.coap_script.specs.script.Words.{newline, slash, words_of}
 unfoldable pub use Rattle.coap_script.specs.script.Words.{format_value, path_value}

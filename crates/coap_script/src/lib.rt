@@ -4,7 +4,7 @@
 //!   each kind of line.
 //! - `open_line`, `in_line`, `out_line` and the other functions of `scripts/lines.rt` build the lines that report
 //!   results.
-//! - `scripts_go_on_behind_whole_lines` is a theorem: a text is read line by line.
+//! - `scripts_continue_after_whole_lines` is a theorem: a text is read line by line.
 //!
 //! The contracts name the definitions of `specs/script/`: `Script` for the meaning of a text, `Lines` for the lines.
 //!
@@ -22,4 +22,4 @@ pub use scripts::lines::{
     put_line, remove_line, status_line, tick_line, word_line,
 };
 pub use scripts::words::path_in;
-pub use scripts::{ScriptFault, script, scripts_go_on_behind_whole_lines};
+pub use scripts::{ScriptFault, script, scripts_continue_after_whole_lines};

@@ -11,7 +11,7 @@ pub(crate) mod words;
 use crate::event::Event;
 use coap_text::split_once;
 use events::take_line;
-pub use laws::scripts_go_on_behind_whole_lines;
+pub use laws::scripts_continue_after_whole_lines;
 use std::alloc::Global;
 use thiserror::Error;
 

@@ -12,7 +12,8 @@ pub use Rattle.std.specs.Prelude.{OnErr, OnOk, is_ok}
 pub use Rattle.coap_server_engine.specs.Prelude.{RefusedBy, AddsBytes, Nothing, RefusedOrMemory, WrittenFault}
 pub use Rattle.coap_server_engine.specs.Prelude.{AcceptedCall, Stored, Removed, Opened, Took, Dropped, Released}
 pub use Rattle.coap_server_engine.specs.Prelude.{InResult, ShowsMore, in_result, fed_more, took, Answering, Exchange}
-pub use Rattle.coap_server_engine.specs.Prelude.{Gone, AreAskedLater, IsAskedLater, Following, IsReasonFor, stop_on}
+pub use Rattle.coap_server_engine.specs.Prelude.{Gone, AreRequestedLater, IsRequestedLater, Following, IsReasonFor}
+pub use Rattle.coap_server_engine.specs.Prelude.{stop_on}
 pub use Rattle.coap_server_engine.specs.Prelude.{open_refusal, written_refusal, released_refusal, status_of, IsOutside}
 pub use Rattle.coap_server_engine.specs.Prelude.{bit_of, new_server, server_put, server_removed, server_ticked}
 pub use Rattle.coap_server_engine.specs.Prelude.{AreSettled, server_dropped, ServerValue, LiesAt, server_opened}
@@ -31,7 +32,7 @@ pub use Rattle.coap_io.specs.declared.wire.Got.{Got}
 pub use Rattle.coap_io.specs.declared.wire.Got.TheVariants.{Bytes, End, Failed, Later}
 pub use Rattle.coap_io.specs.declared.wire.Wait.{Wait}
 pub use Rattle.coap_io.specs.declared.wire.Wait.TheVariants.{No}
-pub use Rattle.coap_io.specs.streams.DeviceTraces.{TellsMore, DoorCall}
+pub use Rattle.coap_io.specs.streams.DeviceTraces.{AddsCalls, DoorCall}
 pub use Rattle.coap_io.specs.streams.Wires.{IsWithin, IsOneWrite, bytes_passed, Answered, WireTrace, trace_by}
 pub use Rattle.coap_io.specs.streams.Device.{DeviceTrace, HasGiven, pieces_read, WritesPart}
 -- ---- coap_store
@@ -57,24 +58,26 @@ pub use Rattle.coap_serve.specs.listener.Run.{IsRun, IsRunCall, IsRunStep, IsTur
 pub use Rattle.coap_serve.specs.listener.Run.{RunTrace, ServiceValue, Silent, Unlimited, clock_and_door, config_of}
 pub use Rattle.coap_serve.specs.listener.Run.{environment, exactly, known_of_run, limit_for, moved_calls, moved_to}
 pub use Rattle.coap_serve.specs.listener.Run.{no_trace, plain_config, service_of, short_wait, some_waits, ticked_calls}
-pub use Rattle.coap_serve.specs.listener.Run.{trace_then, turn_trace, wait_within, waited_behind}
+pub use Rattle.coap_serve.specs.listener.Run.{trace_then, turn_trace, wait_within, waited_after}
 pub use Rattle.coap_serve.specs.listener.Serving.{AreServed, AreTimesAfter, HasGoneOn, HasOneMore, HasOpened, HasServed}
-pub use Rattle.coap_serve.specs.listener.Serving.{HasTurned, IsAskedOnce, IsOpening, IsServedBy, IsTurnBy, IsVisited}
+pub use Rattle.coap_serve.specs.listener.Serving.{HasTurned, IsRequestedOnce, IsOpening, IsServedBy, IsTurnBy}
+pub use Rattle.coap_serve.specs.listener.Serving.{IsVisited}
 pub use Rattle.coap_serve.specs.listener.Serving.{KnownOfTurn, LoopState, NoMore, Skipped, Views, Visited, Way}
-pub use Rattle.coap_serve.specs.listener.Serving.{asked_by, history_left, known_of_turn, loop_state, opening}
+pub use Rattle.coap_serve.specs.listener.Serving.{door_calls, history_left, known_of_turn, loop_state, opening}
 pub use Rattle.coap_serve.specs.listener.Serving.{opening_then, state_at, status_of_peer, views_of, visit, way}
 pub use Rattle.coap_serve.specs.listener.Silence.{HasSwept, HasSweptAt, Sweep, acted, drop_one, due_sweep, quiet_action}
 pub use Rattle.coap_serve.specs.listener.Silence.{released_at, released_on, silence_action, swept_one, unswept}
 unfoldable pub use Rattle.coap_serve.specs.listener.Silence.{swept}
 pub use Rattle.coap_serve.specs.listener.Sleepers.{ArePaired, AreAsleep, KeepsBeside, MaySleep, SleepOn, is_known_ready}
 pub use Rattle.coap_serve.specs.listener.Sleepers.{known}
-pub use Rattle.coap_serve.specs.listener.Turns.{CanAnyGoOn, CanGoOn, IsAsked, IsCourseFor, IsLaidOut, IsNoOp, IsOffered}
+pub use Rattle.coap_serve.specs.listener.Turns.{CanAnyGoOn, CanGoOn, IsReadiness, IsOutcomeFor, IsLaidOut, IsNoOp}
+pub use Rattle.coap_serve.specs.listener.Turns.{IsOffered}
 pub use Rattle.coap_serve.specs.listener.Turns.{IsServedOnceBy, IsTakenAlone, IsTakenAndWritten, IsTakenInPart}
 pub use Rattle.coap_serve.specs.listener.Turns.{IsTakenWith, IsWaitAfter, PeerStatus, Readiness, Taking, VisitState}
-pub use Rattle.coap_serve.specs.listener.Turns.{activity_after, can_go_on, course_of, has_failed, has_written}
-pub use Rattle.coap_serve.specs.listener.Turns.{heard_events, is_heard, is_over_in, least_with, left_behind}
-pub use Rattle.coap_serve.specs.listener.Turns.{new_activity, peer_status, readiness, refused_events, rest_behind}
-pub use Rattle.coap_serve.specs.listener.Turns.{server_heard, server_wrote, status_with, visit_state, wait_for}
+pub use Rattle.coap_serve.specs.listener.Turns.{activity_after, can_go_on, peer_outcome, has_failed, has_written}
+pub use Rattle.coap_serve.specs.listener.Turns.{read_events, is_read_due, is_over_in, least_with, kept_unless}
+pub use Rattle.coap_serve.specs.listener.Turns.{new_activity, peer_status, readiness, refused_events, kept_rest}
+pub use Rattle.coap_serve.specs.listener.Turns.{server_read, server_wrote, status_with, visit_state, wait_for}
 pub use Rattle.coap_serve.specs.listener.Turns.{wait_until, waiting_once, interest_in, interest_of, wrote_events}
 pub use Rattle.coap_serve.specs.declared.serve_streams.Report.{Report}
 pub use Rattle.coap_serve.specs.declared.serve_streams.Turn.{Turn}
@@ -98,7 +101,7 @@ pub use Rattle.coap_server_engine.specs.values.Flushes.{IsFlushed, IsFlushedOnce
 pub use Rattle.coap_server_engine.specs.values.ServerDeadlines.{KeepsOthers, KeepsWork, work_of, session_work}
 unfoldable pub use Rattle.coap_server_engine.specs.values.Servers.{session_of, count_taken, server_taken}
 unfoldable pub use Rattle.coap_server_engine.specs.values.Flushes.{flush_turns}
-pub use Rattle.coap_server_engine.specs.values.Exchanges.{Asked, Offered, Given, offers}
+pub use Rattle.coap_server_engine.specs.values.Exchanges.{Requested, Offered, Given, offers}
 pub use Rattle.coap_server_engine.specs.values.Calls.{call_value}
 unfoldable pub use Rattle.coap_server_session.specs.values.Sessions.{taking}
 pub use Rattle.coap_model.specs.streams.Output.{only_id, stream_of, stdio_output, Outcome, more_of, waiting_of}

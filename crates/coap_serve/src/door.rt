@@ -1,8 +1,8 @@
 //! Runs a server over the connections that a listener (`Door`) accepts.
 
 ghost use Rattle.coap_serve.specs.Prelude.{environment, known_by, known_of_run, some_waits, IsMemoryOrTurns};
-ghost use Rattle.coap_serve.specs.Prelude.{IsRun, Resting, Silent, Unlimited, TellsMore, clock_and_door};
-ghost use Rattle.coap_serve.specs.Prelude.{plain_config, views_of, waited_behind};
+ghost use Rattle.coap_serve.specs.Prelude.{IsRun, Resting, Silent, Unlimited, AddsCalls, clock_and_door};
+ghost use Rattle.coap_serve.specs.Prelude.{plain_config, views_of, waited_after};
 
 mod awake;
 mod next_ready;
@@ -84,8 +84,8 @@ pub fn serve_door<D: Door, C: Clock>(
     // turns, or those before an allocation failed. No application responds.
     ensures run { IsRun
         (environment Silent Resting (some_waits Unlimited) (views_of D.Wire.readable D.Wire.writable D.Wire.given
-        D.Wire.written D.Wire.answers D.Wire.rooms)) (plain_config config) (clock_and_door (TellsMore
-        (C.moments clock.old) (C.moments clock.new)) (TellsMore (D.calls door.old) (D.calls door.new))) result }
+        D.Wire.written D.Wire.answers D.Wire.rooms)) (plain_config config) (clock_and_door (AddsCalls
+        (C.moments clock.old) (C.moments clock.new)) (AddsCalls (D.calls door.old) (D.calls door.new))) result }
 {
     let config = ServiceConfig::new(config);
     run(
@@ -117,9 +117,9 @@ pub fn serve_door_with<D: Door, C: Clock, U: Clock, A: Application, M: Monitor<D
     // The monitor received exactly the events of the run. The application had exactly its exchanges: the requests that
     // the server handed over, in order, and the responses that it gave.
     ensures run { IsRun (environment A.follows A.idle (some_waits A.waits) (views_of D.Wire.readable D.Wire.writable
-        D.Wire.given D.Wire.written D.Wire.answers D.Wire.rooms)) config (known_of_run (TellsMore
-        (C.moments clocks.old.time) (C.moments clocks.new.time)) (TellsMore (U.moments clocks.old.uptime)
-        (U.moments clocks.new.uptime)) (TellsMore (D.calls door.old) (D.calls door.new)) (known_by M.follows A.follows
+        D.Wire.given D.Wire.written D.Wire.answers D.Wire.rooms)) config (known_of_run (AddsCalls
+        (C.moments clocks.old.time) (C.moments clocks.new.time)) (AddsCalls (U.moments clocks.old.uptime)
+        (U.moments clocks.new.uptime)) (AddsCalls (D.calls door.old) (D.calls door.new)) (known_by M.follows A.follows
         monitor.old monitor.new application.old application.new)) result }
 {
     run(
@@ -150,8 +150,8 @@ fn run<D: Door, C: Clock, U: Clock, A: Application, M: Monitor<D::Wire>>(
     ensures fault { IsMemoryOrTurns result }
     ensures run { IsRun (environment A.follows A.idle (some_waits A.waits)
         (views_of D.Wire.readable D.Wire.writable D.Wire.given D.Wire.written D.Wire.answers D.Wire.rooms))
-        setup.config (known_of_run (TellsMore (C.moments clock.old) (C.moments clock.new))
-        (TellsMore (U.moments uptime.old) (U.moments uptime.new)) (TellsMore (D.calls door.old) (D.calls door.new))
+        setup.config (known_of_run (AddsCalls (C.moments clock.old) (C.moments clock.new))
+        (AddsCalls (U.moments uptime.old) (U.moments uptime.new)) (AddsCalls (D.calls door.old) (D.calls door.new))
         (known_by M.follows A.follows monitor.old monitor.new application.old application.new)) result }
 {
     let Setup { alloc, config } = setup;
@@ -179,7 +179,7 @@ fn run<D: Door, C: Clock, U: Clock, A: Application, M: Monitor<D::Wire>>(
 
 /// Lets the listener wait after a turn; `turns` is the number of turns made. There is no wait before the first turn.
 fn wait_after_turn<D: Door>(door: &mut D, turns: u64, wait: Wait, opens: bool)
-    ensures { TellsMore (D.calls door.old) (D.calls door.new) (waited_behind turns wait opens) }
+    ensures { AddsCalls (D.calls door.old) (D.calls door.new) (waited_after turns wait opens) }
 {
     if turns > 0 {
         door.wait(wait, opens);

@@ -34,7 +34,7 @@ pub use coap_model::{
     OpenFault, ReleaseFault, ResponseFault, Starts, Status, TakeFault, Taken, WrittenFault,
 };
 pub use coap_path::{ApplicationEntry, ApplicationFault, Applications};
-pub use coap_script::{Event, ScriptFault, script, scripts_go_on_behind_whole_lines};
+pub use coap_script::{Event, ScriptFault, script, scripts_continue_after_whole_lines};
 pub use coap_server_engine::{
     Application, Call, DropReason, IoFault, Monitor, NoApplication, NoMonitor, ReplayFault, Server,
     TakenRequest,

@@ -146,9 +146,9 @@ fn flush_once<W: Outlet, M: Monitor<()>>(
         (waiting_at id server.old)) }
     ensures failure { W.is_failed writer.new ≡ is_err result }
     // The monitor receives the number of bytes that were written.
-    ensures told { IfOk result (λ f. FollowsMore (M.follows monitor.old) (M.follows monitor.new)
+    ensures reported { IfOk result (λ f. FollowsMore (M.follows monitor.old) (M.follows monitor.new)
         (flush_calls id server.old f.waited)) }
-    ensures untold { OnErr result (monitor.new ≡ monitor.old) }
+    ensures unreported { OnErr result (monitor.new ≡ monitor.old) }
     ensures lies { OnOk result (LiesAt id at server.new.sessions) }
 {
     if !monitor.listens() {
@@ -179,9 +179,9 @@ fn flush_again<W: Outlet, M: Monitor<()>>(
         (waiting_at id server.old)) }
     ensures failure { W.is_failed writer.new ≡ is_err result }
     // The monitor receives the number of bytes that were written.
-    ensures told { IfOk result (λ f. FollowsMore (M.follows monitor.old) (M.follows monitor.new)
+    ensures reported { IfOk result (λ f. FollowsMore (M.follows monitor.old) (M.follows monitor.new)
         (flush_calls id server.old f.waited)) }
-    ensures untold { OnErr result (monitor.new ≡ monitor.old) }
+    ensures unreported { OnErr result (monitor.new ≡ monitor.old) }
     ensures lies { OnOk result (LiesAt id at server.new.sessions) }
 {
     flush_once(writer, server, at, id, monitor)
@@ -208,9 +208,9 @@ fn write_queued<W: Outlet, M: Monitor<()>>(
     ensures part { OnErr result (WritesPart (W.written writer.old) (W.written writer.new)
         (waiting_at id server.old)) }
     ensures failure { W.is_failed writer.new ≡ is_err result }
-    ensures told { IfOk result (λ waited. FollowsMore (M.follows monitor.old) (M.follows monitor.new)
+    ensures reported { IfOk result (λ waited. FollowsMore (M.follows monitor.old) (M.follows monitor.new)
         (flush_calls id server.old waited)) }
-    ensures untold { OnErr result (monitor.new ≡ monitor.old) }
+    ensures unreported { OnErr result (monitor.new ≡ monitor.old) }
 {
     let Some((first, second)) = server.parts(id) else {
         return Ok(false);

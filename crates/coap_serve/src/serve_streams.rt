@@ -91,7 +91,7 @@ pub fn serve_one<R: Source, W: Outlet>(
     // The bytes read and written match the definition of a run, however the input is split, as far as the devices
     // record them. No read returns more than 4,096 bytes.
     ensures run { (pieces : List (List ℕ)) × (output : List ℕ)
-        × HasGiven (R.told reader.old) (R.told reader.new) pieces
+        × HasGiven (R.trace reader.old) (R.trace reader.new) pieces
         × AllByRecursion (λ p. length p ≤ 4096) pieces
         × AddsBytes (W.written writer.old) (W.written writer.new) output
         × IsStdioRun config.now pieces output result }
@@ -130,13 +130,13 @@ pub fn serve_one_with<R: Source, W: Outlet, M: Monitor<()>>(
     // The bytes read and written match the definition of a run, however the input is split, as far as the devices
     // record them. No read returns more than 4,096 bytes.
     ensures run { (pieces : List (List ℕ)) × (output : List ℕ)
-        × HasGiven (R.told reader.old) (R.told reader.new) pieces
+        × HasGiven (R.trace reader.old) (R.trace reader.new) pieces
         × AllByRecursion (λ p. length p ≤ 4096) pieces
         × AddsBytes (W.written writer.old) (W.written writer.new) output
         × IsStdioRun config.now pieces output result }
     // The monitor received exactly the calls of such a run: those that its server shows.
-    ensures told { (pieces : List (List ℕ)) × (output : List ℕ)
-        × HasGiven (R.told reader.old) (R.told reader.new) pieces
+    ensures reported { (pieces : List (List ℕ)) × (output : List ℕ)
+        × HasGiven (R.trace reader.old) (R.trace reader.new) pieces
         × AllByRecursion (λ p. length p ≤ 4096) pieces
         × AddsBytes (W.written writer.old) (W.written writer.new) output
         × IsStdioRun config.now pieces output result
@@ -171,12 +171,12 @@ fn run<R: Source, W: Outlet, M: Monitor<()>>(
 ) -> Result<Report, IoFault>
     requires reader_works { R.is_failed reader.old ≡ false }
     requires writer_works { W.is_failed writer.old ≡ false }
-    requires stands { (first : M)
+    requires is_at { (first : M)
         × IsRunningAt config.now server.old id [] (FollowsMore (M.follows first) (M.follows monitor.old)) }
     ensures run { (first : M) →
         IsRunningAt config.now server.old id [] (FollowsMore (M.follows first) (M.follows monitor.old)) →
         (pieces : List (List ℕ)) × (output : List ℕ)
-        × HasGiven (R.told reader.old) (R.told reader.new) pieces
+        × HasGiven (R.trace reader.old) (R.trace reader.new) pieces
         × AllByRecursion (λ p. length p ≤ 4096) pieces
         × AddsBytes (W.written writer.old) (W.written writer.new) output
         × IsStdioRun config.now pieces (stdio_output config.now [] ++ output) result
@@ -216,13 +216,13 @@ fn take_turn<R: Source, W: Outlet, M: Monitor<()>>(
 ) -> Result<Turn, IoFault>
     requires reader_works { R.is_failed reader.old ≡ false }
     requires writer_works { W.is_failed writer.old ≡ false }
-    requires stands { (first : M) × (c : ConfigValues) × (bytes : List ℕ)
+    requires is_at { (first : M) × (c : ConfigValues) × (bytes : List ℕ)
         × IsRunningAt c server.old id bytes (FollowsMore (M.follows first) (M.follows monitor.old)) }
     requires room { length buffer.old ≡ 4096 }
     ensures turn { (first : M) (c : ConfigValues) (bytes : List ℕ) →
         IsRunningAt c server.old id bytes (FollowsMore (M.follows first) (M.follows monitor.old))
         → IsTurn c bytes server.new
-        (HasGiven (R.told reader.old) (R.told reader.new))
+        (HasGiven (R.trace reader.old) (R.trace reader.new))
         (AddsBytes (W.written writer.old) (W.written writer.new))
         (FollowsMore (M.follows first) (M.follows monitor.new)) result }
     ensures few { IfOk result (λ t. t.read ≤ 4096) }
@@ -263,7 +263,7 @@ fn serve_piece<W: Outlet, M: Monitor<()>>(
     monitor: &mut M,
 ) -> Result<u64, IoFault>
     requires works { W.is_failed writer.old ≡ false }
-    requires stands { (first : M) × (c : ConfigValues) × (bytes : List ℕ)
+    requires is_at { (first : M) × (c : ConfigValues) × (bytes : List ℕ)
         × IsRunningAt c server.old id bytes (FollowsMore (M.follows first) (M.follows monitor.old)) }
     ensures served { (first : M) (c : ConfigValues) (bytes : List ℕ) →
         IsRunningAt c server.old id bytes (FollowsMore (M.follows first) (M.follows monitor.old)) →
@@ -324,12 +324,12 @@ fn handled(what: Handled) -> u64
 
 /// Reports the end of input to a connection, and returns the reason why it processes no further message.
 fn end<M: Monitor<()>>(server: &mut Server, id: ConnId, monitor: &mut M) -> Option<Reason>
-    requires stands { (first : M) × (c : ConfigValues) × (bytes : List ℕ)
+    requires is_at { (first : M) × (c : ConfigValues) × (bytes : List ℕ)
         × IsRunningAt c server.old id bytes (FollowsMore (M.follows first) (M.follows monitor.old)) }
     ensures reason { (first : M) (c : ConfigValues) (bytes : List ℕ) →
         IsRunningAt c server.old id bytes (FollowsMore (M.follows first) (M.follows monitor.old)) →
         result ≡ Some (end_reason (is_cut (stream_of c bytes).rest)) }
-    ensures told { (first : M) (c : ConfigValues) (bytes : List ℕ) →
+    ensures reported { (first : M) (c : ConfigValues) (bytes : List ℕ) →
         IsRunningAt c server.old id bytes (FollowsMore (M.follows first) (M.follows monitor.old)) →
         HasReportedEnd c (FollowsMore (M.follows first) (M.follows monitor.new)) bytes (length (stdio_output c bytes)) }
 {

@@ -43,7 +43,7 @@ pub use Rattle.coap_conn.specs.declared.phase.SendFault.{SendFault}
 pub use Rattle.coap_conn.specs.declared.reason.Reason.{Reason}
 -- ---- coap_io
 pub use Rattle.coap_io.specs.streams.Device.{AddsBytes, WritesPart}
-pub use Rattle.coap_io.specs.streams.DeviceTraces.{TellsMore}
+pub use Rattle.coap_io.specs.streams.DeviceTraces.{AddsCalls}
 -- ---- coap_path
 pub use Rattle.coap_path.specs.Paths.{Path}
 -- ---- coap_store
@@ -76,7 +76,7 @@ pub use Rattle.coap_model.specs.world.Events.{AcceptedCall, Ticked, Stored, Remo
 pub use Rattle.coap_model.specs.world.Events.{AreAccepted, Wrote, Released, Announced, Responded, Dropped, IfSide}
 pub use Rattle.coap_model.specs.world.Events.{OnSide}
 pub use Rattle.coap_model.specs.world.Events.{beyond, taken_in, takes_of}
-unfoldable pub use Rattle.coap_model.specs.world.Events.{size_on, steps_of, world_after, takes, AreAcceptedBehind}
+unfoldable pub use Rattle.coap_model.specs.world.Events.{size_on, steps_of, world_after, takes, AreAcceptedAfter}
 unfoldable pub use Rattle.coap_model.specs.world.Events.{IsAccepted, steps_by}
 pub use Rattle.coap_model.specs.world.Handling.{count_of, handled_in, handled_between}
 pub use Rattle.coap_model.specs.world.EndOfInput.{normalised_step, kept_at}
@@ -122,7 +122,7 @@ pub use Rattle.coap_server_session.specs.values.Causes.{change_hash, path_hash}
 pub use Rattle.coap_server_session.specs.values.Causes.{IsUnaffected}
 pub use Rattle.coap_server_session.specs.values.Causes.{ConcernsNone, IsMarkedBut}
 pub use Rattle.coap_server_session.specs.values.Deadlines.{due_on, IsBefore}
-pub use Rattle.coap_server_session.specs.values.Entries.{settled_held}
+pub use Rattle.coap_server_session.specs.values.Entries.{settled_pending}
 pub use Rattle.coap_server_engine.specs.values.InResults.{InResult, IsPartialIn, ShowsMore, ShowsPartlyFed, in_result}
 pub use Rattle.coap_server_engine.specs.values.InResults.{fed_more, fed_once}
 pub use Rattle.coap_server_engine.specs.values.InResults.{took, unfed, where_there}
@@ -184,16 +184,16 @@ unfoldable pub use Rattle.coap_server_engine.specs.values.HandedRequests.{handed
 pub use Rattle.coap_server_engine.specs.values.ChangedRequests.{changing_on, request_key, frame_key, DifferAt, DifferBy}
 pub use Rattle.coap_server_engine.specs.values.ChangedRequests.{ChangesBy}
 unfoldable pub use Rattle.coap_server_engine.specs.values.ChangedRequests.{changing_frame}
-pub use Rattle.coap_server_engine.specs.values.Exchanges.{Exchange, Asked, Offered, Given, Gone, Answering}
+pub use Rattle.coap_server_engine.specs.values.Exchanges.{Exchange, Requested, Offered, Given, Gone, Answering}
 pub use Rattle.coap_server_engine.specs.values.Exchanges.{AreUnanswered, offers}
 unfoldable pub use Rattle.coap_server_engine.specs.values.Exchanges.{AnswersMore}
 pub use Rattle.coap_server_engine.specs.values.ApplicationCalls.{server_offered, offered_events, failure_with}
 pub use Rattle.coap_server_engine.specs.values.ApplicationCalls.{response_for, AskResult, asking, ServeResult}
-pub use Rattle.coap_server_engine.specs.values.ApplicationCalls.{asks_for, asked_by, limit_of, IsTakenFor}
+pub use Rattle.coap_server_engine.specs.values.ApplicationCalls.{asks_for, ask_result, limit_of, IsTakenFor}
 pub use Rattle.coap_server_engine.specs.values.ApplicationCalls.{IsNotTakenFor, unserved, served_more, AreMade}
 pub use Rattle.coap_server_engine.specs.values.ApplicationCalls.{IsServed, IsPartlyServed}
-pub use Rattle.coap_server_engine.specs.values.ApplicationCalls.{IsGivenLater, IsAskedLater, AreGivenLater}
-pub use Rattle.coap_server_engine.specs.values.ApplicationCalls.{NothingGiven, OneMoreGiven, AreAskedLater}
+pub use Rattle.coap_server_engine.specs.values.ApplicationCalls.{IsGivenLater, IsRequestedLater, AreGivenLater}
+pub use Rattle.coap_server_engine.specs.values.ApplicationCalls.{NothingGiven, OneMoreGiven, AreRequestedLater}
 unfoldable pub use Rattle.coap_server_engine.specs.values.ApplicationCalls.{message_limit, served}
 -- ---- this crate: views
 pub use Rattle.coap_server_engine.specs.views.LineViews.{line_bytes, IsRun, IsDrainable}

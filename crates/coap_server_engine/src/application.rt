@@ -1,7 +1,7 @@
 //! The interface through which a program answers the requests that its server hands to it.
 
 ghost use Rattle.std.specs.Prelude.{◌≡◌, ℕ, List, [], ◌∷◌, false, Option, Some, None, IfNone};
-ghost use Rattle.coap_server_engine.specs.Prelude.{Exchange, Asked, Offered, Given, Gone, AnswersMore, offers};
+ghost use Rattle.coap_server_engine.specs.Prelude.{Exchange, Requested, Offered, Given, Gone, AnswersMore, offers};
 ghost use Rattle.coap_server_engine.specs.Prelude.{AreUnanswered};
 ghost use Rattle.coap_io.specs.declared.wire.Wait.{Wait};
 ghost use Rattle.coap_io.specs.declared.wire.Wait.TheVariants.{Forever};
@@ -55,7 +55,7 @@ pub trait Application {
     )
         requires { response.old.items ≡ [] }
         ensures { AnswersMore (follows self.old) (follows self.new)
-            (Asked from request.now limit response.new.items ∷ []) };
+            (Requested from request.now limit response.new.items ∷ []) };
 
     /// Writes the next later response to `response`, which is empty, as one encoded message, and returns the connection
     /// of its request. Returns `None` if there is no response now.

@@ -38,17 +38,17 @@ pub fn no_change_is_lost()
 /// - A slice and its two parts, one after the other, make the same steps and leave the same world. This holds whatever
 ///   events come before and after them (`steps`, `worlds`).
 /// - Normalised steps (`normalised_steps`) never say of the end of input after a stop that it truncated a message
-///   (`quiet`). They lead to the same world (`heard`), and equal steps have equal normalised steps (`alike`).
+///   (`quiet`). They lead to the same world (`received`), and equal steps have equal normalised steps (`alike`).
 /// - Equal normalised steps leave equal worlds (`same_steps`). If the bytes kept of unfinished messages are equal too,
 ///   they leave equal servers (`servers`). So bytes that no connection processes make no difference.
 pub fn segmentation_is_irrelevant()
-    ensures steps { (max : ℕ) (before behind : List AcceptedCall) (id : ℕ) (xs ys : List ℕ) →
-        steps_of max (before ++ Took id (xs ++ ys) ∷ behind)
-        ≡ steps_of max (before ++ Took id xs ∷ Took id ys ∷ behind) }
-    ensures worlds { (c : ConfigValues) (before behind : List AcceptedCall) (id : ℕ) (xs ys : List ℕ) →
-        world_after c (before ++ Took id (xs ++ ys) ∷ behind)
-        ≡ world_after c (before ++ Took id xs ∷ Took id ys ∷ behind) }
-    ensures heard { (c : ConfigValues) (events : List AcceptedCall) →
+    ensures steps { (max : ℕ) (before rest : List AcceptedCall) (id : ℕ) (xs ys : List ℕ) →
+        steps_of max (before ++ Took id (xs ++ ys) ∷ rest)
+        ≡ steps_of max (before ++ Took id xs ∷ Took id ys ∷ rest) }
+    ensures worlds { (c : ConfigValues) (before rest : List AcceptedCall) (id : ℕ) (xs ys : List ℕ) →
+        world_after c (before ++ Took id (xs ++ ys) ∷ rest)
+        ≡ world_after c (before ++ Took id xs ∷ Took id ys ∷ rest) }
+    ensures received { (c : ConfigValues) (events : List AcceptedCall) →
         after_steps c.limits (new_world c) (normalised_steps c events) ≡ world_after c events }
     ensures alike { (c : ConfigValues) (events others : List AcceptedCall) →
         steps_of c.limits.max_message events ≡ steps_of c.limits.max_message others →

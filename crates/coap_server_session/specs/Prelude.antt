@@ -29,14 +29,14 @@ unfoldable pub use Rattle.coap_frame.specs.Framing.{framing}
 pub use Rattle.coap_frame.specs.FramerOutput.{taken_of, unread_after}
 pub use Rattle.coap_frame.specs.Raising.{raise_refusal, with_size}
 -- ---- coap_conn
-pub use Rattle.coap_conn.specs.Calls.{link_after, standing_due, end_reason, Call}
+pub use Rattle.coap_conn.specs.Calls.{link_after, state_due, end_reason, Call}
 pub use Rattle.coap_conn.specs.Fit.{bare_response, fit, fits}
 pub use Rattle.coap_conn.specs.PendingEntries.{PendingEntryValue, Answer, Pong, due_moment, next_moment, future_moment}
 unfoldable pub use Rattle.coap_conn.specs.PendingEntries.{first_due, without_due}
 pub use Rattle.coap_conn.specs.History.{limit_now, after, History, IsHistory, link_of}
 pub use Rattle.coap_conn.specs.Limits.{LimitValues, AreInRange}
 pub use Rattle.coap_conn.specs.LinkValue.{IsReady, can_hold, limit_in, is_finished, LinkValue, free_in, link_with}
-pub use Rattle.coap_conn.specs.LinkValue.{own_csm, standing_in, sizes_of}
+pub use Rattle.coap_conn.specs.LinkValue.{own_csm, state_in, sizes_of}
 pub use Rattle.coap_conn.specs.LinkViews.{verdict_value}
 pub use Rattle.coap_conn.specs.Phases.{IsAnswering, is_open, answers, takes_messages, IsLive}
 pub use Rattle.coap_conn.specs.Reaction.{send, stop}
@@ -76,11 +76,12 @@ pub use Rattle.coap_path.specs.Applications.{ApplicationsValue}
 -- ---- coap_model
 pub use Rattle.coap_model.specs.world.Observers.{asks_entry, is_whole, Observer, entry_for, format_of, goes_on}
 pub use Rattle.coap_model.specs.world.Observers.{has_place, left_of, notification, notification_message, same_state}
-pub use Rattle.coap_model.specs.world.Observers.{with_entry, mark_told}
+pub use Rattle.coap_model.specs.world.Observers.{with_entry, mark_sent}
 unfoldable pub use Rattle.coap_model.specs.world.Observers.{first_becomes, is_due, without_token}
-pub use Rattle.coap_model.specs.world.Connections.{Connection, waiting_on, handles, asks_answer, held_for, moment_after}
+pub use Rattle.coap_model.specs.world.Connections.{Connection, waiting_on, handles, asks_answer, delay_for}
+pub use Rattle.coap_model.specs.world.Connections.{moment_after}
 pub use Rattle.coap_model.specs.world.Connections.{Delay, delay_by, delay_or, delay_of, hold_call}
-pub use Rattle.coap_model.specs.world.Connections.{held_message, next_held, is_cut, after_sent, has_room, may_raise}
+pub use Rattle.coap_model.specs.world.Connections.{late_message, next_pending, is_cut, after_sent, has_room, may_raise}
 pub use Rattle.coap_model.specs.world.Connections.{next_due, notified, settled_so, side_replied, side_with}
 pub use Rattle.coap_model.specs.world.Connections.{with_history, kept_on}
 unfoldable pub use Rattle.coap_model.specs.world.Connections.{side_after, side_faulted, side_written, side_ended}
@@ -94,23 +95,23 @@ pub use Rattle.coap_server_session.specs.declared.observers.StaleObserver.{Stale
 pub use Rattle.coap_server_session.specs.declared.chains.Chains.{Chains}
 pub use Rattle.coap_server_session.specs.declared.session.Session.TheInside.{Inside}
 -- ---- this crate: values
-pub use Rattle.coap_server_session.specs.values.Causes.{change_hash, ObservesNone, hash_behind, path_hash}
+pub use Rattle.coap_server_session.specs.values.Causes.{change_hash, ObservesNone, hash_after, path_hash}
 pub use Rattle.coap_server_session.specs.values.Causes.{IsUnaffected, has_come, may_touch, may_concern, last_hash}
 pub use Rattle.coap_server_session.specs.values.Causes.{observes_hash, segments_hash}
 pub use Rattle.coap_server_session.specs.values.Causes.{is_concerned}
 pub use Rattle.coap_server_session.specs.values.Causes.{ConcernsNone, marks_after, IsMarkedBut}
 unfoldable pub use Rattle.coap_server_session.specs.values.Causes.{marks_anew}
 pub use Rattle.coap_server_session.specs.values.Deadlines.{is_time_observer, sooner}
-pub use Rattle.coap_server_session.specs.values.Deadlines.{due_on, IsBefore, next_told}
+pub use Rattle.coap_server_session.specs.values.Deadlines.{due_on, IsBefore, next_notified}
 pub use Rattle.coap_server_session.specs.values.Entries.{IsFirstStale, IsFirstMarked, link_replied, entries_replied}
 pub use Rattle.coap_server_session.specs.values.Entries.{entries_notified}
-pub use Rattle.coap_server_session.specs.values.Entries.{settled_held, framer_on, is_observed, is_sent, response_on}
+pub use Rattle.coap_server_session.specs.values.Entries.{settled_pending, framer_on, is_observed, is_sent, response_on}
 unfoldable pub use Rattle.coap_server_session.specs.values.Entries.{first_index}
 pub use Rattle.coap_server_session.specs.values.SessionAnswers.{IsAnnounced}
 pub use Rattle.coap_server_session.specs.values.Responses.{path_size}
-pub use Rattle.coap_server_session.specs.values.Sessions.{ObserverValue, answer_on, delay_on, held_in, shared_changed}
+pub use Rattle.coap_server_session.specs.values.Sessions.{ObserverValue, answer_on, delay_on, delay_in, shared_changed}
 pub use Rattle.coap_server_session.specs.values.Sessions.{link_sent}
-pub use Rattle.coap_server_session.specs.values.Sessions.{new_entry, notification_on, mark_at, present_mark, untold_by}
+pub use Rattle.coap_server_session.specs.values.Sessions.{new_entry, notification_on, mark_at, present_mark, unsent_by}
 pub use Rattle.coap_server_session.specs.values.Sessions.{SessionValue}
 pub use Rattle.coap_server_session.specs.values.Sessions.{session_written, session_ended, session_released}
 pub use Rattle.coap_server_session.specs.values.Sessions.{session_announced, session_given}
@@ -126,7 +127,7 @@ pub use Rattle.coap_server_session.specs.values.Sessions.{empty_shared, shared_w
 unfoldable pub use Rattle.coap_server_session.specs.values.Sessions.{changed_mark}
 unfoldable pub use Rattle.coap_server_session.specs.values.Sessions.{without_entry, is_stale, session_settled}
 unfoldable pub use Rattle.coap_server_session.specs.values.Sessions.{session_handled}
-unfoldable pub use Rattle.coap_server_session.specs.values.Sessions.{next_held_in, next_stale, session_settled_once}
+unfoldable pub use Rattle.coap_server_session.specs.values.Sessions.{next_pending_in, next_stale, session_settled_once}
 unfoldable pub use Rattle.coap_server_session.specs.values.Sessions.{taking}
 unfoldable pub use Rattle.coap_server_session.specs.values.Sessions.{session_settled_within}
 pub use Rattle.coap_server_session.specs.values.HandedRequests.{is_handed, is_handed_over, handed_read, handed_found}

@@ -7,7 +7,8 @@ ghost use Rattle.coap_server_session.specs.Prelude.{PendingEntryValue, first_due
 ghost use Rattle.coap_server_session.specs.Prelude.{changed, response_message, planned_value, path_of};
 ghost use Rattle.coap_server_session.specs.Prelude.{IsChangeAt, IsPut, TakesChange, change_hash, MayObserve};
 ghost use Rattle.coap_server_session.specs.Prelude.{asks_entry as asks, is_whole as is_sent_whole, ObserverValue};
-ghost use Rattle.coap_server_session.specs.Prelude.{answer_on, delay_on, held_in, shared_changed, link_sent, new_entry};
+ghost use Rattle.coap_server_session.specs.Prelude.{answer_on, delay_on, delay_in, shared_changed, link_sent};
+ghost use Rattle.coap_server_session.specs.Prelude.{new_entry};
 ghost use Rattle.coap_server_session.specs.Prelude.{application_deadline, only, is_handed};
 ghost use Rattle.coap_server_session.specs.Prelude.{notification_on, without_entry, IsFirstStale, link_replied};
 ghost use Rattle.coap_server_session.specs.Prelude.{entries_replied, entries_notified, observer_value, LARGEST_MESSAGE};
@@ -74,14 +75,14 @@ pub(crate) fn answer(
     requires open { is_open link.old.phase ≡ true }
     requires marked { AreMarked shared.old observers.old.entries observers.old.marks }
     ensures changed { IfOk result (λ e. e.changed ≡ change_hash (answer_on shared.old request.now).change) }
-    ensures handed { IfOk result (λ e. e.handed ≡ is_handed (held_in link.old (delay_on shared.old request.now))) }
+    ensures handed { IfOk result (λ e. e.handed ≡ is_handed (delay_in link.old (delay_on shared.old request.now))) }
     ensures quiet { IfOk result (λ e. e.handed ≡ true → e.changed ≡ None) }
     ensures link { OnOk result (link.new ≡ link_replied shared.old link.old observers.old.room
         (without_entry request.now.token observers.old.entries) request.now
-        (held_in link.old (delay_on shared.old request.now))) }
+        (delay_in link.old (delay_on shared.old request.now))) }
     ensures entries { OnOk result (observers.new.entries ≡ entries_replied shared.old link.old observers.old.room
         (without_entry request.now.token observers.old.entries) request.now
-        (held_in link.old (delay_on shared.old request.now))) }
+        (delay_in link.old (delay_on shared.old request.now))) }
     ensures room { OnOk result (observers.new.room ≡ observers.old.room) }
     ensures marked { OnOk result (AreMarked shared.new observers.new.entries observers.new.marks) }
     ensures shared { OnOk result (shared.new ≡ shared_changed shared.old (answer_on shared.old request.now).change) }
@@ -134,10 +135,10 @@ fn answer_from_store(
     ensures changed { IfOk result (λ changed. changed ≡ change_hash (answer_on shared.old request.now).change) }
     ensures link { OnOk result (link.new ≡ link_replied shared.old link.old observers.old.room
         (without_entry request.now.token observers.old.entries) request.now
-        (held_in link.old (delay_on shared.old request.now))) }
+        (delay_in link.old (delay_on shared.old request.now))) }
     ensures entries { OnOk result (observers.new.entries ≡ entries_replied shared.old link.old observers.old.room
         (without_entry request.now.token observers.old.entries) request.now
-        (held_in link.old (delay_on shared.old request.now))) }
+        (delay_in link.old (delay_on shared.old request.now))) }
     ensures room { OnOk result (observers.new.room ≡ observers.old.room) }
     ensures marked { OnOk result (AreMarked shared.new observers.new.entries observers.new.marks) }
     ensures shared { OnOk result (shared.new ≡ shared_changed shared.old (answer_on shared.old request.now).change) }
@@ -273,10 +274,10 @@ fn hand_over(link: &mut Link, observers: &mut Observers, request: &MessageRef, m
 #[inline(always)]
 pub(crate) fn send_due(link: &mut Link, now: u64) -> bool
     requires { IsReady link.old }
-    ensures sent { (e : PendingEntryValue) → first_due now link.old.held ≡ Some e
+    ensures sent { (e : PendingEntryValue) → first_due now link.old.pending ≡ Some e
         → link.new ≡ link_sent link.old now e }
-    ensures silent { first_due now link.old.held ≡ None → link.new ≡ link.old }
-    ensures found { result ≡ is_some (first_due now link.old.held) }
+    ensures silent { first_due now link.old.pending ≡ None → link.new ≡ link.old }
+    ensures found { result ≡ is_some (first_due now link.old.pending) }
 {
     if link.pending() == 0 {
         return false;
@@ -289,10 +290,10 @@ pub(crate) fn send_due(link: &mut Link, now: u64) -> bool
 #[inline(never)]
 fn send_first_due(link: &mut Link, now: u64) -> bool
     requires { IsReady link.old }
-    ensures sent { (e : PendingEntryValue) → first_due now link.old.held ≡ Some e
+    ensures sent { (e : PendingEntryValue) → first_due now link.old.pending ≡ Some e
         → link.new ≡ link_sent link.old now e }
-    ensures silent { first_due now link.old.held ≡ None → link.new ≡ link.old }
-    ensures found { result ≡ is_some (first_due now link.old.held) }
+    ensures silent { first_due now link.old.pending ≡ None → link.new ≡ link.old }
+    ensures found { result ≡ is_some (first_due now link.old.pending) }
 {
     match link.due(now) {
         Due::Nothing => false,
@@ -402,7 +403,9 @@ pub(crate) fn notify(
         kind: observer.kind(),
         near: observer.index,
     };
-    let index = shared.store.fill_notification(observed, observer.format, shared.now, &mut plan);
+    let index = shared
+        .store
+        .fill_notification(observed, observer.format, shared.now, &mut plan);
     let goes_on = plan.code() == Code::CONTENT;
     let reply = respond(link, &TokenRef::of(&observer.token), &plan, goes_on);
     if goes_on && is_whole(reply) {

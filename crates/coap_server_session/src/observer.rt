@@ -2,7 +2,7 @@
 
 ghost use Rattle.std.specs.Prelude.{◌≡◌};
 ghost use Rattle.coap_server_session.specs.Prelude.{linked, previous_in, IsTagged, present_mark, changed_mark};
-ghost use Rattle.coap_server_session.specs.Prelude.{untold_by as mark_untold_by, observer_value, kind_of_path};
+ghost use Rattle.coap_server_session.specs.Prelude.{unsent_by as mark_unsent_by, observer_value, kind_of_path};
 
 use crate::cause::Cause;
 use crate::server_state::ServerState;
@@ -91,19 +91,19 @@ impl Observer {
         requires present { present ≡ present_mark shared.now known.now }
         ensures { result ≡ changed_mark shared.entry.now (observer_value self.now) }
     {
-        untold_by(self.present_by(known, present, shared), self.mark)
+        unsent_by(self.present_by(known, present, shared), self.mark)
     }
 }
 
-/// Returns the changed mark of an observer: `None` if `present` and `told` are equal, 0 if the path is absent,
+/// Returns the changed mark of an observer: `None` if `present` and `reported` are equal, 0 if the path is absent,
 /// otherwise `present`.
 ///
-/// `present` is the mark of the current state, and `told` that of the state sent last.
-pub(crate) fn untold_by(present: Option<u64>, told: u64) -> Option<u64>
-    ensures { result ≡ mark_untold_by present told }
+/// `present` is the mark of the current state, and `reported` that of the state sent last.
+pub(crate) fn unsent_by(present: Option<u64>, reported: u64) -> Option<u64>
+    ensures { result ≡ mark_unsent_by present reported }
 {
     match present {
         None => Some(0),
-        Some(mark) => { if mark == told { None } else { Some(mark) } }
+        Some(mark) => { if mark == reported { None } else { Some(mark) } }
     }
 }

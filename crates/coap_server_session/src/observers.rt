@@ -10,7 +10,7 @@ ghost use Rattle.coap_server_session.specs.Prelude.{observes_hash, last_hash, Ob
 use crate::cause::Cause;
 use crate::chains::{Chains, chains_of};
 use crate::flags::Flags;
-use crate::observer::{Observer, untold_by};
+use crate::observer::{Observer, unsent_by};
 use crate::server_state::ServerState;
 use coap_wire::TokenRef;
 use std::alloc::{AllocError, Global};
@@ -249,7 +249,7 @@ fn mark_chain(
     let last = usize::from(last);
     let known = &observers[last];
     let present = known.present(shared);
-    let changed = untold_by(present, known.mark);
+    let changed = unsent_by(present, known.mark);
     let mut at = known.previous(cause);
     set_mark(observers, marked, last, changed);
     while let Some(index) = at {

@@ -1,7 +1,7 @@
 //! The hash of a path, by which a change finds the observers that it affects.
 
 ghost use Rattle.std.specs.Prelude.{◌≡◌, ◌+◌, ◌*◌, ◌%◌};
-ghost use Rattle.coap_server_session.specs.Prelude.{hash_behind, path_hash};
+ghost use Rattle.coap_server_session.specs.Prelude.{hash_after, path_hash};
 
 use coap_store::{PathKey, UriPath};
 
@@ -29,7 +29,7 @@ pub(crate) fn hash_of_request(path: UriPath) -> u8
 
 /// Returns the hash of `bytes` appended to bytes whose hash is `hash`.
 fn hash_on(hash: u8, bytes: &[u8]) -> u8
-    ensures { result ≡ hash_behind hash bytes.now }
+    ensures { result ≡ hash_after hash bytes.now }
 {
     let mut so_far = hash;
     for byte in bytes {

@@ -57,7 +57,7 @@ fn respond_at<'a>(
     requires answering { IsAnswering link.old.phase }
     requires short { length plan.now.response.payload ≤ LARGEST_MESSAGE }
     requires path { is_path path ≡ true }
-    requires told { path_or_root (Some path) ≡ plan.now.response.location }
+    requires reported { path_or_root (Some path) ≡ plan.now.response.location }
     ensures reply { let response = response_with_observe token.now observes plan.now.response in result
         ≡ fit (limit_in link.old) response (bare_response response) }
     ensures after { link.new
@@ -79,7 +79,7 @@ fn respond_from<'a, const N: usize>(
     requires answering { IsAnswering link.old.phase }
     requires short { length plan.now.response.payload ≤ LARGEST_MESSAGE }
     requires path { IfSome path (λ path. is_path path ≡ true) }
-    requires told { path_or_root path ≡ plan.now.response.location }
+    requires reported { path_or_root path ≡ plan.now.response.location }
     requires room { path_size plan.now.response.location + 45 ≤ N }
     requires few { N ≤ MAX_EXTENDED_LENGTH }
     ensures reply { let response = response_with_observe token.now observes plan.now.response in result

@@ -331,14 +331,14 @@ impl Session {
 
     /// Returns the number of pending entries: delayed responses and Pongs with Custody.
     pub fn pending(&self) -> usize
-        ensures { result ≡ length self.now.session.link.held }
+        ensures { result ≡ length self.now.session.link.pending }
     {
         self.link.pending()
     }
 
     /// Returns the number of pending entries plus the number of observers, which bounds the iterations of `settle`.
     pub fn settle_bound(&self) -> usize
-        ensures { result ≡ length self.now.session.link.held + length self.now.session.observers }
+        ensures { result ≡ length self.now.session.link.pending + length self.now.session.observers }
     {
         self.link.pending() + self.observers.len()
     }

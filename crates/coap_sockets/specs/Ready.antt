@@ -17,14 +17,14 @@ unknown = record { readable = true; writable = true; stops_short = false; yields
 -- of these and of urgent data: it returns the bytes before and leaves those after. If a wait reports many sockets with
 -- input, those after the first few are all read before any of them is written. No socket is deferred twice between two
 -- writes.
-abbrev pub after_event : Readiness → Event → (behind_many : Bool) → Readiness
-after_event r e behind_many =
+abbrev pub after_event : Readiness → Event → (after_many : Bool) → Readiness
+after_event r e after_many =
     let failed = is_error e || is_read_closed e in
     record {
       readable = r.readable || is_readable e || failed;
       writable = r.writable || is_writable e || is_write_closed e || is_error e;
       stops_short = r.stops_short || failed || is_priority e;
-      yields = behind_many && is_readable e && not r.has_yielded;
+      yields = after_many && is_readable e && not r.has_yielded;
       has_yielded = r.has_yielded;
     }
 

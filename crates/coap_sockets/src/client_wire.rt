@@ -9,7 +9,7 @@ ghost use Rattle.coap_sockets.specs.declared.io_results.ConnectError.TheVariants
 ghost use Rattle.coap_sockets.specs.declared.client_wire.ConnectFault.TheVariants as fault;
 ghost use Rattle.coap_sockets.specs.IoResults.{connect_error_of};
 ghost use Rattle.coap_io.specs.streams.Device.{AddsBytes};
-ghost use Rattle.coap_io.specs.streams.DeviceTraces.{TellsMore};
+ghost use Rattle.coap_io.specs.streams.DeviceTraces.{AddsCalls};
 
 use crate::clock::RunClock;
 use crate::durations::end_of_attempt;
@@ -219,8 +219,8 @@ impl<'a, R: Net + time::Clock> ClientWire<'a, R> {
             .registry()
             .reregister(&mut self.stream, LINE, interest);
         let time = self.clock.to_next_second();
-        let is_told = self.poll.poll(&mut self.events, Some(time)).is_ok();
-        if is_told && self.events.iter().any(|event| event.is_writable()) {
+        let is_polled = self.poll.poll(&mut self.events, Some(time)).is_ok();
+        if is_polled && self.events.iter().any(|event| event.is_writable()) {
             self.is_blocked = false;
         }
         self.has_ticked = self.events.is_empty();
@@ -275,8 +275,8 @@ impl<'a, R: Net + time::Clock> Wire for ClientWire<'a, R> {
         ensures within { IsWithin (length bytes.now) result }
         ensures wrote { AddsBytes None None (bytes_passed bytes.now result) }
         ensures gave { AddsBytes None None [] }
-        ensures answered { TellsMore None None (result ∷ []) }
-        ensures no_read { TellsMore {A = ℕ} None None [] }
+        ensures answered { AddsCalls None None (result ∷ []) }
+        ensures no_read { AddsCalls {A = ℕ} None None [] }
         ensures blocked { self.new.is_blocked ≡ is_blocked_by (length bytes.now) result }
         ensures stuck { self.new.is_stuck ≡ is_later result }
     {

@@ -2,7 +2,7 @@
 
 ghost use Rattle.std.specs.Prelude.{◌≡◌, ◌≤◌, ◌/◌, ◌∷◌, ℕ, [], None};
 ghost use Rattle.std.specs.Duration.{as_nanos};
-ghost use Rattle.coap_io.specs.streams.DeviceTraces.{TellsMore};
+ghost use Rattle.coap_io.specs.streams.DeviceTraces.{AddsCalls};
 ghost use Rattle.coap_sockets.specs.Durations.{second};
 
 use crate::durations::{Reading, continued, is_in_second_of, to_next_second};
@@ -37,7 +37,7 @@ impl<'a, R: time::Clock> Clock for SystemClock<'a, R> {
     // The monotonic clock is read once in each second, which keeps most calls short. It is read last, so that a pause
     // between the two calls affects one reading only.
     fn now(&mut self) -> u64
-        ensures told { TellsMore {A = ℕ} None None (result ∷ []) }
+        ensures reported { AddsCalls {A = ℕ} None None (result ∷ []) }
         ensures forward { as_nanos self.old.last.time ≤ as_nanos self.new.last.time }
         ensures seconds { result ≡ as_nanos self.new.last.time / second }
     {

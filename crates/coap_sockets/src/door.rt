@@ -5,7 +5,7 @@ ghost use Rattle.std.specs.Prelude.{◌≡◌, ◌≤◌, ◌&&◌, true, false,
 ghost use Rattle.std.specs.Prelude.{option_map};
 ghost use Rattle.std.specs.Duration.{as_nanos};
 ghost use Rattle.std.specs.IoError.{error_kind, raw_os_error};
-ghost use Rattle.coap_io.specs.declared.wire.Wait.TheVariants as asked;
+ghost use Rattle.coap_io.specs.declared.wire.Wait.TheVariants as wanted;
 ghost use Rattle.coap_sockets.specs.Durations.{second};
 ghost use Rattle.coap_sockets.specs.declared.io_results.AcceptError.TheVariants as refusal;
 ghost use Rattle.coap_sockets.specs.declared.door.ListenFault.TheVariants as fault;
@@ -323,11 +323,11 @@ impl<'a, R: Net + time::Clock> SocketDoor<'a, R> {
 
     /// Returns the longest time of a wait, or `None` for a wait without end.
     fn time_for(&self, wait: Wait, opens: bool) -> Option<Duration>
-        ensures no { wait ≡ asked.No → option_map as_nanos result ≡ Some 0 }
-        ensures forever { self.now.wakes ≡ false → wait ≡ asked.Forever → opens && self.now.may_accept ≡ false →
+        ensures no { wait ≡ wanted.No → option_map as_nanos result ≡ Some 0 }
+        ensures forever { self.now.wakes ≡ false → wait ≡ wanted.Forever → opens && self.now.may_accept ≡ false →
             result ≡ None }
         // A wait has an end, unless `Wait::Forever` is requested, and then too if the listener wakes each second.
-        ensures ends { IfNone result ((wait ≡ asked.Forever) × (self.now.wakes ≡ false)) }
+        ensures ends { IfNone result ((wait ≡ wanted.Forever) × (self.now.wakes ≡ false)) }
         // A client that is already waiting is not delayed, unless the system has no room for its connection.
         ensures at_once { opens && self.now.may_accept ≡ true → self.now.full_since ≡ None →
             option_map as_nanos result ≡ Some 0 }
@@ -335,15 +335,15 @@ impl<'a, R: Net + time::Clock> SocketDoor<'a, R> {
         // after the machine was suspended.
         ensures short { IfSome result (λ time. as_nanos time ≤ second) }
     {
-        let asked = match wait {
+        let wanted = match wait {
             Wait::No => Some(Duration::ZERO),
             Wait::Until(moment) => Some(self.left_until(moment)),
             Wait::Forever => self.longest(),
         };
         if opens && self.may_accept {
-            Some(at_most(self.full_for(), asked))
+            Some(at_most(self.full_for(), wanted))
         } else {
-            asked
+            wanted
         }
     }
 
@@ -365,8 +365,8 @@ impl<'a, R: Net + time::Clock> SocketDoor<'a, R> {
             let place = event.token().0;
             match self.slots.get(place) {
                 Some(slot) => {
-                    let behind_many = before >= WRITES_BEFORE_READS;
-                    slot.set(slot.get().after_event(event, behind_many));
+                    let after_many = before >= WRITES_BEFORE_READS;
+                    slot.set(slot.get().after_event(event, after_many));
                     self.woken.add(place);
                 }
                 None => self.may_accept = true,

@@ -44,10 +44,10 @@ impl Readiness {
         }
     }
 
-    /// Returns the readiness after an event. `behind_many` is `true` if the same wait reported at least
+    /// Returns the readiness after an event. `after_many` is `true` if the same wait reported at least
     /// `WRITES_BEFORE_READS` events before it.
-    pub(crate) fn after_event(self, event: &Event, behind_many: bool) -> Readiness
-        ensures { result ≡ spec.after_event self event.now behind_many }
+    pub(crate) fn after_event(self, event: &Event, after_many: bool) -> Readiness
+        ensures { result ≡ spec.after_event self event.now after_many }
     {
         let failed = event.is_error() || event.is_read_closed();
         Readiness {
@@ -57,7 +57,7 @@ impl Readiness {
                 || event.is_write_closed()
                 || event.is_error(),
             stops_short: self.stops_short || failed || event.is_priority(),
-            yields: behind_many && event.is_readable() && !self.has_yielded,
+            yields: after_many && event.is_readable() && !self.has_yielded,
             has_yielded: self.has_yielded,
         }
     }

@@ -10,7 +10,8 @@ use Rattle.coap_store.specs.Prelude.{is_method, path_of, preconditions_hold, is_
 use Rattle.coap_store.specs.Prelude.{refuse, first_of, is_accepted, etag_at, is_among, valid, content, watched, late}
 use Rattle.coap_store.specs.Prelude.{get_answer, greatest_version, stored_under, too_large, store_answer, deletion}
 use Rattle.coap_store.specs.Prelude.{delete_answer, needs_resource, read_answer, method_answer, resource_answer}
-use Rattle.coap_store.specs.Prelude.{answer_at, removes_watch, with_observe_rule, answer_of, unheld_by, without_hold}
+use Rattle.coap_store.specs.Prelude.{answer_at, removes_watch, with_observe_rule, answer_of, without_hold_if}
+use Rattle.coap_store.specs.Prelude.{without_hold}
 use Rattle.coap_store.specs.Prelude.{TakesPut}
 use Rattle.coap_store.specs.Prelude.{IsFoundAt, IsChangeAt, IfSome}
 use Rattle.coap_store.specs.Prelude.{TakesChange, changes, ResourceKind, Root, Time, Async, Listing, Dynamic}
@@ -175,26 +176,27 @@ answer_cases P s t m errors methods =
 
 -- ---- changes of an answer
 
-pub unheld_by_finally : (b : Bool) (hold : Option ℕ) (a : Answer)
-    → unheld_by hold (with_observe_rule b a) ≡ with_observe_rule b (unheld_by hold a)
-unheld_by_finally b None a = refl
-unheld_by_finally true (Some seconds) a = refl
-unheld_by_finally false (Some seconds) a = refl
+pub without_hold_if_finally : (b : Bool) (hold : Option ℕ) (a : Answer)
+    → without_hold_if hold (with_observe_rule b a) ≡ with_observe_rule b (without_hold_if hold a)
+without_hold_if_finally b None a = refl
+without_hold_if_finally true (Some seconds) a = refl
+without_hold_if_finally false (Some seconds) a = refl
 
 hold_finally : (b : Bool) (a : Answer) → (with_observe_rule b a).hold ≡ a.hold
 hold_finally true a = refl
 hold_finally false a = refl
 
 -- Removing an observer and rejecting a delayed response do not affect each other.
-pub unheld_finally : (b : Bool) (a : Answer)
+pub without_hold_finally : (b : Bool) (a : Answer)
     → without_hold (with_observe_rule b a) ≡ with_observe_rule b (without_hold a)
-unheld_finally b a =
-    ap (λ (h : Option ℕ). unheld_by h (with_observe_rule b a)) (hold_finally b a) ∙ unheld_by_finally b a.hold a
+without_hold_finally b a =
+    ap (λ (h : Option ℕ). without_hold_if h (with_observe_rule b a)) (hold_finally b a)
+    ∙ without_hold_if_finally b a.hold a
 
 -- The change stays the same.
-pub change_unheld : (hold : Option ℕ) (a : Answer) → (unheld_by hold a).change ≡ a.change
-change_unheld None a = refl
-change_unheld (Some seconds) a = refl
+pub change_without_hold : (hold : Option ℕ) (a : Answer) → (without_hold_if hold a).change ≡ a.change
+change_without_hold None a = refl
+change_without_hold (Some seconds) a = refl
 
 pub change_finally : (b : Bool) (a : Answer) → (with_observe_rule b a).change ≡ a.change
 change_finally true a = refl

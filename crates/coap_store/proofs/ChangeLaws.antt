@@ -12,7 +12,7 @@ use lib.Pointwise.{pointwise_decides, bytes_decides}
 use Rattle.coap_wire.specs.Codes as code
 use Rattle.coap_store.specs.Store.{Resource}
 use Rattle.coap_store.proofs.AnswerLaws.{is_error, OfErrors, get_cases, store_cases, answer_cases, state_dynamic}
-use Rattle.coap_store.proofs.AnswerLaws.{change_finally, change_unheld, unheld_finally}
+use Rattle.coap_store.proofs.AnswerLaws.{change_finally, change_without_hold, without_hold_finally}
 use Rattle.coap_path.proofs.PathLemmas.{same_path_sound}
 
 -- ---- equal paths
@@ -178,39 +178,39 @@ error_says_none c state e =
     rw (no_created, no_changed, no_deleted) refl
 
 -- An answer has a change if and only if its response states one.
-abbrev Tells : Option Representation → Answer → Type 0
-Tells state a = changes a.change ≡ says_change a.response state
+abbrev StatesChange : Option Representation → Answer → Type 0
+StatesChange state a = changes a.change ≡ says_change a.response state
 
 -- The same for the answer and for the answer with a full pending list.
-abbrev TellsBoth : Option Representation → Answer → Type 0
-TellsBoth state a = Tells state a × Tells state (without_hold a)
+abbrev BothStateChange : Option Representation → Answer → Type 0
+BothStateChange state a = StatesChange state a × StatesChange state (without_hold a)
 
-stored_tells : (key : Option Path) (state now : Option Representation) (m : Message)
-    → TellsBoth now (stored_under key state m)
-stored_tells None state now m = (refl, refl)
-stored_tells (Some path) None now m = (refl, refl)
-stored_tells (Some path) (Some r) now m = (refl, refl)
+stored_states : (key : Option Path) (state now : Option Representation) (m : Message)
+    → BothStateChange now (stored_under key state m)
+stored_states None state now m = (refl, refl)
+stored_states (Some path) None now m = (refl, refl)
+stored_states (Some path) (Some r) now m = (refl, refl)
 
 -- DELETE removes a resource if and only if it exists.
-deletion_tells : (s : StoreValue) (key : Option Path) (state : Option Representation) → state ≡ stored_at s key
+deletion_states : (s : StoreValue) (key : Option Path) (state : Option Representation) → state ≡ stored_at s key
     → changes (deletion key state) ≡ is_some state
-deletion_tells s None None is = refl
-deletion_tells s None (Some r) is = absurd cc
-deletion_tells s (Some path) None is = refl
-deletion_tells s (Some path) (Some r) is = refl
+deletion_states s None None is = refl
+deletion_states s None (Some r) is = absurd cc
+deletion_states s (Some path) None is = refl
+deletion_states s (Some path) (Some r) is = refl
 
-tells_at : (s : StoreValue) (now : ℕ) (path : Path) (m : Message)
-    → TellsBoth (state_of s now path) (answer_at s (target_of s now path) m)
-tells_at s now path m =
+states_at : (s : StoreValue) (now : ℕ) (path : Path) (m : Message)
+    → BothStateChange (state_of s now path) (answer_at s (target_of s now path) m)
+states_at s now path m =
     let t = target_of s now path in
-    let P : Answer → Type 0 = TellsBoth t.state in
+    let P : Answer → Type 0 = BothStateChange t.state in
     let errors : OfErrors P = λ c e. (error_says_none c t.state e, error_says_none c t.state e) in
     answer_cases P s t m errors (record {
       read = λ r is. get_cases P t.place r m errors
           (record { valid = λ among. (refl, refl); late = (refl, refl); content = (refl, refl) });
       deleted = λ dynamic other.
-          (let is = deletion_tells s t.key t.state (state_dynamic s now t.key t.place dynamic) in (is, is));
-      stored = λ dynamic other. store_cases P s t m errors (refl, refl) (λ can. stored_tells t.key t.state t.state m);
+          (let is = deletion_states s t.key t.state (state_dynamic s now t.key t.place dynamic) in (is, is));
+      stored = λ dynamic other. store_cases P s t m errors (refl, refl) (λ can. stored_states t.key t.state t.state m);
     })
 
 -- An answer removes only a resource that exists.
@@ -237,25 +237,25 @@ deletes_stored_at s now path m =
       stored = λ dynamic other. store_cases P s t m (λ c e. tt) tt (λ can. stored_found s t.key t.state m);
     })
 
-tells_finally : (b : Bool) (state : Option Representation) (a : Answer) → Tells state a
-    → Tells state (with_observe_rule b a)
-tells_finally true state a is = is
-tells_finally false state a is = is
+states_finally : (b : Bool) (state : Option Representation) (a : Answer) → StatesChange state a
+    → StatesChange state (with_observe_rule b a)
+states_finally true state a is = is
+states_finally false state a is = is
 
 pub changes_where : (s : StoreValue) (now : ℕ) (m : Message)
     → changes (answer_of s now m).change ≡ says_change (answer_of s now m).response (state_of s now (path_of m))
 unfolding answer_of
 changes_where s now m =
     let a = answer_at s (target_of s now (path_of m)) m in
-    tells_finally (removes_watch m) (state_of s now (path_of m)) a (tells_at s now (path_of m) m).0
+    states_finally (removes_watch m) (state_of s now (path_of m)) a (states_at s now (path_of m) m).0
 
 pub prompt_changes_where : (s : StoreValue) (now : ℕ) (m : Message) → changes (immediate_answer s now m).change
     ≡ says_change (immediate_answer s now m).response (state_of s now (path_of m))
 unfolding immediate_answer answer_of
 prompt_changes_where s now m =
     let a = answer_at s (target_of s now (path_of m)) m in
-    subst (Tells (state_of s now (path_of m))) (sym (unheld_finally (removes_watch m) a))
-    (tells_finally (removes_watch m) (state_of s now (path_of m)) (without_hold a) (tells_at s now (path_of m) m).1)
+    subst (StatesChange (state_of s now (path_of m))) (sym (without_hold_finally (removes_watch m) a))
+    (states_finally (removes_watch m) (state_of s now (path_of m)) (without_hold a) (states_at s now (path_of m) m).1)
 
 deletes_stored : (s : StoreValue) (now : ℕ) (m : Message) → DeletesStored s (answer_of s now m).change
 unfolding answer_of
@@ -267,7 +267,7 @@ found_promptly : (s : StoreValue) (now : ℕ) (m : Message) → DeletesStored s 
 unfolding immediate_answer
 found_promptly s now m =
     let a = answer_of s now m in
-    subst (DeletesStored s) (sym (change_unheld a.hold a)) (deletes_stored s now m)
+    subst (DeletesStored s) (sym (change_without_hold a.hold a)) (deletes_stored s now m)
 
 -- ---- a store changes if and only if the response states it
 

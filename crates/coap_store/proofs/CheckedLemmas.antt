@@ -4,8 +4,8 @@ use Rattle.std.proofs.Common.{refl, ap}
 use Rattle.std.specs.Prelude.{find}
 use Rattle.coap_store.specs.Prelude.{is_some, option_map, list_any, CoapOption, Placed, placed, is_recognised}
 use Rattle.coap_store.specs.Prelude.{is_critical}
-use Rattle.coap_store.specs.Prelude.{known_options, known_behind, first_critical, first_critical_behind}
-use Rattle.coap_store.specs.Prelude.{checked_options, checked_behind, checked_at, CheckedOptionValue}
+use Rattle.coap_store.specs.Prelude.{known_options, known_given, first_critical, first_critical_given}
+use Rattle.coap_store.specs.Prelude.{checked_options, checked_given, checked_at, CheckedOptionValue}
 
 -- The recognised options.
 abbrev pub recognised_in : List CheckedOptionValue → List CoapOption
@@ -50,10 +50,10 @@ bad_placed (p ∷ ps) =
 
 -- The recognised options among all are those of the message.
 pub recognised_of_all : (os : List CoapOption) → recognised_in (checked_options os) ≡ known_options os
-unfolding checked_behind known_behind
+unfolding checked_given known_given
 recognised_of_all os = recognised_placed (placed [] os)
 
 -- There is a critical option that is not recognised if and only if `first_critical` finds one.
 pub bad_of_all : (os : List CoapOption) → has_bad (checked_options os) ≡ is_some (first_critical os)
-unfolding checked_behind first_critical_behind
+unfolding checked_given first_critical_given
 bad_of_all os = bad_placed (placed [] os)

@@ -46,15 +46,15 @@ unfolding joined
 joined_push [] e = append-nil e
 joined_push (f ∷ es) e = ap (λ (t : List ℕ). f ++ t) (joined_push es e) ∙ sym (append_assoc f (joined es) e)
 
-take_behind : (e t : List ℕ) (n m : ℕ) → m ≡ length e + n → take m (e ++ t) ≡ e ++ take n t
-take_behind [] t n m is = let same : m ≡ n = omega (arith, is) in ap (λ (k : ℕ). take k t) same
-take_behind (x ∷ e) t n zero is = absurd (omega arith)
-take_behind (x ∷ e) t n (suc m) is = ap (λ (s : List ℕ). x ∷ s) (take_behind e t n m (omega arith))
+take_beyond : (e t : List ℕ) (n m : ℕ) → m ≡ length e + n → take m (e ++ t) ≡ e ++ take n t
+take_beyond [] t n m is = let same : m ≡ n = omega (arith, is) in ap (λ (k : ℕ). take k t) same
+take_beyond (x ∷ e) t n zero is = absurd (omega arith)
+take_beyond (x ∷ e) t n (suc m) is = ap (λ (s : List ℕ). x ∷ s) (take_beyond e t n m (omega arith))
 
-drop_behind : (e t : List ℕ) (n m : ℕ) → m ≡ length e + n → drop m (e ++ t) ≡ drop n t
-drop_behind [] t n m is = let same : m ≡ n = omega (arith, is) in ap (λ (k : ℕ). drop k t) same
-drop_behind (x ∷ e) t n zero is = absurd (omega arith)
-drop_behind (x ∷ e) t n (suc m) is = drop_behind e t n m (omega arith)
+drop_beyond : (e t : List ℕ) (n m : ℕ) → m ≡ length e + n → drop m (e ++ t) ≡ drop n t
+drop_beyond [] t n m is = let same : m ≡ n = omega (arith, is) in ap (λ (k : ℕ). drop k t) same
+drop_beyond (x ∷ e) t n zero is = absurd (omega arith)
+drop_beyond (x ∷ e) t n (suc m) is = drop_beyond e t n m (omega arith)
 
 take_before : (e t : List ℕ) (n : ℕ) → n ≤ length e → take n (e ++ t) ≡ take n e
 take_before e t n le = take-append-le n e t le
@@ -81,8 +81,8 @@ joined_ended (e ∷ es) (suc i) count end within le =
     ap (λ (t : List ℕ). e ++ t) (joined_ended es i count end (omega arith) le)
     ∙ sym (append_assoc e (take (place es i + n - count) (joined es)) (end ++ drop (place es i + n) (joined es)))
     ∙ (λ j. sym
-    (take_behind e (joined es) (place es i + n - count) (place (e ∷ es) (suc i) + n - count) (omega (arith, sums, le)))
-    j ++ (end ++ sym (drop_behind e (joined es) (place es i + n) (place (e ∷ es) (suc i) + n) (omega (arith, sums))) j))
+    (take_beyond e (joined es) (place es i + n - count) (place (e ∷ es) (suc i) + n - count) (omega (arith, sums, le)))
+    j ++ (end ++ sym (drop_beyond e (joined es) (place es i + n) (place (e ∷ es) (suc i) + n) (omega (arith, sums))) j))
 
 pub joined_removed : (es : List (List ℕ)) (i : ℕ) → i < length es
     → joined (remove es i) ≡ take (place es i) (joined es) ++ drop (place es i + length (get_or es i [])) (joined es)
@@ -96,8 +96,8 @@ joined_removed (e ∷ es) (suc i) within =
     let sums = sum_cons (length e) (take i (map length es)) in
     ap (λ (t : List ℕ). e ++ t) (joined_removed es i (omega arith))
     ∙ sym (append_assoc e (take (place es i) (joined es)) (drop (place es i + n) (joined es)))
-    ∙ (λ j. sym (take_behind e (joined es) (place es i) (place (e ∷ es) (suc i)) (omega (arith, sums))) j
-    ++ sym (drop_behind e (joined es) (place es i + n) (place (e ∷ es) (suc i) + n) (omega (arith, sums))) j)
+    ∙ (λ j. sym (take_beyond e (joined es) (place es i) (place (e ∷ es) (suc i)) (omega (arith, sums))) j
+    ++ sym (drop_beyond e (joined es) (place es i + n) (place (e ∷ es) (suc i) + n) (omega (arith, sums))) j)
 
 -- ---- the numbers and the bytes of a listing
 

@@ -4,12 +4,13 @@ use Rattle.std.proofs.lemmas.Bool.{and_parts, leb-true}
 use Rattle.coap_store.specs.Prelude.{Message, Path, Representation, StoreValue, is_async, kind_of_path, state_at}
 use Rattle.coap_store.specs.Prelude.{target_of, is_get, path_of, value_of, digits_mean, is_seconds, is_good_query}
 use Rattle.coap_store.specs.Prelude.{seconds_of, Answer, Nothing, only, content, late, delayed_response, is_delayed}
-use Rattle.coap_store.specs.Prelude.{stored_under, answer_at, removes_watch, with_observe_rule, answer_of, unheld_by}
+use Rattle.coap_store.specs.Prelude.{stored_under, answer_at, removes_watch, with_observe_rule, answer_of}
+use Rattle.coap_store.specs.Prelude.{without_hold_if}
 use Rattle.coap_store.specs.Prelude.{without_hold}
 use Rattle.coap_store.specs.Prelude.{immediate_answer, ResourceKind, Root, Time, Async, Listing, Dynamic, Add}
 use Rattle.coap_wire.specs.Codes as code
 use Rattle.coap_wire.specs.OptionNumbers as numbers
-use Rattle.coap_store.proofs.AnswerLaws.{known_get_cases, known_answer_cases, store_cases, change_unheld}
+use Rattle.coap_store.proofs.AnswerLaws.{known_get_cases, known_answer_cases, store_cases, change_without_hold}
 use Rattle.coap_store.proofs.WatchLaws.{watched_at_once}
 
 -- ---- the answers with a delay, and their response
@@ -33,14 +34,14 @@ late_content s now key Async r waits is = cc
 late_content s now key Listing r waits is = absurd cc
 late_content s now key Dynamic r waits is = absurd cc
 
-pub record IsHeld (m : Message) (a : Answer) (seconds : ℕ) : Type 0 where
-  pub asked : is_delayed m ≡ true
+pub record IsDelayed (m : Message) (a : Answer) (seconds : ℕ) : Type 0 where
+  pub requested : is_delayed m ≡ true
   pub response : a.response ≡ delayed_response
   pub change : a.change ≡ Nothing
   pub short : seconds ≤ 3600
 
 abbrev HoldsWell : Message → Answer → Type 0
-HoldsWell m a = (seconds : ℕ) → a.hold ≡ Some seconds → IsHeld m a seconds
+HoldsWell m a = (seconds : ℕ) → a.hold ≡ Some seconds → IsDelayed m a seconds
 
 at_once : (m : Message) (a : Answer) → a.hold ≡ None → HoldsWell m a
 at_once m a none seconds e = absurd cc
@@ -57,14 +58,14 @@ late_holds : (s : StoreValue) (now : ℕ) (m : Message) (r : Representation) →
 late_holds s now m r get is waits good seconds e =
     let same : seconds_of (value_of numbers.uri_query m) ≡ seconds = cc in
     record {
-      asked = rw (get, waits) refl;
+      requested = rw (get, waits) refl;
       response = late_content s now (target_of s now (path_of m)).key (kind_of_path (path_of m)) r waits is;
       change = refl;
       short = subst (λ n. n ≤ 3600) same (seconds_fit (value_of numbers.uri_query m) good);
     }
 
-held_at : (s : StoreValue) (now : ℕ) (m : Message) → HoldsWell m (answer_at s (target_of s now (path_of m)) m)
-held_at s now m =
+delayed_at : (s : StoreValue) (now : ℕ) (m : Message) → HoldsWell m (answer_at s (target_of s now (path_of m)) m)
+delayed_at s now m =
     let t = target_of s now (path_of m) in
     let P : Answer → Type 0 = HoldsWell m in
     known_answer_cases P s t m (λ c e. at_once m _ refl) (record {
@@ -79,45 +80,46 @@ held_at s now m =
     })
 
 -- The effect on the observers does not matter.
-held_finally : (m : Message) (b : Bool) (a : Answer) → HoldsWell m a → HoldsWell m (with_observe_rule b a)
-held_finally m true a holds seconds e =
+delayed_finally : (m : Message) (b : Bool) (a : Answer) → HoldsWell m a → HoldsWell m (with_observe_rule b a)
+delayed_finally m true a holds seconds e =
     let is = holds seconds e in
-    record { asked = is.asked; response = is.response; change = is.change; short = is.short }
-held_finally m false a holds seconds e = holds seconds e
+    record { requested = is.requested; response = is.response; change = is.change; short = is.short }
+delayed_finally m false a holds seconds e = holds seconds e
 
-pub held_of : (s : StoreValue) (now : ℕ) (m : Message) (seconds : ℕ) → (answer_of s now m).hold ≡ Some seconds
-    → IsHeld m (answer_of s now m) seconds
+pub delay_of_answer : (s : StoreValue) (now : ℕ) (m : Message) (seconds : ℕ) → (answer_of s now m).hold ≡ Some seconds
+    → IsDelayed m (answer_of s now m) seconds
 unfolding answer_of
-held_of s now m = held_finally m (removes_watch m) (answer_at s (target_of s now (path_of m)) m) (held_at s now m)
+delay_of_answer s now m = delayed_finally m (removes_watch m) (answer_at s (target_of s now (path_of m)) m)
+    (delayed_at s now m)
 
 -- Such a request registers no observer.
-pub held_unwatched : (s : StoreValue) (now : ℕ) (m : Message) (seconds : ℕ) → (answer_of s now m).hold ≡ Some seconds
+pub delayed_unwatched : (s : StoreValue) (now : ℕ) (m : Message) (seconds : ℕ) → (answer_of s now m).hold ≡ Some seconds
     → (answer_of s now m).watch ≢ Add
-held_unwatched s now m seconds e = λ adds. (let none = watched_at_once s now m adds in absurd cc)
+delayed_unwatched s now m seconds e = λ adds. (let none = watched_at_once s now m adds in absurd cc)
 
 -- ---- a full pending list
 
-pub unheld_held : (a : Answer) (seconds : ℕ) → a.hold ≡ Some seconds
+pub without_hold_delayed : (a : Answer) (seconds : ℕ) → a.hold ≡ Some seconds
     → (without_hold a).response ≡ only code.service_unavailable
-unheld_held a seconds e = ap (λ hold. (unheld_by hold a).response) e
+without_hold_delayed a seconds e = ap (λ hold. (without_hold_if hold a).response) e
 
-pub unheld_prompt : (a : Answer) → a.hold ≡ None → without_hold a ≡ a
-unheld_prompt a e = ap (λ hold. unheld_by hold a) e
+pub without_hold_prompt : (a : Answer) → a.hold ≡ None → without_hold a ≡ a
+without_hold_prompt a e = ap (λ hold. without_hold_if hold a) e
 
-pub unheld_change : (a : Answer) → (without_hold a).change ≡ a.change
-unheld_change a = change_unheld a.hold a
+pub without_hold_change : (a : Answer) → (without_hold a).change ≡ a.change
+without_hold_change a = change_without_hold a.hold a
 
 pub refused_for_now : (s : StoreValue) (now : ℕ) (m : Message) (seconds : ℕ) → (answer_of s now m).hold ≡ Some seconds
     → (immediate_answer s now m).response ≡ only code.service_unavailable
 unfolding immediate_answer
-refused_for_now s now m seconds e = unheld_held (answer_of s now m) seconds e
+refused_for_now s now m seconds e = without_hold_delayed (answer_of s now m) seconds e
 
 pub same_change : (s : StoreValue) (now : ℕ) (m : Message)
     → (immediate_answer s now m).change ≡ (answer_of s now m).change
 unfolding immediate_answer
-same_change s now m = unheld_change (answer_of s now m)
+same_change s now m = without_hold_change (answer_of s now m)
 
 pub same_at_once : (s : StoreValue) (now : ℕ) (m : Message) → (answer_of s now m).hold ≡ None
     → immediate_answer s now m ≡ answer_of s now m
 unfolding immediate_answer
-same_at_once s now m e = unheld_prompt (answer_of s now m) e
+same_at_once s now m e = without_hold_prompt (answer_of s now m) e

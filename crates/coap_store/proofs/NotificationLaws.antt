@@ -16,16 +16,16 @@ use Rattle.coap_store.proofs.ServingLaws.{stored_is_served}
 
 -- ---- by the state of the path
 
-pub told_absent : (place : ResourceKind) (format : Option ℕ) (state : Option Representation) → None ≡ state
+pub notified_absent : (place : ResourceKind) (format : Option ℕ) (state : Option Representation) → None ≡ state
     → only code.not_found ≡ notification_at place state format
 unfolding notification_at
-told_absent place format state is = ap (λ state. notification_at place state format) is
+notified_absent place format state is = ap (λ state. notification_at place state format) is
 
-pub told_other : (place : ResourceKind) (format : Option ℕ) (r : Representation) (state : Option Representation)
+pub notified_other : (place : ResourceKind) (format : Option ℕ) (r : Representation) (state : Option Representation)
     → Some r ≡ state → not (option_eq nat_eq r.format format) ≡ true
     → only code.not_acceptable ≡ notification_at place state format
 unfolding notification_at
-told_other place format r state is other =
+notified_other place format r state is other =
     sym (cond-false (option_eq nat_eq r.format format) (content place r) (only code.not_acceptable)
     (is_false (option_eq nat_eq r.format format) other)) ∙ ap (λ state. notification_at place state format) is
   where
@@ -33,11 +33,11 @@ told_other place format r state is other =
     is_false true e = absurd cc
     is_false false e = refl
 
-pub told_content : (place : ResourceKind) (format : Option ℕ) (r : Representation) (state : Option Representation)
+pub notified_content : (place : ResourceKind) (format : Option ℕ) (r : Representation) (state : Option Representation)
     → Some r ≡ state → not (option_eq nat_eq r.format format) ≡ false
     → content place r ≡ notification_at place state format
 unfolding notification_at
-told_content place format r state is same =
+notified_content place format r state is same =
     sym (cond-true (option_eq nat_eq r.format format) (content place r) (only code.not_acceptable)
     (is_true (option_eq nat_eq r.format format) same)) ∙ ap (λ state. notification_at place state format) is
   where
@@ -48,20 +48,20 @@ told_content place format r state is same =
 -- ---- all notifications
 
 -- A 2.05 has the representation, with the Content-Format of earlier notifications.
-record TellsAsBefore (place : ResourceKind) (now : Option Representation) (before : Option ℕ)
+record ReportsAsBefore (place : ResourceKind) (now : Option Representation) (before : Option ℕ)
     (r : Response) : Type 0 where
   state : ReportsState place now r
   format : r.format ≡ before
 
-notified_tells : (place : ResourceKind) (state : Option Representation) (format : Option ℕ)
+notified_reports : (place : ResourceKind) (state : Option Representation) (format : Option ℕ)
     → (notification_at place state format).code ≡ code.content
-    → TellsAsBefore place state format (notification_at place state format)
+    → ReportsAsBefore place state format (notification_at place state format)
 unfolding notification_at
-notified_tells place None format is = absurd (omega arith)
-notified_tells place (Some r) format is =
+notified_reports place None format is = absurd (omega arith)
+notified_reports place (Some r) format is =
     elim (option_eq nat_eq r.format format) as (λ b. option_eq nat_eq r.format format ≡ b
     → (if b then content place r else only code.not_acceptable).code ≡ code.content
-    → TellsAsBefore place (Some r) format (if b then content place r else only code.not_acceptable)) [
+    → ReportsAsBefore place (Some r) format (if b then content place r else only code.not_acceptable)) [
       | true ↦ λ same e. record {
         state = record { representation = r; there = refl; bytes = refl; format = refl; etag = refl };
         format = same_format r.format format (ap not same);
@@ -69,14 +69,14 @@ notified_tells place (Some r) format is =
       | false ↦ λ other e. absurd (omega arith)
     ] refl is
 
-pub notification_tells : (s : StoreValue) (now : ℕ) (path : Path) (format : Option ℕ)
+pub notification_reports : (s : StoreValue) (now : ℕ) (path : Path) (format : Option ℕ)
     → (notification_of s now path format).code ≡ code.content
     → ReportsState (kind_of_path path) (state_of s now path) (notification_of s now path format)
-notification_tells s now path format is = (notified_tells (kind_of_path path) (state_of s now path) format is).state
+notification_reports s now path format is = (notified_reports (kind_of_path path) (state_of s now path) format is).state
 
 pub notification_format : (s : StoreValue) (now : ℕ) (path : Path) (format : Option ℕ)
     → (notification_of s now path format).code ≡ code.content → (notification_of s now path format).format ≡ format
-notification_format s now path format is = (notified_tells (kind_of_path path) (state_of s now path) format is).format
+notification_format s now path format is = (notified_reports (kind_of_path path) (state_of s now path) format is).format
 
 short_notification_at : (place : ResourceKind) (state : Option Representation) (format : Option ℕ)
     → ((r : Representation) → state ≡ Some r → length r.bytes ≤ 1048576)
@@ -119,6 +119,6 @@ pub notification_get : (s : StoreValue) (now : ℕ) (token : List ℕ) (path : P
 notification_get s now token path format is place said =
     let by : notification_of s now path format ≡ notification_at Dynamic (state_of s now path) format =
     ap (λ place. notification_at place (state_of s now path) format) place in
-    let told = content_at (state_of s now path) format (sym (ap (λ (r : Response). r.code) by) ∙ said) in
-    stored_is_served s now token path told.0 is place (sym (state_stored s now path is place) ∙ told.1)
-    ∙ told.2 ∙ sym by
+    let sent = content_at (state_of s now path) format (sym (ap (λ (r : Response). r.code) by) ∙ said) in
+    stored_is_served s now token path sent.0 is place (sym (state_stored s now path is place) ∙ sent.1)
+    ∙ sent.2 ∙ sym by

@@ -2,12 +2,12 @@
 use Rattle.std.proofs.Common.{◌≡◌, ℕ, Bool, true, false, ◌||◌, ◌==◌, cond, List, [], ◌∷◌, map, filter, Option, Some}
 use Rattle.std.proofs.Common.{None, refl, ap, ◌∙◌}
 use Rattle.coap_store.specs.Prelude.{CoapOption, Message, known_options, values_of, value_of, has_option, path_of}
-use Rattle.coap_store.specs.Prelude.{is_given, first_or_none, trail_behind, place_at, RequestOptions, nothing}
+use Rattle.coap_store.specs.Prelude.{is_given, first_or_none, match_along, place_at, RequestOptions, nothing}
 use Rattle.coap_store.specs.Prelude.{first_given}
-use Rattle.coap_store.specs.Prelude.{match_after, options_after, all_noted, AreNotesOf, PathMatch}
+use Rattle.coap_store.specs.Prelude.{match_after, options_after, all_noted, AreOptionsOf, PathMatch}
 use Rattle.coap_wire.specs.OptionNumbers as numbers
 use Rattle.coap_store.proofs.RequestLemmas.{has_number, values_in, given_at}
-use Rattle.coap_path.proofs.TrailLemmas.{place_by_trail}
+use Rattle.coap_path.proofs.MatchLemmas.{place_by_match}
 
 or_false : (b : Bool) → b ≡ (b || false)
 or_false true = refl
@@ -80,27 +80,27 @@ module _ (field : RequestOptions → Option (List ℕ)) (number : ℕ) (step : (
       ∙ first_moved (field n) (has_number number o) o (filter (has_number number) os)
 
 -- The state of matching the path.
-trail_moved : (trail : PathMatch) (here : Bool) (o : CoapOption) (os : List CoapOption)
-    → trail_behind (match_after trail here o.value) (map (λ (o : CoapOption). o.value) os)
-    ≡ trail_behind trail (map (λ (o : CoapOption). o.value) (cond here (o ∷ os) os))
-trail_moved trail true o os = refl
-trail_moved trail false o os = refl
+match_moved : (matched : PathMatch) (here : Bool) (o : CoapOption) (os : List CoapOption)
+    → match_along (match_after matched here o.value) (map (λ (o : CoapOption). o.value) os)
+    ≡ match_along matched (map (λ (o : CoapOption). o.value) (cond here (o ∷ os) os))
+match_moved matched true o os = refl
+match_moved matched false o os = refl
 
-trail_noted : (n : RequestOptions) (os : List CoapOption)
-    → (all_noted n os).trail ≡ trail_behind n.trail (values_in numbers.uri_path os)
+match_noted : (n : RequestOptions) (os : List CoapOption)
+    → (all_noted n os).matched ≡ match_along n.matched (values_in numbers.uri_path os)
 unfolding options_after
-trail_noted n [] = refl
-trail_noted n (o ∷ os) =
-    trail_noted (options_after n o) os
-    ∙ trail_moved n.trail (has_number numbers.uri_path o) o (filter (has_number numbers.uri_path) os)
+match_noted n [] = refl
+match_noted n (o ∷ os) =
+    match_noted (options_after n o) os
+    ∙ match_moved n.matched (has_number numbers.uri_path o) o (filter (has_number numbers.uri_path) os)
 
 -- All recognised options of a request.
-pub scan_options : (m : Message) → AreNotesOf m (all_noted nothing (known_options m.options))
+pub scan_options : (m : Message) → AreOptionsOf m (all_noted nothing (known_options m.options))
 unfolding options_after has_option value_of values_of
 scan_options m =
     let os = known_options m.options in
     record {
-      place = ap place_at (trail_noted nothing os) ∙ place_by_trail (path_of m);
+      place = ap place_at (match_noted nothing os) ∙ place_by_match (path_of m);
       if_match = flag_noted (λ n. n.if_match) numbers.if_match (λ n o. refl) nothing os;
       etag = flag_noted (λ n. n.etag) numbers.etag (λ n o. refl) nothing os;
       if_none_match = flag_noted (λ n. n.if_none_match) numbers.if_none_match (λ n o. refl) nothing os;

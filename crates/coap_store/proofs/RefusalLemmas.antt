@@ -28,15 +28,15 @@ first_fault_refuses (check ∷ checks) fault all is =
     elim check.0
     as (λ b. (if b then Some check.1 else first_fault checks) ≡ Some fault → refusal_in fault ≡ Some fault) [
       | true ↦ λ here. (let same : check.1 ≡ fault = cc in subst (λ (f : StoreFault). refusal_in f ≡ Some f) same all.0)
-      | false ↦ λ behind. first_fault_refuses checks fault all.1 behind
+      | false ↦ λ later. first_fault_refuses checks fault all.1 later
     ] is
 
 -- ---- put
 
-pub put_told : (s : StoreValue) (path : Path) (bytes : List ℕ) (fault : StoreFault)
+pub put_reported : (s : StoreValue) (path : Path) (bytes : List ℕ) (fault : StoreFault)
     → put_refusal s path bytes ≡ Some fault → put_refusal s path bytes ≡ refusal_in fault
 unfolding put_refusal
-put_told s path bytes fault is =
+put_reported s path bytes fault is =
     is ∙ sym
     (first_fault_refuses ((nat_lt s.rep_max (length bytes), TooLarge) ∷ (not (is_dynamic (kind_of_path path)), BadPath)
     ∷ (is_none (found_in s.resources path) && nat_le s.dynamic_max (length s.resources), Limit)
@@ -103,8 +103,8 @@ remove_present s path lent is same some =
     rw (found_dynamic s path (found_in s.resources path) is refl there, there) refl
 
 -- A resource is removed if and only if one is found.
-pub removal_told : (s : StoreValue) (path : Path) (lent : Option (Bor lent.Resource)) → IsStore s
+pub removal_reported : (s : StoreValue) (path : Path) (lent : Option (Bor lent.Resource)) → IsStore s
     → option_map (λ r. representation r.now) lent ≡ found_in s.resources path
     → is_some lent ≡ is_none (remove_refusal s path)
-removal_told s path None is same = ap is_none (sym (remove_absent s path None same refl))
-removal_told s path (Some r) is same = ap is_none (sym (remove_present s path (Some r) is same refl))
+removal_reported s path None is same = ap is_none (sym (remove_absent s path None same refl))
+removal_reported s path (Some r) is same = ap is_none (sym (remove_present s path (Some r) is same refl))

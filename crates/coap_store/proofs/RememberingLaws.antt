@@ -6,17 +6,17 @@ use Rattle.coap_store.proofs.StoreLemmas.{one_version, found_kept}
 use Rattle.coap_store.proofs.ChangeLaws.{put_is_stored, other_is_kept_on_put, other_is_kept_on_delete, deleted_is_gone}
 use Rattle.coap_store.proofs.VersionLaws.{by_path}
 
-pub is_stored : (s : StoreValue) (path : Path) (told : Representation) → IsStore s
-    → found_in s.resources path ≡ Some told → WasStored s path told
-is_stored s path told is found = record {
-  given = (found_kept s path told is found).given;
-  same = λ other r at versions. one_version s.resources other path r told is.own_versions at found versions;
+pub is_stored : (s : StoreValue) (path : Path) (sent : Representation) → IsStore s
+    → found_in s.resources path ≡ Some sent → WasStored s path sent
+is_stored s path sent is found = record {
+  given = (found_kept s path sent is found).given;
+  same = λ other r at versions. one_version s.resources other path r sent is.own_versions at found versions;
 }
 
-pub was_stored : (s : StoreValue) (change : Change) (path : Path) (told : Representation) → IsStore s
-    → WasStored s path told → WasStored (changed s change) path told
-was_stored s Nothing path told is was = was
-was_stored s (Put at format bytes) path told is was = record {
+pub was_stored : (s : StoreValue) (change : Change) (path : Path) (sent : Representation) → IsStore s
+    → WasStored s path sent → WasStored (changed s change) path sent
+was_stored s Nothing path sent is was = was
+was_stored s (Put at format bytes) path sent is was = record {
   given = omega (arith, was.given);
   same = λ other r found versions. by_path other at
       (λ here. (let put = put_is_stored s at format bytes in
@@ -26,7 +26,7 @@ was_stored s (Put at format bytes) path told is was = record {
       absurd (omega (arith, was.given, versions, ap (λ (x : Representation). x.version) now))))
       (λ apart. was.same other r (sym (other_is_kept_on_put s at other format bytes apart) ∙ found) versions);
 }
-was_stored s (Delete at) path told is was = record {
+was_stored s (Delete at) path sent is was = record {
   given = was.given;
   same = λ other r found versions. by_path other at
       (λ here. (let gone = deleted_is_gone s at is.paths in

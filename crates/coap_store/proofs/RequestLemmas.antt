@@ -2,7 +2,7 @@
 use Rattle.std.proofs.Common.{◌≡◌, ℕ, ◌<◌, ◌≤◌, Bool, true, false, ◌&&◌, ◌||◌, cond, ◌==◌, List, [], ◌∷◌, length, map}
 use Rattle.std.proofs.Common.{filter, get_or, Option, Some, None, refl, sym, ap, subst, ◌∙◌, arith}
 use Rattle.coap_store.specs.Prelude.{option_map, nat_le, is_some, IfSome, then_some, list_any, list_all, CoapOption}
-use Rattle.coap_store.specs.Prelude.{Message, Placed, placed, once, kind_of, has_kind, is_recognised, known_behind}
+use Rattle.coap_store.specs.Prelude.{Message, Placed, placed, once, kind_of, has_kind, is_recognised, known_given}
 use Rattle.coap_store.specs.Prelude.{known_options, uint_of, bytes_of_uint, OptionKind, same_bytes, Representation}
 use Rattle.coap_store.specs.Prelude.{values_of, has_option, value_of, number_of, is_given, first_or_none}
 use Rattle.coap_store.specs.Prelude.{match_holds, is_digit, digits_mean, is_seconds}
@@ -104,7 +104,7 @@ placed_fits number kind (p ∷ ps) value is found =
 -- A value of a recognised option has at most the maximum length of its kind.
 pub value_fits : (number : ℕ) (kind : OptionKind) (m : Message) (value : List ℕ) → kind_of number ≡ Some kind
     → Some value ≡ value_of number m → length value ≤ kind.max
-unfolding value_of values_of known_behind
+unfolding value_of values_of known_given
 value_fits number kind m value is found = placed_fits number kind (placed [] m.options) value is (sym found)
 
 -- ---- numbers
@@ -127,16 +127,16 @@ observe_fits m value found =
 
 -- ---- preconditions
 
-pub match_not_asked : (state : Option Representation) (m : Message) → false ≡ has_option numbers.if_match m
+pub match_not_requested : (state : Option Representation) (m : Message) → false ≡ has_option numbers.if_match m
     → true ≡ match_holds state m
 unfolding match_holds
-match_not_asked state m absent = rw (sym absent) refl
+match_not_requested state m absent = rw (sym absent) refl
 
 pub match_of_none : (state : Option Representation) (m : Message) → true ≡ has_option numbers.if_match m
     → None ≡ option_map (λ (r : Representation). r.version) state → false ≡ match_holds state m
 unfolding match_holds
-match_of_none None m asked is = rw (sym asked) refl
-match_of_none (Some r) m asked is = let bad : ◌≡◌ {A = Option ℕ} None (Some r.version) = is in absurd cc
+match_of_none None m requested is = rw (sym requested) refl
+match_of_none (Some r) m requested is = let bad : ◌≡◌ {A = Option ℕ} None (Some r.version) = is in absurd cc
 
 -- A value of If-Match holds for a version with this ETag.
 abbrev pub is_match : List ℕ → List ℕ → Bool
@@ -147,13 +147,13 @@ pub match_of_version : (state : Option Representation) (m : Message) (version : 
     → etag ≡ bytes_of_uint version
     → list_any (is_match etag) (values_of numbers.if_match m) ≡ match_holds state m
 unfolding match_holds
-match_of_version None m version etag asked is etag_is =
+match_of_version None m version etag requested is etag_is =
     let bad : ◌≡◌ {A = Option ℕ} (Some version) None = is in
     absurd cc
-match_of_version (Some r) m version etag asked is etag_is =
+match_of_version (Some r) m version etag requested is etag_is =
     let same : version ≡ r.version = cc in
     let etags : etag ≡ bytes_of_uint r.version = etag_is ∙ ap bytes_of_uint same in
-    rw (sym asked) (ap (λ (e : List ℕ). list_any (is_match e) (values_of numbers.if_match m)) etags)
+    rw (sym requested) (ap (λ (e : List ℕ). list_any (is_match e) (values_of numbers.if_match m)) etags)
 
 -- ---- seconds
 

@@ -1,8 +1,8 @@
 -- The relation of requests and responses to the state of a path.
 use Rattle.std.proofs.Common.{◌≡◌, ◌≢◌, inl, inr, ℕ, ◌+◌, ◌≤◌, Bool, true, false, List, [], ◌∷◌, ◌++◌, length, map}
 use Rattle.std.proofs.Common.{filter, Option, Some, None, refl, sym, ap, subst, ◌∙◌, arith}
-use Rattle.coap_store.specs.Prelude.{◌==◌, AllByRecursion, kind_of, is_recognised, known_behind}
-use Rattle.coap_store.specs.Prelude.{first_critical_behind, Message, CoapOption, Path, is_path, written_length}
+use Rattle.coap_store.specs.Prelude.{◌==◌, AllByRecursion, kind_of, is_recognised, known_given}
+use Rattle.coap_store.specs.Prelude.{first_critical_given, Message, CoapOption, Path, is_path, written_length}
 use Rattle.coap_store.specs.Prelude.{Representation, StoreValue, found_in, is_dynamic, kind_of_path, key_for, stored_at}
 use Rattle.coap_store.specs.Prelude.{state_at, state_of, RequestTarget, target_of, values_of, value_of, has_option}
 use Rattle.coap_store.specs.Prelude.{number_of, match_holds, is_get, path_of, etag_of, Response, Answer, Change}
@@ -47,13 +47,13 @@ response_finally false a = refl
 no_error : (c d : ℕ) → is_error c ≡ true → d ≤ 127 → c ≢ d
 no_error c d e small = λ same. (let large : 128 ≤ c = leb-true 128 c e in omega arith)
 
-abbrev TellsTruly : RequestTarget → Answer → Type 0
-TellsTruly t a =
+abbrev ReportsTruly : RequestTarget → Answer → Type 0
+ReportsTruly t a =
     (a.response.code ≡ code.content → ReportsState t.place t.state a.response)
     × (a.response.code ≡ code.valid → ReportsEtag t.state a.response)
 
-told_error : (t : RequestTarget) → OfErrors (TellsTruly t)
-told_error t c e = (
+reports_error : (t : RequestTarget) → OfErrors (ReportsTruly t)
+reports_error t c e = (
   (λ same. absurd (no_error c code.content e (omega arith) same)),
   (λ same. absurd (no_error c code.valid e (omega arith) same)),
 )
@@ -67,16 +67,16 @@ stored_by_etag Async r values among = absurd cc
 stored_by_etag Listing r values among = absurd cc
 stored_by_etag Dynamic r values among = refl
 
-stored_tells_truly : (t : RequestTarget) (key : Option Path) (state : Option Representation) (m : Message)
-    → TellsTruly t (stored_under key state m)
-stored_tells_truly t None state m = ((λ same. absurd (omega arith)), (λ same. absurd (omega arith)))
-stored_tells_truly t (Some path) None m = ((λ same. absurd (omega arith)), (λ same. absurd (omega arith)))
-stored_tells_truly t (Some path) (Some r) m = ((λ same. absurd (omega arith)), (λ same. absurd (omega arith)))
+stored_reports_truly : (t : RequestTarget) (key : Option Path) (state : Option Representation) (m : Message)
+    → ReportsTruly t (stored_under key state m)
+stored_reports_truly t None state m = ((λ same. absurd (omega arith)), (λ same. absurd (omega arith)))
+stored_reports_truly t (Some path) None m = ((λ same. absurd (omega arith)), (λ same. absurd (omega arith)))
+stored_reports_truly t (Some path) (Some r) m = ((λ same. absurd (omega arith)), (λ same. absurd (omega arith)))
 
-tells_truly_at : (s : StoreValue) (t : RequestTarget) (m : Message) → TellsTruly t (answer_at s t m)
-tells_truly_at s t m =
-    answer_cases (TellsTruly t) s t m (told_error t) (record {
-      read = λ r is. get_cases (TellsTruly t) t.place r m (told_error t) (record {
+reports_truly_at : (s : StoreValue) (t : RequestTarget) (m : Message) → ReportsTruly t (answer_at s t m)
+reports_truly_at s t m =
+    answer_cases (ReportsTruly t) s t m (reports_error t) (record {
+      read = λ r is. get_cases (ReportsTruly t) t.place r m (reports_error t) (record {
         valid = λ among. (
           (λ same. absurd (omega arith)),
           (λ same. record {
@@ -95,27 +95,29 @@ tells_truly_at s t m =
         );
       });
       deleted = λ dynamic other. ((λ same. absurd (omega arith)), (λ same. absurd (omega arith)));
-      stored = λ dynamic other. store_cases (TellsTruly t) s t m (told_error t) (
+      stored = λ dynamic other. store_cases (ReportsTruly t) s t m (reports_error t) (
         (λ same. absurd (omega arith)),
         (λ same. absurd (omega arith)),
-      ) (λ can. stored_tells_truly t t.key t.state m);
+      ) (λ can. stored_reports_truly t t.key t.state m);
     })
 
-tells_truly : (s : StoreValue) (now : ℕ) (m : Message) → TellsTruly (target_of s now (path_of m)) (answer_of s now m)
+reports_truly : (s : StoreValue) (now : ℕ) (m : Message) → ReportsTruly (target_of s now (path_of m))
+    (answer_of s now m)
 unfolding answer_of
-tells_truly s now m =
+reports_truly s now m =
     let t = target_of s now (path_of m) in
     let a = answer_at s t m in
     subst (λ (r : Response). (r.code ≡ code.content → ReportsState t.place t.state r)
-    × (r.code ≡ code.valid → ReportsEtag t.state r)) (sym (response_finally (removes_watch m) a)) (tells_truly_at s t m)
+    × (r.code ≡ code.valid → ReportsEtag t.state r)) (sym (response_finally (removes_watch m) a))
+    (reports_truly_at s t m)
 
-pub content_tells : (s : StoreValue) (now : ℕ) (m : Message) → (answer_of s now m).response.code ≡ code.content
+pub content_reports : (s : StoreValue) (now : ℕ) (m : Message) → (answer_of s now m).response.code ≡ code.content
     → ReportsState (kind_of_path (path_of m)) (state_of s now (path_of m)) (answer_of s now m).response
-content_tells s now m is = (tells_truly s now m).0 is
+content_reports s now m is = (reports_truly s now m).0 is
 
-pub valid_tells : (s : StoreValue) (now : ℕ) (m : Message) → (answer_of s now m).response.code ≡ code.valid
+pub valid_reports : (s : StoreValue) (now : ℕ) (m : Message) → (answer_of s now m).response.code ≡ code.valid
     → ReportsEtag (state_of s now (path_of m)) (answer_of s now m).response
-valid_tells s now m is = (tells_truly s now m).1 is
+valid_reports s now m is = (reports_truly s now m).1 is
 
 -- ---- other paths
 
@@ -193,8 +195,8 @@ short_within [] fit = tt
 short_within (s ∷ ss) fit = (omega arith, short_within ss (omega arith))
 
 known_plain : (earlier : List CoapOption) (p : Path) → HaveShortSegments p
-    → known_behind earlier (each_at numbers.uri_path p) ≡ each_at numbers.uri_path p
-unfolding known_behind is_recognised kind_of
+    → known_given earlier (each_at numbers.uri_path p) ≡ each_at numbers.uri_path p
+unfolding known_given is_recognised kind_of
 known_plain earlier [] short = refl
 known_plain earlier (s ∷ ss) short = rw (
   le-leb 0 (length s) (omega arith),
@@ -203,8 +205,8 @@ known_plain earlier (s ∷ ss) short = rw (
     (known_plain (earlier ++ record { number = numbers.uri_path; value = s } ∷ []) ss short.1))
 
 critical_plain : (earlier : List CoapOption) (p : Path) → HaveShortSegments p
-    → first_critical_behind earlier (each_at numbers.uri_path p) ≡ None
-unfolding first_critical_behind is_recognised kind_of
+    → first_critical_given earlier (each_at numbers.uri_path p) ≡ None
+unfolding first_critical_given is_recognised kind_of
 critical_plain earlier [] short = refl
 critical_plain earlier (s ∷ ss) short = rw (
   le-leb 0 (length s) (omega arith),

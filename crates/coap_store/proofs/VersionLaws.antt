@@ -12,9 +12,9 @@ use Rattle.coap_store.proofs.ChangeLaws.{distinct_stays, apart_from}
 
 -- ---- an ETag identifies the version
 
-pub etag_tells : (a b : Representation) → a.version < 2 ^ 64 → b.version < 2 ^ 64
+pub etag_decides : (a b : Representation) → a.version < 2 ^ 64 → b.version < 2 ^ 64
     → etag_of a ≡ etag_of b → a.version ≡ b.version
-etag_tells a b fits_a fits_b same = bytes_are_one a.version b.version fits_a fits_b same
+etag_decides a b fits_a fits_b same = bytes_are_one a.version b.version fits_a fits_b same
 
 -- ---- in one store
 
@@ -27,7 +27,7 @@ pub together : (s : StoreValue) (p q : Path) (a b : Representation) → IsStore 
     → found_in s.resources q ≡ Some b → etag_of a ≡ etag_of b → (p ≡ q) × (a ≡ b)
 together s p q a b is at_p at_q same =
     one_version s.resources p q a b is.own_versions at_p at_q
-    (etag_tells a b (stored_version_fits s p a is at_p) (stored_version_fits s q b is at_q) same)
+    (etag_decides a b (stored_version_fits s p a is at_p) (stored_version_fits s q b is at_q) same)
 
 -- ---- over changes
 
@@ -106,7 +106,7 @@ pub later : (s : StoreValue) (cs : List Change) (p q : Path) (a b : Representati
 later s cs p q a b is takes at_p at_q same =
     let so = changes_later s s cs (later_than_itself s is) takes in
     let versions : a.version ≡ b.version =
-    etag_tells a b (stored_version_fits s p a is at_p) (omega (arith, so.given q b at_q, so.fits)) same in
+    etag_decides a b (stored_version_fits s p a is at_p) (omega (arith, so.given q b at_q, so.fits)) same in
     elim (so.stays q b at_q) [
       | inl newer ↦ absurd (omega (arith, newer, versions, (found_kept s p a is at_p).given))
       | inr before ↦ one_version s.resources p q a b is.own_versions at_p before versions

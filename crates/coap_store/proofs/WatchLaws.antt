@@ -4,7 +4,7 @@ use Rattle.coap_store.specs.Prelude.{◌⊎◌, if◌then◌else◌, Message, Pa
 use Rattle.coap_store.specs.Prelude.{StoreValue, time_path, is_observable, kind_of_path, key_for, stored_at, state_at}
 use Rattle.coap_store.specs.Prelude.{state_of, target_of, path_of, number_of, Answer, Response, is_number, watch_of}
 use Rattle.coap_store.specs.Prelude.{watched, stored_under, answer_at, removes_watch, with_observe_rule, answer_of}
-use Rattle.coap_store.specs.Prelude.{unheld_by}
+use Rattle.coap_store.specs.Prelude.{without_hold_if}
 use Rattle.coap_store.specs.Prelude.{immediate_answer, MayObserve, ResourceKind, Root, Time, Async, Listing, Dynamic}
 use Rattle.std.proofs.lemmas.Bool.{cond-true}
 use Rattle.coap_wire.specs.Codes as code
@@ -77,14 +77,14 @@ watches : (s : StoreValue) (now : ℕ) (path : Path) (m : Message) (representati
     → state_of s now path ≡ Some representation → (r.code ≡ code.content) ⊎ (r.code ≡ code.valid)
     → WatchesWell s now path (watched (kind_of_path path) m r)
 watches s now path m representation r there is e =
-    let seen = watched_place (kind_of_path path) m e in
+    let placed = watched_place (kind_of_path path) m e in
     record {
       at_once = refl;
       may = record {
         representation = representation;
         there = there;
-        key = observed_key s now path (kind_of_path path) representation refl seen there;
-        observable = seen;
+        key = observed_key s now path (kind_of_path path) representation refl placed there;
+        observable = placed;
         quiet = refl;
         code = is;
       };
@@ -121,10 +121,10 @@ watched_finally : (s : StoreValue) (now : ℕ) (path : Path) (removes : Bool) (a
 watched_finally s now path true a is e = absurd cc
 watched_finally s now path false a is e = is e
 
-watched_unheld : (s : StoreValue) (now : ℕ) (path : Path) (hold : Option ℕ) (a : Answer) → a.hold ≡ hold
-    → WatchesWell s now path a → WatchesWell s now path (unheld_by hold a)
-watched_unheld s now path None a held is e = is e
-watched_unheld s now path (Some seconds) a held is e = let at_once = (is e).at_once in absurd cc
+watched_without_hold : (s : StoreValue) (now : ℕ) (path : Path) (hold : Option ℕ) (a : Answer) → a.hold ≡ hold
+    → WatchesWell s now path a → WatchesWell s now path (without_hold_if hold a)
+watched_without_hold s now path None a delayed is e = is e
+watched_without_hold s now path (Some seconds) a delayed is e = let at_once = (is e).at_once in absurd cc
 
 watched_of : (s : StoreValue) (now : ℕ) (m : Message) → WatchesWell s now (path_of m) (answer_of s now m)
 unfolding answer_of
@@ -145,4 +145,5 @@ pub promptly_watched_is_there : (s : StoreValue) (now : ℕ) (m : Message) → (
     → MayObserve s now (path_of m) (immediate_answer s now m)
 unfolding immediate_answer
 promptly_watched_is_there s now m e =
-    (watched_unheld s now (path_of m) (answer_of s now m).hold (answer_of s now m) refl (watched_of s now m) e).may
+    (watched_without_hold s now (path_of m) (answer_of s now m).hold (answer_of s now m) refl (watched_of s now m)
+    e).may

@@ -262,13 +262,13 @@ changed s (Delete path) = removed_in s path
 -- ---- a full pending list
 
 -- The answer with 5.03 in place of a response that would be delayed.
-abbrev pub unheld_by : Option ℕ → Answer → Answer
-unheld_by None a = a
-unheld_by (Some seconds) a = record a { response = only code.service_unavailable; hold = None }
+abbrev pub without_hold_if : Option ℕ → Answer → Answer
+without_hold_if None a = a
+without_hold_if (Some seconds) a = record a { response = only code.service_unavailable; hold = None }
 
 -- The answer if the pending list is full.
 abbrev pub without_hold : Answer → Answer
-without_hold a = unheld_by a.hold a
+without_hold a = without_hold_if a.hold a
 
 -- The answer to a request at the time `now`, if the pending list is full.
 unfoldable pub immediate_answer : StoreValue → ℕ → Message → Answer

@@ -4,7 +4,7 @@ use Rattle.std.specs.Prelude.{option_copied}
 use Rattle.coap_wire.specs.Message.{CoapOption, Message}
 use Rattle.coap_wire.specs.OptionNumbers as numbers
 use Rattle.coap_path.specs.ResourceKinds.{kind_of_path}
-use Rattle.coap_path.specs.PathMatches.{trail_with, place_at}
+use Rattle.coap_path.specs.PathMatches.{match_with, place_at}
 use Rattle.coap_store.specs.Requests.{value_of, has_option, path_of}
 use Rattle.coap_path.specs.declared.path_match.PathMatch.{PathMatch}
 use Rattle.coap_path.specs.declared.path_match.PathMatch.TheVariants.{Root}
@@ -13,7 +13,7 @@ use Rattle.coap_store.specs.declared.request_options.RequestOptions as kept
 -- The options of a request: which are present, the first value of those whose value matters, and the state of matching
 -- the path.
 pub record RequestOptions : Type 0 where
-  pub trail : PathMatch
+  pub matched : PathMatch
   pub if_match : Bool
   pub etag : Bool
   pub if_none_match : Bool
@@ -27,7 +27,7 @@ pub record RequestOptions : Type 0 where
 -- The state before the first option.
 abbrev pub nothing : RequestOptions
 nothing = record {
-  trail = Root;
+  matched = Root;
   if_match = false;
   etag = false;
   if_none_match = false;
@@ -47,12 +47,12 @@ first_given None false value = None
 
 -- The path match after an option: advanced by its segment if there is one, otherwise unchanged.
 abbrev pub match_after : PathMatch → Bool → List ℕ → PathMatch
-match_after trail here segment = if here then trail_with trail segment else trail
+match_after matched here segment = if here then match_with matched segment else matched
 
 -- The state after another option.
 unfoldable pub options_after : RequestOptions → CoapOption → RequestOptions
 options_after n o = record {
-  trail = match_after n.trail (o.number == numbers.uri_path) o.value;
+  matched = match_after n.matched (o.number == numbers.uri_path) o.value;
   if_match = n.if_match || o.number == numbers.if_match;
   etag = n.etag || o.number == numbers.etag;
   if_none_match = n.if_none_match || o.number == numbers.if_none_match;
@@ -70,8 +70,8 @@ all_noted n [] = n
 all_noted n (o ∷ os) = all_noted (options_after n o) os
 
 -- The collected options are those of the request.
-pub record AreNotesOf (m : Message) (n : RequestOptions) : Type 0 where
-  pub place : place_at n.trail ≡ kind_of_path (path_of m)
+pub record AreOptionsOf (m : Message) (n : RequestOptions) : Type 0 where
+  pub place : place_at n.matched ≡ kind_of_path (path_of m)
   pub if_match : n.if_match ≡ has_option numbers.if_match m
   pub etag : n.etag ≡ has_option numbers.etag m
   pub if_none_match : n.if_none_match ≡ has_option numbers.if_none_match m
@@ -83,9 +83,9 @@ pub record AreNotesOf (m : Message) (n : RequestOptions) : Type 0 where
   pub accept : n.accept ≡ value_of numbers.accept m
 
 -- The model value of the type `RequestOptions`.
-abbrev pub notes_value : kept.RequestOptions → RequestOptions
-notes_value n = record {
-  trail = n.trail;
+abbrev pub options_value : kept.RequestOptions → RequestOptions
+options_value n = record {
+  matched = n.matched;
   if_match = n.has_if_match;
   etag = n.has_etag;
   if_none_match = n.has_if_none_match;

@@ -1,7 +1,7 @@
 -- Defined by this project: the types of plans as values of the model.
 use Rattle.std.specs.Prelude.{decimal, ◌≡◌, ◌≢◌, ℕ, Bool, true, false, List, [], Option, Some, None}
 use Rattle.coap_path.specs.Paths.{Path, is_path}
-use Rattle.coap_path.specs.UriPaths.{path_told}
+use Rattle.coap_path.specs.UriPaths.{body_path}
 use Rattle.coap_store.specs.Answer as answer
 use Rattle.coap_store.specs.declared.found.Payload.{Payload}
 use Rattle.coap_store.specs.declared.found.Payload.TheVariants.{Stored, Decimal}
@@ -29,21 +29,21 @@ change_value (changes.Delete path) = answer.Delete path
 -- The model value of a change, whose path is in the options of the request.
 abbrev pub planned_value : PlannedChange → answer.Change
 planned_value planned.Nothing = answer.Nothing
-planned_value (planned.Put body format bytes) = answer.Put (path_told body) format bytes.now
-planned_value (planned.Delete body) = answer.Delete (path_told body)
+planned_value (planned.Put body format bytes) = answer.Put (body_path body) format bytes.now
+planned_value (planned.Delete body) = answer.Delete (body_path body)
 
 -- A resource can have that path.
 abbrev pub IsAtPath : PlannedChange → Type 0
 IsAtPath planned.Nothing = Unit {0}
-IsAtPath (planned.Put body format bytes) = is_path (path_told body) ≡ true
-IsAtPath (planned.Delete body) = is_path (path_told body) ≡ true
+IsAtPath (planned.Put body format bytes) = is_path (body_path body) ≡ true
+IsAtPath (planned.Delete body) = is_path (body_path body) ≡ true
 
 -- With the flag, the path of a stored representation is not the root.
-abbrev pub IsToldNamed : Bool → PlannedChange → Type 0
-IsToldNamed false change = Unit {0}
-IsToldNamed true planned.Nothing = Unit {0}
-IsToldNamed true (planned.Put body format bytes) = path_told body ≢ []
-IsToldNamed true (planned.Delete body) = Unit {0}
+abbrev pub IsNamedPath : Bool → PlannedChange → Type 0
+IsNamedPath false change = Unit {0}
+IsNamedPath true planned.Nothing = Unit {0}
+IsNamedPath true (planned.Put body format bytes) = body_path body ≢ []
+IsNamedPath true (planned.Delete body) = Unit {0}
 
 -- The path, or the root if there is none.
 abbrev pub path_or_root : Option Path → Path

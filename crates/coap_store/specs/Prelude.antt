@@ -22,8 +22,8 @@ unfoldable pub use Rattle.percent_encoding.specs.Percent.{percent_encode, percen
 pub use Rattle.coap_wire.specs.Message.{Message, CoapOption}
 pub use Rattle.coap_wire.specs.Recognition.{known_options, first_critical, Placed, has_kind, once, placed}
 pub use Rattle.coap_wire.specs.Recognition.{checked_options, checked_at, CheckedOptionValue, is_critical}
-unfoldable pub use Rattle.coap_wire.specs.Recognition.{first_critical_behind, is_recognised, kind_of, known_behind}
-unfoldable pub use Rattle.coap_wire.specs.Recognition.{checked_behind}
+unfoldable pub use Rattle.coap_wire.specs.Recognition.{first_critical_given, is_recognised, kind_of, known_given}
+unfoldable pub use Rattle.coap_wire.specs.Recognition.{checked_given}
 pub use Rattle.coap_wire.specs.Refusal.{RefusedBy}
 unfoldable pub use Rattle.coap_wire.specs.Spelling.{spelling}
 pub use Rattle.coap_wire.specs.Uint.{uint_of}
@@ -32,13 +32,13 @@ pub use Rattle.coap_wire.specs.Views.{coap_option}
 pub use Rattle.coap_wire.specs.declared.option_table.OptionKind.{OptionKind}
 pub use Rattle.coap_wire.specs.declared.sizes.TheConstants.{LARGEST_MESSAGE}
 -- ---- coap_path
-pub use Rattle.coap_path.specs.PathMatches.{place_at, trail_behind}
+pub use Rattle.coap_path.specs.PathMatches.{place_at, match_along}
 pub use Rattle.coap_path.specs.Paths.{Path, written_length, same_bytes, same_path}
 unfoldable pub use Rattle.coap_path.specs.Paths.{is_path}
 pub use Rattle.coap_path.specs.ResourceKinds.{is_dynamic, is_async, is_observable, async_path, listing_path, root_path}
 pub use Rattle.coap_path.specs.ResourceKinds.{time_path}
 unfoldable pub use Rattle.coap_path.specs.ResourceKinds.{kind_of_path}
-pub use Rattle.coap_path.specs.UriPaths.{path_told}
+pub use Rattle.coap_path.specs.UriPaths.{body_path}
 pub use Rattle.coap_path.specs.declared.path_match.PathMatch.{PathMatch}
 pub use Rattle.coap_path.specs.declared.resource_kind.ResourceKind.TheVariants.{Async, Dynamic, Listing, Root, Time}
 pub use Rattle.coap_path.specs.declared.resource_kind.ResourceKind.{ResourceKind}
@@ -52,7 +52,8 @@ pub use Rattle.coap_store.specs.Answer.{Change, Nothing, Put, Delete, only, no_a
 pub use Rattle.coap_store.specs.Answer.{without_hold}
 pub use Rattle.coap_store.specs.Answer.{greatest_version, Answer, Response, content, deletion, with_observe_rule}
 pub use Rattle.coap_store.specs.Answer.{first_of}
-pub use Rattle.coap_store.specs.Answer.{is_number, late, put_of, refuse, stored_under, too_large, unheld_by, valid}
+pub use Rattle.coap_store.specs.Answer.{is_number, late, put_of, refuse, stored_under, too_large, without_hold_if}
+pub use Rattle.coap_store.specs.Answer.{valid}
 pub use Rattle.coap_store.specs.Answer.{watched, when}
 unfoldable pub use Rattle.coap_store.specs.Answer.{get_answer, answer_of, answer_at, resource_answer, store_answer}
 unfoldable pub use Rattle.coap_store.specs.Answer.{immediate_answer, method_answer}
@@ -69,10 +70,11 @@ unfoldable pub use Rattle.coap_store.specs.Listing.{path_bytes}
 pub use Rattle.coap_store.specs.Messages.{each_at, response_message}
 pub use Rattle.coap_store.specs.Notifications.{notification_of}
 unfoldable pub use Rattle.coap_store.specs.Notifications.{notification_at}
-pub use Rattle.coap_store.specs.OptionScan.{first_given, nothing, notes_value, all_noted, AreNotesOf, RequestOptions}
+pub use Rattle.coap_store.specs.OptionScan.{first_given, nothing, options_value, all_noted, AreOptionsOf}
+pub use Rattle.coap_store.specs.OptionScan.{RequestOptions}
 pub use Rattle.coap_store.specs.OptionScan.{match_after}
 unfoldable pub use Rattle.coap_store.specs.OptionScan.{options_after}
-pub use Rattle.coap_store.specs.PlanViews.{bytes_in, IsTextOf, change_value, planned_value, IsAtPath, IsToldNamed}
+pub use Rattle.coap_store.specs.PlanViews.{bytes_in, IsTextOf, change_value, planned_value, IsAtPath, IsNamedPath}
 pub use Rattle.coap_store.specs.PlanViews.{path_or_root}
 pub use Rattle.coap_store.specs.PlanViews.{location_in}
 pub use Rattle.coap_store.specs.Refusals.{RefusedOrMemory, first_fault, refusal_in}

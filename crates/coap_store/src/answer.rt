@@ -1,7 +1,8 @@
 //! The plans for requests. Each function makes one group of checks.
 
 ghost use Rattle.std.specs.Prelude.{◌≡◌, ◌≢◌, true, [], Option, option_map, is_none, ◌≤◌, ℕ, length, not, ◌&&◌};
-ghost use Rattle.coap_store.specs.Prelude.{LARGEST_MESSAGE, Message, is_path, Representation, path_of as path_asked};
+ghost use Rattle.coap_store.specs.Prelude.{LARGEST_MESSAGE, Message, is_path, Representation};
+ghost use Rattle.coap_store.specs.Prelude.{path_of as path_of_request};
 ghost use Rattle.coap_store.specs.Prelude.{values_of, is_method as is_known_method, preconditions_hold as hold};
 ghost use Rattle.coap_store.specs.Prelude.{get_answer, read_answer, etag_at, max_age_at, is_accepted as accepts};
 ghost use Rattle.coap_store.specs.Prelude.{is_among as is_one_of, watch_of, removes_watch as asks_removal};
@@ -67,10 +68,10 @@ impl Store {
         ensures store { IsStore self.now }
     {
         self.is_kept();
-        let mut notes = RequestOptions::nothing();
-        let asked = ParsedRequest::by(request, &mut notes);
-        let index = self.check(&asked, now, plan);
-        if removes_watch(&asked) {
+        let mut known = RequestOptions::nothing();
+        let parsed = ParsedRequest::by(request, &mut known);
+        let index = self.check(&parsed, now, plan);
+        if removes_watch(&parsed) {
             plan.set_watch(Watch::Drop);
         }
         index
@@ -81,42 +82,42 @@ impl Store {
     #[tactic(auto, unfolding(crate::specs::Answer::answer_at))]
     fn check<'s, 'r>(
         &'s self,
-        asked: &ParsedRequest<'_, 'r>,
+        parsed: &ParsedRequest<'_, 'r>,
         now: u64,
         plan: &mut Plan<'s, 'r>,
     ) -> Option<usize>
         requires { plan.old ≡ no_answer }
-        ensures answer { plan.new ≡ answer_at self.now (target_of self.now now (path_of asked.now)) asked.now }
-        ensures index { IfSome result (λ index. IsFoundAt self.now.resources (path_of asked.now) index) }
+        ensures answer { plan.new ≡ answer_at self.now (target_of self.now now (path_of parsed.now)) parsed.now }
+        ensures index { IfSome result (λ index. IsFoundAt self.now.resources (path_of parsed.now) index) }
     {
-        if asked.has_bad_option() {
+        if parsed.has_bad_option() {
             plan.only(Code::BAD_OPTION);
             return None;
         }
-        if asked.asks_proxy() {
+        if parsed.asks_proxy() {
             plan.only(Code::PROXYING_NOT_SUPPORTED);
             return None;
         }
-        if !is_method(asked.code()) {
+        if !is_method(parsed.code()) {
             plan.only(Code::METHOD_NOT_ALLOWED);
             return None;
         }
-        let target = self.target(asked, now);
+        let target = self.target(parsed, now);
         let index = target.index;
-        self.at_target(asked, target, plan);
+        self.at_target(parsed, target, plan);
         index
     }
 
     /// Returns the target of a request, with the state of its path at the time `now`.
-    fn target(&self, asked: &ParsedRequest, now: u64) -> RequestTarget<'_>
-        ensures value { target_value asked.now result ≡ target_of self.now now (path_of asked.now) }
-        ensures path { result.is_path ≡ is_path (path_of asked.now) }
-        ensures place { result.place ≡ kind_of_path (path_of asked.now) }
-        ensures index { IfSome result.index (λ index. IsFoundAt self.now.resources (path_of asked.now) index) }
+    fn target(&self, parsed: &ParsedRequest, now: u64) -> RequestTarget<'_>
+        ensures value { target_value parsed.now result ≡ target_of self.now now (path_of parsed.now) }
+        ensures path { result.is_path ≡ is_path (path_of parsed.now) }
+        ensures place { result.place ≡ kind_of_path (path_of parsed.now) }
+        ensures index { IfSome result.index (λ index. IsFoundAt self.now.resources (path_of parsed.now) index) }
     {
-        let place = asked.kind();
+        let place = parsed.kind();
         if place.is_dynamic() {
-            return self.dynamic_target(asked);
+            return self.dynamic_target(parsed);
         }
         RequestTarget {
             is_path: true,
@@ -129,15 +130,15 @@ impl Store {
     /// Returns the target of a request whose path is not that of a built-in resource.
     // Always inlined: the large key is cleared only where this is reached, and the result is not moved.
     #[inline(always)]
-    fn dynamic_target(&self, asked: &ParsedRequest) -> RequestTarget<'_>
-        requires { kind_of_path (path_of asked.now) ≡ Dynamic }
-        ensures value { (now : ℕ) → target_value asked.now result ≡ target_of self.now now (path_of asked.now) }
-        ensures path { result.is_path ≡ is_path (path_of asked.now) }
+    fn dynamic_target(&self, parsed: &ParsedRequest) -> RequestTarget<'_>
+        requires { kind_of_path (path_of parsed.now) ≡ Dynamic }
+        ensures value { (now : ℕ) → target_value parsed.now result ≡ target_of self.now now (path_of parsed.now) }
+        ensures path { result.is_path ≡ is_path (path_of parsed.now) }
         ensures place { result.place ≡ Dynamic }
-        ensures index { IfSome result.index (λ index. IsFoundAt self.now.resources (path_of asked.now) index) }
+        ensures index { IfSome result.index (λ index. IsFoundAt self.now.resources (path_of parsed.now) index) }
     {
         let mut path = PathKey::root();
-        if !asked.fill_key(&mut path) {
+        if !parsed.fill_key(&mut path) {
             return RequestTarget {
                 is_path: false,
                 place: ResourceKind::Dynamic,
@@ -201,32 +202,32 @@ impl Store {
     #[tactic(auto, unfolding(crate::specs::Answer::resource_answer, crate::specs::Answer::method_answer))]
     fn at_target<'s, 'r>(
         &'s self,
-        asked: &ParsedRequest<'_, 'r>,
+        parsed: &ParsedRequest<'_, 'r>,
         target: RequestTarget<'s>,
         plan: &mut Plan<'s, 'r>,
     )
-        requires path { target.is_path ≡ is_path (path_of asked.now) }
-        requires place { target.place ≡ kind_of_path (path_of asked.now) }
+        requires path { target.is_path ≡ is_path (path_of parsed.now) }
+        requires place { target.place ≡ kind_of_path (path_of parsed.now) }
         requires fresh { plan.old ≡ no_answer }
-        ensures { plan.new ≡ resource_answer self.now (target_value asked.now target.entry) asked.now }
+        ensures { plan.new ≡ resource_answer self.now (target_value parsed.now target.entry) parsed.now }
     {
-        let code = asked.code();
+        let code = parsed.code();
         if target.state.is_none() && self.needs_resource(code) {
             return plan.only(Code::NOT_FOUND);
         }
         if !target.place.is_dynamic() && code != Code::GET {
             return plan.only(Code::METHOD_NOT_ALLOWED);
         }
-        if !preconditions_hold(asked, target.state.as_ref()) {
+        if !preconditions_hold(parsed, target.state.as_ref()) {
             return plan.only(Code::PRECONDITION_FAILED);
         }
         if code == Code::GET {
-            return read(asked, target, plan);
+            return read(parsed, target, plan);
         }
         if code == Code::DELETE {
-            return delete(asked, target, plan);
+            return delete(parsed, target, plan);
         }
-        self.put_or_post(asked, target, plan);
+        self.put_or_post(parsed, target, plan);
     }
 
     /// Returns `true` if a request with this code needs a resource that exists.
@@ -240,18 +241,18 @@ impl Store {
     #[tactic(auto, using(crate::proofs::TargetLemmas::dynamic_is_named), unfolding(crate::specs::Answer::store_answer))]
     fn put_or_post<'s, 'r>(
         &'s self,
-        asked: &ParsedRequest<'_, 'r>,
+        parsed: &ParsedRequest<'_, 'r>,
         target: RequestTarget<'s>,
         plan: &mut Plan<'s, 'r>,
     )
-        requires path { target.is_path ≡ is_path (path_of asked.now) }
-        requires place { kind_of_path (path_of asked.now) ≡ Dynamic }
+        requires path { target.is_path ≡ is_path (path_of parsed.now) }
+        requires place { kind_of_path (path_of parsed.now) ≡ Dynamic }
         requires fresh { plan.old ≡ no_answer }
-        ensures { plan.new ≡ store_answer self.now (target_value asked.now target.entry) asked.now }
+        ensures { plan.new ≡ store_answer self.now (target_value parsed.now target.entry) parsed.now }
     {
         let is_new = target.state.is_none();
         let greatest = self.rep_max();
-        if asked.payload().len() > greatest {
+        if parsed.payload().len() > greatest {
             return plan.too_large(greatest as u32);
         }
         if is_new && !target.is_path {
@@ -266,7 +267,7 @@ impl Store {
         if !target.is_path {
             return plan.only(Code::BAD_REQUEST);
         }
-        stored(asked, is_new, plan);
+        stored(parsed, is_new, plan);
     }
 }
 
@@ -278,21 +279,21 @@ fn is_method(code: Code) -> bool
 }
 
 /// Returns `true` if If-Match and If-None-Match hold (RFC 7252 section 5.10.8).
-fn preconditions_hold(asked: &ParsedRequest, state: Option<&RepresentationRef>) -> bool
-    ensures { result ≡ hold (option_map (λ f. found_value f.now) state.entry) asked.now }
+fn preconditions_hold(parsed: &ParsedRequest, state: Option<&RepresentationRef>) -> bool
+    ensures { result ≡ hold (option_map (λ f. found_value f.now) state.entry) parsed.now }
 {
     let version = state.map(|found| found.version);
-    asked.match_holds(version) && asked.none_match_holds(version.is_some())
+    parsed.match_holds(version) && parsed.none_match_holds(version.is_some())
 }
 
 /// Fills a new plan with that for GET (RFC 7252 section 5.8.1).
-fn read<'s, 'r>(asked: &ParsedRequest<'_, 'r>, target: RequestTarget<'s>, plan: &mut Plan<'s, 'r>)
+fn read<'s, 'r>(parsed: &ParsedRequest<'_, 'r>, target: RequestTarget<'s>, plan: &mut Plan<'s, 'r>)
     requires { plan.old ≡ no_answer }
-    ensures { plan.new ≡ read_answer target.entry.place (option_map found_value target.entry.state) asked.now }
+    ensures { plan.new ≡ read_answer target.entry.place (option_map found_value target.entry.state) parsed.now }
 {
     let RequestTarget { place, state, .. } = target;
     match state {
-        Some(found) => get(asked, place, found, plan),
+        Some(found) => get(parsed, place, found, plan),
         None => plan.only(Code::NOT_FOUND),
     }
 }
@@ -301,33 +302,33 @@ fn read<'s, 'r>(asked: &ParsedRequest<'_, 'r>, target: RequestTarget<'s>, plan: 
 /// response in seconds, and the default is 5.
 #[tactic(auto, unfolding(crate::specs::Answer::get_answer))]
 fn get<'s, 'r>(
-    asked: &ParsedRequest<'_, 'r>,
+    parsed: &ParsedRequest<'_, 'r>,
     place: ResourceKind,
     found: RepresentationRef<'s>,
     plan: &mut Plan<'s, 'r>,
 )
     requires { plan.old ≡ no_answer }
-    ensures { plan.new ≡ get_answer place (found_value found.entry) asked.now }
+    ensures { plan.new ≡ get_answer place (found_value found.entry) parsed.now }
 {
-    if !is_accepted(asked.accept(), found.format) {
+    if !is_accepted(parsed.accept(), found.format) {
         return plan.only(Code::NOT_ACCEPTABLE);
     }
     // Without an ETag, none is moved.
     if is_prompt_built_in(place) {
-        return plan.content(None, found, max_age_of(place), watch_for(asked, place));
+        return plan.content(None, found, max_age_of(place), watch_for(parsed, place));
     }
     let etag = etag_for(place, found.version);
-    if is_valid(asked, etag.as_ref()) {
-        return plan.valid(etag, watch_for(asked, place));
+    if is_valid(parsed, etag.as_ref()) {
+        return plan.valid(etag, watch_for(parsed, place));
     }
-    if place.is_async() && !asked.has_good_query() {
+    if place.is_async() && !parsed.has_good_query() {
         return plan.only(Code::BAD_REQUEST);
     }
     if place.is_async() {
         plan.content(etag, found, max_age_of(place), Watch::Nothing);
-        return plan.delay(asked.seconds());
+        return plan.delay(parsed.seconds());
     }
-    plan.content(etag, found, max_age_of(place), watch_for(asked, place));
+    plan.content(etag, found, max_age_of(place), watch_for(parsed, place));
 }
 
 /// Returns `true` if the resource is built in, and its responses are not delayed.
@@ -356,20 +357,20 @@ pub(crate) fn etag_for(place: ResourceKind, version: u64) -> Option<ArrayVec<u8,
 }
 
 /// Returns `true` if there is an ETag and the request has it (RFC 7252 section 5.10.6.2).
-fn is_valid(asked: &ParsedRequest, etag: Option<&ArrayVec<u8, 8>>) -> bool
-    ensures { result ≡ is_one_of (option_map (λ etag. etag.now.items) etag.entry) (values_of numbers.etag asked.now) }
+fn is_valid(parsed: &ParsedRequest, etag: Option<&ArrayVec<u8, 8>>) -> bool
+    ensures { result ≡ is_one_of (option_map (λ etag. etag.now.items) etag.entry) (values_of numbers.etag parsed.now) }
 {
     match etag {
-        Some(etag) => asked.has_etag(etag.as_slice()),
+        Some(etag) => parsed.has_etag(etag.as_slice()),
         None => false,
     }
 }
 
 /// Returns `Watch::Add` if the request asks to observe an observable resource (RFC 7641 section 2).
-fn watch_for(asked: &ParsedRequest, place: ResourceKind) -> Watch
-    ensures { result ≡ watch_of place asked.now }
+fn watch_for(parsed: &ParsedRequest, place: ResourceKind) -> Watch
+    ensures { result ≡ watch_of place parsed.now }
 {
-    if place.is_observable() && asked.observe() == Some(0) {
+    if place.is_observable() && parsed.observe() == Some(0) {
         Watch::Add
     } else {
         Watch::Nothing
@@ -377,10 +378,10 @@ fn watch_for(asked: &ParsedRequest, place: ResourceKind) -> Watch
 }
 
 /// Returns `true` if the request asks to be removed from the observers (RFC 7641 section 3.6).
-fn removes_watch(asked: &ParsedRequest) -> bool
-    ensures { result ≡ asks_removal asked.now }
+fn removes_watch(parsed: &ParsedRequest) -> bool
+    ensures { result ≡ asks_removal parsed.now }
 {
-    asked.code() == Code::GET && asked.observe() == Some(1)
+    parsed.code() == Code::GET && parsed.observe() == Some(1)
 }
 
 /// Returns the Max-Age of a resource in seconds, if its responses have one.
@@ -395,32 +396,34 @@ pub(crate) fn max_age_of(place: ResourceKind) -> Option<u32>
 }
 
 /// Fills a new plan with that to store the payload of a request at its path.
-fn stored<'s, 'r>(asked: &ParsedRequest<'_, 'r>, is_new: bool, plan: &mut Plan<'s, 'r>)
-    requires path { is_path (path_asked asked.now) ≡ true }
-    requires named { path_asked asked.now ≢ [] }
+fn stored<'s, 'r>(parsed: &ParsedRequest<'_, 'r>, is_new: bool, plan: &mut Plan<'s, 'r>)
+    requires path { is_path (path_of_request parsed.now) ≡ true }
+    requires named { path_of_request parsed.now ≢ [] }
     requires fresh { plan.old ≡ no_answer }
     ensures { (state : Option Representation) → is_none state ≡ is_new →
-        plan.new ≡ stored_there (path_asked asked.now) state asked.now }
+        plan.new ≡ stored_there (path_of_request parsed.now) state parsed.now }
 {
-    let tells_location = is_new && asked.code() == Code::POST;
+    let sets_location = is_new && parsed.code() == Code::POST;
     let code = if is_new { Code::CREATED } else { Code::CHANGED };
     let change = PlannedChange::Put {
-        body: asked.body(),
-        format: asked.content_format(),
-        bytes: asked.payload(),
+        body: parsed.body(),
+        format: parsed.content_format(),
+        bytes: parsed.payload(),
     };
-    plan.change_by(code, tells_location, change);
+    plan.change_by(code, sets_location, change);
 }
 
 /// Fills a new plan with that for DELETE (RFC 7252 section 5.8.4).
-fn delete<'s, 'r>(asked: &ParsedRequest<'_, 'r>, target: RequestTarget, plan: &mut Plan<'s, 'r>)
-    requires path { target.is_path ≡ is_path (path_asked asked.now) }
+fn delete<'s, 'r>(parsed: &ParsedRequest<'_, 'r>, target: RequestTarget, plan: &mut Plan<'s, 'r>)
+    requires path { target.is_path ≡ is_path (path_of_request parsed.now) }
     requires fresh { plan.old ≡ no_answer }
-    ensures { plan.new ≡ delete_answer (target_value asked.now target.entry) }
+    ensures { plan.new ≡ delete_answer (target_value parsed.now target.entry) }
 {
     if !target.is_path || target.state.is_none() {
         return plan.only(Code::DELETED);
     }
-    let change = PlannedChange::Delete { body: asked.body() };
+    let change = PlannedChange::Delete {
+        body: parsed.body(),
+    };
     plan.change_by(Code::DELETED, false, change);
 }

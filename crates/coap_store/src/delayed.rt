@@ -1,7 +1,7 @@
 //! Responses that are sent at the time of a pending entry.
 
 ghost use Rattle.std.specs.Prelude.{◌≡◌};
-ghost use Rattle.coap_store.specs.Prelude.{says, only, delayed_response as response_held};
+ghost use Rattle.coap_store.specs.Prelude.{says, only, delayed_response as delayed_to};
 ghost use Rattle.coap_store.specs.Prelude.{expired_response as response_expired};
 ghost use Rattle.coap_wire.specs.Codes as code;
 
@@ -13,7 +13,7 @@ use coap_wire::Code;
 /// Returns the plan with the response that is sent after every delay: 2.05 with the payload `done` (RFC 7252 sections
 /// 5.2.2, 5.9.1.5).
 pub fn delayed_response() -> Plan<'static, 'static>
-    ensures { result ≡ says response_held }
+    ensures { result ≡ says delayed_to }
 {
     let found = RepresentationRef::built(TEXT_PLAIN, Payload::Stored(b"done"));
     let mut plan = Plan::new();

@@ -102,7 +102,7 @@ pub fn get_changes_nothing()
 
 /// States that a 2.05 has the bytes, the format and the ETag, if any, of the path's state (RFC 7252 sections 5.9.1.5,
 /// 5.10.6). A 2.03 has the ETag (section 5.9.1.3).
-pub fn responses_tell_the_state()
+pub fn responses_report_state()
     ensures content { (s : StoreValue) (now : ℕ) (m : Message) → (answer_of s now m).response.code ≡ code.content →
         ReportsState (kind_of_path (path_of m)) (state_of s now (path_of m)) (answer_of s now m).response }
     ensures valid { (s : StoreValue) (now : ℕ) (m : Message) → (answer_of s now m).response.code ≡ code.valid →
@@ -160,18 +160,18 @@ pub fn what_is_put_is_the_state()
 
 /// States that a version identifies a representation, so a caller can record the version alone. Stored representations
 /// satisfy `WasStored`, changes keep this, and a stored one with the same version is the same, at the same path.
-pub fn versions_tell_what_was_stored()
-    ensures stored { (s : StoreValue) (path : Path) (told : Representation) → IsStore s →
-        found_in s.resources path ≡ Some told → WasStored s path told }
-    ensures changed { (s : StoreValue) (change : Change) (path : Path) (told : Representation) → IsStore s →
-        WasStored s path told → WasStored (changed s change) path told }
-    ensures same { (s : StoreValue) (path other : Path) (told now : Representation) → WasStored s path told →
-        found_in s.resources other ≡ Some now → now.version ≡ told.version → (other ≡ path) × (now ≡ told) }
+pub fn versions_identify_representations()
+    ensures stored { (s : StoreValue) (path : Path) (sent : Representation) → IsStore s →
+        found_in s.resources path ≡ Some sent → WasStored s path sent }
+    ensures changed { (s : StoreValue) (change : Change) (path : Path) (sent : Representation) → IsStore s →
+        WasStored s path sent → WasStored (changed s change) path sent }
+    ensures same { (s : StoreValue) (path other : Path) (sent now : Representation) → WasStored s path sent →
+        found_in s.resources other ≡ Some now → now.version ≡ sent.version → (other ≡ path) × (now ≡ sent) }
 {}
 
 /// States that a 2.05 notification has the state of its path, in the format of earlier ones (RFC 7641 section 4.2). For
 /// a created resource it equals the response to a GET with no option but Uri-Path.
-pub fn notifications_tell_the_state()
+pub fn notifications_report_state()
     ensures content { (s : StoreValue) (now : ℕ) (path : Path) (format : Option ℕ) →
         (notification_of s now path format).code ≡ code.content →
         ReportsState (kind_of_path path) (state_of s now path) (notification_of s now path format) }
@@ -194,7 +194,7 @@ pub fn what_is_watched_is_there()
 /// States that only a response to a GET of `/async` is delayed, by at most 3,600 seconds, and is always the same. Such
 /// a GET changes nothing and registers no observer. If the pending list is full, the response is 5.03.
 pub fn delayed_response_is_constant()
-    ensures held { (s : StoreValue) (now : ℕ) (m : Message) (seconds : ℕ) → (answer_of s now m).hold ≡ Some seconds →
+    ensures delayed { (s : StoreValue) (now : ℕ) (m : Message) (seconds : ℕ) → (answer_of s now m).hold ≡ Some seconds →
         IsTrue (is_delayed m) × ((answer_of s now m).response ≡ delayed_response)
         × ((answer_of s now m).change ≡ Nothing)
         × (seconds ≤ 3600) }

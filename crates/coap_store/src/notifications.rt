@@ -35,7 +35,7 @@ impl Store {
         format: Option<u16>,
         now: u64,
     ) -> Plan<'s, 'r>
-        ensures told { result ≡ says (notification_of self.now now path.now format) }
+        ensures reported { result ≡ says (notification_of self.now now path.now format) }
         ensures short { length result.response.payload ≤ LARGEST_MESSAGE }
         ensures store { IsStore self.now }
     {
@@ -64,7 +64,7 @@ impl Store {
     ) -> usize
         requires place { observed.kind ≡ kind_of_path observed.path.now }
         requires fresh { plan.old ≡ no_answer }
-        ensures told { plan.new ≡ says (notification_of self.now now observed.entry.path.now format) }
+        ensures reported { plan.new ≡ says (notification_of self.now now observed.entry.path.now format) }
         ensures short { length plan.new.response.payload ≤ LARGEST_MESSAGE }
         ensures store { IsStore self.now }
     {

@@ -2,7 +2,7 @@
 
 ghost use Rattle.std.specs.Prelude.{◌≡◌, ◌≢◌, ◌≤◌, true, [], Some, IfSome, length, option_map};
 ghost use Rattle.coap_store.specs.Prelude.{bytes_in, change_value, planned_value, says, only, no_answer, without_hold};
-ghost use Rattle.coap_store.specs.Prelude.{changes as is_change, is_path, IsAtPath, IsToldNamed, path_or_root};
+ghost use Rattle.coap_store.specs.Prelude.{changes as is_change, is_path, IsAtPath, IsNamedPath, path_or_root};
 ghost use Rattle.coap_store.specs.Prelude.{location_in};
 ghost use Rattle.coap_wire.specs.Codes as code;
 
@@ -85,7 +85,7 @@ pub struct Plan<'s, 'r> {
     format: Option<u16>,
     code: Code,
     /// `true` if the response has Location-Path options with the path of the change.
-    tells_location: bool,
+    sets_location: bool,
     watch: Watch,
 }
 
@@ -111,7 +111,7 @@ impl<'s, 'r> Plan<'s, 'r> {
             etag: None,
             format: None,
             max_age: None,
-            tells_location: false,
+            sets_location: false,
             size1: None,
             payload: Payload::Stored(&[]),
             text: ArrayVec::new(),
@@ -187,18 +187,18 @@ impl<'s, 'r> Plan<'s, 'r> {
         self.size1 = Some(greatest);
     }
 
-    /// Sets a code and a change in a new plan. If `tells_location` is `true`, the response has the path of a stored
+    /// Sets a code and a change in a new plan. If `sets_location` is `true`, the response has the path of a stored
     /// representation.
-    pub(crate) fn change_by(&mut self, code: Code, tells_location: bool, change: PlannedChange<'r>)
+    pub(crate) fn change_by(&mut self, code: Code, sets_location: bool, change: PlannedChange<'r>)
         requires path { IsAtPath change }
-        requires named { IsToldNamed tells_location change }
+        requires named { IsNamedPath sets_location change }
         requires fresh { self.old ≡ no_answer }
         ensures { self.new
-            ≡ record (says (record (only code) { location = location_in tells_location (planned_value change.entry) }))
+            ≡ record (says (record (only code) { location = location_in sets_location (planned_value change.entry) }))
             { change = planned_value change.entry } }
     {
         self.code = code;
-        self.tells_location = tells_location;
+        self.sets_location = sets_location;
         self.change = change;
     }
 
@@ -252,7 +252,7 @@ impl<'s, 'r> Plan<'s, 'r> {
         ensures path { IfSome result (λ path. is_path path ≡ true) }
         ensures some { IfSome result (λ path. path ≢ []) }
     {
-        if !self.tells_location {
+        if !self.sets_location {
             return None;
         }
         match &self.change {
@@ -325,7 +325,7 @@ impl<'s, 'r> Plan<'s, 'r> {
         match self.hold {
             None => self,
             Some(_) => Plan {
-                tells_location: false,
+                sets_location: false,
                 change: self.change,
                 watch: self.watch,
                 ..Plan::of_code(Code::SERVICE_UNAVAILABLE)
@@ -343,7 +343,7 @@ impl<'s, 'r> Plan<'s, 'r> {
         ChangePlan {
             change: self.change,
             code: self.code,
-            tells_location: self.tells_location,
+            sets_location: self.sets_location,
         }
     }
 }
@@ -355,7 +355,7 @@ pub struct ChangePlan<'r> {
     change: PlannedChange<'r>,
     code: Code,
     /// `true` if the response has Location-Path options with the path of the change.
-    tells_location: bool,
+    sets_location: bool,
 }
 
 impl<'r> Model for ChangePlan<'r> {
@@ -385,7 +385,7 @@ impl<'r> ChangePlan<'r> {
         ensures path { IfSome result (λ path. is_path path ≡ true) }
         ensures some { IfSome result (λ path. path ≢ []) }
     {
-        if !self.tells_location {
+        if !self.sets_location {
             return None;
         }
         match &self.change {

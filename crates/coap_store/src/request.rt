@@ -2,8 +2,8 @@
 //! key need a second pass.
 
 ghost use Rattle.std.specs.Prelude.{◌≡◌, ◌≤◌, true, Option, length, is_some, IfSome, ◌||◌, option_map};
-ghost use Rattle.coap_store.specs.Prelude.{uint_of, known_options, is_path, digits_mean, path_of as path_asked};
-ghost use Rattle.coap_store.specs.Prelude.{path_told, nothing, all_noted, notes_value, first_critical, list_any};
+ghost use Rattle.coap_store.specs.Prelude.{uint_of, known_options, is_path, digits_mean, path_of as path_of_request};
+ghost use Rattle.coap_store.specs.Prelude.{body_path, nothing, all_noted, options_value, first_critical, list_any};
 ghost use Rattle.coap_store.specs.Prelude.{same_bytes, Representation, kind_of_path};
 ghost use Rattle.coap_store.specs.Requests as spec;
 ghost use Rattle.coap_wire.specs.OptionNumbers as numbers;
@@ -18,7 +18,7 @@ use std::marker::Model;
 #[derive(Drop)]
 pub(crate) struct ParsedRequest<'q, 'r> {
     request: &'q MessageRef<'r>,
-    notes: &'q RequestOptions<'r>,
+    known: &'q RequestOptions<'r>,
     /// `true` if an option is critical and not recognised.
     has_bad_option: bool,
 }
@@ -28,27 +28,27 @@ impl<'q, 'r> Model for ParsedRequest<'q, 'r> {
 
     ghost Value = { Message };
 
-    ghost use Rattle.coap_store.specs.ParsedRequestViews.{message_of, IsAsked};
+    ghost use Rattle.coap_store.specs.ParsedRequestViews.{message_of, IsParsed};
 
     ghost view = { message_of };
 
-    ghost invariant = { IsAsked };
+    ghost invariant = { IsParsed };
 }
 
-/// Adds the recognised options of a request to `notes`, which has none yet, in one pass. Returns `true` if an option is
+/// Adds the recognised options of a request to `known`, which has none yet, in one pass. Returns `true` if an option is
 /// critical and not recognised.
-// Never inlined, so that the fields of `notes` stay in memory: an inlined loop would keep each in a
+// Never inlined, so that the fields of `known` stay in memory: an inlined loop would keep each in a
 // register or reload it.
 #[inline(never)]
-fn scan_options<'r>(request: &MessageRef<'r>, notes: &mut RequestOptions<'r>) -> bool
-    requires { notes_value notes.old ≡ nothing }
-    ensures notes { notes_value notes.new ≡ all_noted nothing (known_options request.now.options) }
+fn scan_options<'r>(request: &MessageRef<'r>, known: &mut RequestOptions<'r>) -> bool
+    requires { options_value known.old ≡ nothing }
+    ensures known { options_value known.new ≡ all_noted nothing (known_options request.now.options) }
     ensures bad { result ≡ is_some (first_critical request.now.options) }
 {
     let mut has_bad_option = false;
     for checked in request.checked_options() {
         if checked.is_recognised {
-            notes.note(&checked.option);
+            known.note(&checked.option);
         } else if checked.option.number % 2 == 1 {
             has_bad_option = true;
         }
@@ -58,8 +58,8 @@ fn scan_options<'r>(request: &MessageRef<'r>, notes: &mut RequestOptions<'r>) ->
 
 /// Returns the path in a request's options. It must be the path of a resource.
 pub(crate) fn path_in(body: &Body) -> PathKey
-    requires { is_path (path_told body.now) ≡ true }
-    ensures { result ≡ path_told body.now }
+    requires { is_path (body_path body.now) ≡ true }
+    ensures { result ≡ body_path body.now }
 {
     let mut path = PathKey::root();
     let _filled = path.fill(UriPath::of(body));
@@ -80,18 +80,18 @@ fn small_value(bytes: &[u8]) -> u16
 }
 
 impl<'q, 'r> ParsedRequest<'q, 'r> {
-    /// Reads the recognised options of a request into `notes`, which has none yet.
+    /// Reads the recognised options of a request into `known`, which has none yet.
     pub(crate) fn by(
         request: &'q MessageRef<'r>,
-        notes: &'q mut RequestOptions<'r>,
+        known: &'q mut RequestOptions<'r>,
     ) -> ParsedRequest<'q, 'r>
-        requires { notes_value notes.old ≡ nothing }
+        requires { options_value known.old ≡ nothing }
         ensures { result ≡ request.now }
     {
-        let has_bad_option = scan_options(request, notes);
+        let has_bad_option = scan_options(request, known);
         ParsedRequest {
             request,
-            notes,
+            known,
             has_bad_option,
         }
     }
@@ -99,7 +99,7 @@ impl<'q, 'r> ParsedRequest<'q, 'r> {
     /// Returns the request's options and payload.
     #[tactic(auto, unfolding(crate::specs::Requests::values_of))]
     pub(crate) fn body(&self) -> Body<'r>
-        ensures path { path_told result ≡ path_asked self.now }
+        ensures path { body_path result ≡ path_of_request self.now }
         ensures payload { result.payload ≡ self.now.payload }
     {
         self.request.body()
@@ -130,7 +130,7 @@ impl<'q, 'r> ParsedRequest<'q, 'r> {
         ensures { result
             ≡ (spec.has_option numbers.proxy_uri self.now || spec.has_option numbers.proxy_scheme self.now) }
     {
-        self.notes.has_proxy_uri || self.notes.has_proxy_scheme
+        self.known.has_proxy_uri || self.known.has_proxy_scheme
     }
 
     /// Returns `true` if the request's path is that of a resource, and sets the key to it (RFC 7252 section 5.10.1).
@@ -145,14 +145,14 @@ impl<'q, 'r> ParsedRequest<'q, 'r> {
     pub(crate) fn kind(&self) -> ResourceKind
         ensures { result ≡ kind_of_path (spec.path_of self.now) }
     {
-        self.notes.trail.kind()
+        self.known.matched.kind()
     }
 
     /// Returns the Content-Format of the payload (RFC 7252 section 5.10.3).
     pub(crate) fn content_format(&self) -> Option<u16>
         ensures { result ≡ spec.number_of numbers.content_format self.now }
     {
-        let value = self.notes.content_format?;
+        let value = self.known.content_format?;
         Some(small_value(value))
     }
 
@@ -160,7 +160,7 @@ impl<'q, 'r> ParsedRequest<'q, 'r> {
     pub(crate) fn accept(&self) -> Option<u16>
         ensures { result ≡ spec.number_of numbers.accept self.now }
     {
-        let value = self.notes.accept?;
+        let value = self.known.accept?;
         Some(small_value(value))
     }
 
@@ -168,7 +168,7 @@ impl<'q, 'r> ParsedRequest<'q, 'r> {
     pub(crate) fn observe(&self) -> Option<u32>
         ensures { result ≡ spec.number_of numbers.observe self.now }
     {
-        let value = self.notes.observe?;
+        let value = self.known.observe?;
         uint_value(value)
     }
 
@@ -176,7 +176,7 @@ impl<'q, 'r> ParsedRequest<'q, 'r> {
     pub(crate) fn has_good_query(&self) -> bool
         ensures { result ≡ spec.is_good_query (spec.value_of numbers.uri_query self.now) }
     {
-        match self.notes.query {
+        match self.known.query {
             Some(bytes) => seconds_in(bytes).is_some(),
             None => true,
         }
@@ -187,7 +187,7 @@ impl<'q, 'r> ParsedRequest<'q, 'r> {
         requires { spec.is_good_query (spec.value_of numbers.uri_query self.now) ≡ true }
         ensures { result ≡ spec.seconds_of (spec.value_of numbers.uri_query self.now) }
     {
-        let Some(bytes) = self.notes.query else {
+        let Some(bytes) = self.known.query else {
             return USUAL_SECONDS;
         };
         let Some(seconds) = seconds_in(bytes) else {
@@ -202,7 +202,7 @@ impl<'q, 'r> ParsedRequest<'q, 'r> {
         ensures { (state : Option Representation) → version ≡ option_map (λ r. r.version) state →
             result ≡ spec.match_holds state self.now }
     {
-        if !self.notes.has_if_match {
+        if !self.known.has_if_match {
             return true;
         }
         let Some(version) = version else {
@@ -218,14 +218,14 @@ impl<'q, 'r> ParsedRequest<'q, 'r> {
         ensures { (state : Option Representation) → is_present ≡ spec.is_present state →
             result ≡ spec.none_match_holds state self.now }
     {
-        !(is_present && self.notes.has_if_none_match)
+        !(is_present && self.known.has_if_none_match)
     }
 
     /// Returns `true` if the request has this ETag (RFC 7252 section 5.10.6.2).
     pub(crate) fn has_etag(&self, etag: &[u8]) -> bool
         ensures { result ≡ list_any (λ value. same_bytes value etag.now) (spec.values_of numbers.etag self.now) }
     {
-        if !self.notes.has_etag {
+        if !self.known.has_etag {
             return false;
         }
         self.request

@@ -1,7 +1,7 @@
 //! The recognised options of a request, collected in one pass.
 
 ghost use Rattle.std.specs.Prelude.{◌≡◌, true, option_copied};
-ghost use Rattle.coap_store.specs.Prelude.{first_given, coap_option, nothing, options_after, notes_value};
+ghost use Rattle.coap_store.specs.Prelude.{first_given, coap_option, nothing, options_after, options_value};
 
 use coap_path::PathMatch;
 use coap_wire::OptionRef;
@@ -14,7 +14,7 @@ use coap_wire::option_numbers::{
 #[derive(Drop)]
 pub(crate) struct RequestOptions<'r> {
     /// State of matching the path.
-    pub trail: PathMatch,
+    pub matched: PathMatch,
     pub has_if_match: bool,
     pub has_etag: bool,
     pub has_if_none_match: bool,
@@ -38,10 +38,10 @@ fn keep_first<'r>(first: &mut Option<&'r [u8]>, value: &'r [u8])
 impl<'r> RequestOptions<'r> {
     /// Returns the state before the first option.
     pub(crate) fn nothing() -> RequestOptions<'r>
-        ensures { notes_value result ≡ nothing }
+        ensures { options_value result ≡ nothing }
     {
         RequestOptions {
-            trail: PathMatch::Root,
+            matched: PathMatch::Root,
             has_if_match: false,
             has_etag: false,
             has_if_none_match: false,
@@ -57,11 +57,11 @@ impl<'r> RequestOptions<'r> {
     /// Adds the next recognised option.
     #[tactic(auto, unfolding(crate::specs::OptionScan::options_after))]
     pub(crate) fn note(&mut self, option: &OptionRef<'r>)
-        ensures { notes_value self.new ≡ options_after (notes_value self.old) (coap_option option.now) }
+        ensures { options_value self.new ≡ options_after (options_value self.old) (coap_option option.now) }
     {
         let value = option.value;
         match option.number {
-            URI_PATH => self.trail = self.trail.with(value),
+            URI_PATH => self.matched = self.matched.with(value),
             IF_MATCH => self.has_if_match = true,
             ETAG => self.has_etag = true,
             IF_NONE_MATCH => self.has_if_none_match = true,

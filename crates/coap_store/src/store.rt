@@ -5,7 +5,7 @@ ghost use Rattle.std.specs.Prelude.{◌==◌, option_map, decimal};
 ghost use Rattle.coap_store.specs.Prelude.{LARGEST_MESSAGE, changed, greatest_version, found_in, put_in, removed_in};
 ghost use Rattle.coap_store.specs.Prelude.{listing as listing_of, representation, TakesChange, TakesPut, IsPut};
 ghost use Rattle.coap_store.specs.Prelude.{IsStore, change_value, planned_value, bytes_in, IsFoundAt, IsChangeAt};
-ghost use Rattle.coap_store.specs.Prelude.{path_told, application_deadline};
+ghost use Rattle.coap_store.specs.Prelude.{body_path, application_deadline};
 
 use crate::catalogue::Catalogue;
 use crate::found::Payload;
@@ -338,9 +338,9 @@ impl Store {
         format: Option<u16>,
         bytes: &[u8],
     ) -> Result<(), AllocError>
-        requires taken { TakesPut self.old (path_told _body.now) bytes.now }
-        requires index { IsFoundAt self.old.resources (path_told _body.now) index }
-        ensures ok { OnOk result (self.new ≡ put_in self.old (path_told _body.now) format bytes.now) }
+        requires taken { TakesPut self.old (body_path _body.now) bytes.now }
+        requires index { IsFoundAt self.old.resources (body_path _body.now) index }
+        ensures ok { OnOk result (self.new ≡ put_in self.old (body_path _body.now) format bytes.now) }
         ensures err { OnErr result (self.new ≡ self.old) }
         ensures store { IsStore self.new }
     {
@@ -352,8 +352,8 @@ impl Store {
 
     /// Removes the resource at the path in a request, which has this index.
     fn delete_at(&mut self, _body: &Body, index: usize)
-        requires { IsFoundAt self.old.resources (path_told _body.now) index }
-        ensures removed { self.new ≡ removed_in self.old (path_told _body.now) }
+        requires { IsFoundAt self.old.resources (body_path _body.now) index }
+        ensures removed { self.new ≡ removed_in self.old (body_path _body.now) }
         ensures store { IsStore self.new }
     {
         self.resources.remove_at(index);
@@ -379,9 +379,9 @@ fn deadline_in(applications: &Applications, request: &MessageRef) -> Option<u32>
     if !applications.answers(UriPath::of(&request.body()), request.code()) {
         return None;
     }
-    let mut notes = RequestOptions::nothing();
-    let asked = ParsedRequest::by(request, &mut notes);
-    if asked.has_bad_option() || asked.asks_proxy() {
+    let mut known = RequestOptions::nothing();
+    let parsed = ParsedRequest::by(request, &mut known);
+    if parsed.has_bad_option() || parsed.asks_proxy() {
         return None;
     }
     Some(applications.deadline())

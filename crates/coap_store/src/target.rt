@@ -1,7 +1,7 @@
 //! The target of a request.
 
 ghost use Rattle.std.specs.Prelude.{◌≡◌};
-ghost use Rattle.coap_store.specs.Prelude.{path_of as path_asked, key_for};
+ghost use Rattle.coap_store.specs.Prelude.{path_of as path_of_request, key_for};
 
 use crate::found::RepresentationRef;
 use coap_path::{PathKey, ResourceKind, UriPath};
@@ -29,7 +29,7 @@ pub(crate) struct RequestTarget<'s> {
 /// Returns the path of a request's Uri-Path options, or `None` if no resource can have it (RFC 7252 section 5.10.1).
 #[tactic(auto, unfolding(crate::specs::Requests::values_of, crate::specs::State::key_for))]
 pub fn request_path(request: &MessageRef) -> Option<PathKey>
-    ensures { result ≡ key_for (path_asked request.now) }
+    ensures { result ≡ key_for (path_of_request request.now) }
 {
     let mut path = PathKey::root();
     if !path.fill(UriPath::of(&request.body())) {

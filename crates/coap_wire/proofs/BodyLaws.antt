@@ -125,10 +125,10 @@ option_head_takes b s h fits e =
 -- The first byte, which is no marker, and the result of decoding the bytes after it.
 pub record ReadsHead (s : List ℕ) (delta len : ℕ) (after : List ℕ) : Type 0 where
   pub first : ℕ
-  pub behind : List ℕ
-  pub bytes : s ≡ first ∷ behind
+  pub later : List ℕ
+  pub bytes : s ≡ first ∷ later
   pub no_marker : first ≢ 255
-  pub is : option_head_at first behind ≡ Ok (delta, len, after)
+  pub is : option_head_at first later ≡ Ok (delta, len, after)
 
 -- The encoding of an option head is decoded to it.
 pub option_head_again : (s : List ℕ) (delta len : ℕ) (after : List ℕ) → IsOptionHead s delta len after
@@ -139,12 +139,12 @@ option_head_again s delta len after h =
     let small : x < 15 = option_form_nibble x h.delta_extension delta h.delta_form in
     let small_too : y < 15 = option_form_nibble y h.length_extension len h.length_form in
     let n = nibbles x y (omega arith) in
-    let behind = h.delta_extension ++ (h.length_extension ++ after) in
-    let good : option_head_at (16 * x + y) behind ≡ both_at ((16 * x + y) / 16) ((16 * x + y) % 16) behind =
-    option_head_good (16 * x + y) behind (omega (arith, n.0)) (omega (arith, n.1)) in
+    let later = h.delta_extension ++ (h.length_extension ++ after) in
+    let good : option_head_at (16 * x + y) later ≡ both_at ((16 * x + y) / 16) ((16 * x + y) % 16) later =
+    option_head_good (16 * x + y) later (omega (arith, n.0)) (omega (arith, n.1)) in
     record {
       first = 16 * x + y;
-      behind = behind;
+      later = later;
       bytes = h.bytes;
       no_marker = omega arith;
       is = good ∙ rw (
@@ -223,10 +223,10 @@ option_takes base b s x fits e =
 -- The first byte, which is no marker, and the result of decoding the bytes after it.
 pub record ReadsOption (base : ℕ) (o : CoapOption) (s tail : List ℕ) : Type 0 where
   pub first : ℕ
-  pub behind : List ℕ
-  pub bytes : s ≡ first ∷ behind
+  pub later : List ℕ
+  pub bytes : s ≡ first ∷ later
   pub no_marker : first ≢ 255
-  pub is : option_at base first behind ≡ Ok (o, tail)
+  pub is : option_at base first later ≡ Ok (o, tail)
 
 -- The encoding of an option is decoded to it.
 pub option_again : (base : ℕ) (o : CoapOption) (s tail : List ℕ) → IsOneOption base o s tail → ReadsOption base o s tail
@@ -239,7 +239,7 @@ option_again base o s tail one =
     value_again (base + one.delta) o.value tail fits in
     let whole : value_at (base + one.delta) (length o.value) (o.value ++ tail) ≡ Ok (o, tail) =
     value ∙ ap (λ (n : ℕ). Ok (record { number = n; value = o.value }, tail)) (sym one.number) in
-    record { first = h.first; behind = h.behind; bytes = h.bytes; no_marker = h.no_marker; is = rw (h.is) whole }
+    record { first = h.first; later = h.later; bytes = h.bytes; no_marker = h.no_marker; is = rw (h.is) whole }
 
 -- ---- a body
 
@@ -374,9 +374,9 @@ pub body_after : (base : ℕ) (os : List CoapOption) (s rest : List ℕ) → IsO
 body_after base [] s rest bytes = ap (body_at base) bytes ∙ sym (with_front_nil (body_at base rest))
 body_after base (o ∷ os) s rest bytes =
     let one = option_again base o s bytes.0 bytes.1 in
-    let step : body_at base (one.first ∷ one.behind)
+    let step : body_at base (one.first ∷ one.later)
     ≡ (body_at o.number bytes.0 >>= λ others. Ok (o ∷ others.0, others.1)) =
-    body_option base one.first one.behind o bytes.0 one.no_marker one.is in
+    body_option base one.first one.later o bytes.0 one.no_marker one.is in
     let others = body_after o.number os bytes.0 rest bytes.2 in
     ap (body_at base) one.bytes ∙ step ∙ rw others (with_front_cons o os (body_at (last_number o.number os) rest))
 

@@ -51,19 +51,19 @@ pub ends_at_fault : (front : List CoapOption) (base b : ℕ) (rest after : List 
 ends_at_fault front base b rest after e total rest_is option_starts fault so_far =
     sym so_far ∙ ap (with_front front) (ap (body_at base) rest_is ∙ body_fault base b after e option_starts fault)
 
-pub goes_on : (front : List CoapOption) (base b : ℕ) (rest after : List ℕ) (o : CoapOption) (behind : List ℕ)
+pub goes_on : (front : List CoapOption) (base b : ℕ) (rest after : List ℕ) (o : CoapOption) (later : List ℕ)
     (total : Result (List CoapOption × List ℕ) FormatFault) → rest ≡ b ∷ after → (b ≡ 255 → ⊥)
-    → option_at base b after ≡ Ok (o, behind) → with_front front (body_at base rest) ≡ total
-    → with_front (front ++ o ∷ []) (body_at o.number behind) ≡ total
-goes_on front base b rest after o behind total rest_is option_starts read so_far =
-    sym (regroup front o (body_at o.number behind))
-    ∙ ap (with_front front) (sym (ap (body_at base) rest_is ∙ body_option base b after o behind option_starts read))
+    → option_at base b after ≡ Ok (o, later) → with_front front (body_at base rest) ≡ total
+    → with_front (front ++ o ∷ []) (body_at o.number later) ≡ total
+goes_on front base b rest after o later total rest_is option_starts read so_far =
+    sym (regroup front o (body_at o.number later))
+    ∙ ap (with_front front) (sym (ap (body_at base) rest_is ∙ body_option base b after o later option_starts read))
     ∙ so_far
 
-pub falls : (base b : ℕ) (rest after : List ℕ) (o : CoapOption) (behind : List ℕ) → rest ≡ b ∷ after
-    → option_at base b after ≡ Ok (o, behind) → length behind < length rest
-falls base b rest after o behind rest_is read =
-    omega (arith, option_shorter base b after (o, behind) read, ap length rest_is)
+pub falls : (base b : ℕ) (rest after : List ℕ) (o : CoapOption) (later : List ℕ) → rest ≡ b ∷ after
+    → option_at base b after ≡ Ok (o, later) → length later < length rest
+falls base b rest after o later rest_is read =
+    omega (arith, option_shorter base b after (o, later) read, ap length rest_is)
 
 -- ---- the iterator over options
 
@@ -87,30 +87,30 @@ no_fault base b rest after e rest_is option_starts fault ok =
     absurd cc
 
 -- One option, followed by the result for the bytes after it.
-abbrev behind_option : CoapOption → Result (List CoapOption × List ℕ) FormatFault
+abbrev option_then : CoapOption → Result (List CoapOption × List ℕ) FormatFault
     → Result (List CoapOption × List ℕ) FormatFault
-behind_option o read = read >>= λ others. Ok (o ∷ others.0, others.1)
+option_then o read = read >>= λ others. Ok (o ∷ others.0, others.1)
 
 ok_after : (o : CoapOption) (read : Result (List CoapOption × List ℕ) FormatFault)
-    → is_ok (behind_option o read) ≡ true → is_ok read ≡ true
+    → is_ok (option_then o read) ≡ true → is_ok read ≡ true
 ok_after o (Ok x) ok = refl
 ok_after o (Err e) ok = ok
 
 options_after : (o : CoapOption) (read : Result (List CoapOption × List ℕ) FormatFault) → is_ok read ≡ true
-    → options_read (behind_option o read) ≡ o ∷ options_read read
+    → options_read (option_then o read) ≡ o ∷ options_read read
 options_after o (Ok x) ok = refl
 options_after o (Err e) ok = absurd cc
 
-pub stays_ok : (base b : ℕ) (rest after : List ℕ) (o : CoapOption) (behind : List ℕ) → rest ≡ b ∷ after → (b ≡ 255 → ⊥)
-    → option_at base b after ≡ Ok (o, behind) → IsOk (body_at base rest)
-    → IsOk (body_at o.number behind)
-stays_ok base b rest after o behind rest_is option_starts read ok =
-    ok_after o (body_at o.number behind)
-    (ap is_ok (sym (ap (body_at base) rest_is ∙ body_option base b after o behind option_starts read)) ∙ ok)
+pub stays_ok : (base b : ℕ) (rest after : List ℕ) (o : CoapOption) (later : List ℕ) → rest ≡ b ∷ after → (b ≡ 255 → ⊥)
+    → option_at base b after ≡ Ok (o, later) → IsOk (body_at base rest)
+    → IsOk (body_at o.number later)
+stays_ok base b rest after o later rest_is option_starts read ok =
+    ok_after o (body_at o.number later)
+    (ap is_ok (sym (ap (body_at base) rest_is ∙ body_option base b after o later option_starts read)) ∙ ok)
 
-pub first_option : (base b : ℕ) (rest after : List ℕ) (o : CoapOption) (behind : List ℕ) → rest ≡ b ∷ after
-    → (b ≡ 255 → ⊥) → option_at base b after ≡ Ok (o, behind) → IsOk (body_at base rest)
-    → options_in base rest ≡ o ∷ options_in o.number behind
-first_option base b rest after o behind rest_is option_starts read ok =
-    ap options_read (ap (body_at base) rest_is ∙ body_option base b after o behind option_starts read)
-    ∙ options_after o (body_at o.number behind) (stays_ok base b rest after o behind rest_is option_starts read ok)
+pub first_option : (base b : ℕ) (rest after : List ℕ) (o : CoapOption) (later : List ℕ) → rest ≡ b ∷ after
+    → (b ≡ 255 → ⊥) → option_at base b after ≡ Ok (o, later) → IsOk (body_at base rest)
+    → options_in base rest ≡ o ∷ options_in o.number later
+first_option base b rest after o later rest_is option_starts read ok =
+    ap options_read (ap (body_at base) rest_is ∙ body_option base b after o later option_starts read)
+    ∙ options_after o (body_at o.number later) (stays_ok base b rest after o later rest_is option_starts read ok)

@@ -128,8 +128,8 @@ value_fault_again : (base : ℕ) (s : List ℕ) (delta len : ℕ) (after : List 
 unfolding option_at
 value_fault_again base s delta len after e head h =
     let r = option_head_again s delta len after head in
-    let is : option_at base r.first r.behind ≡ Err e = rw (r.is) h in
-    ap (body_at base) r.bytes ∙ body_fault base r.first r.behind e r.no_marker is
+    let is : option_at base r.first r.later ≡ Err e = rw (r.is) h in
+    ap (body_at base) r.bytes ∙ body_fault base r.first r.later e r.no_marker is
 
 delta_again : (base b : ℕ) (s : List ℕ) → b ≢ 255 → b / 16 ≡ 15 → body_at base (b ∷ s) ≡ Err OptionDelta
 unfolding option_at

@@ -3,16 +3,16 @@ use Rattle.std.proofs.Common.{◌≡◌, ℕ, ◌+◌, ◌≤◌, List, [], ◌�
 use Rattle.std.proofs.Common.{subst, ◌∙◌, arith}
 use Rattle.coap_wire.specs.Prelude.{concat, AreBytes, IsFrame, FrameFault, IsFrameFault, IsUnfinished, StreamPrefix}
 use Rattle.coap_wire.specs.Prelude.{Unfinished, Whole, Faulty, prefix_kind, size_bytes, fault_bytes, Frames, Sizes}
-use Rattle.coap_wire.specs.Prelude.{sizes_behind, size_for, size_behind, sizes_of_rest, AreFrames, AreAtMost}
-use Rattle.coap_wire.specs.Prelude.{FramesEndWith, StandsBehind, FramedAs, with_frame, sized_frames, frames_gone_on}
+use Rattle.coap_wire.specs.Prelude.{sizes_after, size_for, size_after, sizes_of_rest, AreFrames, AreAtMost}
+use Rattle.coap_wire.specs.Prelude.{FramesEndWith, FollowsRest, FramedAs, with_frame, sized_frames, frames_gone_on}
 use Rattle.coap_wire.specs.Prelude.{frames_on}
 use Rattle.std.proofs.lemmas.List.{append-nil, append_assoc, take-append-drop, length-append, length-take}
 use Rattle.coap_wire.proofs.NumberLaws.{AreBytes-tail}
-use Rattle.coap_wire.proofs.StreamSteps.{whole_parts, fault_bytes_more, rest_behind, rest_is_all, sized_faulty_more}
-use Rattle.coap_wire.proofs.StreamSteps.{sized_whole_more, Holding, HoldsBehind, frames_from, frames_unfinished}
+use Rattle.coap_wire.proofs.StreamSteps.{whole_parts, fault_bytes_more, rest_sizes, rest_is_all, sized_faulty_more}
+use Rattle.coap_wire.proofs.StreamSteps.{sized_whole_more, Holding, HoldsAfter, frames_from, frames_unfinished}
 use Rattle.coap_wire.proofs.StreamSteps.{frames_faulty, frames_whole, by_frames}
 use Rattle.coap_wire.proofs.StreamLaws.{AreBytes-front, whole_frame, fault_found, fault_bytes_again, fault_at_front}
-use Rattle.coap_wire.proofs.StreamLaws.{frame_at_front, size_behind_none, size_behind_one, size_for_fault}
+use Rattle.coap_wire.proofs.StreamLaws.{frame_at_front, size_after_none, size_after_one, size_for_fault}
 use Rattle.coap_wire.proofs.StreamLaws.{size_for_whole, unfinished_is, unfinished_again}
 
 -- ---- more bytes of a stream
@@ -21,7 +21,7 @@ use Rattle.coap_wire.proofs.StreamLaws.{size_for_whole, unfinished_is, unfinishe
 abbrev FramesAreWithin : Holding
 FramesAreWithin sizes s = length (sized_frames sizes s).rest ≤ length s
 
-frames_within_step : (sizes : Sizes) (s : List ℕ) (b : StreamPrefix) → HoldsBehind FramesAreWithin sizes s
+frames_within_step : (sizes : Sizes) (s : List ℕ) (b : StreamPrefix) → HoldsAfter FramesAreWithin sizes s
     → prefix_kind (size_for sizes s) s ≡ b → FramesAreWithin sizes s
 frames_within_step sizes s Unfinished again e =
     omega (arith, ap (λ (f : Frames). length f.rest) (frames_unfinished sizes s e))
@@ -56,7 +56,7 @@ FramesGoOn t sizes s =
 abbrev frames_on_with : Sizes → List ℕ → List ℕ → Frames → Frames
 frames_on_with sizes s t first = frames_on (sizes_of_rest sizes s first.rest) first t
 
-frames_on_step : (t : List ℕ) (sizes : Sizes) (s : List ℕ) (b : StreamPrefix) → HoldsBehind (FramesGoOn t) sizes s
+frames_on_step : (t : List ℕ) (sizes : Sizes) (s : List ℕ) (b : StreamPrefix) → HoldsAfter (FramesGoOn t) sizes s
     → prefix_kind (size_for sizes s) s ≡ b → FramesGoOn t sizes s
 frames_on_step t sizes s Unfinished again e =
     ap (λ (f : Sizes). sized_frames f (s ++ t)) (sym (rest_is_all sizes s))
@@ -72,7 +72,7 @@ frames_on_step t sizes s (Whole frame rest) again e =
     let all : length s ≡ length frame + length rest =
     ap (λ (l : List ℕ). length l) c.bytes ∙ length-append frame rest in
     let same =
-    rest_behind sizes frame rest s first.rest all (frames_rest_within (sizes_behind (length frame) sizes) rest) in
+    rest_sizes sizes frame rest s first.rest all (frames_rest_within (sizes_after (length frame) sizes) rest) in
     frames_whole sizes (s ++ t) frame (rest ++ t) (sized_whole_more sizes s t frame rest e)
     ∙ ap (with_frame frame) (again frame rest e)
     ∙ ap (λ (f : Sizes). with_frame frame (frames_on f first t)) same
@@ -95,8 +95,8 @@ framed_unfinished sizes s u = record {
   whole = sym (append-nil s);
   each = tt;
   small = tt;
-  ended = subst (λ (M : ℕ). IsUnfinished M s) (sym (size_behind_none sizes s)) (unfinished_is (size_for sizes s) s u);
-  behind = refl;
+  ended = subst (λ (M : ℕ). IsUnfinished M s) (sym (size_after_none sizes s)) (unfinished_is (size_for sizes s) s u);
+  follows = refl;
 }
 
 framed_faulty : (sizes : Sizes) (s : List ℕ) (fault : FrameFault) → AreBytes s
@@ -109,14 +109,14 @@ framed_faulty sizes s fault fits e = record {
   small = tt;
   ended =
       subst (λ (M : ℕ). IsFrameFault M fault (fault_bytes s))
-      (sym (size_behind_none sizes (fault_bytes s) ∙ size_for_fault sizes s fault e))
+      (sym (size_after_none sizes (fault_bytes s) ∙ size_for_fault sizes s fault e))
       (fault_found (size_for sizes s) s fault fits e);
-  behind = tt;
+  follows = tt;
 }
 
 -- One more frame comes before those that are found.
 pub framed_whole : (sizes : Sizes) (frame rest : List ℕ) (found : Frames) → IsFrame frame
-    → length frame ≤ size_for sizes frame → FramedAs (sizes_behind (length frame) sizes) rest found
+    → length frame ≤ size_for sizes frame → FramedAs (sizes_after (length frame) sizes) rest found
     → FramedAs sizes (frame ++ rest) (with_frame frame found)
 framed_whole sizes frame rest found is small others = record {
   more = others.more;
@@ -127,15 +127,15 @@ framed_whole sizes frame rest found is small others = record {
   small = (small, others.small);
   ended =
       subst (λ (M : ℕ). FramesEndWith M found.rest found.fault)
-      (sym (size_behind_one sizes frame found.frames found.rest)) others.ended;
-  behind = others.behind;
+      (sym (size_after_one sizes frame found.frames found.rest)) others.ended;
+  follows = others.follows;
 }
 
 -- If s has bytes only, the result of the function is a division of s into frames.
 abbrev FramesAreFound : Holding
 FramesAreFound sizes s = AreBytes s → FramedAs sizes s (sized_frames sizes s)
 
-framed_step : (sizes : Sizes) (s : List ℕ) (b : StreamPrefix) → HoldsBehind FramesAreFound sizes s
+framed_step : (sizes : Sizes) (s : List ℕ) (b : StreamPrefix) → HoldsAfter FramesAreFound sizes s
     → prefix_kind (size_for sizes s) s ≡ b → FramesAreFound sizes s
 framed_step sizes s Unfinished again e fits =
     subst (FramedAs sizes s) (sym (frames_unfinished sizes s e)) (framed_unfinished sizes s e)
@@ -145,7 +145,7 @@ framed_step sizes s (Whole frame rest) again e fits =
     let c = whole_parts (size_for sizes s) s frame rest e in
     let first : Frames = frames_from sizes frame rest in
     let both : AreBytes (frame ++ rest) = subst (λ (l : List ℕ). AreBytes l) c.bytes fits in
-    let others : FramedAs (sizes_behind (length frame) sizes) rest first =
+    let others : FramedAs (sizes_after (length frame) sizes) rest first =
     again frame rest e (AreBytes-tail frame rest both) in
     let small : length frame ≤ size_for sizes frame = omega (arith, c.small, size_for_whole sizes s frame rest e) in
     let all : FramedAs sizes (frame ++ rest) (with_frame frame first) =
@@ -161,33 +161,33 @@ frames_framed sizes s =
 -- ---- the relation determines the result of the function
 
 frames_ending : (sizes : Sizes) (rest more : List ℕ) (fault : Option FrameFault) → AreBytes (rest ++ more)
-    → FramesEndWith (size_for sizes rest) rest fault → StandsBehind more fault
+    → FramesEndWith (size_for sizes rest) rest fault → FollowsRest more fault
     → sized_frames sizes (rest ++ more) ≡ record { frames = []; rest = rest; fault = fault }
-frames_ending sizes rest more None fits ended behind =
-    let is : rest ++ more ≡ rest = ap (λ (l : List ℕ). rest ++ l) behind ∙ append-nil rest in
+frames_ending sizes rest more None fits ended follows =
+    let is : rest ++ more ≡ rest = ap (λ (l : List ℕ). rest ++ l) follows ∙ append-nil rest in
     ap (sized_frames sizes) is
     ∙ frames_unfinished sizes rest (unfinished_again (size_for sizes rest) rest (AreBytes-front rest more fits) ended)
-frames_ending sizes rest more (Some fault) fits ended behind =
+frames_ending sizes rest more (Some fault) fits ended follows =
     frames_faulty sizes (rest ++ more) fault (fault_at_front sizes rest more fault ended)
     ∙ ap (λ (r : List ℕ). record { frames = []; rest = r; fault = Some fault })
     (fault_bytes_again (size_for sizes rest) rest more fault ended)
 
 frames_again : (sizes : Sizes) (frames : List (List ℕ)) (rest more : List ℕ) (fault : Option FrameFault)
     → AreBytes (concat frames ++ (rest ++ more)) → AreFrames frames → AreAtMost sizes frames
-    → FramesEndWith (size_behind sizes frames rest) rest fault → StandsBehind more fault
+    → FramesEndWith (size_after sizes frames rest) rest fault → FollowsRest more fault
     → sized_frames sizes (concat frames ++ (rest ++ more)) ≡ record { frames = frames; rest = rest; fault = fault }
-frames_again sizes [] rest more fault fits each small ended behind =
+frames_again sizes [] rest more fault fits each small ended follows =
     frames_ending sizes rest more fault fits
-    (subst (λ (M : ℕ). FramesEndWith M rest fault) (size_behind_none sizes rest) ended) behind
-frames_again sizes (f ∷ fs) rest more fault fits each small ended behind =
+    (subst (λ (M : ℕ). FramesEndWith M rest fault) (size_after_none sizes rest) ended) follows
+frames_again sizes (f ∷ fs) rest more fault fits each small ended follows =
     let others = concat fs ++ (rest ++ more) in
     let is : concat (f ∷ fs) ++ (rest ++ more) ≡ f ++ others = append_assoc f (concat fs) (rest ++ more) in
     let tail : AreBytes others = AreBytes-tail f others (subst (λ (l : List ℕ). AreBytes l) is fits) in
-    let ends = subst (λ (M : ℕ). FramesEndWith M rest fault) (size_behind_one sizes f fs rest) ended in
+    let ends = subst (λ (M : ℕ). FramesEndWith M rest fault) (size_after_one sizes f fs rest) ended in
     ap (sized_frames sizes) is
     ∙ frames_whole sizes (f ++ others) f others (frame_at_front sizes f others each.0 small.0)
     ∙ ap (with_frame f)
-    (frames_again (sizes_behind (length f) sizes) fs rest more fault tail each.1 small.1 ends behind)
+    (frames_again (sizes_after (length f) sizes) fs rest more fault tail each.1 small.1 ends follows)
 
 -- Whatever satisfies the relation is the result of the function.
 pub framed_frames : (sizes : Sizes) (s : List ℕ) (other : Frames) → AreBytes s → FramedAs sizes s other
@@ -195,4 +195,4 @@ pub framed_frames : (sizes : Sizes) (s : List ℕ) (other : Frames) → AreBytes
 framed_frames sizes s other fits framed =
     sym (ap (sized_frames sizes) framed.whole
     ∙ frames_again sizes other.frames other.rest framed.more other.fault
-    (subst (λ (l : List ℕ). AreBytes l) framed.whole fits) framed.each framed.small framed.ended framed.behind)
+    (subst (λ (l : List ℕ). AreBytes l) framed.whole fits) framed.each framed.small framed.ended framed.follows)

@@ -7,7 +7,7 @@ use Rattle.coap_wire.specs.Prelude.{AreBytes, IsLengthForm, extension_of, IsOpti
 use Rattle.coap_wire.specs.Prelude.{greatest_token, code_and_extension, StatesLengths, IsDeclaredSize, IsFrame}
 use Rattle.coap_wire.specs.Prelude.{HasBadToken, Declares, IsHeadAndBody, IsFirstFault, Declared, Unknown, Size}
 use Rattle.coap_wire.specs.Prelude.{BadToken, FormatFault, TokenLength, NotOneFrame, length_at, option_number_at}
-use Rattle.coap_wire.specs.Prelude.{size_with, size_from, declared_of, Head, head_with, head_behind, head_from}
+use Rattle.coap_wire.specs.Prelude.{size_with, size_from, declared_of, Head, head_with, head_at_code, head_from}
 use Rattle.coap_wire.specs.Prelude.{head_at}
 use Rattle.coap_wire.proofs.FormLaws.{option_form_width, option_extension_some}
 use Rattle.coap_wire.proofs.NumberLaws.{option_cases, AreBytes-tail, AreBytes-drop, length_again, option_number_none}
@@ -92,13 +92,13 @@ declared_with b s t n r =
     declared_from b s r.nibble ∙ ap (size_from (b % 16) s) r.body
     ∙ ap (size_with (1 + (length s - length r.at_code)) n (drop 1 r.at_code)) r.token
 
-size_of_token : (first n : ℕ) (behind : List ℕ) (y : ℕ × List ℕ) → y.0 ≤ greatest_token
-    → size_with first n behind (Some y) ≡ Size (first + 1 + (length behind - length y.1) + y.0 + n)
-size_of_token first n behind y h = rw (le-ltb greatest_token y.0 h) refl
+size_of_token : (first n : ℕ) (later : List ℕ) (y : ℕ × List ℕ) → y.0 ≤ greatest_token
+    → size_with first n later (Some y) ≡ Size (first + 1 + (length later - length y.1) + y.0 + n)
+size_of_token first n later y h = rw (le-ltb greatest_token y.0 h) refl
 
-size_of_long_token : (first n : ℕ) (behind : List ℕ) (y : ℕ × List ℕ) → greatest_token < y.0
-    → size_with first n behind (Some y) ≡ BadToken
-size_of_long_token first n behind y h = rw (lt-ltb greatest_token y.0 h) refl
+size_of_long_token : (first n : ℕ) (later : List ℕ) (y : ℕ × List ℕ) → greatest_token < y.0
+    → size_with first n later (Some y) ≡ BadToken
+size_of_long_token first n later y h = rw (lt-ltb greatest_token y.0 h) refl
 
 -- The size of a frame with this first byte, a token of t bytes and a body of n bytes.
 abbrev pub frame_size : ℕ → ℕ → ℕ → ℕ
@@ -123,27 +123,27 @@ declared_long b s t n r long =
 
 -- The token length is decoded after the code.
 record ReadsToken (x t : ℕ) (s : List ℕ) : Type 0 where
-  behind : List ℕ
-  is : option_number_at x (drop 1 s) ≡ Some (t, behind)
+  later : List ℕ
+  is : option_number_at x (drop 1 s) ≡ Some (t, later)
 
 token_again : (x t code : ℕ) (extension more : List ℕ) → IsOptionForm x extension t
     → ReadsToken x t (code_and_extension code extension ++ more)
-token_again x t code [] more form = record { behind = drop 1 more; is = option_number_again x [] t (drop 1 more) form }
-token_again x t code (e ∷ es) more form = record { behind = more; is = option_number_again x (e ∷ es) t more form }
+token_again x t code [] more form = record { later = drop 1 more; is = option_number_again x [] t (drop 1 more) form }
+token_again x t code (e ∷ es) more form = record { later = more; is = option_number_again x (e ∷ es) t more form }
 
 -- The first byte of stated lengths, and the bytes after it.
 abbrev first_of : {head : List ℕ} {t n : ℕ} → StatesLengths head t n → ℕ
 first_of h = 16 * h.length_nibble + h.token_nibble
 
-abbrev behind_stated : {head : List ℕ} {t n : ℕ} → StatesLengths head t n → List ℕ → List ℕ
-behind_stated h more = (h.extension ++ code_and_extension h.code h.token_extension) ++ more
+abbrev after_stated : {head : List ℕ} {t n : ℕ} → StatesLengths head t n → List ℕ → List ℕ
+after_stated h more = (h.extension ++ code_and_extension h.code h.token_extension) ++ more
 
 -- The lengths that the first bytes state are decoded.
 pub record ReadsStated (head more : List ℕ) (t n : ℕ) (h : StatesLengths head t n) : Type 0 where
   pub first : ℕ
-  pub behind : List ℕ
-  pub bytes : head ++ more ≡ first ∷ behind
-  pub read : ReadsLengths first behind t n
+  pub later : List ℕ
+  pub bytes : head ++ more ≡ first ∷ later
+  pub read : ReadsLengths first later t n
   pub extension : length h.extension ≡ extension_of (first / 16)
   pub token_extension : length h.token_extension ≡ option_extension (first % 16)
 
@@ -160,16 +160,16 @@ stated_read head more t n h =
     let k = nibbles x y (omega (arith, small)) in
     let at_code = code_and_extension h.code h.token_extension ++ more in
     let token = token_again y t h.code h.token_extension more h.token_form in
-    let body : length_at x (behind_stated h more) ≡ Some (n, at_code) =
+    let body : length_at x (after_stated h more) ≡ Some (n, at_code) =
     ap (length_at x) (append_assoc h.extension (code_and_extension h.code h.token_extension) more)
     ∙ length_again x h.extension n at_code h.length_form in
     record {
       first = first_of h;
-      behind = behind_stated h more;
+      later = after_stated h more;
       bytes = ap (λ (l : List ℕ). l ++ more) h.head;
       read = record {
         at_code = at_code;
-        at_token = token.behind;
+        at_token = token.later;
         nibble = omega (arith, k.1, small);
         body = rw (k.0) body;
         token = rw (k.1) token.is;
@@ -186,7 +186,7 @@ size_declared s n d =
     let same : frame_size r.first h.token_length h.body_length ≡ n =
     omega (arith, h.size, r.extension, r.token_extension) in
     ap declared_of (d.2 ∙ r.bytes)
-    ∙ declared_size r.first r.behind h.token_length h.body_length r.read h.short ∙ ap Size same
+    ∙ declared_size r.first r.later h.token_length h.body_length r.read h.short ∙ ap Size same
 
 -- An invalid token length that the first bytes state is declared.
 pub bad_token_declared : (s : List ℕ) → HasBadToken s → declared_of s ≡ BadToken
@@ -196,7 +196,7 @@ bad_token_declared s bad =
           ap declared_of (bad.2 ∙ ap (λ (head : List ℕ). head ++ bad.1) none.1) ∙ declared_no_length none.0 bad.1 none.2
       | inr long ↦
           let r = stated_read bad.0 bad.1 long.0 long.1 long.2 in
-          ap declared_of (bad.2 ∙ r.bytes) ∙ declared_long r.first r.behind long.0 long.1 r.read long.3
+          ap declared_of (bad.2 ∙ r.bytes) ∙ declared_long r.first r.later long.0 long.1 r.read long.3
     ]
 
 declares_unknown : (s : List ℕ) → declared_of s ≡ Unknown → Declares s Unknown
@@ -210,10 +210,10 @@ record HasCode (s extension : List ℕ) : Type 0 where
   more : List ℕ
   parts : s ≡ code_and_extension code extension ++ more
 
-code_before : (s extension behind : List ℕ) → drop 1 s ≡ extension ++ behind → HasCode s extension
-code_before s [] behind h = record { code = 0; more = s; parts = refl }
-code_before [] (e ∷ es) behind h = absurd cc
-code_before (c ∷ s) (e ∷ es) behind h = record { code = c; more = behind; parts = ap (λ (l : List ℕ). c ∷ l) h }
+code_before : (s extension later : List ℕ) → drop 1 s ≡ extension ++ later → HasCode s extension
+code_before s [] later h = record { code = 0; more = s; parts = refl }
+code_before [] (e ∷ es) later h = absurd cc
+code_before (c ∷ s) (e ∷ es) later h = record { code = c; more = later; parts = ap (λ (l : List ℕ). c ∷ l) h }
 
 -- The bytes that state the lengths, and the bytes after them.
 pub record IsStated (b : ℕ) (s : List ℕ) (t n : ℕ) : Type 0 where
@@ -318,15 +318,15 @@ head_by : (b : ℕ) (s : List ℕ) → b % 16 ≢ 15 → head_at (b ∷ s) ≡ h
 unfolding head_at
 head_by b s h = rw (ne_eqb (b % 16) 15 h) refl
 
-cut_behind : (x n : ℕ) (s : List ℕ) → option_number_at x (drop 1 s) ≡ None → head_behind x n s ≡ Err NotOneFrame
-cut_behind x n [] none = refl
-cut_behind x n (c ∷ s) none = ap (head_with c n) none
+cut_after : (x n : ℕ) (s : List ℕ) → option_number_at x (drop 1 s) ≡ None → head_at_code x n s ≡ Err NotOneFrame
+cut_after x n [] none = refl
+cut_after x n (c ∷ s) none = ap (head_with c n) none
 
 pub head_cut : (b : ℕ) (s : List ℕ) → IsCutHead b s → head_at (b ∷ s) ≡ Err NotOneFrame
 head_cut b s c =
     elim (c.cut) [
       | inl none ↦ head_by b s c.nibble ∙ ap (head_from (b % 16)) none
-      | inr y ↦ head_by b s c.nibble ∙ ap (head_from (b % 16)) y.1 ∙ cut_behind (b % 16) y.0.0 y.0.1 y.2
+      | inr y ↦ head_by b s c.nibble ∙ ap (head_from (b % 16)) y.1 ∙ cut_after (b % 16) y.0.0 y.0.1 y.2
     ]
 
 head_read : (b : ℕ) (s : List ℕ) (t n : ℕ) (at_code at_token : List ℕ) (code : ℕ) → b % 16 ≢ 15
@@ -356,21 +356,21 @@ pub head_not_whole : (code t n : ℕ) (s : List ℕ) → t ≤ greatest_token �
 head_not_whole code t n s short h = rw (le-ltb greatest_token t short, ne_eqb (length s) (t + n) h) refl
 
 -- If no byte follows the length, the token length has no extension.
-few_token : (x t : ℕ) (behind : List ℕ) → option_number_at x [] ≡ Some (t, behind) → t ≤ greatest_token
-few_token x t behind e =
+few_token : (x t : ℕ) (later : List ℕ) → option_number_at x [] ≡ Some (t, later) → t ≤ greatest_token
+few_token x t later e =
     elim (cases_lt x 13) [
       | inl lt ↦
           let same : x ≡ t =
-          ap (λ (y : ℕ × List ℕ). y.0) (some_is (x, []) (t, behind) (sym (option_number_none x [] lt) ∙ e)) in
+          ap (λ (y : ℕ × List ℕ). y.0) (some_is (x, []) (t, later) (sym (option_number_none x [] lt) ∙ e)) in
           omega (arith, lt, same)
-      | inr ge ↦ absurd (omega (arith, option_extension_some x ge, option_number_length x [] (t, behind) e))
+      | inr ge ↦ absurd (omega (arith, option_extension_some x ge, option_number_length x [] (t, later) e))
     ]
 
 -- The result for a head whose lengths are decoded: no code, or the parts after the code.
 abbrev pub HeadParts : ℕ → List ℕ → ℕ → ℕ → List ℕ → List ℕ → Type 0
 HeadParts b s t n at_code at_token =
     ((at_code ≡ []) × (head_at (b ∷ s) ≡ Err NotOneFrame) × (t ≤ greatest_token))
-    ⊎ ((code : ℕ) × (behind : List ℕ) × (at_code ≡ code ∷ behind)
+    ⊎ ((code : ℕ) × (later : List ℕ) × (at_code ≡ code ∷ later)
     × (head_at (b ∷ s) ≡ head_with code n (Some (t, at_token))))
 
 parts_by : (b : ℕ) (s : List ℕ) (t n : ℕ) (at_code at_token : List ℕ) → b % 16 ≢ 15
@@ -378,17 +378,17 @@ parts_by : (b : ℕ) (s : List ℕ) (t n : ℕ) (at_code at_token : List ℕ) �
     → option_number_at (b % 16) (drop 1 at_code) ≡ Some (t, at_token) → HeadParts b s t n at_code at_token
 parts_by b s t n [] at_token nibble body token =
     inl (refl, head_by b s nibble ∙ ap (head_from (b % 16)) body, few_token (b % 16) t at_token token)
-parts_by b s t n (code ∷ behind) at_token nibble body token =
-    inr (code, behind, refl, head_read b s t n behind at_token code nibble body token)
+parts_by b s t n (code ∷ later) at_token nibble body token =
+    inr (code, later, refl, head_read b s t n later at_token code nibble body token)
 
 pub head_parts : (b : ℕ) (s : List ℕ) (t n : ℕ) → (r : ReadsLengths b s t n) → HeadParts b s t n r.at_code r.at_token
 head_parts b s t n r = parts_by b s t n r.at_code r.at_token r.nibble r.body r.token
 
 -- The bytes of a decoded head encode it, and its body has bytes only.
-head_spelled : (b : ℕ) (s : List ℕ) (t n code : ℕ) (behind : List ℕ) → AreBytes (b ∷ s) → (r : ReadsLengths b s t n)
-    → r.at_code ≡ code ∷ behind → t ≤ greatest_token → length r.at_token ≡ t + n
+head_spelled : (b : ℕ) (s : List ℕ) (t n code : ℕ) (later : List ℕ) → AreBytes (b ∷ s) → (r : ReadsLengths b s t n)
+    → r.at_code ≡ code ∷ later → t ≤ greatest_token → length r.at_token ≡ t + n
     → IsHeadAndBody (b ∷ s) code (take t r.at_token) (drop t r.at_token) × AreBytes (drop t r.at_token)
-head_spelled b s t n code behind fits r is short whole =
+head_spelled b s t n code later fits r is short whole =
     let byte : b < 256 = fits 0 in
     let split : b ≡ 16 * (b / 16) + b % 16 = omega arith in
     let l = length_takes (b / 16) s (n, r.at_code) (AreBytes-tail (b ∷ []) s fits) (omega arith) r.body in
@@ -396,7 +396,7 @@ head_spelled b s t n code behind fits r is short whole =
     (omega (arith, r.nibble)) r.token in
     let token : length (take t r.at_token) ≡ t = omega (arith, whole, length-take t r.at_token) in
     let body : length (drop t r.at_token) ≡ n = omega (arith, whole, length-drop t r.at_token) in
-    let rest : behind ≡ k.extension ++ (take t r.at_token ++ drop t r.at_token) =
+    let rest : later ≡ k.extension ++ (take t r.at_token ++ drop t r.at_token) =
     sym (ap (drop 1) is) ∙ k.parts ∙ ap (λ (x : List ℕ). k.extension ++ x) (sym (take-append-drop t r.at_token)) in (
       record {
         length_nibble = b / 16;
@@ -417,11 +417,11 @@ head_spelled b s t n code behind fits r is short whole =
 abbrev IsSpelledSo : List ℕ → Head → Type 0
 IsSpelledSo s h = IsHeadAndBody s h.code h.token h.body × AreBytes h.body
 
-takes_parts : (b : ℕ) (s : List ℕ) (h : Head) (t n code : ℕ) (behind : List ℕ) → AreBytes (b ∷ s)
-    → (r : ReadsLengths b s t n) → r.at_code ≡ code ∷ behind
+takes_parts : (b : ℕ) (s : List ℕ) (h : Head) (t n code : ℕ) (later : List ℕ) → AreBytes (b ∷ s)
+    → (r : ReadsLengths b s t n) → r.at_code ≡ code ∷ later
     → head_with code n (Some (t, r.at_token)) ≡ Ok h → IsSpelledSo (b ∷ s) h
 unfolding head_made
-takes_parts b s h t n code behind fits r is e =
+takes_parts b s h t n code later fits r is e =
     elim (cases_lt greatest_token t) [
       | inl long ↦
           absurd
@@ -430,7 +430,7 @@ takes_parts b s h t n code behind fits r is e =
         | inl whole ↦
             subst (IsSpelledSo (b ∷ s))
             (ok_is (head_made code t r.at_token) h (sym (head_whole code t n r.at_token short whole) ∙ e))
-            (head_spelled b s t n code behind fits r is short whole)
+            (head_spelled b s t n code later fits r is short whole)
         | inr other ↦
             absurd (ok_or_err (head_with code n (Some (t, r.at_token))) h NotOneFrame e
             (head_not_whole code t n r.at_token short other))
@@ -464,15 +464,15 @@ head_again s code token body h =
     let x = h.length_nibble in
     let y = h.token_nibble in
     let t = length token in
-    let behind = h.token_extension ++ (token ++ body) in
+    let later = h.token_extension ++ (token ++ body) in
     let small : y < 15 = option_form_nibble y h.token_extension t h.token_form.0 in
     let k = nibbles x y (omega (arith, small)) in
-    let is : length_at x (h.extension ++ code ∷ behind) ≡ Some (length body, code ∷ behind) =
-    length_again x h.extension (length body) (code ∷ behind) h.length_form in
-    let token_is : option_number_at y behind ≡ Some (t, token ++ body) =
+    let is : length_at x (h.extension ++ code ∷ later) ≡ Some (length body, code ∷ later) =
+    length_again x h.extension (length body) (code ∷ later) h.length_form in
+    let token_is : option_number_at y later ≡ Some (t, token ++ body) =
     option_number_again y h.token_extension t (token ++ body) h.token_form.0 in
     ap head_at h.bytes
-    ∙ head_read (16 * x + y) (h.extension ++ code ∷ behind) t (length body) behind (token ++ body) code
+    ∙ head_read (16 * x + y) (h.extension ++ code ∷ later) t (length body) later (token ++ body) code
     (omega (arith, k.1, small)) (rw (k.0) is) (rw (k.1) token_is)
     ∙ head_whole code t (length body) (token ++ body) h.token_form.1 (length-append token body)
     ∙ ap Ok (made_is code t token body refl)
@@ -482,14 +482,14 @@ pub frame_head : (s : List ℕ) → IsFrame s → (h : Head) × (head_at s ≡ O
 frame_head s f =
     let h = f.3 in
     let r = stated_read f.0 f.1 h.token_length h.body_length h.lengths in
-    let w = widths r.first r.behind h.token_length h.body_length r.read in
-    let all : length s ≡ 1 + length r.behind = omega (arith, ap length (f.2 ∙ r.bytes)) in
-    elim (head_parts r.first r.behind h.token_length h.body_length r.read) [
+    let w = widths r.first r.later h.token_length h.body_length r.read in
+    let all : length s ≡ 1 + length r.later = omega (arith, ap length (f.2 ∙ r.bytes)) in
+    elim (head_parts r.first r.later h.token_length h.body_length r.read) [
       | inl none ↦ absurd (omega (arith, all, h.size, r.extension, w.body, ap length none.0))
       | inr p ↦
-          let behind : length (drop 1 r.read.at_code) ≡ length p.1 = ap (λ (l : List ℕ). length (drop 1 l)) p.2 in
+          let later : length (drop 1 r.read.at_code) ≡ length p.1 = ap (λ (l : List ℕ). length (drop 1 l)) p.2 in
           let len : length r.read.at_token ≡ h.token_length + h.body_length =
-          omega (arith, all, h.size, r.extension, r.token_extension, w.body, w.token, behind, ap length p.2) in (
+          omega (arith, all, h.size, r.extension, r.token_extension, w.body, w.token, later, ap length p.2) in (
             head_made p.0 h.token_length r.read.at_token,
             ap head_at (f.2 ∙ r.bytes) ∙ p.3 ∙ head_whole p.0 h.token_length h.body_length r.read.at_token h.short len,
           )
@@ -498,15 +498,15 @@ frame_head s f =
 -- A head and a body of the stated length are a frame.
 pub head_frame : (s : List ℕ) (code : ℕ) (token body : List ℕ) → IsHeadAndBody s code token body → IsFrame s
 head_frame s code token body h =
-    let behind = code ∷ (h.token_extension ++ (token ++ body)) in
+    let later = code ∷ (h.token_extension ++ (token ++ body)) in
     let first = 16 * h.length_nibble + h.token_nibble in
-    let c = code_before behind h.token_extension (token ++ body) refl in
+    let c = code_before later h.token_extension (token ++ body) refl in
     let front = code_and_extension c.code h.token_extension in
     let len : length s ≡ 1 + length h.extension + 1 + length h.token_extension + length token + length body =
     omega (
       arith,
       ap length h.bytes,
-      length-append h.extension behind,
+      length-append h.extension later,
       length-append h.token_extension (token ++ body),
       length-append token body,
     ) in (
@@ -543,7 +543,7 @@ bad_token_read s bad =
       | inr long ↦
           let r = stated_read bad.0 bad.1 long.0 long.1 long.2 in
           ap head_at (bad.2 ∙ r.bytes)
-          ∙ elim (head_parts r.first r.behind long.0 long.1 r.read) [
+          ∙ elim (head_parts r.first r.later long.0 long.1 r.read) [
             | inl none ↦ absurd (omega (arith, none.2, long.3))
             | inr p ↦ p.3 ∙ head_long p.0 long.0 long.1 r.read.at_token long.3
           ]

@@ -46,14 +46,14 @@ outline_read b s t n r =
     outline_by_nibble b s r.nibble ∙ ap (outline_from (b % 16) s) r.body
     ∙ ap (outline_with (1 + (length s - length r.at_code)) n (drop 1 r.at_code)) r.token
 
-outline_of_token : (first n : ℕ) (behind : List ℕ) (y : ℕ × List ℕ) → y.0 ≤ greatest_token
-    → outline_with first n behind (Some y) ≡ Known (first + 1 + (length behind - length y.1) + y.0 + n)
-    (record { code_at = first; token_at = first + 1 + (length behind - length y.1); token_length = y.0 })
-outline_of_token first n behind y h = rw (le-ltb greatest_token y.0 h) refl
+outline_of_token : (first n : ℕ) (later : List ℕ) (y : ℕ × List ℕ) → y.0 ≤ greatest_token
+    → outline_with first n later (Some y) ≡ Known (first + 1 + (length later - length y.1) + y.0 + n)
+    (record { code_at = first; token_at = first + 1 + (length later - length y.1); token_length = y.0 })
+outline_of_token first n later y h = rw (le-ltb greatest_token y.0 h) refl
 
-outline_of_long_token : (first n : ℕ) (behind : List ℕ) (y : ℕ × List ℕ) → greatest_token < y.0
-    → outline_with first n behind (Some y) ≡ BadToken
-outline_of_long_token first n behind y h = rw (lt-ltb greatest_token y.0 h) refl
+outline_of_long_token : (first n : ℕ) (later : List ℕ) (y : ℕ × List ℕ) → greatest_token < y.0
+    → outline_with first n later (Some y) ≡ BadToken
+outline_of_long_token first n later y h = rw (lt-ltb greatest_token y.0 h) refl
 
 outline_long : (b : ℕ) (s : List ℕ) (t n : ℕ) → ReadsLengths b s t n → greatest_token < t
     → outline_of (b ∷ s) ≡ BadToken
@@ -169,9 +169,9 @@ known_by (Known m l) n e = let same : m ≡ n = cc in (l, ap (λ (k : ℕ). Know
 pub outline_front : (s : List ℕ) (n : ℕ) (l : FrameLayout) → outline_of s ≡ Known n l
     → n ≤ length s → IsLaidOut (take n s) l
 outline_front s n l e long =
-    let told : declared_of s ≡ Size n = sym (outline_declared s) ∙ ap declared_in e in
+    let known_size : declared_of s ≡ Size n = sym (outline_declared s) ∙ ap declared_in e in
     let f = take n s in
-    let whole = begin_whole n s n told (omega arith) long in
+    let whole = begin_whole n s n known_size (omega arith) long in
     let itself = (whole_parts n f f [] (whole_itself n s f (drop n s) whole)).declared in
     let known = known_by (outline_of f) (length f) (outline_declared f ∙ itself) in
     let longer : outline_of s ≡ Known (length f) known.0 =
@@ -180,9 +180,9 @@ outline_front s n l e long =
 
 -- ---- the parts of a frame
 
--- The head of a frame with this code and a token of t bytes, if `behind` follows the extension of the token length.
+-- The head of a frame with this code and a token of t bytes, if `later` follows the extension of the token length.
 abbrev pub parts_of : ℕ → ℕ → List ℕ → Head
-parts_of code t behind = record { code = code; token = take t behind; body = drop t behind }
+parts_of code t later = record { code = code; token = take t later; body = drop t later }
 
 -- The layout of a frame is within the frame, and decoding the head returns the parts at these positions.
 pub record HasParts (f : List ℕ) (l : FrameLayout) : Type 0 where
@@ -192,10 +192,10 @@ pub record HasParts (f : List ℕ) (l : FrameLayout) : Type 0 where
   pub head : head_at f ≡ Ok (parts_of (get_or f l.code_at 0) l.token_length (drop l.token_at f))
 
 -- The parts of a frame begin at the positions of its layout.
-parts_at : (b : ℕ) (s : List ℕ) (t n code : ℕ) (behind : List ℕ) → AreBytes (b ∷ s) → (r : ReadsLengths b s t n)
-    → t ≤ greatest_token → length (b ∷ s) ≡ frame_size b t n → r.at_code ≡ code ∷ behind
+parts_at : (b : ℕ) (s : List ℕ) (t n code : ℕ) (later : List ℕ) → AreBytes (b ∷ s) → (r : ReadsLengths b s t n)
+    → t ≤ greatest_token → length (b ∷ s) ≡ frame_size b t n → r.at_code ≡ code ∷ later
     → head_at (b ∷ s) ≡ head_with code n (Some (t, r.at_token)) → HasParts (b ∷ s) (layout_by b t)
-parts_at b s t n code behind fits r short all is head =
+parts_at b s t n code later fits r short all is head =
     let byte : b < 256 = fits 0 in
     let w = widths b s t n r in
     let l = length_takes (b / 16) s (n, r.at_code) (AreBytes-tail (b ∷ []) s fits) (omega arith) r.body in
@@ -204,9 +204,9 @@ parts_at b s t n code behind fits r short all is head =
     let code_at = 1 + extension_of (b / 16) in
     let token_at = code_at + 1 + option_extension (b % 16) in
     let before : List ℕ = b ∷ l.extension in
-    let bytes : b ∷ s ≡ before ++ code ∷ behind =
+    let bytes : b ∷ s ≡ before ++ code ∷ later =
     ap (λ (x : List ℕ). b ∷ x) (l.parts ∙ ap (λ (x : List ℕ). l.extension ++ x) is) in
-    let rest : behind ≡ k.extension ++ r.at_token = sym (ap (drop 1) is) ∙ k.parts in
+    let rest : later ≡ k.extension ++ r.at_token = sym (ap (drop 1) is) ∙ k.parts in
     let front : List ℕ = before ++ code ∷ k.extension in
     let split : b ∷ s ≡ front ++ r.at_token =
     bytes ∙ ap (λ (x : List ℕ). before ++ code ∷ x) rest ∙ sym (append_assoc before (code ∷ k.extension) r.at_token) in
@@ -223,7 +223,7 @@ parts_at b s t n code behind fits r short all is head =
     let dropped : drop token_at (b ∷ s) ≡ r.at_token =
     ap (drop token_at) split ∙ drop_at front r.at_token token_at front_length in
     let code_is : get_or (b ∷ s) code_at 0 ≡ code =
-    ap (λ (x : List ℕ). get_or x code_at 0) bytes ∙ get_or_at before code behind 0 code_at before_length in
+    ap (λ (x : List ℕ). get_or x code_at 0) bytes ∙ get_or_at before code later 0 code_at before_length in
     let token_length : length r.at_token ≡ t + n =
     omega (arith, all, ap length split, front_length, length-append front r.at_token) in
     record {
@@ -297,9 +297,9 @@ other_size_at b s n l h other =
     elim (head_parts b s h.token_length h.body_length h.read) [
       | inl none ↦ none.1
       | inr p ↦
-          let behind : length (drop 1 h.read.at_code) ≡ length p.1 = ap (λ (x : List ℕ). length (drop 1 x)) p.2 in
+          let later : length (drop 1 h.read.at_code) ≡ length p.1 = ap (λ (x : List ℕ). length (drop 1 x)) p.2 in
           p.3 ∙ head_not_whole p.0 h.token_length h.body_length h.read.at_token h.short
-          (λ same. other (omega (arith, same, h.size_is, w.body, w.token, behind, ap length p.2)))
+          (λ same. other (omega (arith, same, h.size_is, w.body, w.token, later, ap length p.2)))
     ]
 
 -- If the size differs from the number of bytes, the bytes are no frame.

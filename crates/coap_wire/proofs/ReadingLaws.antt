@@ -52,7 +52,7 @@ fault_is_first s f fits e =
     elim (result_cases (head_at s)) [
       | inl good ↦
           let h = head_takes s good.0 fits good.1 in
-          let behind : (body_at 0 good.0.body
+          let later : (body_at 0 good.0.body
           >>= λ body. Ok (record { code = good.0.code; token = good.0.token; options = body.0; payload = body.1 }))
           ≡ Err f = rw good.1 at e in
           let bad = bind_fault (body_at 0 good.0.body) (λ (body : List CoapOption × List ℕ). record {
@@ -60,7 +60,7 @@ fault_is_first s f fits e =
             token = good.0.token;
             options = body.0;
             payload = body.1;
-          }) f behind in
+          }) f later in
           let w = body_fault_takes 0 good.0.body f h.1 bad in
           first_of_option s f (record {
             code = good.0.code;

@@ -1,8 +1,8 @@
 -- Recognised options: the functions agree with the relations, and in an ordered list the option before is enough.
 use Rattle.coap_wire.specs.Prelude.{All, IsTrue, ◌↔◌, unwrap_or, not, ◌||◌, ◌&&◌, ◌==◌, CoapOption, AreOrdered}
 use Rattle.coap_wire.specs.Prelude.{kind_of, IsFirstWithNumber, IsRecognised, is_first_with_number, has_kind}
-use Rattle.coap_wire.specs.Prelude.{is_recognised, known_behind, is_critical, first_critical_behind, option_before}
-use Rattle.coap_wire.specs.Prelude.{OptionKind, CheckedOptionValue, checked_behind}
+use Rattle.coap_wire.specs.Prelude.{is_recognised, known_given, is_critical, first_critical_given, option_before}
+use Rattle.coap_wire.specs.Prelude.{OptionKind, CheckedOptionValue, checked_given}
 use Rattle.std.proofs.Common.{◌≡◌, ◌≢◌, ℕ, ◌%◌, ◌≤◌, List, [], ◌∷◌, ◌++◌, length, Bool, true, false, Option, Some, None}
 use Rattle.std.proofs.Common.{refl, sym, ap, subst, ◌∙◌, arith}
 use Rattle.std.proofs.lemmas.Bool.{and_parts, and_from, and_left, and_right, leb-true, le-leb, eqb-false, eq-eqb}
@@ -28,9 +28,9 @@ ordered_up_to base (q ∷ qs) after p o ordered =
 pub first_alone : (o : CoapOption) → IsFirstWithNumber [] o
 first_alone o = All-nil (λ p. p.number ≢ o.number)
 
-pub first_behind : (earlier after : List CoapOption) (p o : CoapOption) → AreOrdered 0 (earlier ++ (p ∷ o ∷ after))
+pub first_after : (earlier after : List CoapOption) (p o : CoapOption) → AreOrdered 0 (earlier ++ (p ∷ o ∷ after))
     → IsFirstWithNumber (earlier ++ p ∷ []) o ↔ (p.number ≢ o.number)
-first_behind earlier after p o ordered =
+first_after earlier after p o ordered =
     let split = ordered_up_to 0 earlier after p o ordered in
     let order : p.number ≤ o.number = split.1 in (
       λ first. All-contains (λ q. q.number ≢ o.number) (earlier ++ p ∷ []) p first (Contains-push earlier p),
@@ -95,44 +95,44 @@ recognised_is_decided before o = (recognised_from_test before o (kind_of o.numbe
 
 -- ---- one option after the other
 
-pub known_end : (earlier : List CoapOption) → known_behind earlier [] ≡ []
-unfolding known_behind
+pub known_end : (earlier : List CoapOption) → known_given earlier [] ≡ []
+unfolding known_given
 known_end earlier = refl
 
 known_here : (earlier : List CoapOption) (o : CoapOption) (os : List CoapOption) → is_recognised earlier o ≡ true
-    → known_behind earlier (o ∷ os) ≡ o ∷ known_behind (earlier ++ o ∷ []) os
-unfolding known_behind
+    → known_given earlier (o ∷ os) ≡ o ∷ known_given (earlier ++ o ∷ []) os
+unfolding known_given
 known_here earlier o os recognised = rw recognised refl
 
 known_later : (earlier : List CoapOption) (o : CoapOption) (os : List CoapOption) → is_recognised earlier o ≡ false
-    → known_behind earlier (o ∷ os) ≡ known_behind (earlier ++ o ∷ []) os
-unfolding known_behind
+    → known_given earlier (o ∷ os) ≡ known_given (earlier ++ o ∷ []) os
+unfolding known_given
 known_later earlier o os not_recognised = rw not_recognised refl
 
-pub checked_end : (earlier : List CoapOption) → checked_behind earlier [] ≡ []
-unfolding checked_behind
+pub checked_end : (earlier : List CoapOption) → checked_given earlier [] ≡ []
+unfolding checked_given
 checked_end earlier = refl
 
 checked_here : (earlier : List CoapOption) (o : CoapOption) (os : List CoapOption) (recognised : Bool)
     → recognised ≡ is_recognised earlier o
-    → checked_behind earlier (o ∷ os)
-    ≡ record { option = o; recognised = recognised } ∷ checked_behind (earlier ++ o ∷ []) os
-unfolding checked_behind
+    → checked_given earlier (o ∷ os)
+    ≡ record { option = o; recognised = recognised } ∷ checked_given (earlier ++ o ∷ []) os
+unfolding checked_given
 checked_here earlier o os recognised is = rw is refl
 
-pub critical_end : (earlier : List CoapOption) → first_critical_behind earlier [] ≡ None
-unfolding first_critical_behind
+pub critical_end : (earlier : List CoapOption) → first_critical_given earlier [] ≡ None
+unfolding first_critical_given
 critical_end earlier = refl
 
 critical_here : (earlier : List CoapOption) (o : CoapOption) (os : List CoapOption)
-    → (is_critical o && not (is_recognised earlier o)) ≡ true → first_critical_behind earlier (o ∷ os) ≡ Some o.number
-unfolding first_critical_behind
+    → (is_critical o && not (is_recognised earlier o)) ≡ true → first_critical_given earlier (o ∷ os) ≡ Some o.number
+unfolding first_critical_given
 critical_here earlier o os critical = rw critical refl
 
 critical_later : (earlier : List CoapOption) (o : CoapOption) (os : List CoapOption)
     → (is_critical o && not (is_recognised earlier o)) ≡ false
-    → first_critical_behind earlier (o ∷ os) ≡ first_critical_behind (earlier ++ o ∷ []) os
-unfolding first_critical_behind
+    → first_critical_given earlier (o ∷ os) ≡ first_critical_given (earlier ++ o ∷ []) os
+unfolding first_critical_given
 critical_later earlier o os not_critical = rw not_critical refl
 
 -- ---- earlier options with the same effect
@@ -161,21 +161,21 @@ recognised_agrees base xs ys o agree le = kind_agrees xs ys o (kind_of o.number)
 
 known_agrees_at : (recognised : Bool) (xs ys : List CoapOption) (o : CoapOption) (os : List CoapOption)
     → is_recognised xs o ≡ recognised → is_recognised ys o ≡ recognised
-    → known_behind (xs ++ o ∷ []) os ≡ known_behind (ys ++ o ∷ []) os
-    → known_behind xs (o ∷ os) ≡ known_behind ys (o ∷ os)
+    → known_given (xs ++ o ∷ []) os ≡ known_given (ys ++ o ∷ []) os
+    → known_given xs (o ∷ os) ≡ known_given ys (o ∷ os)
 known_agrees_at true xs ys o os in_xs in_ys rest =
     known_here xs o os in_xs ∙ ap (λ (ks : List CoapOption). o ∷ ks) rest ∙ sym (known_here ys o os in_ys)
 known_agrees_at false xs ys o os in_xs in_ys rest = known_later xs o os in_xs ∙ rest ∙ sym (known_later ys o os in_ys)
 
 known_agrees : (base : ℕ) (xs ys os : List CoapOption) → AreOrdered base os → AgreeFrom base xs ys
-    → known_behind xs os ≡ known_behind ys os
+    → known_given xs os ≡ known_given ys os
 known_agrees base xs ys [] ordered agree = known_end xs ∙ sym (known_end ys)
 known_agrees base xs ys (o ∷ os) ordered agree =
     known_agrees_at (is_recognised ys o) xs ys o os (recognised_agrees base xs ys o agree ordered.0) refl
     (known_agrees o.number (xs ++ o ∷ []) (ys ++ o ∷ []) os ordered.1 (agree_push base xs ys o agree ordered.0))
 
 checked_agrees : (base : ℕ) (xs ys os : List CoapOption) → AreOrdered base os → AgreeFrom base xs ys
-    → checked_behind xs os ≡ checked_behind ys os
+    → checked_given xs os ≡ checked_given ys os
 checked_agrees base xs ys [] ordered agree = checked_end xs ∙ sym (checked_end ys)
 checked_agrees base xs ys (o ∷ os) ordered agree =
     checked_here xs o os (is_recognised ys o) (sym (recognised_agrees base xs ys o agree ordered.0))
@@ -185,14 +185,14 @@ checked_agrees base xs ys (o ∷ os) ordered agree =
 
 critical_agrees_at : (critical : Bool) (xs ys : List CoapOption) (o : CoapOption) (os : List CoapOption)
     → (is_critical o && not (is_recognised xs o)) ≡ critical → (is_critical o && not (is_recognised ys o)) ≡ critical
-    → first_critical_behind (xs ++ o ∷ []) os ≡ first_critical_behind (ys ++ o ∷ []) os
-    → first_critical_behind xs (o ∷ os) ≡ first_critical_behind ys (o ∷ os)
+    → first_critical_given (xs ++ o ∷ []) os ≡ first_critical_given (ys ++ o ∷ []) os
+    → first_critical_given xs (o ∷ os) ≡ first_critical_given ys (o ∷ os)
 critical_agrees_at true xs ys o os in_xs in_ys rest = critical_here xs o os in_xs ∙ sym (critical_here ys o os in_ys)
 critical_agrees_at false xs ys o os in_xs in_ys rest =
     critical_later xs o os in_xs ∙ rest ∙ sym (critical_later ys o os in_ys)
 
 critical_agrees : (base : ℕ) (xs ys os : List CoapOption) → AreOrdered base os → AgreeFrom base xs ys
-    → first_critical_behind xs os ≡ first_critical_behind ys os
+    → first_critical_given xs os ≡ first_critical_given ys os
 critical_agrees base xs ys [] ordered agree = critical_end xs ∙ sym (critical_end ys)
 critical_agrees base xs ys (o ∷ os) ordered agree =
     critical_agrees_at (is_critical o && not (is_recognised ys o)) xs ys o os
@@ -202,43 +202,43 @@ critical_agrees base xs ys (o ∷ os) ordered agree =
 -- ---- the option before is enough
 
 -- A comparison with b makes one with a redundant, if a is at most b and the number q is not below b.
-lower_tells_nothing : (a b q : ℕ) → a ≤ b → b ≤ q → (not (a == q) && (not (b == q) && true)) ≡ (not (b == q) && true)
-lower_tells_nothing a b q below above = grind (arith, nat_tests)
+lower_is_redundant : (a b q : ℕ) → a ≤ b → b ≤ q → (not (a == q) && (not (b == q) && true)) ≡ (not (b == q) && true)
+lower_is_redundant a b q below above = grind (arith, nat_tests)
 
 one_is_enough : (before : Option ℕ) (o : CoapOption) → unwrap_or before 0 ≤ o.number
     → AgreeFrom o.number (option_before before ++ o ∷ []) (option_before (Some o.number))
 unfolding AgreeFrom
 one_is_enough None o le = λ q above. refl
-one_is_enough (Some n) o le = λ q above. lower_tells_nothing n o.number q.number le above
+one_is_enough (Some n) o le = λ q above. lower_is_redundant n o.number q.number le above
 
 -- The list begins with a recognised option.
 pub knows : (before : Option ℕ) (all os : List CoapOption) (o : CoapOption) → all ≡ o ∷ os
     → AreOrdered (unwrap_or before 0) all → true ≡ is_recognised (option_before before) o
-    → known_behind (option_before before) all ≡ o ∷ known_behind (option_before (Some o.number)) os
+    → known_given (option_before before) all ≡ o ∷ known_given (option_before (Some o.number)) os
 knows before all os o is ordered recognised =
     let both : AreOrdered (unwrap_or before 0) (o ∷ os) = subst (AreOrdered (unwrap_or before 0)) is ordered in
-    ap (known_behind (option_before before)) is ∙ known_here (option_before before) o os (sym recognised)
+    ap (known_given (option_before before)) is ∙ known_here (option_before before) o os (sym recognised)
     ∙ ap (λ (ks : List CoapOption). o ∷ ks) (known_agrees o.number (option_before before ++ o ∷ [])
     (option_before (Some o.number)) os both.1 (one_is_enough before o both.0))
 
 -- The list begins with an option that is not recognised.
 pub passes_over : (before : Option ℕ) (all os : List CoapOption) (o : CoapOption) → all ≡ o ∷ os
     → AreOrdered (unwrap_or before 0) all → false ≡ is_recognised (option_before before) o
-    → known_behind (option_before before) all ≡ known_behind (option_before (Some o.number)) os
+    → known_given (option_before before) all ≡ known_given (option_before (Some o.number)) os
 passes_over before all os o is ordered not_recognised =
     let both : AreOrdered (unwrap_or before 0) (o ∷ os) = subst (AreOrdered (unwrap_or before 0)) is ordered in
-    ap (known_behind (option_before before)) is ∙ known_later (option_before before) o os (sym not_recognised)
+    ap (known_given (option_before before)) is ∙ known_later (option_before before) o os (sym not_recognised)
     ∙ known_agrees o.number (option_before before ++ o ∷ []) (option_before (Some o.number)) os both.1
     (one_is_enough before o both.0)
 
 -- The list begins with any option.
 pub checks : (before : Option ℕ) (all os : List CoapOption) (o : CoapOption) (recognised : Bool) → all ≡ o ∷ os
     → AreOrdered (unwrap_or before 0) all → recognised ≡ is_recognised (option_before before) o
-    → checked_behind (option_before before) all
-    ≡ record { option = o; recognised = recognised } ∷ checked_behind (option_before (Some o.number)) os
+    → checked_given (option_before before) all
+    ≡ record { option = o; recognised = recognised } ∷ checked_given (option_before (Some o.number)) os
 checks before all os o recognised is ordered test =
     let both : AreOrdered (unwrap_or before 0) (o ∷ os) = subst (AreOrdered (unwrap_or before 0)) is ordered in
-    ap (checked_behind (option_before before)) is ∙ checked_here (option_before before) o os recognised test
+    ap (checked_given (option_before before)) is ∙ checked_here (option_before before) o os recognised test
     ∙ ap (λ (cs : List CheckedOptionValue). record { option = o; recognised = recognised } ∷ cs)
     (checked_agrees o.number (option_before before ++ o ∷ []) (option_before (Some o.number)) os both.1
     (one_is_enough before o both.0))
@@ -251,31 +251,31 @@ stays_ordered base all os o is ordered =
 
 -- The list begins with a critical option that is not recognised.
 pub stops_at : (before : Option ℕ) (all os : List CoapOption) (o : CoapOption) → all ≡ o ∷ os → o.number % 2 ≡ 1
-    → false ≡ is_recognised (option_before before) o → first_critical_behind (option_before before) all ≡ Some o.number
+    → false ≡ is_recognised (option_before before) o → first_critical_given (option_before before) all ≡ Some o.number
 stops_at before all os o is odd not_recognised =
-    ap (first_critical_behind (option_before before)) is
+    ap (first_critical_given (option_before before)) is
     ∙ critical_here (option_before before) o os
     (and_from _ _ (eq-eqb (o.number % 2) 1 odd) (ap not (sym not_recognised)))
 
 goes_past : (before : Option ℕ) (all os : List CoapOption) (o : CoapOption) → all ≡ o ∷ os
     → AreOrdered (unwrap_or before 0) all → (is_critical o && not (is_recognised (option_before before) o)) ≡ false
-    → first_critical_behind (option_before before) all ≡ first_critical_behind (option_before (Some o.number)) os
+    → first_critical_given (option_before before) all ≡ first_critical_given (option_before (Some o.number)) os
 goes_past before all os o is ordered harmless =
     let both : AreOrdered (unwrap_or before 0) (o ∷ os) = subst (AreOrdered (unwrap_or before 0)) is ordered in
-    ap (first_critical_behind (option_before before)) is ∙ critical_later (option_before before) o os harmless
+    ap (first_critical_given (option_before before)) is ∙ critical_later (option_before before) o os harmless
     ∙ critical_agrees o.number (option_before before ++ o ∷ []) (option_before (Some o.number)) os both.1
     (one_is_enough before o both.0)
 
 -- The list begins with a recognised option.
 pub goes_past_recognised : (before : Option ℕ) (all os : List CoapOption) (o : CoapOption) → all ≡ o ∷ os
     → AreOrdered (unwrap_or before 0) all → true ≡ is_recognised (option_before before) o
-    → first_critical_behind (option_before before) all ≡ first_critical_behind (option_before (Some o.number)) os
+    → first_critical_given (option_before before) all ≡ first_critical_given (option_before (Some o.number)) os
 goes_past_recognised before all os o is ordered recognised =
     goes_past before all os o is ordered (and_right (is_critical o) _ (ap not (sym recognised)))
 
 -- The list begins with an elective option.
 pub goes_past_elective : (before : Option ℕ) (all os : List CoapOption) (o : CoapOption) → all ≡ o ∷ os
     → AreOrdered (unwrap_or before 0) all → (o.number % 2 ≡ 1 → ⊥)
-    → first_critical_behind (option_before before) all ≡ first_critical_behind (option_before (Some o.number)) os
+    → first_critical_given (option_before before) all ≡ first_critical_given (option_before (Some o.number)) os
 goes_past_elective before all os o is ordered even =
     goes_past before all os o is ordered (and_left (is_critical o) _ (ne_eqb (o.number % 2) 1 even))

@@ -2,9 +2,9 @@
 use Rattle.std.proofs.Common.{◌≡◌, ℕ, ◌+◌, ◌-◌, ◌<◌, ◌≤◌, List, ◌++◌, length, Option, Some, None, refl, sym, ap, ◌∙◌}
 use Rattle.std.proofs.Common.{arith, inl, inr}
 use Rattle.std.proofs.lemmas.Bool.{cases_lt, lt-ltb, le-ltb}
-use Rattle.coap_wire.specs.Prelude.{Unfinished, prefix_kind, Sizes, constant_size, sizes_first, sizes_behind, size_for}
+use Rattle.coap_wire.specs.Prelude.{Unfinished, prefix_kind, Sizes, constant_size, sizes_first, sizes_after, size_for}
 use Rattle.coap_wire.specs.Prelude.{sizes_of_rest, StreamFault, Stream, sized_split, split, continued, split_on}
-use Rattle.coap_wire.proofs.StreamSteps.{AreAlikeBehind, split_alike, split_is, sized_goes_on, sized_rest, rest_within}
+use Rattle.coap_wire.proofs.StreamSteps.{AreAlikeAfter, split_alike, split_is, sized_goes_on, sized_rest, rest_within}
 use Rattle.coap_wire.proofs.StreamSteps.{unfinished_larger}
 
 -- ---- one maximum for the first n bytes
@@ -16,8 +16,8 @@ module _ (n M : ℕ) (S : Sizes) where
   pub first_past : (at : ℕ) → n ≤ at → sizes_first n M S at ≡ S (at - n)
   first_past at h = rw (le-ltb at n h) refl
 
-  pub behind_first : sizes_behind n (sizes_first n M S) ≡ S
-  behind_first =
+  pub rest_first : sizes_after n (sizes_first n M S) ≡ S
+  rest_first =
       let point : (at : ℕ) → sizes_first n M S (n + at) ≡ S at = λ at.
       let same : (n + at) - n ≡ at = omega arith in
       first_past (n + at) (omega arith) ∙ ap S same in
@@ -54,7 +54,7 @@ went_by F N s more None most now none =
     let R : Sizes = sizes_of_rest F s before.rest in
     let place : (at : ℕ) → length before.rest ≤ at → length s ≤ (length s - length before.rest) + at =
     λ at h. omega (arith, h, within) in
-    let alike : AreAlikeBehind R (constant_size N) before.rest = record {
+    let alike : AreAlikeAfter R (constant_size N) before.rest = record {
       unfinished = sized_rest F s none;
       larger = most _;
       same = λ at h. now _ (place at h);

@@ -5,7 +5,7 @@ use Rattle.coap_wire.specs.Prelude.{concat, Message, AreBytes, Spells, IsTokenLe
 use Rattle.coap_wire.specs.Prelude.{IsDeclaredSize, IsFrame, HasBadToken, Declares, Size, BadToken, FormatFault}
 use Rattle.coap_wire.specs.Prelude.{declared_of, message_of, FrameFault, TooLarge, IsTooLarge, IsFrameFault}
 use Rattle.coap_wire.specs.Prelude.{IsUnfinished, StreamPrefix, Unfinished, Whole, Faulty, prefix_kind, size_bytes}
-use Rattle.coap_wire.specs.Prelude.{fault_bytes, Sizes, sizes_behind, size_for, AreAtMost, StandsBehind, size_behind}
+use Rattle.coap_wire.specs.Prelude.{fault_bytes, Sizes, sizes_after, size_for, AreAtMost, FollowsRest, size_after}
 use Rattle.coap_wire.specs.Prelude.{StreamFault, OfFrame, Format, IsFormatFault, EndsWith, SpellEach, Splits, Stream}
 use Rattle.coap_wire.specs.Prelude.{with_message, sized_split, SplitsAs}
 use Rattle.std.proofs.lemmas.Bool.{cases_lt}
@@ -20,7 +20,7 @@ use Rattle.coap_wire.proofs.ReadingLaws.{message_spelled, message_again}
 use Rattle.coap_wire.proofs.StreamSteps.{size_bytes_first, size_bytes_some, stated_bytes, size_has_bytes}
 use Rattle.coap_wire.proofs.StreamSteps.{begin_bad_token, begin_too_large, begin_whole, whole_parts, whole_more}
 use Rattle.coap_wire.proofs.StreamSteps.{token_length_declared, too_large_declared, faulty_more, faulty_some}
-use Rattle.coap_wire.proofs.StreamSteps.{behind_twice, behind_none, size_for_more, Holding, HoldsBehind, stream_from}
+use Rattle.coap_wire.proofs.StreamSteps.{after_twice, after_none, size_for_more, Holding, HoldsAfter, stream_from}
 use Rattle.coap_wire.proofs.StreamSteps.{by_frames, sized_unfinished, sized_faulty, sized_message, sized_bad}
 use Rattle.coap_wire.proofs.StreamSteps.{unfinished_not_faulty}
 
@@ -156,15 +156,15 @@ unfinished_again M s fits u = unfinished_by M s (prefix_kind M s) fits u refl
 -- ---- the maximum sizes after frames
 
 -- No frame comes before.
-pub size_behind_none : (sizes : Sizes) (rest : List ℕ) → size_behind sizes [] rest ≡ size_for sizes rest
-size_behind_none sizes rest = ap (λ (f : Sizes). size_for f rest) (behind_none sizes)
+pub size_after_none : (sizes : Sizes) (rest : List ℕ) → size_after sizes [] rest ≡ size_for sizes rest
+size_after_none sizes rest = ap (λ (f : Sizes). size_for f rest) (after_none sizes)
 
 -- One frame comes before the others.
-pub size_behind_one : (sizes : Sizes) (frame : List ℕ) (frames : List (List ℕ)) (rest : List ℕ)
-    → size_behind sizes (frame ∷ frames) rest ≡ size_behind (sizes_behind (length frame) sizes) frames rest
-size_behind_one sizes frame frames rest =
-    ap (λ (n : ℕ). size_for (sizes_behind n sizes) rest) (length-append frame (concat frames))
-    ∙ ap (λ (f : Sizes). size_for f rest) (sym (behind_twice (length frame) (length (concat frames)) sizes))
+pub size_after_one : (sizes : Sizes) (frame : List ℕ) (frames : List (List ℕ)) (rest : List ℕ)
+    → size_after sizes (frame ∷ frames) rest ≡ size_after (sizes_after (length frame) sizes) frames rest
+size_after_one sizes frame frames rest =
+    ap (λ (n : ℕ). size_for (sizes_after n sizes) rest) (length-append frame (concat frames))
+    ∙ ap (λ (f : Sizes). size_for f rest) (sym (after_twice (length frame) (length (concat frames)) sizes))
 
 -- A frame has at least one byte.
 pub frame_some : (frame : List ℕ) → IsFrame frame → 1 ≤ length frame
@@ -180,8 +180,8 @@ splits_unfinished sizes s u = record {
   whole = sym (append-nil s);
   spelled = tt;
   small = tt;
-  ended = subst (λ (M : ℕ). IsUnfinished M s) (sym (size_behind_none sizes s)) (unfinished_is (size_for sizes s) s u);
-  behind = refl;
+  ended = subst (λ (M : ℕ). IsUnfinished M s) (sym (size_after_none sizes s)) (unfinished_is (size_for sizes s) s u);
+  follows = refl;
 }
 
 -- The maximum for bytes that begin with an error is that for the bytes that show it.
@@ -203,9 +203,9 @@ splits_faulty sizes s fault fits e = record {
   small = tt;
   ended =
       subst (λ (M : ℕ). IsFrameFault M fault (fault_bytes s))
-      (sym (size_behind_none sizes (fault_bytes s) ∙ size_for_fault sizes s fault e))
+      (sym (size_after_none sizes (fault_bytes s) ∙ size_for_fault sizes s fault e))
       (fault_found (size_for sizes s) s fault fits e);
-  behind = tt;
+  follows = tt;
 }
 
 -- The maximum for bytes that begin with a frame is that for the frame.
@@ -230,17 +230,17 @@ splits_bad sizes s frame rest f fits e bad = record {
       arith,
       (whole_parts (size_for sizes s) s frame rest e).small,
       size_for_whole sizes s frame rest e,
-      size_behind_none sizes frame,
+      size_after_none sizes frame,
     ),
     λ m spelled. ok_or_err (message_of frame) m f (message_again frame m spelled) bad,
   );
-  behind = tt;
+  follows = tt;
 }
 
 -- A frame that encodes a message comes before a stream that was split.
 pub splits_message : (sizes : Sizes) (frame rest : List ℕ) (m : Message) (ms : List Message) (r : List ℕ)
     (fault : Option StreamFault) → Spells frame m → length frame ≤ size_for sizes frame
-    → Splits (sizes_behind (length frame) sizes) rest ms r fault → Splits sizes (frame ++ rest) (m ∷ ms) r fault
+    → Splits (sizes_after (length frame) sizes) rest ms r fault → Splits sizes (frame ++ rest) (m ∷ ms) r fault
 splits_message sizes frame rest m ms r fault spelled small others = record {
   frames = frame ∷ others.frames;
   more = others.more;
@@ -248,15 +248,15 @@ splits_message sizes frame rest m ms r fault spelled small others = record {
       ap (λ (l : List ℕ). frame ++ l) others.whole ∙ sym (append_assoc frame (concat others.frames) (r ++ others.more));
   spelled = (spelled, others.spelled);
   small = (small, others.small);
-  ended = subst (λ (M : ℕ). EndsWith M r fault) (sym (size_behind_one sizes frame others.frames r)) others.ended;
-  behind = others.behind;
+  ended = subst (λ (M : ℕ). EndsWith M r fault) (sym (size_after_one sizes frame others.frames r)) others.ended;
+  follows = others.follows;
 }
 
 -- If s has bytes only, the result of the function splits it.
 abbrev IsSplit : Holding
 IsSplit sizes s = AreBytes s → SplitsAs sizes s (sized_split sizes s)
 
-splits_step : (sizes : Sizes) (s : List ℕ) (b : StreamPrefix) → HoldsBehind IsSplit sizes s
+splits_step : (sizes : Sizes) (s : List ℕ) (b : StreamPrefix) → HoldsAfter IsSplit sizes s
     → prefix_kind (size_for sizes s) s ≡ b → IsSplit sizes s
 splits_step sizes s Unfinished again e fits =
     subst (SplitsAs sizes s) (sym (sized_unfinished sizes s e)) (splits_unfinished sizes s e)
@@ -269,12 +269,12 @@ splits_step sizes s (Whole frame rest) again e fits =
       | inl good ↦
           let spelled : Spells frame good.0 = message_spelled frame good.0 (AreBytes-front frame rest both) good.1 in
           let first : Stream = stream_from sizes frame rest in
-          let behind : SplitsAs (sizes_behind (length frame) sizes) rest first =
+          let follows : SplitsAs (sizes_after (length frame) sizes) rest first =
           again frame rest e (AreBytes-tail frame rest both) in
           let small : length frame ≤ size_for sizes frame =
           omega (arith, c.small, size_for_whole sizes s frame rest e) in
           let others =
-          splits_message sizes frame rest good.0 first.messages first.rest first.fault spelled small behind in
+          splits_message sizes frame rest good.0 first.messages first.rest first.fault spelled small follows in
           subst (SplitsAs sizes s) (sym (sized_message sizes s frame rest good.0 e good.1))
           (subst (λ (l : List ℕ). SplitsAs sizes l (with_message good.0 first)) (sym c.bytes) others)
       | inr bad ↦
@@ -321,39 +321,39 @@ frame_at_front sizes frame rest f small =
     ∙ frame_begins (size_for sizes frame) frame rest f small
 
 split_ending : (sizes : Sizes) (rest more : List ℕ) (fault : Option StreamFault) → AreBytes (rest ++ more)
-    → EndsWith (size_for sizes rest) rest fault → StandsBehind more fault
+    → EndsWith (size_for sizes rest) rest fault → FollowsRest more fault
     → sized_split sizes (rest ++ more) ≡ record { messages = []; rest = rest; fault = fault }
-split_ending sizes rest more None fits ended behind =
-    let is : rest ++ more ≡ rest = ap (λ (l : List ℕ). rest ++ l) behind ∙ append-nil rest in
+split_ending sizes rest more None fits ended follows =
+    let is : rest ++ more ≡ rest = ap (λ (l : List ℕ). rest ++ l) follows ∙ append-nil rest in
     ap (sized_split sizes) is
     ∙ sized_unfinished sizes rest (unfinished_again (size_for sizes rest) rest (AreBytes-front rest more fits) ended)
-split_ending sizes rest more (Some (OfFrame fault)) fits ended behind =
+split_ending sizes rest more (Some (OfFrame fault)) fits ended follows =
     sized_faulty sizes (rest ++ more) fault (fault_at_front sizes rest more fault ended)
     ∙ ap (λ (r : List ℕ). record { messages = []; rest = r; fault = Some (OfFrame fault) })
     (fault_bytes_again (size_for sizes rest) rest more fault ended)
-split_ending sizes rest more (Some Format) fits ended behind =
+split_ending sizes rest more (Some Format) fits ended follows =
     let bad = format_fault_read (size_for sizes rest) rest (AreBytes-front rest more fits) ended in
     sized_bad sizes (rest ++ more) rest more bad.0 (frame_at_front sizes rest more ended.0 ended.1) bad.1
 
 split_frames : (sizes : Sizes) (frames : List (List ℕ)) (ms : List Message) (rest more : List ℕ)
     (fault : Option StreamFault) → AreBytes (concat frames ++ (rest ++ more)) → SpellEach frames ms
-    → AreAtMost sizes frames → EndsWith (size_behind sizes frames rest) rest fault → StandsBehind more fault
+    → AreAtMost sizes frames → EndsWith (size_after sizes frames rest) rest fault → FollowsRest more fault
     → sized_split sizes (concat frames ++ (rest ++ more)) ≡ record { messages = ms; rest = rest; fault = fault }
-split_frames sizes [] [] rest more fault fits spelled small ended behind =
+split_frames sizes [] [] rest more fault fits spelled small ended follows =
     split_ending sizes rest more fault fits
-    (subst (λ (M : ℕ). EndsWith M rest fault) (size_behind_none sizes rest) ended) behind
-split_frames sizes [] (m ∷ ms) rest more fault fits spelled small ended behind = absurd spelled
-split_frames sizes (f ∷ fs) [] rest more fault fits spelled small ended behind = absurd spelled
-split_frames sizes (f ∷ fs) (m ∷ ms) rest more fault fits spelled small ended behind =
+    (subst (λ (M : ℕ). EndsWith M rest fault) (size_after_none sizes rest) ended) follows
+split_frames sizes [] (m ∷ ms) rest more fault fits spelled small ended follows = absurd spelled
+split_frames sizes (f ∷ fs) [] rest more fault fits spelled small ended follows = absurd spelled
+split_frames sizes (f ∷ fs) (m ∷ ms) rest more fault fits spelled small ended follows =
     let others = concat fs ++ (rest ++ more) in
     let is : concat (f ∷ fs) ++ (rest ++ more) ≡ f ++ others = append_assoc f (concat fs) (rest ++ more) in
     let tail : AreBytes others = AreBytes-tail f others (subst (λ (l : List ℕ). AreBytes l) is fits) in
-    let ends = subst (λ (M : ℕ). EndsWith M rest fault) (size_behind_one sizes f fs rest) ended in
+    let ends = subst (λ (M : ℕ). EndsWith M rest fault) (size_after_one sizes f fs rest) ended in
     ap (sized_split sizes) is
     ∙ sized_message sizes (f ++ others) f others m
     (frame_at_front sizes f others (spelling_is_frame f m spelled.0) small.0) (message_again f m spelled.0)
     ∙ ap (with_message m)
-    (split_frames (sizes_behind (length f) sizes) fs ms rest more fault tail spelled.1 small.1 ends behind)
+    (split_frames (sizes_after (length f) sizes) fs ms rest more fault tail spelled.1 small.1 ends follows)
 
 -- Whatever satisfies the relation is the result of the function.
 pub splits_split : (sizes : Sizes) (bytes : List ℕ) (other : Stream) → AreBytes bytes → SplitsAs sizes bytes other
@@ -361,4 +361,4 @@ pub splits_split : (sizes : Sizes) (bytes : List ℕ) (other : Stream) → AreBy
 splits_split sizes bytes other fits s =
     sym (ap (sized_split sizes) s.whole
     ∙ split_frames sizes s.frames other.messages other.rest s.more other.fault
-    (subst (λ (l : List ℕ). AreBytes l) s.whole fits) s.spelled s.small s.ended s.behind)
+    (subst (λ (l : List ℕ). AreBytes l) s.whole fits) s.spelled s.small s.ended s.follows)

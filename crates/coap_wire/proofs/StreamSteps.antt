@@ -9,7 +9,7 @@ use Rattle.coap_wire.specs.Prelude.{Message, extension_of, option_extension, gre
 use Rattle.coap_wire.specs.Prelude.{StatesLengths, Declared, Unknown, Size, BadToken, FormatFault, one_byte_at}
 use Rattle.coap_wire.specs.Prelude.{two_bytes_at, plus, option_number_at, declared_of, message_of, FrameFault}
 use Rattle.coap_wire.specs.Prelude.{TooLarge, StreamPrefix, Unfinished, Whole, Faulty, begins_with, prefix_kind}
-use Rattle.coap_wire.specs.Prelude.{token_bytes, size_bytes, fault_bytes, Frames, Sizes, constant_size, sizes_behind}
+use Rattle.coap_wire.specs.Prelude.{token_bytes, size_bytes, fault_bytes, Frames, Sizes, constant_size, sizes_after}
 use Rattle.coap_wire.specs.Prelude.{size_for, sizes_of_rest, with_frame, frames_then, frames_within, sized_frames}
 use Rattle.coap_wire.specs.Prelude.{StreamFault, OfFrame, Format, Stream, with_message, frame_then, read_found}
 use Rattle.coap_wire.specs.Prelude.{sized_split, split, stream_then, continued, sized_split_on, split_on}
@@ -111,7 +111,7 @@ stated_bytes head more t n h =
     let front = code_and_extension h.code h.token_extension in
     let k = code_and_extension_bytes (r.first % 16) h.code h.token_extension r.token_extension in
     let is : size_bytes (head ++ more) ≡ 1 + extension_of (r.first / 16) + token_bytes (r.first % 16) =
-    ap size_bytes r.bytes ∙ size_bytes_by r.first r.behind r.read.nibble in
+    ap size_bytes r.bytes ∙ size_bytes_by r.first r.later r.read.nibble in
     omega (arith, is, ap (λ (l : List ℕ). length l) h.head, length-append h.extension front, r.extension, k)
 
 plus_above : (k : ℕ) (o : Option (ℕ × List ℕ)) (y : ℕ × List ℕ) → plus k o ≡ Some y → k ≤ y.0
@@ -201,7 +201,7 @@ size_has_bytes (b ∷ s) n e =
 -- ---- a declaration stays the same when more bytes follow
 
 token_length_more : (x : ℕ) (s more : List ℕ) (y : ℕ × List ℕ) → option_number_at x (drop 1 s) ≡ Some y
-    → (behind : List ℕ) × (option_number_at x (drop 1 (s ++ more)) ≡ Some (y.0, behind))
+    → (later : List ℕ) × (option_number_at x (drop 1 (s ++ more)) ≡ Some (y.0, later))
 token_length_more x [] more y e =
     elim (cases_lt x 13) [
       | inl lt ↦
@@ -328,7 +328,7 @@ record IsWhole (M : ℕ) (s frame rest : List ℕ) : Type 0 where
   small : size ≤ M
   long : size ≤ length s
   front : take size s ≡ frame
-  behind : drop size s ≡ rest
+  later : drop size s ≡ rest
 
 -- The property of s that belongs to this classification.
 abbrev IsFront : ℕ → List ℕ → StreamPrefix → Type 0
@@ -347,7 +347,7 @@ front_of_size M s n e =
             (inr (record { size = n; declared = e; small = small; short = short }))
         | inr long ↦
             subst (IsFront M s) (sym (begin_whole M s n e small long))
-            (record { size = n; declared = e; small = small; long = long; front = refl; behind = refl })
+            (record { size = n; declared = e; small = small; long = long; front = refl; later = refl })
       ]
     ]
 
@@ -376,7 +376,7 @@ whole_parts M s frame rest e =
     let w : IsWhole M s frame rest = front_is M s (Whole frame rest) e in
     let len : length frame ≡ w.size = sym (ap (λ (l : List ℕ). length l) w.front) ∙ length-take-le w.size s w.long in
     record {
-      bytes = sym (take-append-drop w.size s) ∙ (λ i. w.front i ++ w.behind i);
+      bytes = sym (take-append-drop w.size s) ∙ (λ i. w.front i ++ w.later i);
       some = omega (arith, declared_positive s w.size w.declared);
       small = omega (arith, w.small);
       declared = w.declared ∙ ap Size (sym len);
@@ -404,7 +404,7 @@ whole_more M s t frame rest e =
     let w : IsWhole M s frame rest = front_is M s (Whole frame rest) e in
     begin_whole M (s ++ t) w.size (declared_more s t w.size w.declared) w.small
     (omega (arith, length-append s t, w.long))
-    ∙ rw (take-append-le w.size s t w.long, drop-append-le w.size s t w.long) (λ i. Whole (w.front i) (w.behind i ++ t))
+    ∙ rw (take-append-le w.size s t w.long, drop-append-le w.size s t w.long) (λ i. Whole (w.front i) (w.later i ++ t))
 
 -- An error stays the same when more bytes follow.
 pub faulty_more : (M : ℕ) (s t : List ℕ) (fault : FrameFault) → prefix_kind M s ≡ Faulty fault
@@ -477,7 +477,7 @@ pub whole_at_last : (M : ℕ) (s : List ℕ) (b : ℕ) (frame rest : List ℕ) �
 whole_at_last M s b frame rest u e =
     let w : IsWhole M (s ++ b ∷ []) frame rest = front_is M (s ++ b ∷ []) (Whole frame rest) e in
     let size = last_is_size M s b w.size u w.declared w.long in (
-      sym w.behind ∙ drop_all w.size (s ++ b ∷ []) (omega arith),
+      sym w.later ∙ drop_all w.size (s ++ b ∷ []) (omega arith),
       sym w.front ∙ take_all w.size (s ++ b ∷ []) (omega arith),
     )
 
@@ -555,13 +555,13 @@ unfinished_larger M N s h u =
 -- ---- the maximum sizes
 
 -- The sizes after m bytes and n more bytes are those after m + n bytes.
-pub behind_twice : (m n : ℕ) (sizes : Sizes) → sizes_behind n (sizes_behind m sizes) ≡ sizes_behind (m + n) sizes
-behind_twice m n sizes =
+pub after_twice : (m n : ℕ) (sizes : Sizes) → sizes_after n (sizes_after m sizes) ≡ sizes_after (m + n) sizes
+after_twice m n sizes =
     let same : (at : ℕ) → m + (n + at) ≡ (m + n) + at = λ at. omega arith in
     λ i at. sizes (same at i)
 
-pub behind_none : (sizes : Sizes) → sizes_behind 0 sizes ≡ sizes
-behind_none sizes =
+pub after_none : (sizes : Sizes) → sizes_after 0 sizes ≡ sizes
+after_none sizes =
     let same : (at : ℕ) → 0 + at ≡ at = λ at. omega arith in
     λ i at. sizes (same at i)
 
@@ -584,7 +584,7 @@ within_end : (turns : ℕ) (sizes : Sizes)
 unfolding frames_within
 within_end zero sizes = refl
 within_end (suc turns) sizes =
-    ap (frames_then (λ frame. frames_within turns (sizes_behind (length frame) sizes)) [])
+    ap (frames_then (λ frame. frames_within turns (sizes_after (length frame) sizes)) [])
     (unfinished_empty (size_for sizes []))
 
 within_same : (m n : ℕ) (sizes : Sizes) (s : List ℕ) → length s ≤ m → length s ≤ n
@@ -594,12 +594,12 @@ within_same m n sizes [] p q = within_end m sizes ∙ sym (within_end n sizes)
 within_same zero n sizes (b ∷ s) p q = absurd (omega arith)
 within_same (suc m) zero sizes (b ∷ s) p q = absurd (omega arith)
 within_same (suc m) (suc n) sizes (b ∷ s) p q =
-    then_same (λ frame. frames_within m (sizes_behind (length frame) sizes))
-    (λ frame. frames_within n (sizes_behind (length frame) sizes)) (b ∷ s)
+    then_same (λ frame. frames_within m (sizes_after (length frame) sizes))
+    (λ frame. frames_within n (sizes_after (length frame) sizes)) (b ∷ s)
     (prefix_kind (size_for sizes (b ∷ s)) (b ∷ s))
     (λ frame rest e.
     let k : length rest < length (b ∷ s) = whole_shorter (size_for sizes (b ∷ s)) (b ∷ s) frame rest e in
-    within_same m n (sizes_behind (length frame) sizes) rest (omega arith) (omega arith))
+    within_same m n (sizes_after (length frame) sizes) rest (omega arith) (omega arith))
 
 -- The number of bytes is a sufficient limit of the recursion.
 pub frames_enough : (turns : ℕ) (sizes : Sizes) (s : List ℕ) → length s ≤ turns
@@ -611,11 +611,11 @@ frames_enough turns sizes s h = within_same turns (length s) sizes s h (omega ar
 
 -- The frames after the first one.
 abbrev pub frames_from : Sizes → List ℕ → List ℕ → Frames
-frames_from sizes frame rest = sized_frames (sizes_behind (length frame) sizes) rest
+frames_from sizes frame rest = sized_frames (sizes_after (length frame) sizes) rest
 
 -- The result of splitting the bytes after a frame.
 abbrev pub stream_from : Sizes → List ℕ → List ℕ → Stream
-stream_from sizes frame rest = sized_split (sizes_behind (length frame) sizes) rest
+stream_from sizes frame rest = sized_split (sizes_after (length frame) sizes) rest
 
 -- The frames of a stream are the first one, followed by the frames of the other bytes.
 pub frames_step : (sizes : Sizes) (s : List ℕ)
@@ -623,9 +623,9 @@ pub frames_step : (sizes : Sizes) (s : List ℕ)
 unfolding frames_within
 frames_step sizes s =
     sym (frames_enough (suc (length s)) sizes s (omega arith))
-    ∙ then_same (λ frame. frames_within (length s) (sizes_behind (length frame) sizes)) (frames_from sizes) s
+    ∙ then_same (λ frame. frames_within (length s) (sizes_after (length frame) sizes)) (frames_from sizes) s
     (prefix_kind (size_for sizes s) s)
-    (λ frame rest e. frames_enough (length s) (sizes_behind (length frame) sizes) rest
+    (λ frame rest e. frames_enough (length s) (sizes_after (length frame) sizes) rest
     (omega (arith, whole_shorter (size_for sizes s) s frame rest e)))
 
 module _ (sizes : Sizes) (s : List ℕ) where
@@ -651,21 +651,21 @@ abbrev pub Holding : Type 1
 Holding = Sizes → List ℕ → Type 0
 
 -- The property holds for the bytes after the first frame.
-abbrev pub HoldsBehind : Holding → Sizes → List ℕ → Type 0
-HoldsBehind P sizes s =
+abbrev pub HoldsAfter : Holding → Sizes → List ℕ → Type 0
+HoldsAfter P sizes s =
     (frame rest : List ℕ) → prefix_kind (size_for sizes s) s ≡ Whole frame rest
-    → P (sizes_behind (length frame) sizes) rest
+    → P (sizes_after (length frame) sizes) rest
 
-by_turns : (turns : ℕ) (P : Holding) → ((sizes : Sizes) (s : List ℕ) → HoldsBehind P sizes s → P sizes s)
+by_turns : (turns : ℕ) (P : Holding) → ((sizes : Sizes) (s : List ℕ) → HoldsAfter P sizes s → P sizes s)
     → (sizes : Sizes) (s : List ℕ) → length s ≤ turns → P sizes s
 by_turns zero P step sizes s k =
     step sizes s (λ frame rest e. absurd (omega (arith, k, whole_shorter (size_for sizes s) s frame rest e)))
 by_turns (suc turns) P step sizes s k =
-    step sizes s (λ frame rest e. by_turns turns P step (sizes_behind (length frame) sizes) rest
+    step sizes s (λ frame rest e. by_turns turns P step (sizes_after (length frame) sizes) rest
     (omega (arith, k, whole_shorter (size_for sizes s) s frame rest e)))
 
 -- A property of every stream follows if it passes from the bytes after the first frame to the whole stream.
-pub by_frames : (P : Holding) → ((sizes : Sizes) (s : List ℕ) → HoldsBehind P sizes s → P sizes s)
+pub by_frames : (P : Holding) → ((sizes : Sizes) (s : List ℕ) → HoldsAfter P sizes s → P sizes s)
     → (sizes : Sizes) (s : List ℕ) → P sizes s
 by_frames P step sizes s = by_turns (length s) P step sizes s (omega arith)
 
@@ -716,7 +716,7 @@ not_both_fault_and_none o fault e h = none_or_some fault (sym h ∙ e)
 abbrev IsWithin : Holding
 IsWithin sizes s = length (sized_split sizes s).rest ≤ length s
 
-within_step : (sizes : Sizes) (s : List ℕ) (b : StreamPrefix) → HoldsBehind IsWithin sizes s
+within_step : (sizes : Sizes) (s : List ℕ) (b : StreamPrefix) → HoldsAfter IsWithin sizes s
     → prefix_kind (size_for sizes s) s ≡ b → IsWithin sizes s
 within_step sizes s Unfinished again e = omega (arith, ap (λ (u : Stream). length u.rest) (sized_unfinished sizes s e))
 within_step sizes s (Faulty fault) again e =
@@ -740,18 +740,18 @@ rest_within sizes s =
     by_frames IsWithin (λ at r again. within_step at r (prefix_kind (size_for at r) r) again refl) sizes s
 
 -- The sizes of the rest, if a frame comes before.
-pub rest_behind : (sizes : Sizes) (frame rest s left : List ℕ) → length s ≡ length frame + length rest
+pub rest_sizes : (sizes : Sizes) (frame rest s left : List ℕ) → length s ≡ length frame + length rest
     → length left ≤ length rest
-    → sizes_of_rest (sizes_behind (length frame) sizes) rest left ≡ sizes_of_rest sizes s left
-rest_behind sizes frame rest s left all within =
+    → sizes_of_rest (sizes_after (length frame) sizes) rest left ≡ sizes_of_rest sizes s left
+rest_sizes sizes frame rest s left all within =
     let same : length frame + (length rest - length left) ≡ length s - length left = omega (arith, all, within) in
-    behind_twice (length frame) (length rest - length left) sizes ∙ ap (λ (n : ℕ). sizes_behind n sizes) same
+    after_twice (length frame) (length rest - length left) sizes ∙ ap (λ (n : ℕ). sizes_after n sizes) same
 
 -- The rest is the whole stream.
 pub rest_is_all : (sizes : Sizes) (s : List ℕ) → sizes_of_rest sizes s s ≡ sizes
 rest_is_all sizes s =
     let none : length s - length s ≡ 0 = omega arith in
-    ap (λ (n : ℕ). sizes_behind n sizes) none ∙ behind_none sizes
+    ap (λ (n : ℕ). sizes_after n sizes) none ∙ after_none sizes
 
 -- If there is an error or a frame, there is a byte.
 pub faulty_some : (M : ℕ) (s : List ℕ) (fault : FrameFault) → prefix_kind M s ≡ Faulty fault → 1 ≤ length s
@@ -792,7 +792,7 @@ StreamGoesOn t sizes s =
 abbrev on_with : Sizes → List ℕ → List ℕ → Stream → Stream
 on_with sizes s t first = sized_split_on (sizes_of_rest sizes s first.rest) first t
 
-on_step : (t : List ℕ) (sizes : Sizes) (s : List ℕ) (b : StreamPrefix) → HoldsBehind (StreamGoesOn t) sizes s
+on_step : (t : List ℕ) (sizes : Sizes) (s : List ℕ) (b : StreamPrefix) → HoldsAfter (StreamGoesOn t) sizes s
     → prefix_kind (size_for sizes s) s ≡ b → StreamGoesOn t sizes s
 on_step t sizes s Unfinished again e =
     ap (λ (f : Sizes). sized_split f (s ++ t)) (sym (rest_is_all sizes s))
@@ -810,7 +810,7 @@ on_step t sizes s (Whole frame rest) again e =
           let all : length s ≡ length frame + length rest =
           ap (λ (l : List ℕ). length l) c.bytes ∙ length-append frame rest in
           let same =
-          rest_behind sizes frame rest s first.rest all (rest_within (sizes_behind (length frame) sizes) rest) in
+          rest_sizes sizes frame rest s first.rest all (rest_within (sizes_after (length frame) sizes) rest) in
           sized_message sizes (s ++ t) frame (rest ++ t) good.0 (sized_whole_more sizes s t frame rest e) good.1
           ∙ ap (with_message good.0) (again frame rest e)
           ∙ ap (λ (f : Sizes). with_message good.0 (sized_split_on f first t)) same
@@ -838,7 +838,7 @@ LeavesUnfinished sizes s =
 abbrev front_of_rest : Sizes → List ℕ → List ℕ → StreamPrefix
 front_of_rest sizes s left = prefix_kind (size_for (sizes_of_rest sizes s left) left) left
 
-rest_step : (sizes : Sizes) (s : List ℕ) (b : StreamPrefix) → HoldsBehind LeavesUnfinished sizes s
+rest_step : (sizes : Sizes) (s : List ℕ) (b : StreamPrefix) → HoldsAfter LeavesUnfinished sizes s
     → prefix_kind (size_for sizes s) s ≡ b → LeavesUnfinished sizes s
 rest_step sizes s Unfinished again e h =
     ap (λ (u : Stream). front_of_rest sizes s u.rest) (sized_unfinished sizes s e)
@@ -854,7 +854,7 @@ rest_step sizes s (Whole frame rest) again e h =
           let all : length s ≡ length frame + length rest =
           ap (λ (l : List ℕ). length l) c.bytes ∙ length-append frame rest in
           let same =
-          rest_behind sizes frame rest s first.rest all (rest_within (sizes_behind (length frame) sizes) rest) in
+          rest_sizes sizes frame rest s first.rest all (rest_within (sizes_after (length frame) sizes) rest) in
           let is = sized_message sizes s frame rest good.0 e good.1 in
           ap (λ (u : Stream). front_of_rest sizes s u.rest) is
           ∙ ap (λ (f : Sizes). prefix_kind (size_for f first.rest) first.rest) (sym same)
@@ -874,10 +874,10 @@ sized_rest sizes s =
 -- ---- sizes that agree
 
 -- The size of an unfinished frame is known, and it is at most the maximum.
-abbrev IsTold : ℕ → List ℕ → Type 0
-IsTold M s = (n : ℕ) × (declared_of s ≡ Size n) × (n ≤ M) × (length s < n)
+abbrev IsKnownSize : ℕ → List ℕ → Type 0
+IsKnownSize M s = (n : ℕ) × (declared_of s ≡ Size n) × (n ≤ M) × (length s < n)
 
-front_cases : (M : ℕ) (s : List ℕ) → prefix_kind M s ≡ Unfinished → (declared_of s ≡ Unknown) ⊎ IsTold M s
+front_cases : (M : ℕ) (s : List ℕ) → prefix_kind M s ≡ Unfinished → (declared_of s ≡ Unknown) ⊎ IsKnownSize M s
 front_cases M s u =
     elim (front_is M s Unfinished u) [
       | inl unknown ↦ inl unknown
@@ -895,12 +895,12 @@ begins_same M N s n e small larger =
 
 -- The bytes `kept` are unfinished with the sizes F. Their maximum in F is at most that in G, and F and G agree after
 -- them.
-pub record AreAlikeBehind (F G : Sizes) (kept : List ℕ) : Type 0 where
+pub record AreAlikeAfter (F G : Sizes) (kept : List ℕ) : Type 0 where
   pub unfinished : prefix_kind (size_for F kept) kept ≡ Unfinished
   pub larger : size_for F kept ≤ size_for G kept
   pub same : (at : ℕ) → length kept ≤ at → F at ≡ G at
 
-front_agrees : (F G : Sizes) (kept more : List ℕ) → AreAlikeBehind F G kept
+front_agrees : (F G : Sizes) (kept more : List ℕ) → AreAlikeAfter F G kept
     → prefix_kind (size_for F (kept ++ more)) (kept ++ more) ≡ prefix_kind (size_for G (kept ++ more)) (kept ++ more)
 front_agrees F G [] more alike = ap (λ (M : ℕ). prefix_kind M more) (alike.same (size_bytes more - 1) (omega arith))
 front_agrees F G (b ∷ s) more alike =
@@ -908,9 +908,9 @@ front_agrees F G (b ∷ s) more alike =
       | inl unknown ↦
           ap (λ (M : ℕ). prefix_kind M (b ∷ (s ++ more)))
           (alike.same (size_bytes (b ∷ s) - 1) (omega (arith, unknown_at b s unknown)))
-      | inr told ↦
-          begins_same (size_for F (b ∷ s)) (size_for G (b ∷ s)) (b ∷ (s ++ more)) told.0
-          (declared_more (b ∷ s) more told.0 told.1) told.2 alike.larger
+      | inr known_size ↦
+          begins_same (size_for F (b ∷ s)) (size_for G (b ∷ s)) (b ∷ (s ++ more)) known_size.0
+          (declared_more (b ∷ s) more known_size.0 known_size.1) known_size.2 alike.larger
     ]
 
 -- A frame has at least the bytes that were kept of it.
@@ -926,19 +926,19 @@ frame_has_kept M N (b ∷ s) more frame rest u e =
         (size_has_bytes ((b ∷ s) ++ more) (length frame) declared).0,
         size_bytes_more (b ∷ s) more (omega arith),
       )
-      | inr told ↦ omega (
+      | inr known_size ↦ omega (
         arith,
-        told.3,
-        same_size told.0 (length frame) (sym (declared_more (b ∷ s) more told.0 told.1) ∙ declared),
+        known_size.3,
+        same_size known_size.0 (length frame) (sym (declared_more (b ∷ s) more known_size.0 known_size.1) ∙ declared),
       )
     ]
 
-behind_same : (F G : Sizes) (m n : ℕ) → ((at : ℕ) → m ≤ at → F at ≡ G at) → m ≤ n → sizes_behind n F ≡ sizes_behind n G
-behind_same F G m n same h =
+after_same : (F G : Sizes) (m n : ℕ) → ((at : ℕ) → m ≤ at → F at ≡ G at) → m ≤ n → sizes_after n F ≡ sizes_after n G
+after_same F G m n same h =
     let above : (at : ℕ) → m ≤ n + at = λ at. omega (arith, h) in
     λ i at. same (n + at) (above at) i
 
-alike_at : (F G : Sizes) (kept more : List ℕ) (b : StreamPrefix) → AreAlikeBehind F G kept
+alike_at : (F G : Sizes) (kept more : List ℕ) (b : StreamPrefix) → AreAlikeAfter F G kept
     → prefix_kind (size_for G (kept ++ more)) (kept ++ more) ≡ b
     → sized_frames F (kept ++ more) ≡ sized_frames G (kept ++ more)
 alike_at F G kept more Unfinished alike e =
@@ -951,16 +951,16 @@ alike_at F G kept more (Whole frame rest) alike e =
     let long = frame_has_kept (size_for F kept) (size_for G (kept ++ more)) kept more frame rest alike.unfinished e in
     frames_whole F (kept ++ more) frame rest (front_agrees F G kept more alike ∙ e)
     ∙ ap (λ (f : Sizes). with_frame frame (sized_frames f rest))
-    (behind_same F G (length kept) (length frame) alike.same long)
+    (after_same F G (length kept) (length frame) alike.same long)
     ∙ sym (frames_whole G (kept ++ more) frame rest e)
 
 -- A larger maximum for an unfinished frame gives the same result.
-pub frames_alike : (F G : Sizes) (kept more : List ℕ) → AreAlikeBehind F G kept
+pub frames_alike : (F G : Sizes) (kept more : List ℕ) → AreAlikeAfter F G kept
     → sized_frames F (kept ++ more) ≡ sized_frames G (kept ++ more)
 frames_alike F G kept more alike =
     alike_at F G kept more (prefix_kind (size_for G (kept ++ more)) (kept ++ more)) alike refl
 
-pub split_alike : (F G : Sizes) (kept more : List ℕ) → AreAlikeBehind F G kept
+pub split_alike : (F G : Sizes) (kept more : List ℕ) → AreAlikeAfter F G kept
     → sized_split F (kept ++ more) ≡ sized_split G (kept ++ more)
 unfolding sized_split
 split_alike F G kept more alike = ap read_found (frames_alike F G kept more alike)
@@ -981,7 +981,7 @@ front_by_size F G s (Size n) same e =
 abbrev IsSameTo : Holding
 IsSameTo F s = (G : Sizes) → AgreeTo (length s) F G → sized_frames F s ≡ sized_frames G s
 
-same_to_step : (F : Sizes) (s : List ℕ) (b : StreamPrefix) → HoldsBehind IsSameTo F s
+same_to_step : (F : Sizes) (s : List ℕ) (b : StreamPrefix) → HoldsAfter IsSameTo F s
     → prefix_kind (size_for F s) s ≡ b → IsSameTo F s
 same_to_step F s Unfinished again e G same =
     frames_unfinished F s e ∙ sym (frames_unfinished G s (sym (front_by_size F G s (declared_of s) same refl) ∙ e))
@@ -994,7 +994,7 @@ same_to_step F s (Whole frame rest) again e G same =
     let there : (at : ℕ) → at < length rest → length frame + at < length s = λ at h. omega (arith, all, h) in
     frames_whole F s frame rest e
     ∙ ap (with_frame frame)
-    (again frame rest e (sizes_behind (length frame) G) (λ at h. same (length frame + at) (there at h)))
+    (again frame rest e (sizes_after (length frame) G) (λ at h. same (length frame + at) (there at h)))
     ∙ sym (frames_whole G s frame rest (sym (front_by_size F G s (declared_of s) same refl) ∙ e))
 
 -- The sizes after the last byte have no effect.

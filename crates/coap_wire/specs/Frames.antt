@@ -31,8 +31,8 @@ abbrev pub sizes_first : ℕ → ℕ → Sizes → Sizes
 sizes_first n M sizes = λ at. if nat_lt at n then M else sizes (at - n)
 
 -- The maximum sizes for the bytes after the first `n`.
-abbrev pub sizes_behind : ℕ → Sizes → Sizes
-sizes_behind n sizes = λ at. sizes (n + at)
+abbrev pub sizes_after : ℕ → Sizes → Sizes
+sizes_after n sizes = λ at. sizes (n + at)
 
 -- The maximum in effect at the last byte that states the size of the first frame of `s`.
 abbrev pub size_for : Sizes → List ℕ → ℕ
@@ -49,11 +49,11 @@ AreFrames (f ∷ fs) = IsFrame f × AreFrames fs
 -- count from the first byte of the first frame.
 abbrev pub AreAtMost : Sizes → List (List ℕ) → Type 0
 AreAtMost sizes [] = Unit {0}
-AreAtMost sizes (f ∷ fs) = (length f ≤ size_for sizes f) × AreAtMost (sizes_behind (length f) sizes) fs
+AreAtMost sizes (f ∷ fs) = (length f ≤ size_for sizes f) × AreAtMost (sizes_after (length f) sizes) fs
 
 -- The maximum in effect for the first frame of `rest`, if `rest` follows these frames in a stream.
-abbrev pub size_behind : Sizes → List (List ℕ) → List ℕ → ℕ
-size_behind sizes frames rest = size_for (sizes_behind (length (concat frames)) sizes) rest
+abbrev pub size_after : Sizes → List (List ℕ) → List ℕ → ℕ
+size_after sizes frames rest = size_for (sizes_after (length (concat frames)) sizes) rest
 
 -- The rest of a stream after its frames is an unfinished frame or, with an error, the shortest prefix that shows it.
 abbrev pub FramesEndWith : ℕ → List ℕ → Option FrameFault → Type 0
@@ -61,9 +61,9 @@ FramesEndWith M rest None = IsUnfinished M rest
 FramesEndWith M rest (Some fault) = IsFrameFault M fault rest
 
 -- The bytes `more` may follow the rest of a stream: any bytes after an error, otherwise none.
-abbrev pub StandsBehind : {F : Type 0} → List ℕ → Option F → Type 0
-StandsBehind more None = more ≡ []
-StandsBehind more (Some fault) = Unit {0}
+abbrev pub FollowsRest : {F : Type 0} → List ℕ → Option F → Type 0
+FollowsRest more None = more ≡ []
+FollowsRest more (Some fault) = Unit {0}
 
 -- The stream `bytes` is these frames, followed by a rest and, after an error, by bytes that are not checked. Each frame
 -- has at most as many bytes as the maximum in effect for it.
@@ -72,8 +72,8 @@ pub record FramedAs (sizes : Sizes) (bytes : List ℕ) (found : Frames) : Type 0
   pub whole : bytes ≡ concat found.frames ++ (found.rest ++ more)
   pub each : AreFrames found.frames
   pub small : AreAtMost sizes found.frames
-  pub ended : FramesEndWith (size_behind sizes found.frames found.rest) found.rest found.fault
-  pub behind : StandsBehind more found.fault
+  pub ended : FramesEndWith (size_after sizes found.frames found.rest) found.rest found.fault
+  pub follows : FollowsRest more found.fault
 
 -- ---- the frames as a function
 
@@ -93,7 +93,7 @@ frames_then go s (Whole frame rest) = with_frame frame (go frame rest)
 unfoldable pub frames_within : ℕ → Sizes → List ℕ → Frames
 frames_within zero sizes s = record { frames = []; rest = s; fault = None }
 frames_within (suc turns) sizes s =
-    frames_then (λ frame. frames_within turns (sizes_behind (length frame) sizes)) s (prefix_kind (size_for sizes s) s)
+    frames_then (λ frame. frames_within turns (sizes_after (length frame) sizes)) s (prefix_kind (size_for sizes s) s)
 
 -- The frames of the whole stream `s`.
 unfoldable pub sized_frames : Sizes → List ℕ → Frames
@@ -102,12 +102,12 @@ sized_frames sizes s = frames_within (length s) sizes s
 -- ---- more bytes of a stream
 
 -- The result `found` with the frames `before` before its frames.
-abbrev pub frames_behind : List (List ℕ) → Frames → Frames
-frames_behind before found = record found { frames = before ++ found.frames }
+abbrev pub with_frames : List (List ℕ) → Frames → Frames
+with_frames before found = record found { frames = before ++ found.frames }
 
 -- The result `found`, followed by `others` if there is no error.
 abbrev pub frames_gone_on : Frames → Option FrameFault → Frames → Frames
-frames_gone_on found None others = frames_behind found.frames others
+frames_gone_on found None others = with_frames found.frames others
 frames_gone_on found (Some fault) others = found
 
 -- The frames of a stream that continues with `more`, if `found` is the result for its first bytes. The maximum sizes
@@ -117,4 +117,4 @@ frames_on sizes found more = frames_gone_on found found.fault (sized_frames size
 
 -- The maximum sizes from the first byte of `rest` on, if the stream `s` ends with `rest`.
 abbrev pub sizes_of_rest : Sizes → List ℕ → List ℕ → Sizes
-sizes_of_rest sizes s rest = sizes_behind (length s - length rest) sizes
+sizes_of_rest sizes s rest = sizes_after (length s - length rest) sizes

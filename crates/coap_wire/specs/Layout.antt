@@ -9,14 +9,14 @@ use Rattle.coap_wire.specs.declared.layout.FrameLayout.{FrameLayout}
 use Rattle.coap_wire.specs.declared.layout.Outline.{Outline}
 use Rattle.coap_wire.specs.declared.layout.Outline.TheVariants.{Unknown, BadToken, Known}
 
--- The outline of a frame whose code is at position `code_at` and whose body has `n` bytes. The list `behind` has the
+-- The outline of a frame whose code is at position `code_at` and whose body has `n` bytes. The list `later` has the
 -- bytes after the code. The last argument is the token length with the bytes after its extension, or `None`.
 abbrev pub outline_with : ℕ → ℕ → List ℕ → Option (ℕ × List ℕ) → Outline
-outline_with code_at n behind None = Unknown
-outline_with code_at n behind (Some token) =
+outline_with code_at n later None = Unknown
+outline_with code_at n later (Some token) =
     if nat_lt greatest_token token.0 then BadToken
-    else Known (code_at + 1 + (length behind - length token.1) + token.0 + n)
-    (record { code_at = code_at; token_at = code_at + 1 + (length behind - length token.1); token_length = token.0 })
+    else Known (code_at + 1 + (length later - length token.1) + token.0 + n)
+    (record { code_at = code_at; token_at = code_at + 1 + (length later - length token.1); token_length = token.0 })
 
 -- The outline of a frame whose token length has nibble `x`. The bytes `s` are those after the first byte. The last
 -- argument is the length of the body with the bytes after its extension, or `None`.

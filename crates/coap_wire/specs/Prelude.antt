@@ -19,15 +19,15 @@ pub use Rattle.coap_wire.specs.Faults.{IsFirstFault, HasOptionFault, IsOptionFau
 pub use Rattle.coap_wire.specs.Forms.{length_form, option_form, greatest_length, IsLengthForm}
 pub use Rattle.coap_wire.specs.Forms.{IsOptionForm, IsTokenForm, token_form, greatest_token, extension_of}
 pub use Rattle.coap_wire.specs.Forms.{option_extension}
-pub use Rattle.coap_wire.specs.Frames.{Frames, Sizes, FramedAs, constant_size, size_for, sizes_behind, sizes_of_rest}
-pub use Rattle.coap_wire.specs.Frames.{frames_on, AreAtMost, AreFrames, FramesEndWith, StandsBehind, frames_gone_on}
-pub use Rattle.coap_wire.specs.Frames.{frames_then, size_behind, sizes_first, with_frame}
+pub use Rattle.coap_wire.specs.Frames.{Frames, Sizes, FramedAs, constant_size, size_for, sizes_after, sizes_of_rest}
+pub use Rattle.coap_wire.specs.Frames.{frames_on, AreAtMost, AreFrames, FramesEndWith, FollowsRest, frames_gone_on}
+pub use Rattle.coap_wire.specs.Frames.{frames_then, size_after, sizes_first, with_frame}
 unfoldable pub use Rattle.coap_wire.specs.Frames.{sized_frames, frames_within}
 pub use Rattle.coap_wire.specs.Layout.{declared_in, outline_with, outline_from, IsLaidOut}
 unfoldable pub use Rattle.coap_wire.specs.Layout.{outline_of}
 pub use Rattle.coap_wire.specs.Message.{last_number, Message, CoapOption, AreBytes, AreOrdered, IsByte}
 pub use Rattle.coap_wire.specs.Message.{BodyValue, body_of}
-pub use Rattle.coap_wire.specs.Reading.{options_in, token_length_at, Head, both_at, head_behind, head_from, head_with}
+pub use Rattle.coap_wire.specs.Reading.{options_in, token_length_at, Head, both_at, head_at_code, head_from, head_with}
 pub use Rattle.coap_wire.specs.Reading.{options_read, or_cut, plus, size_from, size_with, value_at, ◌>>=◌}
 pub use Rattle.coap_wire.specs.Reading.{payload_read, body_read}
 unfoldable pub use Rattle.coap_wire.specs.Reading.{declared_of, message_of, body_at, one_byte_at, two_bytes_at}
@@ -36,8 +36,8 @@ unfoldable pub use Rattle.coap_wire.specs.Reading.{option_head_at, option_at, bo
 pub use Rattle.coap_wire.specs.Recognition.{kind_of, once, repeated, IsFirstWithNumber, IsRecognised, known_options}
 pub use Rattle.coap_wire.specs.Recognition.{first_critical, option_before, has_kind, is_critical}
 pub use Rattle.coap_wire.specs.Recognition.{is_first_with_number, CheckedOptionValue, checked_options}
-unfoldable pub use Rattle.coap_wire.specs.Recognition.{is_recognised, first_critical_behind, known_behind}
-unfoldable pub use Rattle.coap_wire.specs.Recognition.{checked_behind}
+unfoldable pub use Rattle.coap_wire.specs.Recognition.{is_recognised, first_critical_given, known_given}
+unfoldable pub use Rattle.coap_wire.specs.Recognition.{checked_given}
 pub use Rattle.coap_wire.specs.Refusal.{RefusedBy}
 pub use Rattle.coap_wire.specs.Size.{IsDeclaredSize, IsFrame, Declares, HasBadToken, IsSizeHead, IsTokenLengthFault}
 pub use Rattle.coap_wire.specs.Size.{StatesLengths, code_and_extension}

@@ -57,13 +57,13 @@ option_number_at x s =
 abbrev pub token_length_at : ℕ → List ℕ → Option (ℕ × List ℕ)
 token_length_at x s = option_number_at x s
 
--- The declared size of a frame with `first` bytes before the code and a body of `n` bytes. The list `behind` has the
+-- The declared size of a frame with `first` bytes before the code and a body of `n` bytes. The list `later` has the
 -- bytes after the code. The last argument is the token length with the bytes after its extension, or `None`.
 abbrev pub size_with : ℕ → ℕ → List ℕ → Option (ℕ × List ℕ) → Declared
-size_with first n behind None = declared.Unknown
-size_with first n behind (Some token) =
+size_with first n later None = declared.Unknown
+size_with first n later (Some token) =
     if nat_lt greatest_token token.0 then declared.BadToken
-    else declared.Size (first + 1 + (length behind - length token.1) + token.0 + n)
+    else declared.Size (first + 1 + (length later - length token.1) + token.0 + n)
 
 -- The declared size of a frame whose token length has nibble `x`. The bytes `s` are those after the first byte. The
 -- last argument is the length of the body with the bytes after its extension, or `None`.
@@ -96,15 +96,15 @@ head_with code n (Some token) =
 
 -- The parts of a frame whose token length has nibble `x` and whose body has `n` bytes. The last argument is the bytes
 -- from the code on.
-abbrev pub head_behind : ℕ → ℕ → List ℕ → Result Head FormatFault
-head_behind x n [] = Err NotOneFrame
-head_behind x n (code ∷ s) = head_with code n (token_length_at x s)
+abbrev pub head_at_code : ℕ → ℕ → List ℕ → Result Head FormatFault
+head_at_code x n [] = Err NotOneFrame
+head_at_code x n (code ∷ s) = head_with code n (token_length_at x s)
 
 -- The parts of a frame whose token length has nibble `x`. The last argument is the length of the body with the bytes
 -- after its extension, or `None`.
 abbrev pub head_from : ℕ → Option (ℕ × List ℕ) → Result Head FormatFault
 head_from x None = Err NotOneFrame
-head_from x (Some body) = head_behind x body.0 body.1
+head_from x (Some body) = head_at_code x body.0 body.1
 
 -- The parts of a frame, or the first error of its head.
 unfoldable pub head_at : List ℕ → Result Head FormatFault

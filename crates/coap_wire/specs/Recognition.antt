@@ -88,12 +88,12 @@ placed earlier [] = []
 placed earlier (o ∷ os) = record { before = earlier; option = o } ∷ placed (earlier ++ o ∷ []) os
 
 -- The recognised options of `os`, in order, if the options in `earlier` come before them.
-unfoldable pub known_behind : List CoapOption → List CoapOption → List CoapOption
-known_behind earlier os = map (λ p. p.option) (filter (λ p. is_recognised p.before p.option) (placed earlier os))
+unfoldable pub known_given : List CoapOption → List CoapOption → List CoapOption
+known_given earlier os = map (λ p. p.option) (filter (λ p. is_recognised p.before p.option) (placed earlier os))
 
 -- The recognised options of a message, in order.
 abbrev pub known_options : List CoapOption → List CoapOption
-known_options os = known_behind [] os
+known_options os = known_given [] os
 
 -- An option with an odd number is critical (RFC 7252 sections 5.4.1, 5.4.6).
 abbrev pub is_critical : CoapOption → Bool
@@ -101,14 +101,14 @@ is_critical o = o.number % 2 == 1
 
 -- The number of the first option of `os` that is critical and not recognised, if the options in `earlier` come before
 -- them. `None` if there is none.
-unfoldable pub first_critical_behind : List CoapOption → List CoapOption → Option ℕ
-first_critical_behind earlier os =
+unfoldable pub first_critical_given : List CoapOption → List CoapOption → Option ℕ
+first_critical_given earlier os =
     option_map (λ p. p.option.number)
     (find (λ p. is_critical p.option && not (is_recognised p.before p.option)) (placed earlier os))
 
 -- The number of the first option of a message that is critical and not recognised. `None` if there is none.
 abbrev pub first_critical : List CoapOption → Option ℕ
-first_critical os = first_critical_behind [] os
+first_critical os = first_critical_given [] os
 
 -- An option, and whether it is recognised.
 pub record CheckedOptionValue : Type 0 where
@@ -120,12 +120,12 @@ abbrev pub checked_at : Placed → CheckedOptionValue
 checked_at p = record { option = p.option; recognised = is_recognised p.before p.option }
 
 -- Each option of `os`, in order, and whether it is recognised, if the options in `earlier` come before them.
-unfoldable pub checked_behind : List CoapOption → List CoapOption → List CheckedOptionValue
-checked_behind earlier os = map checked_at (placed earlier os)
+unfoldable pub checked_given : List CoapOption → List CoapOption → List CheckedOptionValue
+checked_given earlier os = map checked_at (placed earlier os)
 
 -- Each option of a message, in order, and whether it is recognised.
 abbrev pub checked_options : List CoapOption → List CheckedOptionValue
-checked_options os = checked_behind [] os
+checked_options os = checked_given [] os
 
 -- ---- one option after the other
 

@@ -7,7 +7,7 @@ use Rattle.coap_wire.specs.Size.{IsFrame}
 use Rattle.coap_wire.specs.Reading.{message_of}
 use Rattle.coap_wire.specs.StreamPrefix.{IsFrameFault, IsUnfinished, StreamPrefix, Unfinished, Whole, Faulty}
 use Rattle.coap_wire.specs.StreamPrefix.{fault_bytes}
-use Rattle.coap_wire.specs.Frames.{Frames, Sizes, constant_size, AreAtMost, StandsBehind, size_behind, sized_frames}
+use Rattle.coap_wire.specs.Frames.{Frames, Sizes, constant_size, AreAtMost, FollowsRest, size_after, sized_frames}
 use Rattle.coap_wire.specs.declared.fault.FormatFault.{FormatFault}
 use Rattle.coap_wire.specs.declared.fault.FrameFault.{FrameFault}
 
@@ -49,8 +49,8 @@ pub record Splits (sizes : Sizes) (bytes : List ℕ) (messages : List Message) (
   pub whole : bytes ≡ concat frames ++ (rest ++ more)
   pub spelled : SpellEach frames messages
   pub small : AreAtMost sizes frames
-  pub ended : EndsWith (size_behind sizes frames rest) rest fault
-  pub behind : StandsBehind more fault
+  pub ended : EndsWith (size_after sizes frames rest) rest fault
+  pub follows : FollowsRest more fault
 
 -- The same for a result of type `Stream`.
 abbrev pub SplitsAs : Sizes → List ℕ → Stream → Type 0
@@ -96,12 +96,12 @@ stream_then go s (Whole frame rest) = frame_then frame (message_of frame) (go fr
 -- ---- more bytes of a stream
 
 -- The result `stream` with the messages `before` before its messages.
-abbrev pub behind : List Message → Stream → Stream
-behind before stream = record stream { messages = before ++ stream.messages }
+abbrev pub stream_after : List Message → Stream → Stream
+stream_after before stream = record stream { messages = before ++ stream.messages }
 
 -- The result `stream`, followed by `others` if there is no error.
 abbrev pub continued : Stream → Option StreamFault → Stream → Stream
-continued stream None others = behind stream.messages others
+continued stream None others = stream_after stream.messages others
 continued stream (Some fault) others = stream
 
 -- The result for a stream that continues with `more`, if `stream` is the result for its first bytes. The function `go`

@@ -100,8 +100,8 @@ pub(crate) fn head_laid_out(frame: &[u8], layout: FrameLayout) -> (TokenRef<'_>,
     requires { IsLaidOut frame.now layout }
     ensures { head_at frame.now ≡ Ok (record { code = result.2; token = result.0; body = result.1.now }) }
 {
-    let (_, behind) = frame.split_at(layout.token_at);
-    let (token, body) = behind.split_at(layout.token_length);
+    let (_, later) = frame.split_at(layout.token_at);
+    let (token, body) = later.split_at(layout.token_length);
     (
         TokenRef::of_bytes(token),
         body,
@@ -169,9 +169,9 @@ pub(crate) fn payload_of(body: &[u8]) -> Result<&[u8], FormatFault>
             }
             return Ok(after);
         }
-        let (option, behind) = read_option(base, *first, after)?;
+        let (option, later) = read_option(base, *first, after)?;
         base = option.number;
-        rest = behind;
+        rest = later;
     }
     Ok(rest)
 }

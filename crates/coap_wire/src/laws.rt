@@ -6,7 +6,7 @@ ghost use Rattle.coap_wire.specs.Prelude.{greatest_length, IsOptionForm, option_
 ghost use Rattle.coap_wire.specs.Prelude.{token_form, greatest_token, Spells, spelling, HasSpelling, IsDeclaredSize};
 ghost use Rattle.coap_wire.specs.Prelude.{IsFrame, Declares, declared_of, IsFirstFault, IsFrameFault, IsUnfinished};
 ghost use Rattle.coap_wire.specs.Prelude.{Unfinished, Whole, Faulty, prefix_kind, fault_bytes, Frames, Sizes, FramedAs};
-ghost use Rattle.coap_wire.specs.Prelude.{constant_size, size_for, sizes_behind, sizes_of_rest, sized_frames};
+ghost use Rattle.coap_wire.specs.Prelude.{constant_size, size_for, sizes_after, sizes_of_rest, sized_frames};
 ghost use Rattle.coap_wire.specs.Prelude.{frames_on, Stream, SplitsAs, sized_split, split, stream_then, sized_split_on};
 ghost use Rattle.coap_wire.specs.Prelude.{split_on, uint_of, bytes_of_uint, IsFirstWithNumber, IsRecognised};
 ghost use Rattle.coap_wire.specs.Prelude.{is_recognised, Declared, FormatFault, FrameFault};
@@ -107,7 +107,7 @@ pub fn frame_segmentation_is_irrelevant()
 ///
 /// So after the maximum grows, an unfinished frame is treated as if the new maximum had been in effect from its start.
 pub fn sizes_matter_where_they_are_in_force()
-    ensures behind { (F G : Sizes) (s : List ℕ) → ((at : ℕ) → at < length s → F at ≡ G at) →
+    ensures later { (F G : Sizes) (s : List ℕ) → ((at : ℕ) → at < length s → F at ≡ G at) →
         sized_split F s ≡ sized_split G s }
     ensures before { (F G : Sizes) (kept more : List ℕ) → prefix_kind (size_for F kept) kept ≡ Unfinished
         → size_for F kept ≤ size_for G kept
@@ -128,7 +128,7 @@ pub fn a_stream_goes_on_with_the_size_in_force()
 /// bytes after it. If there is no error, the rest is an unfinished frame.
 pub fn stream_is_read_in_order()
     ensures front { (sizes : Sizes) (s : List ℕ) → sized_split sizes s
-        ≡ stream_then (λ frame. sized_split (sizes_behind (length frame) sizes)) s (prefix_kind (size_for sizes s) s) }
+        ≡ stream_then (λ frame. sized_split (sizes_after (length frame) sizes)) s (prefix_kind (size_for sizes s) s) }
     ensures rest { (sizes : Sizes) (s rest : List ℕ) → (sized_split sizes s).fault ≡ None →
         (sized_split sizes s).rest ≡ rest → prefix_kind (size_for (sizes_of_rest sizes s rest) rest) rest ≡ Unfinished }
     ensures front_of_one_size { (M : ℕ) (s : List ℕ) → split M s ≡ stream_then (λ frame. split M) s (prefix_kind M s) }
@@ -141,14 +141,14 @@ pub fn stream_is_read_in_order()
 pub fn prefix_kind_finds_first_frame()
     ensures frame_found { (M : ℕ) (frame rest : List ℕ) → IsFrame frame → length frame ≤ M →
         prefix_kind M (frame ++ rest) ≡ Whole frame rest }
-    ensures frame_stands { (M : ℕ) (s frame rest : List ℕ) → AreBytes s → prefix_kind M s ≡ Whole frame rest →
+    ensures frame_sound { (M : ℕ) (s frame rest : List ℕ) → AreBytes s → prefix_kind M s ≡ Whole frame rest →
         IsFrame frame }
     ensures fault_found { (M : ℕ) (r more : List ℕ) (fault : FrameFault) → IsFrameFault M fault r →
         prefix_kind M (r ++ more) ≡ Faulty fault }
-    ensures fault_stands { (M : ℕ) (s : List ℕ) (fault : FrameFault) → AreBytes s → prefix_kind M s ≡ Faulty fault →
+    ensures fault_sound { (M : ℕ) (s : List ℕ) (fault : FrameFault) → AreBytes s → prefix_kind M s ≡ Faulty fault →
         IsFrameFault M fault (fault_bytes s) }
     ensures neither_found { (M : ℕ) (s : List ℕ) → AreBytes s → IsUnfinished M s → prefix_kind M s ≡ Unfinished }
-    ensures neither_stands { (M : ℕ) (s : List ℕ) → prefix_kind M s ≡ Unfinished → IsUnfinished M s }
+    ensures neither_sound { (M : ℕ) (s : List ℕ) → prefix_kind M s ≡ Unfinished → IsUnfinished M s }
 {}
 
 /// States that a frame found by `prefix_kind` is the first 2 to `M` bytes of the stream, and is found
@@ -193,7 +193,7 @@ pub fn bytes_of_a_number_mean_it()
 /// States that in an ordered list, an option is the first with its number if and only if the one before has another.
 pub fn first_has_another_number_than_the_one_before()
     ensures alone { (o : CoapOption) → IsFirstWithNumber [] o }
-    ensures behind { (earlier after : List CoapOption) (p o : CoapOption) → AreOrdered 0 (earlier ++ (p ∷ o ∷ after)) →
+    ensures later { (earlier after : List CoapOption) (p o : CoapOption) → AreOrdered 0 (earlier ++ (p ∷ o ∷ after)) →
         (IsFirstWithNumber (earlier ++ p ∷ []) o ↔ (p.number ≢ o.number)) }
 {}
 

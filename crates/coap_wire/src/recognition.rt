@@ -69,11 +69,11 @@ pub struct RecognisedOptions<'a> {
 impl<'a> Model for RecognisedOptions<'a> {
     ghost use Rattle.std.specs.Prelude.{List, unwrap_or};
     ghost use Rattle.coap_wire.specs.Message.{CoapOption, AreOrdered};
-    ghost use Rattle.coap_wire.specs.Recognition.{known_behind, option_before};
+    ghost use Rattle.coap_wire.specs.Recognition.{known_given, option_before};
 
     ghost Value = { List CoapOption };
 
-    ghost view = { λ k. known_behind (option_before k.before) k.options };
+    ghost view = { λ k. known_given (option_before k.before) k.options };
 
     ghost invariant = { λ k. AreOrdered (unwrap_or k.before 0) k.options };
 }
@@ -130,11 +130,11 @@ pub struct CheckedOptions<'a> {
 impl<'a> Model for CheckedOptions<'a> {
     ghost use Rattle.std.specs.Prelude.{List, unwrap_or};
     ghost use Rattle.coap_wire.specs.Message.{AreOrdered};
-    ghost use Rattle.coap_wire.specs.Recognition.{CheckedOptionValue, checked_behind, option_before};
+    ghost use Rattle.coap_wire.specs.Recognition.{CheckedOptionValue, checked_given, option_before};
 
     ghost Value = { List CheckedOptionValue };
 
-    ghost view = { λ k. checked_behind (option_before k.before) k.options };
+    ghost view = { λ k. checked_given (option_before k.before) k.options };
 
     ghost invariant = { λ k. AreOrdered (unwrap_or k.before 0) k.options };
 }

@@ -62,15 +62,15 @@ fn outline_by(head: &[u8]) -> Outline
         return Outline::Unknown;
     };
     let code_at = 1 + (after.len() - rest.len());
-    let behind_code = rest.get(1..).unwrap_or_default();
-    let Some((token_length, rest)) = read_token_length(*first % 16, behind_code) else {
+    let after_code = rest.get(1..).unwrap_or_default();
+    let Some((token_length, rest)) = read_token_length(*first % 16, after_code) else {
         return Outline::Unknown;
     };
     let token_length = token_length as usize;
     if token_length > MAX_TOKEN {
         return Outline::BadToken;
     }
-    let token_at = code_at + 1 + (behind_code.len() - rest.len());
+    let token_at = code_at + 1 + (after_code.len() - rest.len());
     Outline::Known {
         size: (token_at + token_length) as u64 + length,
         layout: FrameLayout {

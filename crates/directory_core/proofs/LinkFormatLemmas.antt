@@ -187,18 +187,18 @@ unfolding is_target_char
 backslash_free c h = not_char 92 c refl h
 
 -- A URI before the text of a quoted string changes nothing.
-quoted_behind : (b q : List ℕ) → list_all is_target_char b ≡ true
+quoted_after : (b q : List ℕ) → list_all is_target_char b ≡ true
     → is_quoted_text false (b ++ q) ≡ is_quoted_text false q
 unfolding is_quoted_text
-quoted_behind [] q h = refl
-quoted_behind (c ∷ b) q h =
+quoted_after [] q h = refl
+quoted_after (c ∷ b) q h =
     let parts = and_parts (is_target_char c) (list_all is_target_char b) h in
     rw (visible c parts.0, delete_free c parts.0, quote_free c parts.0, backslash_free c parts.0)
-    (quoted_behind b q parts.1)
+    (quoted_after b q parts.1)
 
 quoted_uri : (b : List ℕ) → list_all is_target_char b ≡ true → is_quoted_text false b ≡ true
 unfolding is_quoted_text
-quoted_uri b h = sym (ap (is_quoted_text false) (append-nil b)) ∙ quoted_behind b [] h
+quoted_uri b h = sym (ap (is_quoted_text false) (append-nil b)) ∙ quoted_after b [] h
 
 -- ---- links that a lookup writes
 
@@ -207,7 +207,7 @@ resolved_quoted : (base q : List ℕ) → list_all is_target_char base ≡ true 
 resolved_quoted base q h k = by (is_relative q)
   where
     by : (b : Bool) → is_quoted_text false (cond b (base ++ q) q) ≡ true
-    by true = quoted_behind base q h ∙ k
+    by true = quoted_after base q h ∙ k
     by false = k
 
 resolved_target : (base t : List ℕ) → list_all is_target_char base ≡ true → list_all is_target_char t ≡ true

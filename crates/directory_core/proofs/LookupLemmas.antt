@@ -38,14 +38,14 @@ use Rattle.directory_core.specs.Endpoints.{ReachedDirectory}
 use Rattle.directory_core.proofs.AttributeLemmas.{each_joined, each_merged, type_attribute}
 use Rattle.directory_core.proofs.LinkFormatLemmas.{all_joined, all_split, base_target, IsWritable}
 use Rattle.directory_core.proofs.LinkFormatLemmas.{endpoint_writable, links_writable}
-use Rattle.directory_core.proofs.ReachedLemmas.{bound, not_refused, test_held, same_value, attributes_valid}
+use Rattle.directory_core.proofs.ReachedLemmas.{bound, not_refused, test_holds, same_value, attributes_valid}
 use Rattle.directory_core.proofs.ReachedLemmas.{registering_kept, updating_kept, reached_kept}
 
 -- ---- parts of requests
 
-base_held : (o : Option (List ℕ)) (base : List ℕ) → base_with o ≡ Some base → list_all is_target_char base ≡ true
-base_held None base h = absurd cc
-base_held (Some b) base h = by (is_base b) refl h
+base_holds : (o : Option (List ℕ)) (base : List ℕ) → base_with o ≡ Some base → list_all is_target_char base ≡ true
+base_holds None base h = absurd cc
+base_holds (Some b) base h = by (is_base b) refl h
   where
     by : (is : Bool) → is_base b ≡ is → cond is (Some b) None ≡ Some base → list_all is_target_char base ≡ true
     by true e k =
@@ -79,18 +79,18 @@ identified_base os parts h = by (has_link_format os) (repeats_parameter os) h
         bound (or_refused refusal.Base (base_with (named (codes "base") os))) _ parts Goal k3 (λ base l last.
         let this = ap (λ (p : List ℕ × ℕ × List ℕ). p.2) (same_value _ parts last) in
         ap (list_all is_target_char) (sym this)
-        ∙ base_held (named (codes "base") os) base
+        ∙ base_holds (named (codes "base") os) base
         (not_refused refusal.Base (base_with (named (codes "base") os)) base l))))
 
 read_links : (r : Result (List Link) ℕ) (links : List Link) → refused refusal.Links r ≡ Ok links → r ≡ Ok links
 read_links (Ok given) links h = cc
 read_links (Err e) links h = absurd cc
 
-links_held : (payload : List ℕ) (links : List Link) → links_in payload ≡ Ok links → list_all is_link links ≡ true
+links_hold : (payload : List ℕ) (links : List Link) → links_in payload ≡ Ok links → list_all is_link links ≡ true
 unfolding links_in
-links_held payload links h =
+links_hold payload links h =
     bound (refused refusal.Links (links_from payload)) _ links (list_all is_link links ≡ true) h (λ read i last.
-    let same = (test_held (list_all is_limited read) refusal.Target read links last).1 in
+    let same = (test_holds (list_all is_limited read) refusal.Target read links last).1 in
     let writes = links_sound payload read (from_ok payload read (read_links (links_from payload) read i)) in
     ap (list_all is_link) (sym same) ∙ writes.each)
 
@@ -127,7 +127,7 @@ renewal_base os parts base h before = by (is_repeated (codes "lt") os || is_repe
     by false k =
         bound (renewed_lifetime (named (codes "lt") os)) _ parts Goal k (λ lifetime i k2.
         bound (renewed_base (named (codes "base") os)) _ parts Goal k2 (λ b j last.
-        let this = (test_held (is_none (named (codes "ep") os) && is_none (named (codes "d") os)) refusal.Key
+        let this = (test_holds (is_none (named (codes "ep") os) && is_none (named (codes "d") os)) refusal.Key
         (lifetime, b) parts last).1 in
         subst (λ (p : Option ℕ × Option (List ℕ)). list_all is_target_char (unwrap_or p.1 base) ≡ true) this
         (given (named (codes "base") os) b j)))
@@ -146,14 +146,14 @@ prepared_writable now m made number h small =
     bound (links_in m.payload) _ made Goal h3 (λ links l last.
     let this = same_value _ made last in
     bound (attributes_in m.options) _ attributes Goal j (λ list k few.
-    let all = (test_held (nat_le (length (list ++ endpoint_type ∷ [])) 64) refusal.Many (list ++ endpoint_type ∷ [])
+    let all = (test_holds (nat_le (length (list ++ endpoint_type ∷ [])) 64) refusal.Many (list ++ endpoint_type ∷ [])
     attributes few).1 in
     subst (λ (x : List ℕ × RegistrationValue). IsWritable (record x.1 { number = number })) this (record {
       small = small;
       base = identified_base m.options parts i;
       attributes = ap (list_all is_attribute) (sym all)
           ∙ each_joined list (endpoint_type ∷ []) (attributes_valid m.options list k) type_attribute;
-      links = links_held m.payload links l;
+      links = links_hold m.payload links l;
     })))))
   where
     Goal : Type 0

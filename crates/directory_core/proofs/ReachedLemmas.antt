@@ -87,9 +87,10 @@ pub not_refused : {A : Type 0} → (e : Refusal) (o : Option A) (x : A) → or_r
 not_refused e None x h = absurd cc
 not_refused e (Some y) x h = cc
 
-pub test_held : {A : Type 0} → (test : Bool) (e : Refusal) (x y : A) → only_if test e x ≡ Ok y → (test ≡ true) × (x ≡ y)
-test_held true e x y h = (refl, cc)
-test_held false e x y h = absurd cc
+pub test_holds : {A : Type 0} → (test : Bool) (e : Refusal) (x y : A) → only_if test e x ≡ Ok y
+    → (test ≡ true) × (x ≡ y)
+test_holds true e x y h = (refl, cc)
+test_holds false e x y h = absurd cc
 
 identified_key : (os : List CoapOption) (parts : List ℕ × ℕ × List ℕ) → identified os ≡ Ok parts
     → (repeats_parameter os ≡ false) × (key_with (named (codes "d") os) (named (codes "ep") os) ≡ Some parts.0)
@@ -127,7 +128,7 @@ attributes_given os attributes h = by (list_all is_well_formed os) (list_all has
         → (list_all has_allowed_name os ≡ true) × (given os ≡ attributes)
     by false allowed e k = absurd cc
     by true false e k = absurd cc
-    by true true e k = (e, (test_held (nat_le (length (given os)) 64) refusal.Many (given os) attributes k).1)
+    by true true e k = (e, (test_holds (nat_le (length (given os)) 64) refusal.Many (given os) attributes k).1)
 
 pub attributes_valid : (os : List CoapOption) (attributes : List Attribute) → attributes_in os ≡ Ok attributes
     → list_all is_attribute attributes ≡ true
@@ -140,7 +141,7 @@ attributes_valid os attributes h = by (list_all is_well_formed os) refl (list_al
     by false w allowed e k = absurd cc
     by true w false e k = absurd cc
     by true w true e k =
-        let same = (test_held (nat_le (length (given os)) 64) refusal.Many (given os) attributes k).1 in
+        let same = (test_holds (nat_le (length (given os)) 64) refusal.Many (given os) attributes k).1 in
         sym (ap (list_all is_attribute) same) ∙ each_given os w e
 
 -- ---- registrations
@@ -158,7 +159,7 @@ prepared_named now m made h =
     let same_attributes = ap (λ (x : List ℕ × RegistrationValue). x.1.attributes) this in
     bound (attributes_in m.options) _ attributes Goal j (λ list k few.
     let from = attributes_given m.options list k in
-    let all = (test_held (nat_le (length (list ++ endpoint_type ∷ [])) 64) refusal.Many
+    let all = (test_holds (nat_le (length (list ++ endpoint_type ∷ [])) 64) refusal.Many
     (list ++ endpoint_type ∷ []) attributes few).1 in
     subst (λ (key : List ℕ). IsNamed key made.1.attributes) same_key
     (subst (λ (a : List Attribute). IsNamed parts.0 a)
@@ -206,7 +207,7 @@ renewing_key os parts h = by (is_repeated (codes "lt") os || is_repeated (codes 
     by false k =
         bound (renewed_lifetime (named (codes "lt") os)) _ parts Goal k (λ lifetime i k2.
         bound (renewed_base (named (codes "base") os)) _ parts Goal k2 (λ base j last.
-        (test_held (is_none (named (codes "ep") os) && is_none (named (codes "d") os)) refusal.Key
+        (test_holds (is_none (named (codes "ep") os) && is_none (named (codes "d") os)) refusal.Key
         (lifetime, base) parts last).0))
 
 changed_kept : (Q : Entry → Type 0) (v : RegistryValue) (number : ℕ) (new : List Attribute)
@@ -231,7 +232,7 @@ changed_kept Q v number new y keeps h all = by (found_at v.entries number) refl 
     by (Some r) e (a ∷ new) keep k =
         bound (limited (merged r.attributes (a ∷ new))) _ y Goal k (λ attributes i last.
         let this : Some attributes ≡ y = cc in
-        let list = (test_held (nat_le (length (merged r.attributes (a ∷ new))) 64) refusal.Many
+        let list = (test_holds (nat_le (length (merged r.attributes (a ∷ new))) 64) refusal.Many
         (merged r.attributes (a ∷ new)) attributes i).1 in
         subst (λ (o : Option (List Attribute)). Each Q (attributed_if v number o).entries) this
         (attributed_kept Q attributes number r v.entries
@@ -326,9 +327,9 @@ module _ (P : RegistryValue → Type 0)
     (removes : (v : RegistryValue) (number : ℕ) → P v → P (removed v number))
     (expires : (v : RegistryValue) (now : ℕ) → P v → P (expired v now))
     (begins : (limit : ℕ) → P (record { entries = []; next = 1; limit = limit })) where
-  held : (exists : Bool) (d : DirectoryValue) (m : Message) (replied : Reply × DirectoryValue) → P d.registry
+  met : (exists : Bool) (d : DirectoryValue) (m : Message) (replied : Reply × DirectoryValue) → P d.registry
       → P replied.1.registry → P (if_holds exists d m replied).1.registry
-  held exists d m replied before after = by (conditions_hold exists m.options)
+  met exists d m replied before after = by (conditions_hold exists m.options)
     where
       by : (b : Bool) → P (cond b replied (reply.Refused refusal.Condition, d)).1.registry
       by true = after
@@ -350,7 +351,7 @@ module _ (P : RegistryValue → Type 0)
 
       by : (b : Bool) → P (cond b (if_holds true d m (created d (registering d.registry now m)))
           (reply.Refused refusal.Method, d)).1.registry
-      by true = held true d m (created d (registering d.registry now m)) before after
+      by true = met true d m (created d (registering d.registry now m)) before after
       by false = before
   reply_kept d now limit m (route.Location number) before = by (nat_eq m.code post) (nat_eq m.code delete)
     where
@@ -359,20 +360,20 @@ module _ (P : RegistryValue → Type 0)
 
       by : (update removal : Bool) → P (cond update (if_holds there d m (update_reply d now number m))
           (cond removal (if_holds there d m (removal_reply d number)) (reply.Refused refusal.Method, d))).1.registry
-      by true removal = held there d m (update_reply d now number m) before (updates d.registry now number m before)
-      by false true = held there d m (removal_reply d number) before (removes d.registry number before)
+      by true removal = met there d m (update_reply d now number m) before (updates d.registry now number m before)
+      by false true = met there d m (removal_reply d number) before (removes d.registry number before)
       by false false = before
   reply_kept d now limit m route.Endpoints before = by (nat_eq m.code get)
     where
       by : (b : Bool) → P (cond b (if_holds true d m (found_reply d true limit m))
           (reply.Refused refusal.Method, d)).1.registry
-      by true = held true d m (found_reply d true limit m) before before
+      by true = met true d m (found_reply d true limit m) before before
       by false = before
   reply_kept d now limit m route.Resources before = by (nat_eq m.code get)
     where
       by : (b : Bool) → P (cond b (if_holds true d m (found_reply d false limit m))
           (reply.Refused refusal.Method, d)).1.registry
-      by true = held true d m (found_reply d false limit m) before before
+      by true = met true d m (found_reply d false limit m) before before
       by false = before
   reply_kept d now limit m route.Elsewhere before = before
 

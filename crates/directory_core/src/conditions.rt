@@ -6,9 +6,9 @@ ghost use Rattle.directory_core.specs.Prelude.{means_link_format as means, names
 ghost use Rattle.directory_core.specs.Prelude.{known_options};
 ghost use Rattle.directory_core.specs.Prelude.{has_link_format as has_format};
 ghost use Rattle.directory_core.specs.Prelude.{accepts_link_format as accepts_format};
-ghost use Rattle.directory_core.specs.Prelude.{match_holds as match_is_held};
-ghost use Rattle.directory_core.specs.Prelude.{none_match_holds as none_match_is_held};
-ghost use Rattle.directory_core.specs.Prelude.{conditions_hold as are_held};
+ghost use Rattle.directory_core.specs.Prelude.{match_holds as match_is_met};
+ghost use Rattle.directory_core.specs.Prelude.{none_match_holds as none_match_is_met};
+ghost use Rattle.directory_core.specs.Prelude.{conditions_hold as are_met};
 ghost use Rattle.coap_wire.specs.OptionNumbers as numbers;
 
 use coap_wire::option_numbers::{ACCEPT, CONTENT_FORMAT, IF_MATCH, IF_NONE_MATCH};
@@ -64,7 +64,7 @@ fn matches_any(request: &MessageRef) -> bool
 /// resource of a directory has no ETag, so a value of If-Match holds only if it is empty.
 #[tactic(auto, unfolding(crate::specs::Conditions::conditions_hold))]
 pub(crate) fn conditions_hold(request: &MessageRef, exists: bool) -> bool
-    ensures { result ≡ are_held exists request.now.options }
+    ensures { result ≡ are_met exists request.now.options }
 {
     if has_option(request, IF_MATCH) && !(exists && matches_any(request)) {
         return false;

@@ -11,11 +11,11 @@ abbrev pub with_front : List Attribute → Result (List Attribute × List ℕ) �
 with_front front read = read >>= λ x. Ok (front ++ x.0, x.1)
 
 -- One attribute, followed by the result for the bytes after it.
-abbrev pub behind : Attribute → Result (List Attribute × List ℕ) ℕ → Result (List Attribute × List ℕ) ℕ
-behind a read = read >>= λ others. Ok (a ∷ others.0, others.1)
+abbrev pub attribute_then : Attribute → Result (List Attribute × List ℕ) ℕ → Result (List Attribute × List ℕ) ℕ
+attribute_then a read = read >>= λ others. Ok (a ∷ others.0, others.1)
 
 regroup : (front : List Attribute) (a : Attribute) (read : Result (List Attribute × List ℕ) ℕ)
-    → with_front front (behind a read) ≡ with_front (front ++ a ∷ []) read
+    → with_front front (attribute_then a read) ≡ with_front (front ++ a ∷ []) read
 regroup front a (Ok x) = ap (λ (list : List Attribute). Ok (list, x.1)) (simp append_assoc)
 regroup front a (Err e) = refl
 
@@ -31,12 +31,12 @@ within_same (suc m) zero (b ∷ s) p q = absurd (omega arith)
 within_same (suc m) (suc n) [] p q = refl
 within_same (suc m) (suc n) (b ∷ s) p q =
     let go : (x : Attribute × List ℕ) → attribute_at s ≡ Ok x
-    → behind x.0 (attributes_within m x.1) ≡ behind x.0 (attributes_within n x.1) =
+    → attribute_then x.0 (attributes_within m x.1) ≡ attribute_then x.0 (attributes_within n x.1) =
     λ x e. let shorter : length x.1 ≤ length s = attribute_shorter s x e in
-    ap (behind x.0) (within_same m n x.1 (omega arith) (omega arith)) in
+    ap (attribute_then x.0) (within_same m n x.1 (omega arith) (omega arith)) in
     ap (λ (r : Result (List Attribute × List ℕ) ℕ). cond (eqb b 59) r (Ok ([], b ∷ s)))
-    (bind_same (attribute_at s) (λ first. behind first.0 (attributes_within m first.1))
-    (λ first. behind first.0 (attributes_within n first.1)) go)
+    (bind_same (attribute_at s) (λ first. attribute_then first.0 (attributes_within m first.1))
+    (λ first. attribute_then first.0 (attributes_within n first.1)) go)
 
 enough : (turns : ℕ) (s : List ℕ) → length s ≤ turns → attributes_within turns s ≡ attributes_at s
 unfolding attributes_at
@@ -54,12 +54,13 @@ unfolding attributes_at attributes_within
 other_byte b s after s_is h = rw (s_is, ne_eqb b 59 h) refl
 
 step : (b : ℕ) (s after : List ℕ) → s ≡ b ∷ after → b ≡ 59
-    → attributes_at s ≡ (attribute_at after >>= λ first. behind first.0 (attributes_within (length after) first.1))
+    → attributes_at s ≡ (attribute_at after >>= λ first. attribute_then first.0
+    (attributes_within (length after) first.1))
 unfolding attributes_at attributes_within
 step b s after s_is h = rw (s_is, eq-eqb b 59 h) refl
 
 pub one_attribute : (b : ℕ) (s after : List ℕ) (a : Attribute) (rest : List ℕ) → s ≡ b ∷ after → b ≡ 59
-    → attribute_at after ≡ Ok (a, rest) → attributes_at s ≡ behind a (attributes_at rest)
+    → attribute_at after ≡ Ok (a, rest) → attributes_at s ≡ attribute_then a (attributes_at rest)
 one_attribute b s after a rest s_is h e =
     let shorter : length rest ≤ length after = attribute_shorter after (a, rest) e in
     step b s after s_is h ∙ rw (e, enough (length after) rest shorter) refl
@@ -81,7 +82,7 @@ pub fails : (front : List Attribute) (s : List ℕ) (e : ℕ) (total : Result (L
 fails front s e total read so_far = sym so_far ∙ ap (with_front front) read
 
 pub goes_on : (front : List Attribute) (a : Attribute) (s rest : List ℕ) (total : Result (List Attribute × List ℕ) ℕ)
-    → attributes_at s ≡ behind a (attributes_at rest) → with_front front (attributes_at s) ≡ total
+    → attributes_at s ≡ attribute_then a (attributes_at rest) → with_front front (attributes_at s) ≡ total
     → with_front (front ++ a ∷ []) (attributes_at rest) ≡ total
 goes_on front a s rest total read so_far =
     sym (regroup front a (attributes_at rest)) ∙ sym (ap (with_front front) read) ∙ so_far
@@ -100,31 +101,31 @@ not_failed s e read ok =
     let bad : false ≡ true = ap is_ok (sym read) ∙ ok in
     absurd cc
 
-ok_after : (a : Attribute) (read : Result (List Attribute × List ℕ) ℕ) → is_ok (behind a read) ≡ true
+ok_after : (a : Attribute) (read : Result (List Attribute × List ℕ) ℕ) → is_ok (attribute_then a read) ≡ true
     → is_ok read ≡ true
 ok_after a (Ok x) ok = refl
 ok_after a (Err e) ok = ok
 
 read_after : (a : Attribute) (read : Result (List Attribute × List ℕ) ℕ) → is_ok read ≡ true
-    → attributes_read (behind a read) ≡ a ∷ attributes_read read
+    → attributes_read (attribute_then a read) ≡ a ∷ attributes_read read
 read_after a (Ok x) ok = refl
 read_after a (Err e) ok = absurd cc
 
-pub stays_ok : (s : List ℕ) (a : Attribute) (rest : List ℕ) → attributes_at s ≡ behind a (attributes_at rest)
+pub stays_ok : (s : List ℕ) (a : Attribute) (rest : List ℕ) → attributes_at s ≡ attribute_then a (attributes_at rest)
     → IsOk (attributes_at s) → IsOk (attributes_at rest)
 stays_ok s a rest read ok = ok_after a (attributes_at rest) (ap is_ok (sym read) ∙ ok)
 
-pub first_read : (s : List ℕ) (a : Attribute) (rest : List ℕ) → attributes_at s ≡ behind a (attributes_at rest)
+pub first_read : (s : List ℕ) (a : Attribute) (rest : List ℕ) → attributes_at s ≡ attribute_then a (attributes_at rest)
     → IsOk (attributes_at s) → attributes_read (attributes_at s) ≡ a ∷ attributes_read (attributes_at rest)
 first_read s a rest read ok = ap attributes_read read ∙ read_after a (attributes_at rest) (stays_ok s a rest read ok)
 
 within_shorter_at : (separator : Bool) (turns b : ℕ) (s : List ℕ) (x : List Attribute × List ℕ)
-    → cond separator (attribute_at s >>= λ first. behind first.0 (attributes_within turns first.1))
+    → cond separator (attribute_at s >>= λ first. attribute_then first.0 (attributes_within turns first.1))
     (Ok ([], b ∷ s)) ≡ Ok x
     → ((t : List ℕ) (y : List Attribute × List ℕ) → attributes_within turns t ≡ Ok y → length y.1 ≤ length t)
     → length x.1 ≤ suc (length s)
 within_shorter_at true turns b s x e others =
-    let p = bind_ok (attribute_at s) (λ first. behind first.0 (attributes_within turns first.1)) x e in
+    let p = bind_ok (attribute_at s) (λ first. attribute_then first.0 (attributes_within turns first.1)) x e in
     let q = bind_ok (attributes_within turns p.0.1) (λ more. Ok (p.0.0 ∷ more.0, more.1)) x p.2 in
     let first : length p.0.1 ≤ length s = attribute_shorter s p.0 p.1 in
     let second : length q.0.1 ≤ length p.0.1 = others p.0.1 q.0 q.1 in

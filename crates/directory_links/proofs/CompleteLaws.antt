@@ -233,7 +233,7 @@ attributes_complete (a ∷ more) r all h =
     rw text (attribute_complete a (attributes_text more ++ r) parts.0 (more_follows more r h)) in
     attributes.one_attribute 59 (59 ∷ ((attribute_text a ++ attributes_text more) ++ r))
     ((attribute_text a ++ attributes_text more) ++ r) a (attributes_text more ++ r) refl refl first
-    ∙ ap (attributes.behind a) (attributes_complete more r parts.1 h)
+    ∙ ap (attributes.attribute_then a) (attributes_complete more r parts.1 h)
 
 -- ---- links
 
@@ -279,7 +279,7 @@ some_complete l (m ∷ ls) some all =
     links.one_link (link_text l ++ (44 ∷ (link_text m ++ more_links_text ls))) l
     (44 ∷ (link_text m ++ more_links_text ls)) (link_text m ++ more_links_text ls)
     (link_complete l (44 ∷ (link_text m ++ more_links_text ls)) some refl) (another (link_text m ++ more_links_text ls))
-    ∙ ap (links.behind l) (some_complete m ls parts.0 parts.1)
+    ∙ ap (links.link_then l) (some_complete m ls parts.0 parts.1)
 
 none_there : links_of [] ≡ Ok []
 unfolding links_of

@@ -6,7 +6,7 @@ use Rattle.std.specs.List.{prefix_len}
 use Rattle.std.proofs.lemmas.List.{length-drop}
 use Rattle.directory_links.specs.Prelude.{Link, ◌>>=◌, is_target_char, attributes_at, after_target, target_at, link_at}
 use Rattle.directory_links.specs.Prelude.{next_link_at}
-use Rattle.directory_links.specs.Prelude.{links_behind, links_within, some_links, links_of, links_read}
+use Rattle.directory_links.specs.Prelude.{links_after, links_within, some_links, links_of, links_read}
 use Rattle.directory_links.proofs.ReadingSteps.{bind_ok, bind_same, ok_is}
 use Rattle.directory_links.proofs.AttributeSteps.{attributes_shorter}
 
@@ -67,13 +67,13 @@ next_shorter (b ∷ s) x e = let h : length x ≤ length s = next_shorter_at (eq
 -- ---- the limit of the recursion
 
 -- One link, followed by the others.
-abbrev pub behind : Link → Result (List Link) ℕ → Result (List Link) ℕ
-behind l read = read >>= λ others. Ok (l ∷ others)
+abbrev pub link_then : Link → Result (List Link) ℕ → Result (List Link) ℕ
+link_then l read = read >>= λ others. Ok (l ∷ others)
 
-links_behind_same : (r t : List ℕ → Result (List Link) ℕ) (o : Option (List ℕ))
-    → ((s : List ℕ) → o ≡ Some s → r s ≡ t s) → links_behind r o ≡ links_behind t o
-links_behind_same r t None h = refl
-links_behind_same r t (Some s) h = h s refl
+links_after_same : (r t : List ℕ → Result (List Link) ℕ) (o : Option (List ℕ))
+    → ((s : List ℕ) → o ≡ Some s → r s ≡ t s) → links_after r o ≡ links_after t o
+links_after_same r t None h = refl
+links_after_same r t (Some s) h = h s refl
 
 within_same : (m n : ℕ) (s : List ℕ) → length s < m → length s < n → links_within m s ≡ links_within n s
 unfolding links_within
@@ -81,17 +81,17 @@ within_same zero n s p q = absurd (omega arith)
 within_same (suc m) zero s p q = absurd (omega arith)
 within_same (suc m) (suc n) s p q =
     let later : (x : Link × List ℕ) → link_at s ≡ Ok x → (o : Option (List ℕ)) → next_link_at x.1 ≡ Ok o
-    → behind x.0 (links_behind (λ rest. links_within m rest) o) ≡ behind x.0
-    (links_behind (λ rest. links_within n rest) o) =
+    → link_then x.0 (links_after (λ rest. links_within m rest) o) ≡ link_then x.0
+    (links_after (λ rest. links_within n rest) o) =
     λ x e o next. let first : length x.1 < length s = link_shorter s x e in
-    ap (behind x.0) (links_behind_same (λ rest. links_within m rest) (λ rest. links_within n rest) o
+    ap (link_then x.0) (links_after_same (λ rest. links_within m rest) (λ rest. links_within n rest) o
     (λ t o_is. let second : length t < length x.1 = next_shorter x.1 t (next ∙ ap Ok o_is) in within_same m n t
     (omega arith) (omega arith))) in
     bind_same (link_at s)
-    (λ first. next_link_at first.1 >>= λ next. behind first.0 (links_behind (λ rest. links_within m rest) next))
-    (λ first. next_link_at first.1 >>= λ next. behind first.0 (links_behind (λ rest. links_within n rest) next))
-    (λ x e. bind_same (next_link_at x.1) (λ next. behind x.0 (links_behind (λ rest. links_within m rest) next))
-    (λ next. behind x.0 (links_behind (λ rest. links_within n rest) next)) (later x e))
+    (λ first. next_link_at first.1 >>= λ next. link_then first.0 (links_after (λ rest. links_within m rest) next))
+    (λ first. next_link_at first.1 >>= λ next. link_then first.0 (links_after (λ rest. links_within n rest) next))
+    (λ x e. bind_same (next_link_at x.1) (λ next. link_then x.0 (links_after (λ rest. links_within m rest) next))
+    (λ next. link_then x.0 (links_after (λ rest. links_within n rest) next)) (later x e))
 
 enough : (turns : ℕ) (s : List ℕ) → length s < turns → links_within turns s ≡ some_links s
 unfolding some_links
@@ -101,7 +101,7 @@ enough turns s h = within_same turns (length s + 1) s h (omega arith)
 
 step : (s : List ℕ) → some_links s ≡
     (link_at s >>= λ first. next_link_at first.1 >>= λ next.
-    behind first.0 (links_behind (λ rest. links_within (length s) rest) next))
+    link_then first.0 (links_after (λ rest. links_within (length s) rest) next))
 unfolding some_links links_within
 step s = rw (add-one (length s)) refl
 
@@ -112,7 +112,7 @@ last_link s l rest e next = step s ∙ rw (e, next) refl
 
 -- Another link follows.
 pub one_link : (s : List ℕ) (l : Link) (rest t : List ℕ) → link_at s ≡ Ok (l, rest) → next_link_at rest ≡ Ok (Some t)
-    → some_links s ≡ behind l (some_links t)
+    → some_links s ≡ link_then l (some_links t)
 one_link s l rest t e next =
     let first : length rest < length s = link_shorter s (l, rest) e in
     let second : length t < length rest = next_shorter rest t next in
@@ -141,7 +141,7 @@ abbrev pub with_links : List Link → Result (List Link) ℕ → Result (List Li
 with_links front read = read >>= λ links. Ok (front ++ links)
 
 regroup : (front : List Link) (l : Link) (read : Result (List Link) ℕ)
-    → with_links front (behind l read) ≡ with_links (front ++ l ∷ []) read
+    → with_links front (link_then l read) ≡ with_links (front ++ l ∷ []) read
 regroup front l (Ok x) = ap Ok (simp append_assoc)
 regroup front l (Err e) = refl
 
@@ -156,7 +156,7 @@ pub fails : (front : List Link) (s : List ℕ) (e : ℕ) (total : Result (List L
 fails front s e total read so_far = sym so_far ∙ ap (with_links front) read
 
 pub goes_on : (front : List Link) (l : Link) (s t : List ℕ) (total : Result (List Link) ℕ)
-    → some_links s ≡ behind l (some_links t) → with_links front (some_links s) ≡ total
+    → some_links s ≡ link_then l (some_links t) → with_links front (some_links s) ≡ total
     → with_links (front ++ l ∷ []) (some_links t) ≡ total
 goes_on front l s t total read so_far = sym (regroup front l (some_links t)) ∙ sym (ap (with_links front) read) ∙ so_far
 
@@ -184,12 +184,12 @@ not_failed s e some read ok =
     let bad : false ≡ true = ap is_ok (sym (starts s some ∙ read)) ∙ ok in
     absurd cc
 
-ok_after : (l : Link) (read : Result (List Link) ℕ) → is_ok (behind l read) ≡ true → is_ok read ≡ true
+ok_after : (l : Link) (read : Result (List Link) ℕ) → is_ok (link_then l read) ≡ true → is_ok read ≡ true
 ok_after l (Ok x) ok = refl
 ok_after l (Err e) ok = ok
 
 read_after : (l : Link) (read : Result (List Link) ℕ) → is_ok read ≡ true
-    → links_read (behind l read) ≡ l ∷ links_read read
+    → links_read (link_then l read) ≡ l ∷ links_read read
 read_after l (Ok x) ok = refl
 read_after l (Err e) ok = absurd cc
 
@@ -198,17 +198,17 @@ unfolding links_of some_links links_within link_at target_at
 some_ok [] ok = absurd cc
 some_ok (b ∷ s) ok = refl
 
-later_ok : (s : List ℕ) (l : Link) (t : List ℕ) → (length s ≡ 0 → ⊥) → some_links s ≡ behind l (some_links t)
+later_ok : (s : List ℕ) (l : Link) (t : List ℕ) → (length s ≡ 0 → ⊥) → some_links s ≡ link_then l (some_links t)
     → IsOk (links_of s) → is_ok (some_links t) ≡ true
 later_ok s l t some read ok = ok_after l (some_links t) (ap is_ok (sym (starts s some ∙ read)) ∙ ok)
 
-pub stays_ok : (s : List ℕ) (l : Link) (t : List ℕ) → (length s ≡ 0 → ⊥) → some_links s ≡ behind l (some_links t)
+pub stays_ok : (s : List ℕ) (l : Link) (t : List ℕ) → (length s ≡ 0 → ⊥) → some_links s ≡ link_then l (some_links t)
     → IsOk (links_of s) → IsOk (links_of t)
 stays_ok s l t some read ok =
     let h : is_ok (some_links t) ≡ true = later_ok s l t some read ok in
     ap is_ok (some_ok t h) ∙ h
 
-pub first_read : (s : List ℕ) (l : Link) (t : List ℕ) → (length s ≡ 0 → ⊥) → some_links s ≡ behind l (some_links t)
+pub first_read : (s : List ℕ) (l : Link) (t : List ℕ) → (length s ≡ 0 → ⊥) → some_links s ≡ link_then l (some_links t)
     → IsOk (links_of s) → links_read (links_of s) ≡ l ∷ links_read (links_of t)
 first_read s l t some read ok =
     let h : is_ok (some_links t) ≡ true = later_ok s l t some read ok in

@@ -15,7 +15,7 @@ use Rattle.directory_links.specs.Prelude.{quoted_length, quoted_at}
 use Rattle.directory_links.specs.Prelude.{given_at, extended_at, value_at, attribute_at, attributes_within}
 use Rattle.directory_links.specs.Prelude.{attributes_at}
 use Rattle.directory_links.specs.Prelude.{after_target, target_at}
-use Rattle.directory_links.specs.Prelude.{link_at, next_link_at, links_behind, links_within, some_links, links_of}
+use Rattle.directory_links.specs.Prelude.{link_at, next_link_at, links_after, links_within, some_links, links_of}
 use Rattle.directory_links.specs.Prelude.{is_run, is_quoted_text, is_value, is_attribute, is_link, value_text}
 use Rattle.directory_links.specs.Prelude.{attribute_text, attributes_text}
 use Rattle.directory_links.specs.Prelude.{link_text, more_links_text, Writes}
@@ -362,16 +362,16 @@ one_of_more l more s rest t first comma others =
 
 links_sound_at : (turns : ℕ) (s : List ℕ) (first : Link × List ℕ) (o : Option (List ℕ)) (links others : List Link)
     → link_at s ≡ Ok first → IsNext first.1 o
-    → links_behind (λ rest. links_within turns rest) o ≡ Ok others → first.0 ∷ others ≡ links
+    → links_after (λ rest. links_within turns rest) o ≡ Ok others → first.0 ∷ others ≡ links
     → ((t : List ℕ) (y : List Link) → links_within turns t ≡ Ok y → AreLinksRead t y) → AreLinksRead s links
-links_sound_at turns s first None links others read next behind e inner =
-    let none : [] ≡ others = ok_is [] others behind in
+links_sound_at turns s first None links others read next later e inner =
+    let none : [] ≡ others = ok_is [] others later in
     subst (AreLinksRead s) e
     (subst (λ (more : List Link). AreLinksRead s (first.0 ∷ more)) none
     (last_one first.0 s first.1 (link_sound s first read) next))
-links_sound_at turns s first (Some t) links others read next behind e inner =
+links_sound_at turns s first (Some t) links others read next later e inner =
     subst (AreLinksRead s) e
-    (one_of_more first.0 others s first.1 t (link_sound s first read) next (inner t others behind))
+    (one_of_more first.0 others s first.1 t (link_sound s first read) next (inner t others later))
 
 links_within_sound : (turns : ℕ) (s : List ℕ) (links : List Link) → links_within turns s ≡ Ok links
     → AreLinksRead s links
@@ -379,11 +379,11 @@ unfolding links_within
 links_within_sound zero s links e = absurd cc
 links_within_sound (suc turns) s links e =
     let a = bind_ok (link_at s)
-    (λ first. next_link_at first.1 >>= λ next. links_behind (λ rest. links_within turns rest) next >>= λ others.
+    (λ first. next_link_at first.1 >>= λ next. links_after (λ rest. links_within turns rest) next >>= λ others.
     Ok (first.0 ∷ others)) links e in
     let b = bind_ok (next_link_at a.0.1)
-    (λ next. links_behind (λ rest. links_within turns rest) next >>= λ others. Ok (a.0.0 ∷ others)) links a.2 in
-    let d = bind_ok (links_behind (λ rest. links_within turns rest) b.0) (λ others. Ok (a.0.0 ∷ others)) links b.2 in
+    (λ next. links_after (λ rest. links_within turns rest) next >>= λ others. Ok (a.0.0 ∷ others)) links a.2 in
+    let d = bind_ok (links_after (λ rest. links_within turns rest) b.0) (λ others. Ok (a.0.0 ∷ others)) links b.2 in
     links_sound_at turns s a.0 b.0 links d.0 a.1 (next_sound a.0.1 b.0 b.1) d.1 (ok_is (a.0.0 ∷ d.0) links d.2)
     (λ t y h. links_within_sound turns t y h)
 

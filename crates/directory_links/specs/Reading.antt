@@ -108,9 +108,9 @@ next_link_at [] = Ok None
 next_link_at (b ∷ s) = if b == 44 then Ok (Some s) else Err (length s + 1)
 
 -- The links that follow, which `read` reads.
-abbrev pub links_behind : (List ℕ → Result (List Link) ℕ) → Option (List ℕ) → Result (List Link) ℕ
-links_behind read None = Ok []
-links_behind read (Some s) = read s
+abbrev pub links_after : (List ℕ → Result (List Link) ℕ) → Option (List ℕ) → Result (List Link) ℕ
+links_after read None = Ok []
+links_after read (Some s) = read s
 
 -- One or more links, separated by `,`. The argument `turns` limits the recursion, as above.
 unfoldable pub links_within : ℕ → List ℕ → Result (List Link) ℕ
@@ -118,7 +118,7 @@ links_within zero s = Err (length s)
 links_within (suc turns) s = do
   first ← link_at s
   next ← next_link_at first.1
-  others ← links_behind (λ rest. links_within turns rest) next
+  others ← links_after (λ rest. links_within turns rest) next
   Ok (first.0 ∷ others)
 
 -- The links of a text that has one or more.

@@ -68,8 +68,8 @@ pub(crate) fn after_attributes(text: &[u8]) -> Result<&[u8], SyntaxFault>
         if *first != b';' {
             return Ok(rest);
         }
-        let (_attribute, behind) = read_attribute(after)?;
-        rest = behind;
+        let (_attribute, later) = read_attribute(after)?;
+        rest = later;
     }
     Ok(rest)
 }
@@ -160,10 +160,10 @@ impl<'a> Iterator for Links<'a> {
         if self.rest.is_empty() {
             return None;
         }
-        let Ok((link, behind)) = read_link(self.rest) else {
+        let Ok((link, later)) = read_link(self.rest) else {
             unreachable!()
         };
-        let Ok(next) = read_separator(behind) else {
+        let Ok(next) = read_separator(later) else {
             unreachable!()
         };
         let Some(next) = next else {
@@ -184,8 +184,8 @@ fn check_links(text: &[u8]) -> Result<(), SyntaxFault>
     }
     let mut rest = text;
     loop {
-        let (_link, behind) = read_link(rest)?;
-        let Some(next) = read_separator(behind)? else {
+        let (_link, later) = read_link(rest)?;
+        let Some(next) = read_separator(later)? else {
             return Ok(());
         };
         rest = next;

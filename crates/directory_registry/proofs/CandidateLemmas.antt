@@ -119,47 +119,47 @@ label_agrees r other =
 
 not_selected_endpoint : (cs : List CriterionValue) (p : List ℕ) (r : RegistrationValue) → exact_name cs ≡ Some p
     → (registration_label r ≡ 0 → ⊥) → (registration_label r ≡ name_label p → ⊥) → is_selected_endpoint cs r ≡ false
-not_selected_endpoint cs p r asked named other =
+not_selected_endpoint cs p r requested named other =
     let parts = and_parts (list_all (agrees (registration_label r)) r.attributes)
     (list_all (link_agrees (registration_label r)) r.links) (label_agrees r named) in
     all_fail (λ c. endpoint_meets c r || list_any (link_meets c r.base) r.links) p
     (λ star. or_false (endpoint_meets (exact p) r) (list_any (link_meets (exact p) r.base) r.links)
     (attributes_unmet p (registration_label r) r.attributes star parts.0 other)
     (links_unmet p (registration_label r) r.base r.links star parts.1 other))
-    cs asked
+    cs requested
 
 not_selected_link : (cs : List CriterionValue) (p : List ℕ) (r : RegistrationValue) (l : Link) → exact_name cs ≡ Some p
     → (registration_label r ≡ 0 → ⊥) → (registration_label r ≡ name_label p → ⊥)
     → link_agrees (registration_label r) l ≡ true → is_selected_link cs r l ≡ false
-not_selected_link cs p r l asked named other own =
+not_selected_link cs p r l requested named other own =
     let parts = and_parts (list_all (agrees (registration_label r)) r.attributes)
     (list_all (link_agrees (registration_label r)) r.links) (label_agrees r named) in
     all_fail (λ c. link_meets c r.base l || endpoint_meets c r) p
     (λ star. or_false (link_meets (exact p) r.base l) (endpoint_meets (exact p) r)
     (attributes_unmet p (registration_label r) l.attributes star own other)
     (attributes_unmet p (registration_label r) r.attributes star parts.0 other))
-    cs asked
+    cs requested
 
 no_links : (cs : List CriterionValue) (p : List ℕ) (r : RegistrationValue) (ls : List Link) (v : ListingValue)
     → exact_name cs ≡ Some p → (registration_label r ≡ 0 → ⊥) → (registration_label r ≡ name_label p → ⊥)
     → list_all (link_agrees (registration_label r)) ls ≡ true → fold (offered_link cs r) v ls ≡ v
-no_links cs p r [] v asked named other all = refl
-no_links cs p r (l ∷ ls) v asked named other all =
+no_links cs p r [] v requested named other all = refl
+no_links cs p r (l ∷ ls) v requested named other all =
     let parts = and_parts (link_agrees (registration_label r) l)
     (list_all (link_agrees (registration_label r)) ls) all in
     ap (λ (b : Bool). fold (offered_link cs r) (cond b (offered v (link_text (resolved_link r.base l))) v) ls)
-    (not_selected_link cs p r l asked named other parts.0) ∙ no_links cs p r ls v asked named other parts.1
+    (not_selected_link cs p r l requested named other parts.0) ∙ no_links cs p r ls v requested named other parts.1
 
 -- A registration with another label adds nothing to a lookup of one endpoint.
 pub counted_unmet : (endpoints : Bool) (cs : List CriterionValue) (p : List ℕ) (r : RegistrationValue)
     (v : ListingValue) → exact_name cs ≡ Some p → (registration_label r ≡ 0 → ⊥)
     → (registration_label r ≡ name_label p → ⊥) → counted endpoints cs v r ≡ v
 unfolding offered_endpoint offered_links
-counted_unmet true cs p r v asked named other =
+counted_unmet true cs p r v requested named other =
     ap (λ (b : Bool). cond b (offered v (link_text (endpoint_link r))) v)
-    (not_selected_endpoint cs p r asked named other)
-counted_unmet false cs p r v asked named other =
-    no_links cs p r r.links v asked named other
+    (not_selected_endpoint cs p r requested named other)
+counted_unmet false cs p r v requested named other =
+    no_links cs p r r.links v requested named other
     (and_parts (list_all (agrees (registration_label r)) r.attributes)
     (list_all (link_agrees (registration_label r)) r.links) (label_agrees r named)).1
 
@@ -167,10 +167,10 @@ counted_unmet false cs p r v asked named other =
 pub found_unmet : (endpoints : Bool) (cs : List CriterionValue) (p : List ℕ) (label : ℕ) (ls : List (ℕ × ℕ))
     (e : ℕ × Stored) → label ≡ name_label p → exact_name cs ≡ Some p → IsFound ls e → is_labelled ls label e.0 ≡ false
     → is_labelled ls 0 e.0 ≡ false → (w : ListingValue) → counted endpoints cs w (registration_of e.1.registration) ≡ w
-found_unmet endpoints cs p label ls e is asked found none any w =
+found_unmet endpoints cs p label ls e is requested found none any w =
     let there : is_labelled ls (registration_label (registration_of e.1.registration)) e.0 ≡ true =
     ap is_some found.label in
-    counted_unmet endpoints cs p (registration_of e.1.registration) w asked
+    counted_unmet endpoints cs p (registration_of e.1.registration) w requested
     (λ i. true≢false (sym there ∙ ap (λ (l : ℕ). is_labelled ls l e.0) i ∙ any))
     (λ i. true≢false (sym there ∙ ap (λ (l : ℕ). is_labelled ls l e.0) (i ∙ sym is) ∙ none))
 

@@ -17,7 +17,7 @@ use Rattle.directory_registry.specs.declared.registration.Stored.{Stored}
 use Rattle.directory_registry.proofs.EntryLemmas.{number_self, number_same, number_other, each_map, each_both}
 use Rattle.directory_registry.proofs.EntryLemmas.{each_filter}
 use Rattle.directory_registry.proofs.EntryLemmas.{each_self, lookup_kept}
-use Rattle.directory_registry.proofs.RegistryLemmas.{Key, same, Indexed, seen, all_after}
+use Rattle.directory_registry.proofs.RegistryLemmas.{Key, same, Indexed, views, all_after}
 
 -- ---- the labels
 
@@ -56,75 +56,75 @@ same_test next ns ls n e i = by (is_number n e.0) refl
     by false h = ne_eqb e.1.registration.number n
         (λ j. true≢false (sym (subst (λ (k : ℕ). is_number n k ≡ true) (sym j ∙ i.number) (number_self n)) ∙ h))
 
-pub location_seen : (next : ℕ) (ns : List (Key × ℕ)) (ls : List (ℕ × ℕ)) (n : ℕ) (es : List (ℕ × Stored))
-    → Each (Indexed next ns ls) es → list_any (λ e. nat_eq e.1.number n) (seen es) ≡ is_some (lookup (is_number n) es)
-location_seen next ns ls n [] all = refl
-location_seen next ns ls n (e ∷ es) all =
+pub location_viewed : (next : ℕ) (ns : List (Key × ℕ)) (ls : List (ℕ × ℕ)) (n : ℕ) (es : List (ℕ × Stored))
+    → Each (Indexed next ns ls) es → list_any (λ e. nat_eq e.1.number n) (views es) ≡ is_some (lookup (is_number n) es)
+location_viewed next ns ls n [] all = refl
+location_viewed next ns ls n (e ∷ es) all =
     by (nat_eq e.1.registration.number n) (is_number n e.0) (same_test next ns ls n e all.0)
-    (location_seen next ns ls n es all.1)
+    (location_viewed next ns ls n es all.1)
   where
-    by : (b c : Bool) → b ≡ c → list_any (λ x. nat_eq x.1.number n) (seen es) ≡ is_some (lookup (is_number n) es)
-        → (b || list_any (λ x. nat_eq x.1.number n) (seen es)) ≡ is_some (cond c (Some e.1) (lookup (is_number n) es))
+    by : (b c : Bool) → b ≡ c → list_any (λ x. nat_eq x.1.number n) (views es) ≡ is_some (lookup (is_number n) es)
+        → (b || list_any (λ x. nat_eq x.1.number n) (views es)) ≡ is_some (cond c (Some e.1) (lookup (is_number n) es))
     by true true h rest = refl
     by false false h rest = rest
     by true false h rest = absurd (true≢false h)
     by false true h rest = absurd (true≢false (sym h))
 
-pub found_seen : (next : ℕ) (ns : List (Key × ℕ)) (ls : List (ℕ × ℕ)) (n : ℕ) (es : List (ℕ × Stored))
+pub found_view : (next : ℕ) (ns : List (Key × ℕ)) (ls : List (ℕ × ℕ)) (n : ℕ) (es : List (ℕ × Stored))
     → Each (Indexed next ns ls) es
-    → found_at (seen es) n ≡ option_map (λ s. registration_of s.registration) (lookup (is_number n) es)
-found_seen next ns ls n [] all = refl
-found_seen next ns ls n (e ∷ es) all =
+    → found_at (views es) n ≡ option_map (λ s. registration_of s.registration) (lookup (is_number n) es)
+found_view next ns ls n [] all = refl
+found_view next ns ls n (e ∷ es) all =
     by (nat_eq e.1.registration.number n) (is_number n e.0) (same_test next ns ls n e all.0)
-    (found_seen next ns ls n es all.1)
+    (found_view next ns ls n es all.1)
   where
     by : (b c : Bool) → b ≡ c
-        → found_at (seen es) n ≡ option_map (λ s. registration_of s.registration) (lookup (is_number n) es)
-        → cond b (Some (registration_of e.1.registration)) (found_at (seen es) n) ≡ option_map
+        → found_at (views es) n ≡ option_map (λ s. registration_of s.registration) (lookup (is_number n) es)
+        → cond b (Some (registration_of e.1.registration)) (found_at (views es) n) ≡ option_map
         (λ (s : Stored). registration_of s.registration) (cond c (Some e.1) (lookup (is_number n) es))
     by true true h rest = refl
     by false false h rest = rest
     by true false h rest = absurd (true≢false h)
     by false true h rest = absurd (true≢false (sym h))
 
-pub removed_seen : (next : ℕ) (ns : List (Key × ℕ)) (ls : List (ℕ × ℕ)) (n : ℕ) (es : List (ℕ × Stored))
-    → Each (Indexed next ns ls) es → seen (remove_entry (is_number n) es) ≡ without_location (seen es) n
-removed_seen next ns ls n [] all = refl
-removed_seen next ns ls n (e ∷ es) all =
+pub removed_view : (next : ℕ) (ns : List (Key × ℕ)) (ls : List (ℕ × ℕ)) (n : ℕ) (es : List (ℕ × Stored))
+    → Each (Indexed next ns ls) es → views (remove_entry (is_number n) es) ≡ without_location (views es) n
+removed_view next ns ls n [] all = refl
+removed_view next ns ls n (e ∷ es) all =
     by (nat_eq e.1.registration.number n) (is_number n e.0) (same_test next ns ls n e all.0)
-    (removed_seen next ns ls n es all.1)
+    (removed_view next ns ls n es all.1)
   where
-    by : (b c : Bool) → b ≡ c → seen (remove_entry (is_number n) es) ≡ without_location (seen es) n
-        → seen (cond c es (e ∷ remove_entry (is_number n) es)) ≡ cond b (seen es)
-        ((e.1.key.items, registration_of e.1.registration) ∷ without_location (seen es) n)
+    by : (b c : Bool) → b ≡ c → views (remove_entry (is_number n) es) ≡ without_location (views es) n
+        → views (cond c es (e ∷ remove_entry (is_number n) es)) ≡ cond b (views es)
+        ((e.1.key.items, registration_of e.1.registration) ∷ without_location (views es) n)
     by true true h rest = refl
     by false false h rest =
         ap (λ (t : List (List ℕ × RegistrationValue)). (e.1.key.items, registration_of e.1.registration) ∷ t) rest
     by true false h rest = absurd (true≢false h)
     by false true h rest = absurd (true≢false (sym h))
 
-pub changed_seen : (change : RegistrationValue → RegistrationValue) (next : ℕ) (ns : List (Key × ℕ)) (ls : List (ℕ × ℕ))
+pub changed_view : (change : RegistrationValue → RegistrationValue) (next : ℕ) (ns : List (Key × ℕ)) (ls : List (ℕ × ℕ))
     (n : ℕ) (s old : Stored) → s.key ≡ old.key
     → registration_of s.registration ≡ change (registration_of old.registration)
     → (es : List (ℕ × Stored)) → Each (Indexed next ns ls) es → lookup (is_number n) es ≡ Some old
-    → seen (set_value (is_number n) es s) ≡ with_change change n (seen es)
-changed_seen change next ns ls n s old k is [] all there = refl
-changed_seen change next ns ls n s old k is (e ∷ es) all there =
+    → views (set_value (is_number n) es s) ≡ with_change change n (views es)
+changed_view change next ns ls n s old k is [] all there = refl
+changed_view change next ns ls n s old k is (e ∷ es) all there =
     by (nat_eq e.1.registration.number n) (is_number n e.0) (same_test next ns ls n e all.0) there
-    (λ h. changed_seen change next ns ls n s old k is es all.1 h)
+    (λ h. changed_view change next ns ls n s old k is es all.1 h)
   where
     by : (b c : Bool) → b ≡ c → cond c (Some e.1) (lookup (is_number n) es) ≡ Some old
-        → (lookup (is_number n) es ≡ Some old → seen (set_value (is_number n) es s) ≡ with_change change n (seen es))
-        → seen (cond c ((e.0, s) ∷ es) (e ∷ set_value (is_number n) es s)) ≡ cond b
-        ((e.1.key.items, change (registration_of e.1.registration)) ∷ seen es)
-        ((e.1.key.items, registration_of e.1.registration) ∷ with_change change n (seen es))
+        → (lookup (is_number n) es ≡ Some old → views (set_value (is_number n) es s) ≡ with_change change n (views es))
+        → views (cond c ((e.0, s) ∷ es) (e ∷ set_value (is_number n) es s)) ≡ cond b
+        ((e.1.key.items, change (registration_of e.1.registration)) ∷ views es)
+        ((e.1.key.items, registration_of e.1.registration) ∷ with_change change n (views es))
     by true true h here rest =
         let this : e.1 ≡ old = cc in
         let key : s.key.items ≡ e.1.key.items =
         ap (λ (t : Key). t.items) k ∙ ap (λ (t : Stored). t.key.items) (sym this) in
         let value : registration_of s.registration ≡ change (registration_of e.1.registration) =
         is ∙ ap (λ (t : Stored). change (registration_of t.registration)) (sym this) in
-        (λ i. (key i, value i) ∷ seen es)
+        (λ i. (key i, value i) ∷ views es)
     by false false h here rest =
         ap (λ (t : List (List ℕ × RegistrationValue)). (e.1.key.items, registration_of e.1.registration) ∷ t)
         (rest here)
@@ -133,17 +133,17 @@ changed_seen change next ns ls n s old k is (e ∷ es) all there =
 
 pub absent_change : (change : RegistrationValue → RegistrationValue) (next : ℕ) (ns : List (Key × ℕ))
     (ls : List (ℕ × ℕ)) (n : ℕ) (es : List (ℕ × Stored)) → Each (Indexed next ns ls) es → lookup (is_number n) es ≡ None
-    → with_change change n (seen es) ≡ seen es
+    → with_change change n (views es) ≡ views es
 absent_change change next ns ls n [] all none = refl
 absent_change change next ns ls n (e ∷ es) all none =
     by (nat_eq e.1.registration.number n) (is_number n e.0) (same_test next ns ls n e all.0) none
     (λ h. absent_change change next ns ls n es all.1 h)
   where
     by : (b c : Bool) → b ≡ c → cond c (Some e.1) (lookup (is_number n) es) ≡ None
-        → (lookup (is_number n) es ≡ None → with_change change n (seen es) ≡ seen es)
-        → cond b ((e.1.key.items, change (registration_of e.1.registration)) ∷ seen es)
-        ((e.1.key.items, registration_of e.1.registration) ∷ with_change change n (seen es)) ≡
-        (e.1.key.items, registration_of e.1.registration) ∷ seen es
+        → (lookup (is_number n) es ≡ None → with_change change n (views es) ≡ views es)
+        → cond b ((e.1.key.items, change (registration_of e.1.registration)) ∷ views es)
+        ((e.1.key.items, registration_of e.1.registration) ∷ with_change change n (views es)) ≡
+        (e.1.key.items, registration_of e.1.registration) ∷ views es
     by true true h here rest = absurd cc
     by false false h here rest =
         ap (λ (t : List (List ℕ × RegistrationValue)). (e.1.key.items, registration_of e.1.registration) ∷ t)
@@ -152,16 +152,16 @@ absent_change change next ns ls n (e ∷ es) all none =
     by false true h here rest = absurd (true≢false (sym h))
 
 pub absent_removal : (next : ℕ) (ns : List (Key × ℕ)) (ls : List (ℕ × ℕ)) (n : ℕ) (es : List (ℕ × Stored))
-    → Each (Indexed next ns ls) es → lookup (is_number n) es ≡ None → without_location (seen es) n ≡ seen es
+    → Each (Indexed next ns ls) es → lookup (is_number n) es ≡ None → without_location (views es) n ≡ views es
 absent_removal next ns ls n [] all none = refl
 absent_removal next ns ls n (e ∷ es) all none =
     by (nat_eq e.1.registration.number n) (is_number n e.0) (same_test next ns ls n e all.0) none
     (λ h. absent_removal next ns ls n es all.1 h)
   where
     by : (b c : Bool) → b ≡ c → cond c (Some e.1) (lookup (is_number n) es) ≡ None
-        → (lookup (is_number n) es ≡ None → without_location (seen es) n ≡ seen es)
-        → cond b (seen es) ((e.1.key.items, registration_of e.1.registration) ∷ without_location (seen es) n) ≡
-        (e.1.key.items, registration_of e.1.registration) ∷ seen es
+        → (lookup (is_number n) es ≡ None → without_location (views es) n ≡ views es)
+        → cond b (views es) ((e.1.key.items, registration_of e.1.registration) ∷ without_location (views es) n) ≡
+        (e.1.key.items, registration_of e.1.registration) ∷ views es
     by true true h here rest = absurd cc
     by false false h here rest =
         ap (λ (t : List (List ℕ × RegistrationValue)). (e.1.key.items, registration_of e.1.registration) ∷ t)
@@ -258,21 +258,21 @@ abbrev pub alive : ℕ → ℕ × Stored → Bool
 alive now e = nat_lt now e.1.registration.deadline
 
 -- The map and the list keep the same registrations.
-pub kept_seen : (now : ℕ) (es : List (ℕ × Stored))
-    → seen (filter (alive now) es) ≡ filter (λ e. nat_lt now e.1.deadline) (seen es)
-kept_seen now [] = refl
-kept_seen now (e ∷ es) = by (alive now e) (kept_seen now es)
+pub kept_view : (now : ℕ) (es : List (ℕ × Stored))
+    → views (filter (alive now) es) ≡ filter (λ e. nat_lt now e.1.deadline) (views es)
+kept_view now [] = refl
+kept_view now (e ∷ es) = by (alive now e) (kept_view now es)
   where
-    by : (b : Bool) → seen (filter (alive now) es) ≡ filter (λ x. nat_lt now x.1.deadline) (seen es)
-        → seen (cond b (e ∷ filter (alive now) es) (filter (alive now) es)) ≡ cond b
-        ((e.1.key.items, registration_of e.1.registration) ∷ filter (λ x. nat_lt now x.1.deadline) (seen es))
-        (filter (λ x. nat_lt now x.1.deadline) (seen es))
+    by : (b : Bool) → views (filter (alive now) es) ≡ filter (λ x. nat_lt now x.1.deadline) (views es)
+        → views (cond b (e ∷ filter (alive now) es) (filter (alive now) es)) ≡ cond b
+        ((e.1.key.items, registration_of e.1.registration) ∷ filter (λ x. nat_lt now x.1.deadline) (views es))
+        (filter (λ x. nat_lt now x.1.deadline) (views es))
     by true h = ap (λ (t : List (List ℕ × RegistrationValue)). (e.1.key.items, registration_of e.1.registration) ∷ t) h
     by false h = h
 
 -- Nothing has ended before the earliest time.
 pub none_ended : (now m : ℕ) (es : List (ℕ × Stored)) → now < m → all_after m es ≡ true
-    → seen es ≡ filter (λ e. nat_lt now e.1.deadline) (seen es)
+    → views es ≡ filter (λ e. nat_lt now e.1.deadline) (views es)
 none_ended now m [] h all = refl
 none_ended now m (e ∷ es) h all =
     let parts = and_parts (nat_le m e.1.registration.deadline) (all_after m es) all in
@@ -314,7 +314,7 @@ kept_indexed next ns ls keep es all =
 -- ---- all registrations
 
 -- The next registrations, in order.
-pub fold_seen : {V : Type 0} (f : V → RegistrationValue → V) (v : V) (es : List (ℕ × Stored))
-    → fold (λ w e. f w (registration_of e.1.registration)) v es ≡ fold f v (map (λ e. e.1) (seen es))
-fold_seen f v [] = refl
-fold_seen f v (e ∷ es) = fold_seen f (f v (registration_of e.1.registration)) es
+pub fold_view : {V : Type 0} (f : V → RegistrationValue → V) (v : V) (es : List (ℕ × Stored))
+    → fold (λ w e. f w (registration_of e.1.registration)) v es ≡ fold f v (map (λ e. e.1) (views es))
+fold_view f v [] = refl
+fold_view f v (e ∷ es) = fold_view f (f v (registration_of e.1.registration)) es

@@ -32,8 +32,8 @@ any_err (Ok x) P p = tt
 any_err (Err e) P p = p
 
 -- The entries that contracts see.
-abbrev pub seen : List (ℕ × Stored) → List (List ℕ × RegistrationValue)
-seen es = map (λ e. (e.1.key.items, registration_of e.1.registration)) es
+abbrev pub views : List (ℕ × Stored) → List (List ℕ × RegistrationValue)
+views es = map (λ e. (e.1.key.items, registration_of e.1.registration)) es
 
 -- No registration of the list ends before this time.
 abbrev pub all_after : ℕ → List (ℕ × Stored) → Bool
@@ -56,7 +56,7 @@ pub record IsHit (key : List ℕ) (es : List (ℕ × Stored)) : Type 0 where
   pub stored : Stored
   pub there : lookup (is_number at) es ≡ Some stored
   pub match : same key stored.key ≡ true
-  pub is : found (seen es) key ≡ Some (registration_of stored.registration)
+  pub is : found (views es) key ≡ Some (registration_of stored.registration)
 
 -- No registration has the key.
 abbrev pub HasNone : List ℕ → List (ℕ × Stored) → Type 0
@@ -69,7 +69,7 @@ hit_at true key e es up h rest = inr (record {
   stored = e.1;
   there = ap (λ (b : Bool). cond b (Some e.1) (lookup (is_number e.0) es)) (number_self e.0);
   match = h;
-  is = ap (λ (b : Bool). cond b (Some (registration_of e.1.registration)) (found (seen es) key)) h;
+  is = ap (λ (b : Bool). cond b (Some (registration_of e.1.registration)) (found (views es) key)) h;
 })
 hit_at false key e es up h (inl none) = inl (h, none)
 hit_at false key e es up h (inr hit) = inr (record {
@@ -81,17 +81,17 @@ hit_at false key e es up h (inr hit) = inr (record {
       (lookup_above e.0 es up) in let there : lookup (is_number hit.at) es ≡ Some hit.stored = hit.there in absurd cc))
       ∙ hit.there;
   match = hit.match;
-  is = ap (λ (b : Bool). cond b (Some (registration_of e.1.registration)) (found (seen es) key)) h ∙ hit.is;
+  is = ap (λ (b : Bool). cond b (Some (registration_of e.1.registration)) (found (views es) key)) h ∙ hit.is;
 })
 
 pub hit_or_none : (key : List ℕ) (es : List (ℕ × Stored)) → Ascends es → HasNone key es ⊎ IsHit key es
 hit_or_none key [] up = inl tt
 hit_or_none key (e ∷ es) up = hit_at (same key e.1.key) key e es up.0 refl (hit_or_none key es up.1)
 
-pub none_found : (key : List ℕ) (es : List (ℕ × Stored)) → HasNone key es → found (seen es) key ≡ None
+pub none_found : (key : List ℕ) (es : List (ℕ × Stored)) → HasNone key es → found (views es) key ≡ None
 none_found key [] none = refl
 none_found key (e ∷ es) none =
-    ap (λ (b : Bool). cond b (Some (registration_of e.1.registration)) (found (seen es) key)) none.0
+    ap (λ (b : Bool). cond b (Some (registration_of e.1.registration)) (found (views es) key)) none.0
     ∙ none_found key es none.1
 
 pub other_way : (a b : List ℕ) → pointwise nat_eq b a ≡ true → pointwise nat_eq a b ≡ true
@@ -123,11 +123,11 @@ hit_number key next ns ls es hit all =
 -- The location of an endpoint, by the list and by the maps.
 pub number_is : (key : List ℕ) (next : ℕ) (ns : List (Key × ℕ)) (ls : List (ℕ × ℕ)) (es : List (ℕ × Stored))
     → Ascends es → Each (Indexed next ns ls) es
-    → option_map (λ r. r.number) (found (seen es) key) ≡ number_in key (lookup (same key) ns) es
+    → option_map (λ r. r.number) (found (views es) key) ≡ number_in key (lookup (same key) ns) es
 number_is key next ns ls es up all = by (hit_or_none key es up)
   where
     by : HasNone key es ⊎ IsHit key es
-        → option_map (λ r. r.number) (found (seen es) key) ≡ number_in key (lookup (same key) ns) es
+        → option_map (λ r. r.number) (found (views es) key) ≡ number_in key (lookup (same key) ns) es
     by (inl none) = ap (option_map (λ (r : RegistrationValue). r.number)) (none_found key es none)
         ∙ not_in key (lookup (same key) ns) es none
     by (inr hit) =
@@ -175,6 +175,6 @@ new_is_next v n h = by (nat_lt (length v.entries) v.limit) (nat_eq v.next 184467
         cc in (at, λ i. true≢false (sym (eq-eqb v.next 18446744073709551615 (sym at ∙ i)) ∙ e))
     by false c e h = absurd cc
 
-pub length_seen : (es : List (ℕ × Stored)) → length (seen es) ≡ length es
-length_seen [] = refl
-length_seen (e ∷ es) = ap suc (length_seen es)
+pub length_view : (es : List (ℕ × Stored)) → length (views es) ≡ length es
+length_view [] = refl
+length_view (e ∷ es) = ap suc (length_view es)

@@ -13,7 +13,7 @@ use Rattle.directory_registry.specs.Prelude.{Each, is_number}
 use Rattle.directory_registry.specs.declared.registration.Stored.{Stored}
 use Rattle.directory_registry.proofs.EntryLemmas.{number_self, same_list, each_map, each_both, each_lookup, each_set}
 use Rattle.directory_registry.proofs.EntryLemmas.{each_append, Ascends, insert_new, insert_present}
-use Rattle.directory_registry.proofs.RegistryLemmas.{Key, same, Indexed, seen, HasNone, IsHit, hit_or_none, hit_number}
+use Rattle.directory_registry.proofs.RegistryLemmas.{Key, same, Indexed, views, HasNone, IsHit, hit_or_none, hit_number}
 use Rattle.directory_registry.proofs.RegistryLemmas.{place_there, place_absent, new_is_next, none_found}
 
 -- Only the registration at this location has the key.
@@ -48,28 +48,28 @@ others_indexed key n next next' ns ns' ls ls' kept more e other h =
     by true t = absurd (other (h.1 t))
     by false t = t
 
-seen_here : (hit : Bool) (key : List ℕ) (n : ℕ) (s old : Stored) (e : ℕ × Stored) (es : List (ℕ × Stored))
+view_here : (hit : Bool) (key : List ℕ) (n : ℕ) (s old : Stored) (e : ℕ × Stored) (es : List (ℕ × Stored))
     → s.key.items ≡ key → same key old.key ≡ true → is_number n e.0 ≡ hit → IsOnly key n e
     → cond hit (Some e.1) (lookup (is_number n) es) ≡ Some old
     → (lookup (is_number n) es ≡ Some old
-    → seen (set_value (is_number n) es s) ≡ listed.insert_entry (pointwise nat_eq) (seen es) key
+    → views (set_value (is_number n) es s) ≡ listed.insert_entry (pointwise nat_eq) (views es) key
     (registration_of s.registration))
-    → seen (cond hit ((e.0, s) ∷ es) (e ∷ set_value (is_number n) es s)) ≡ listed.insert_entry (pointwise nat_eq)
-    (seen (e ∷ es)) key (registration_of s.registration)
-seen_here true key n s old e es k o h only there rest =
+    → views (cond hit ((e.0, s) ∷ es) (e ∷ set_value (is_number n) es s)) ≡ listed.insert_entry (pointwise nat_eq)
+    (views (e ∷ es)) key (registration_of s.registration)
+view_here true key n s old e es k o h only there rest =
     let this : e.1 ≡ old = cc in
     let match : same key e.1.key ≡ true = subst (λ (t : Stored). same key t.key ≡ true) (sym this) o in
     let items : s.key.items ≡ e.1.key.items = k ∙ same_list key e.1.key.items match in
-    ap (λ (t : List ℕ). (t, registration_of s.registration) ∷ seen es) items
+    ap (λ (t : List ℕ). (t, registration_of s.registration) ∷ views es) items
     ∙ sym (ap (λ (b : Bool).
-    cond b ((e.1.key.items, registration_of s.registration) ∷ seen es)
-    ((e.1.key.items, registration_of e.1.registration) ∷ listed.insert_entry (pointwise nat_eq) (seen es) key
+    cond b ((e.1.key.items, registration_of s.registration) ∷ views es)
+    ((e.1.key.items, registration_of e.1.registration) ∷ listed.insert_entry (pointwise nat_eq) (views es) key
     (registration_of s.registration))) match)
-seen_here false key n s old e es k o h only there rest =
+view_here false key n s old e es k o h only there rest =
     ap (λ (t : List (List ℕ × RegistrationValue)). (e.1.key.items, registration_of e.1.registration) ∷ t) (rest there)
     ∙ sym (ap (λ (b : Bool).
-    cond b ((e.1.key.items, registration_of s.registration) ∷ seen es)
-    ((e.1.key.items, registration_of e.1.registration) ∷ listed.insert_entry (pointwise nat_eq) (seen es) key
+    cond b ((e.1.key.items, registration_of s.registration) ∷ views es)
+    ((e.1.key.items, registration_of e.1.registration) ∷ listed.insert_entry (pointwise nat_eq) (views es) key
     (registration_of s.registration))) (by (same key e.1.key) refl))
   where
     by : (b : Bool) → same key e.1.key ≡ b → same key e.1.key ≡ false
@@ -77,24 +77,24 @@ seen_here false key n s old e es k o h only there rest =
     by false t = t
 
 -- The registration at a present number is replaced in its place.
-pub seen_present : (key : List ℕ) (n : ℕ) (s old : Stored) → s.key.items ≡ key → same key old.key ≡ true
+pub view_present : (key : List ℕ) (n : ℕ) (s old : Stored) → s.key.items ≡ key → same key old.key ≡ true
     → (es : List (ℕ × Stored)) → Each (IsOnly key n) es → lookup (is_number n) es ≡ Some old
-    → seen (set_value (is_number n) es s) ≡ listed.insert_entry (pointwise nat_eq) (seen es) key
+    → views (set_value (is_number n) es s) ≡ listed.insert_entry (pointwise nat_eq) (views es) key
     (registration_of s.registration)
-seen_present key n s old k o [] only there = absurd cc
-seen_present key n s old k o (e ∷ es) only there =
-    seen_here (is_number n e.0) key n s old e es k o refl only.0 there (λ h. seen_present key n s old k o es only.1 h)
+view_present key n s old k o [] only there = absurd cc
+view_present key n s old k o (e ∷ es) only there =
+    view_here (is_number n e.0) key n s old e es k o refl only.0 there (λ h. view_present key n s old k o es only.1 h)
 
 -- A registration with a new key goes last.
-pub seen_new : (key : List ℕ) (n : ℕ) (s : Stored) → s.key.items ≡ key → (es : List (ℕ × Stored)) → HasNone key es
-    → seen (es ++ (n, s) ∷ []) ≡ listed.insert_entry (pointwise nat_eq) (seen es) key (registration_of s.registration)
-seen_new key n s k [] none = ap (λ (t : List ℕ). (t, registration_of s.registration) ∷ []) k
-seen_new key n s k (e ∷ es) none =
+pub view_new : (key : List ℕ) (n : ℕ) (s : Stored) → s.key.items ≡ key → (es : List (ℕ × Stored)) → HasNone key es
+    → views (es ++ (n, s) ∷ []) ≡ listed.insert_entry (pointwise nat_eq) (views es) key (registration_of s.registration)
+view_new key n s k [] none = ap (λ (t : List ℕ). (t, registration_of s.registration) ∷ []) k
+view_new key n s k (e ∷ es) none =
     ap (λ (t : List (List ℕ × RegistrationValue)). (e.1.key.items, registration_of e.1.registration) ∷ t)
-    (seen_new key n s k es none.1)
+    (view_new key n s k es none.1)
     ∙ sym (ap (λ (b : Bool).
-    cond b ((e.1.key.items, registration_of s.registration) ∷ seen es)
-    ((e.1.key.items, registration_of e.1.registration) ∷ listed.insert_entry (pointwise nat_eq) (seen es) key
+    cond b ((e.1.key.items, registration_of s.registration) ∷ views es)
+    ((e.1.key.items, registration_of e.1.registration) ∷ listed.insert_entry (pointwise nat_eq) (views es) key
     (registration_of s.registration))) none.0)
 
 -- The location that a registration gets is that of the key, or the next one.
@@ -104,7 +104,7 @@ pub data Placed (key : List ℕ) (n next : ℕ) (ns : List (Key × ℕ)) (es : L
   New : n ≡ next → (n ≡ 18446744073709551615 → ⊥) → HasNone key es → Placed key n next ns es
 
 pub placed : (v : RegistryValue) (key : List ℕ) (n : ℕ) (ns : List (Key × ℕ)) (ls : List (ℕ × ℕ))
-    (es : List (ℕ × Stored)) → v.entries ≡ seen es → Ascends es → Each (Indexed v.next ns ls) es
+    (es : List (ℕ × Stored)) → v.entries ≡ views es → Ascends es → Each (Indexed v.next ns ls) es
     → place_of v key ≡ Some n → Placed key n v.next ns es
 placed v key n ns ls es view up all place = by (hit_or_none key es up)
   where
@@ -141,16 +141,16 @@ only_new key n e none match = absurd (true≢false (sym match ∙ none))
 -- The registrations that contracts see after one was stored.
 pub stored_view : (key : List ℕ) (n next : ℕ) (s : Stored) (ns : List (Key × ℕ)) (ls : List (ℕ × ℕ))
     (es : List (ℕ × Stored)) → s.key.items ≡ key → Ascends es → Each (Indexed next ns ls) es → Placed key n next ns es
-    → seen (insert_entry nat_cmp es n s) ≡ listed.insert_entry (pointwise nat_eq) (seen es) key
+    → views (insert_entry nat_cmp es n s) ≡ listed.insert_entry (pointwise nat_eq) (views es) key
     (registration_of s.registration)
 stored_view key n next s ns ls es k up all (Present old there match number) =
-    ap seen (insert_present n s old es up there)
-    ∙ seen_present key n s old k match es
+    ap views (insert_present n s old es up there)
+    ∙ view_present key n s old k match es
     (each_map (Indexed next ns ls) (IsOnly key n) (only_present key n next ns ls number) es all) there
 stored_view key n next s ns ls es k up all (New is last none) =
-    ap seen (insert_new n s es
+    ap views (insert_new n s es
     (each_map (Indexed next ns ls) (λ (e : ℕ × Stored). e.0 < n)
-    (λ e i. let b : e.0 < next = i.below in omega arith) es all)) ∙ seen_new key n s k es none
+    (λ e i. let b : e.0 < next = i.below in omega arith) es all)) ∙ view_new key n s k es none
 
 -- Each registration is indexed after one was stored.
 pub stored_well : (key : List ℕ) (n next next' : ℕ) (s : Stored) (ns ns' : List (Key × ℕ)) (ls ls' : List (ℕ × ℕ))

@@ -68,11 +68,11 @@ fn word_matches(pattern: &[u8], value: &[u8]) -> bool
     ensures { result ≡ list_any (matches_value pattern.now) (words value.now) }
 {
     let mut rest = value;
-    while let Some((word, behind)) = split_once(rest, b' ') {
+    while let Some((word, later)) = split_once(rest, b' ') {
         if value_matches(pattern, word) {
             return true;
         }
-        rest = behind;
+        rest = later;
     }
     value_matches(pattern, rest)
 }

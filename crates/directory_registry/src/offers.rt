@@ -72,7 +72,7 @@ pub(crate) fn offer_candidates(
 )
     requires ordered { IsStrictlySortedBy nat_cmp (keys_of entries.now.entries) }
     requires labelled { Each (IsFound labels.now.entries) entries.now.entries }
-    requires asked { exact_name (criteria_of criteria.now) ≡ Some name.now }
+    requires requested { exact_name (criteria_of criteria.now) ≡ Some name.now }
     ensures { listing.new ≡ all_counted endpoints (criteria_of criteria.now) listing.old entries.now.entries }
 {
     let label = label_of_name(name);

@@ -3,7 +3,7 @@ use Rattle.std.specs.Prelude.{◌≡◌, ◌⊎◌, ◌==◌, ℕ, Bool, false, 
 use Rattle.std.specs.Prelude.{codes, nat_eq}
 use lib.Pointwise.{pointwise}
 use Rattle.coap_serve.specs.Codes.{changed}
-use Rattle.coap_serve.specs.Prelude.{Exchange, Asked, Offered, Given, Gone, Message, Spells}
+use Rattle.coap_serve.specs.Prelude.{Exchange, Requested, Offered, Given, Gone, Message, Spells}
 
 -- The position after a response with this code: `true` if the valve is open. A 2.04 says that the payload of the
 -- request was set. After any other response, the position is as before.
@@ -19,7 +19,7 @@ pub record IsAnswered (p : Bool) (m : Message) (bytes : List ℕ) (q : Bool) : T
 
 -- Holds if `q` is the position after an exchange, and `p` the one before. A request without a response changes nothing.
 abbrev pub IsNext : Bool → Exchange → Bool → Type 0
-IsNext p (Asked id m limit bytes) q = ((bytes ≡ []) × (q ≡ p)) ⊎ IsAnswered p m bytes q
+IsNext p (Requested id m limit bytes) q = ((bytes ≡ []) × (q ≡ p)) ⊎ IsAnswered p m bytes q
 IsNext p (Offered id bytes) q = q ≡ p
 IsNext p (Given id outcome) q = q ≡ p
 IsNext p (Gone id) q = q ≡ p

@@ -24,10 +24,7 @@ const NUMBER: u64 = 1;
 const RESPONDED: u8 = 2;
 
 /// Returns the address of the peer, if the system reports it.
-fn peer_of<R: Net + time::Clock + AllocGlobal>(
-    rt: &R,
-    wire: &ClientWire<'_, R>,
-) -> Line {
+fn peer_of<R: Net + time::Clock + AllocGlobal>(rt: &R, wire: &ClientWire<'_, R>) -> Line {
     let mut line = Line::new();
     let text = match wire.peer() {
         Ok(peer) => format!(in rt.alloc(); "{peer}").ok(),

@@ -47,7 +47,7 @@ fn print_file_error(rt: &impl Eprint, trouble: FileError, name: &str) -> u8
 }
 
 /// Reports a failed connection, with the error for the last address that was tried, and returns the exit status.
-fn tell_unconnected(rt: &impl Eprint, fault: ConnectFault) -> u8
+fn report_unconnected(rt: &impl Eprint, fault: ConnectFault) -> u8
     ensures { result ≡ 3 }
 {
     let status = PROGRAM.print_fault(rt, fault, FAULT);
@@ -149,7 +149,7 @@ fn run(
     }
     let line = match connect(rt, plan) {
         Ok(line) => line,
-        Err(fault) => return tell_unconnected(rt, fault),
+        Err(fault) => return report_unconnected(rt, fault),
     };
     match &plan.output {
         Some(name) if name.as_str() != "-" => match create(rt, name.as_str()) {

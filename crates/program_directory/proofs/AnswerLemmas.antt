@@ -5,13 +5,13 @@ use Rattle.std.specs.Prelude.{if◌then◌else◌}
 use Rattle.std.specs.Bool.{OnTrue, OnFalse}
 use Rattle.coap_wire.specs.Message.{Message}
 use Rattle.coap_wire.specs.Spelling.{spelling}
-use Rattle.coap_server_engine.specs.values.Exchanges.{Exchange, Asked}
+use Rattle.coap_server_engine.specs.values.Exchanges.{Exchange, Requested}
 use Rattle.directory_core.specs.Replies.{DirectoryValue, new_directory, at_time, replying, Replies}
 use Rattle.directory_core.specs.Endpoints.{ReachedDirectory, Begun, AfterRequest}
 use Rattle.directory_core.specs.Responses.{fits}
 use Rattle.directory_core.specs.declared.reply.Reply.{Reply}
 use Rattle.directory_core.specs.declared.reply.Reply.TheVariants as reply
-use Rattle.program_directory.specs.Answers.{Answers, IsAnswered, NoneAsked, OneAnswered, ResultGiven, ConnectionGone}
+use Rattle.program_directory.specs.Answers.{Answers, IsAnswered, NoRequests, OneAnswered, ResultGiven, ConnectionGone}
 use Rattle.program_directory.specs.Answers.{time_at, results_within, written_in}
 
 -- ---- one response
@@ -43,19 +43,19 @@ other_appended items room message other old mid new false lacks is same written 
 
 -- A new directory has answered nothing.
 pub begun : (d : DirectoryValue) (limit capacity : ℕ) → d ≡ new_directory limit capacity → Answers [] d
-begun d limit capacity is = subst (λ v. Answers [] v) (sym is) (NoneAsked limit capacity)
+begun d limit capacity is = subst (λ v. Answers [] v) (sym is) (NoRequests limit capacity)
 
 -- One more request was answered, with the bytes that were written to the empty buffer.
 pub answered : (reads : List ℕ → Type 0) (earlier : List Exchange) (before after : DirectoryValue) (id : ℕ)
     (limit room : ℕ) (m : Message) (token bytes old new : List ℕ) → token ≡ m.token → old ≡ [] → new ≡ old ++ bytes
     → IsAnswered reads before limit room m token bytes after → Answers earlier before
-    → Answers (earlier ++ Asked id m limit new ∷ []) after
+    → Answers (earlier ++ Requested id m limit new ∷ []) after
 answered reads earlier before after id limit room m token bytes old new is_token is_empty is_new is all =
     let written : bytes ≡ new = sym (is_new ∙ ap (λ start. start ++ bytes) is_empty) in
     let unread : IsAnswered (λ moments. Unit {0}) before limit room m token bytes after =
     record { moment = is.moment; read = tt; reply = is.reply; replies = is.replies; written = is.written } in
     let of_request = subst (λ t. IsAnswered (λ moments. Unit {0}) before limit room m t bytes after) is_token unread in
-    subst (λ response. Answers (earlier ++ Asked id m limit response ∷ []) after) written
+    subst (λ response. Answers (earlier ++ Requested id m limit response ∷ []) after) written
     (OneAnswered earlier before after id limit room m bytes all of_request)
 
 -- ---- the directories of applications
@@ -83,7 +83,7 @@ reached_by d after now limit m reply.OutOfMemory is replies =
 
 -- Requests reach the directory of an application.
 pub reached : (exchanges : List Exchange) (d : DirectoryValue) → Answers exchanges d → ReachedDirectory d
-reached _ _ (NoneAsked limit capacity) = Begun limit capacity
+reached _ _ (NoRequests limit capacity) = Begun limit capacity
 reached _ _ (OneAnswered exchanges before after id limit room m response all is) =
     reached_by before after (time_at is.moment) (results_within limit m.token) m is.reply
     (reached exchanges before all) is.replies

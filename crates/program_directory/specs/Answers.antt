@@ -4,7 +4,7 @@ use Rattle.coap_wire.specs.Message.{Message}
 use Rattle.coap_wire.specs.Spelling.{spelling}
 use Rattle.coap_conn.specs.declared.phase.Reply.{Reply as Queued}
 use Rattle.coap_model.specs.declared.answers.ResponseFault.{ResponseFault}
-use Rattle.coap_server_engine.specs.values.Exchanges.{Exchange, Asked, Given, Gone}
+use Rattle.coap_server_engine.specs.values.Exchanges.{Exchange, Requested, Given, Gone}
 use Rattle.directory_core.specs.Replies.{DirectoryValue, new_directory, at_time, replying, Replies}
 use Rattle.directory_core.specs.Responses.{message_of, fits}
 use Rattle.directory_core.specs.declared.reply.Reply.{Reply}
@@ -45,11 +45,11 @@ pub record IsAnswered (reads : List ℕ → Type 0) (before : DirectoryValue) (l
 -- A directory that was new has this value after these exchanges with its server. Each request was answered at once, at
 -- the time of some reading of the clock, into a buffer with some room.
 pub data Answers : List Exchange → DirectoryValue → Type 0 where
-  NoneAsked : (limit capacity : ℕ) → Answers [] (new_directory limit capacity)
+  NoRequests : (limit capacity : ℕ) → Answers [] (new_directory limit capacity)
   OneAnswered : (exchanges : List Exchange) (before after : DirectoryValue) (id limit room : ℕ) (request : Message)
       (response : List ℕ) → Answers exchanges before
       → IsAnswered (λ moments. Unit {0}) before limit room request request.token response after
-      → Answers (exchanges ++ Asked id request limit response ∷ []) after
+      → Answers (exchanges ++ Requested id request limit response ∷ []) after
   ResultGiven : (exchanges : List Exchange) (d : DirectoryValue) (id : ℕ) (outcome : Result Queued ResponseFault)
       → Answers exchanges d → Answers (exchanges ++ Given id outcome ∷ []) d
   ConnectionGone : (exchanges : List Exchange) (d : DirectoryValue) (id : ℕ)

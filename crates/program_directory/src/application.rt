@@ -1,7 +1,7 @@
 //! The resource directory as the application of a server.
 
 ghost use Rattle.std.specs.Prelude.{◌≡◌, ◌-◌, ℕ, List, [], ◌∷◌, ◌++◌, option_map, vec_len, vec_capacity};
-ghost use Rattle.coap_io.specs.streams.DeviceTraces.{TellsMore};
+ghost use Rattle.coap_io.specs.streams.DeviceTraces.{AddsCalls};
 ghost use Rattle.directory_core.specs.Replies.{new_directory};
 ghost use Rattle.program_directory.specs.Answers.{Answers, IsAnswered, response_of};
 
@@ -52,7 +52,7 @@ impl<C: Clock + Drop> DirectoryApplication<C> {
         response: &mut Vec<u8>,
     )
         ensures answered { (bytes : List ℕ) × (response.new.items ≡ response.old.items ++ bytes)
-            × IsAnswered (TellsMore (C.moments self.old.clock) (C.moments self.new.clock)) self.old.directory limit
+            × IsAnswered (AddsCalls (C.moments self.old.clock) (C.moments self.new.clock)) self.old.directory limit
             (vec_capacity response.old - vec_len response.old) request.now token.now.items bytes self.new.directory }
     {
         let now = self.clock.now().min(LAST);

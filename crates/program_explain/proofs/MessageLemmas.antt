@@ -9,26 +9,32 @@ use Rattle.program_explain.specs.Printed.{OutputLine, PrintsTo, listed}
 use Rattle.program_explain.specs.declared.layout.Way.{Way}
 use Rattle.program_explain.proofs.PrintedLemmas.{prints_nothing, prints_then}
 
-module _ (id : ℕ) (way : Way) (only held : Option ℕ) where
+module _ (id : ℕ) (way : Way) (only pending : Option ℕ) where
   -- The calls so far are the first ones of those for all bytes: their lines are printed, and the others follow.
   pub record Passes (all : List ℕ) (first : TapValue) (x y : Option (List ℕ)) (later : Option ℕ) (left : List ℕ)
       (tap : TapValue) : Type 0 where
     pub calls : ℕ
     pub enough : length left ≤ calls
     pub lines : List OutputLine
-    pub prints : PrintsTo only held lines x y later
+    pub prints : PrintsTo only pending lines x y later
     pub same : passed (length all) id way first all ≡ lines_before lines (passed calls id way tap left)
 
   -- The tap after all bytes, and all lines.
   abbrev pub IsPassed : List ℕ → TapValue → Option (List ℕ) → Option (List ℕ) → Option ℕ → TapValue → Type 0
   IsPassed all first x y later tap =
       (tap ≡ (passed (length all) id way first all).tap)
-      × PrintsTo only held (passed (length all) id way first all).lines x y later
+      × PrintsTo only pending (passed (length all) id way first all).lines x y later
 
   -- Before the first call.
-  pub begins : (all : List ℕ) (first : TapValue) (x : Option (List ℕ)) → Passes all first x x held all first
+  pub begins : (all : List ℕ) (first : TapValue) (x : Option (List ℕ)) → Passes all first x x pending all first
   begins all first x =
-      record { calls = length all; enough = omega arith; lines = []; prints = prints_nothing only held x; same = refl }
+      record {
+        calls = length all;
+        enough = omega arith;
+        lines = [];
+        prints = prints_nothing only pending x;
+        same = refl;
+      }
 
   nothing : (calls : ℕ) (left : List ℕ) (tap : TapValue) → left ≡ []
       → passed calls id way tap left ≡ record { tap = tap; lines = [] }
@@ -65,7 +71,7 @@ module _ (id : ℕ) (way : Way) (only held : Option ℕ) where
     ends_so y later left tap now so is =
         let whole = so.same ∙ ap (lines_before so.lines) is in (
           sym (ap (λ (p : Passed). p.tap) whole),
-          subst (λ (l : List OutputLine). PrintsTo only held l x y later)
+          subst (λ (l : List OutputLine). PrintsTo only pending l x y later)
               (sym (ap (λ (p : Passed). p.lines) whole ∙ append-nil so.lines)) so.prints,
         )
 

@@ -85,26 +85,26 @@ module _ (only : Option ℕ) where
       by (Some id) = record { text = []; texts = refl; adds = bytes_none x; time = refl }
 
 -- A printer of one connection leaves a line out that is not about it.
-pub prints_no_other : (only held id : Option ℕ) (line : List ℕ) (x : Option (List ℕ)) → is_some only ≡ true
+pub prints_no_other : (only pending id : Option ℕ) (line : List ℕ) (x : Option (List ℕ)) → is_some only ≡ true
     → option_eq nat_eq id only ≡ false
-    → PrintsTo only held (Text id line ∷ []) x x held
+    → PrintsTo only pending (Text id line ∷ []) x x pending
 unfolding AreLineTexts of_connection
-prints_no_other None held id line x some not = absurd cc
-prints_no_other (Some n) held id line x some not =
+prints_no_other None pending id line x some not = absurd cc
+prints_no_other (Some n) pending id line x some not =
     record { text = []; texts = rw not refl; adds = bytes_none x; time = rw not refl }
 
 -- It prints a line that is about it, after the time.
-pub prints_about : (only held id : Option ℕ) (line : List ℕ) (x y : Option (List ℕ)) → is_some only ≡ true
+pub prints_about : (only pending id : Option ℕ) (line : List ℕ) (x y : Option (List ℕ)) → is_some only ≡ true
     → option_eq nat_eq id only ≡ true
-    → PrintsTo None None (time_lines held ++ Text id line ∷ []) x y None
-    → PrintsTo only held (Text id line ∷ []) x y None
+    → PrintsTo None None (time_lines pending ++ Text id line ∷ []) x y None
+    → PrintsTo only pending (Text id line ∷ []) x y None
 unfolding of_connection
-prints_about None held id line x y some is p = absurd cc
-prints_about (Some n) held id line x y some is p =
-    let shown : of_connection n held (Text id line ∷ [])
-    ≡ record { lines = time_lines held ++ Text id line ∷ []; time = None } =
+prints_about None pending id line x y some is p = absurd cc
+prints_about (Some n) pending id line x y some is p =
+    let shown : of_connection n pending (Text id line ∷ [])
+    ≡ record { lines = time_lines pending ++ Text id line ∷ []; time = None } =
     rw is (ap (λ (l : List OutputLine). record { lines = l; time = None })
-    (append-nil (time_lines held ++ Text id line ∷ []))) in
+    (append-nil (time_lines pending ++ Text id line ∷ []))) in
     record {
       text = p.text;
       texts = subst (λ (f : Filtered). AreLineTexts f.lines p.text) (sym shown) p.texts;
@@ -113,28 +113,28 @@ prints_about (Some n) held id line x y some is p =
     }
 
 -- It keeps a time.
-pub keeps_time : (only held : Option ℕ) (seconds : ℕ) (x : Option (List ℕ)) → is_some only ≡ true
-    → PrintsTo only held (Time seconds ∷ []) x x (Some seconds)
+pub keeps_time : (only pending : Option ℕ) (seconds : ℕ) (x : Option (List ℕ)) → is_some only ≡ true
+    → PrintsTo only pending (Time seconds ∷ []) x x (Some seconds)
 unfolding AreLineTexts of_connection
-keeps_time None held seconds x some = absurd cc
-keeps_time (Some n) held seconds x some = record { text = []; texts = refl; adds = bytes_none x; time = refl }
+keeps_time None pending seconds x some = absurd cc
+keeps_time (Some n) pending seconds x some = record { text = []; texts = refl; adds = bytes_none x; time = refl }
 
 -- A printer of all lines has printed one.
-pub one_printed : (only held later : Option ℕ) (l : OutputLine) (text : List ℕ) (x y : Option (List ℕ))
-    → is_some only ≡ false → later ≡ held
-    → IsLineText l text → AddsBytes x y (ended text) → PrintsTo only held (l ∷ []) x y later
-one_printed None held later l text x y all same is adds =
+pub one_printed : (only pending later : Option ℕ) (l : OutputLine) (text : List ℕ) (x y : Option (List ℕ))
+    → is_some only ≡ false → later ≡ pending
+    → IsLineText l text → AddsBytes x y (ended text) → PrintsTo only pending (l ∷ []) x y later
+one_printed None pending later l text x y all same is adds =
     record { text = ended text; texts = one_text l text is; adds = adds; time = same }
-one_printed (Some n) held later l text x y all same is adds = absurd cc
+one_printed (Some n) pending later l text x y all same is adds = absurd cc
 
 -- A printer of one connection has printed a line about it after the time.
-pub prints_after : (only held id later : Option ℕ) (line : List ℕ) (x y z : Option (List ℕ)) → is_some only ≡ true
+pub prints_after : (only pending id later : Option ℕ) (line : List ℕ) (x y z : Option (List ℕ)) → is_some only ≡ true
     → option_eq nat_eq id only ≡ true → later ≡ None
-    → PrintsTo None None (time_lines held) x y None → AddsBytes y z (ended line)
-    → PrintsTo only held (Text id line ∷ []) x z later
-prints_after only held id later line x y z some is none time adds =
-    subst (λ t. PrintsTo only held (Text id line ∷ []) x z t) (sym none)
-    (prints_about only held id line x z some is
+    → PrintsTo None None (time_lines pending) x y None → AddsBytes y z (ended line)
+    → PrintsTo only pending (Text id line ∷ []) x z later
+prints_after only pending id later line x y z some is none time adds =
+    subst (λ t. PrintsTo only pending (Text id line ∷ []) x z t) (sym none)
+    (prints_about only pending id line x z some is
     (prints_then None time
     (record { text = ended line; texts = one_text (Text id line) line refl; adds = adds; time = refl })))
 

@@ -151,7 +151,7 @@ abbrev pub status_shown : ℕ → Option SessionValue → OutputLine
 status_shown id None = refusal_line (codes "status") (Some id) 1
 status_shown id (Some s) =
     server_line (Some id)
-    (status_line id s.link.phase (length s.frame) (length s.link.waiting) (length s.link.held) (length s.observers))
+    (status_line id s.link.phase (length s.frame) (length s.link.waiting) (length s.link.pending) (length s.observers))
 
 -- ---- messages
 

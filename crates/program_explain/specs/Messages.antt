@@ -8,13 +8,13 @@ use Rattle.program_explain.specs.declared.layout.Way.{Way}
 
 -- True if the last byte of the present message of a tap is missing, and at least one byte is not.
 abbrev pub is_within : TapValue → Bool
-is_within tap = not tap.is_whole && nat_lt 0 tap.seen
+is_within tap = not tap.is_whole && nat_lt 0 tap.passed
 
 -- The line of the message whose last byte is missing, after an event with this number of bytes. There is none after an
 -- event without bytes.
 abbrev pub rest_line : ℕ → Way → TapValue → ℕ → Option OutputLine
 rest_line id way tap count =
-    if nat_lt 0 count && is_within tap then Some (Text (Some id) (unfinished_line id way tap.seen)) else None
+    if nat_lt 0 count && is_within tap then Some (Text (Some id) (unfinished_line id way tap.passed)) else None
 
 -- A tap after bytes, and the lines of the messages that end with them.
 pub record Passed : Type 0 where

@@ -54,12 +54,12 @@ AreLineTexts (line ∷ lines) text =
 
 -- A printer has printed these lines. It has written the text of those that are not left out, and keeps the time that
 -- was not printed yet. Nothing is claimed of an outlet that does not record its bytes.
-pub record PrintsTo (only held : Option ℕ) (lines : List OutputLine) (x y : Option (List ℕ))
+pub record PrintsTo (only pending : Option ℕ) (lines : List OutputLine) (x y : Option (List ℕ))
     (later : Option ℕ) : Type 0 where
   pub text : List ℕ
-  pub texts : AreLineTexts (filtered only held lines).lines text
+  pub texts : AreLineTexts (filtered only pending lines).lines text
   pub adds : AddsBytes x y text
-  pub time : later ≡ (filtered only held lines).time
+  pub time : later ≡ (filtered only pending lines).time
 
 -- A printer has printed these lines, and prints the same connections. The function gives the bytes that its outlet has
 -- written.

@@ -2,7 +2,7 @@
 
 ghost use Rattle.std.specs.Prelude.{◌≡◌, ◌∷◌, ℕ, [], true, is_some, IfSome, IfNone};
 ghost use Rattle.coap_model.specs.Configs.{config_refusal};
-ghost use Rattle.coap_io.specs.streams.DeviceTraces.{TellsMore};
+ghost use Rattle.coap_io.specs.streams.DeviceTraces.{AddsCalls};
 ghost use Rattle.std.specs.Prelude.{IsErr};
 ghost use Rattle.program_server_common.specs.Planned.{planned, starts_of};
 
@@ -26,7 +26,7 @@ use std::time;
 /// range, the result is `None`.
 fn config_now<C: Clock>(clock: &mut C, plan: &ServerPlan) -> Option<Config>
     ensures now { IfSome result (λ config.
-        TellsMore (C.moments clock.old) (C.moments clock.new) (config.starts.moment ∷ [])) }
+        AddsCalls (C.moments clock.old) (C.moments clock.new) (config.starts.moment ∷ [])) }
     ensures value { IfSome result (λ config. config ≡ planned plan.now (starts_of config.starts.moment)) }
     ensures refused { IfNone result
         ((moment : ℕ) → is_some (config_refusal (planned plan.now (starts_of moment))) ≡ true) }

@@ -3,7 +3,7 @@ use Rattle.std.specs.Prelude.{ℕ, Bool, true, false, List, ◌++◌, if◌then�
 use Rattle.coap_print.specs.Texts.{escaped_text}
 use Rattle.coap_text.specs.Words.{is_hyphen}
 
--- The name of a record in a line. A hyphen stands for standard output.
+-- The name of a record in a line. A hyphen means standard output.
 abbrev pub title_text : List ℕ → List ℕ
 title_text name = if is_hyphen name then codes "standard output" else escaped_text name
 

@@ -61,7 +61,7 @@ impl<F: Write, O: Write> Write for RecordWriter<F, O> {
     }
 }
 
-/// Outlet of the record of a program with this runtime, which notes the bytes that it passes on.
+/// Outlet of the record of a program with this runtime, which keeps the bytes that it passes on.
 pub type RecordOutlet<'a, R> = NotedOutlet<
     WriteOutlet<RecordWriter<<R as Files>::File, Printer<'a, R>>>,
 >;
@@ -276,7 +276,7 @@ fn end_line(program: &str, name: &str, limit: u64, has_failed: bool) -> Line
     line
 }
 
-/// Appends the name of a record to a line. A hyphen stands for standard output.
+/// Appends the name of a record to a line. A hyphen means standard output.
 #[tactic(auto, using(coap_print::proofs::LineLaws::pieces))]
 fn append_title(line: &mut Line, name: &str)
     ensures { line.new ≡ appended LINE_LENGTH line.old (title_text name.now) }

@@ -1,7 +1,7 @@
 //! Runs of `run_client` and `run_to_end` over recording devices, for which their contracts are about the records.
 
 ghost use Rattle.std.specs.Prelude.{◌≡◌, ◌++◌, ◌∷◌, false, [], Some, IfOk};
-ghost use Rattle.coap_client.specs.ClientRun.{IsClientRun, IsExplainedRun, seen};
+ghost use Rattle.coap_client.specs.ClientRun.{IsClientRun, IsExplainedRun, records};
 
 use crate::devices::RecordingOutlet;
 use coap_client::{
@@ -90,7 +90,7 @@ impl<A: Abort> Clock for Seconds<'_, A> {
 }
 
 /// Runs a client over recording devices.
-fn run_told<A: Abort>(
+fn run_recorded<A: Abort>(
     alloc: Global,
     wire: &mut ScriptedClientWire<A>,
     clock: &mut Seconds<A>,
@@ -103,9 +103,9 @@ fn run_told<A: Abort>(
     requires nothing_passed { (wire.old.given.items ≡ []) × (wire.old.written.items ≡ [])
         × (wire.old.answers.items ≡ []) }
     requires no_moment { clock.old.moments.items ≡ [] }
-    requires nothing_told { (out.old.bytes.items ≡ []) × (err.old.bytes.items ≡ []) }
-    ensures { IfOk result (IsClientRun plan.now (seen (Some []) (Some []) (Some []) (Some []) (Some []) (Some []))
-        (seen (Some wire.new.given.items) (Some wire.new.written.items) (Some wire.new.answers.items)
+    requires devices_are_new { (out.old.bytes.items ≡ []) × (err.old.bytes.items ≡ []) }
+    ensures { IfOk result (IsClientRun plan.now (records (Some []) (Some []) (Some []) (Some []) (Some []) (Some []))
+        (records (Some wire.new.given.items) (Some wire.new.written.items) (Some wire.new.answers.items)
         (Some clock.new.moments.items) (Some out.new.bytes.items) (Some err.new.bytes.items))) }
 {
     run_client(alloc, wire, clock, out, err, plan)
@@ -125,9 +125,9 @@ fn run_explained<A: Abort>(
     requires nothing_passed { (wire.old.given.items ≡ []) × (wire.old.written.items ≡ [])
         × (wire.old.answers.items ≡ []) }
     requires no_moment { clock.old.moments.items ≡ [] }
-    requires nothing_told { (out.old.bytes.items ≡ []) × (err.old.bytes.items ≡ []) }
-    ensures { IfOk result (IsExplainedRun plan.now (seen (Some []) (Some []) (Some []) (Some []) (Some []) (Some []))
-        (seen (Some wire.new.given.items) (Some wire.new.written.items) (Some wire.new.answers.items)
+    requires devices_are_new { (out.old.bytes.items ≡ []) × (err.old.bytes.items ≡ []) }
+    ensures { IfOk result (IsExplainedRun plan.now (records (Some []) (Some []) (Some []) (Some []) (Some []) (Some []))
+        (records (Some wire.new.given.items) (Some wire.new.written.items) (Some wire.new.answers.items)
         (Some clock.new.moments.items) (Some out.new.bytes.items) (Some err.new.bytes.items))) }
 {
     run_to_end(alloc, wire, clock, out, err, plan)
@@ -170,7 +170,7 @@ fn explains_a_request_that_the_peer_does_not_accept(rt: HostRuntime) {
 }
 
 #[test]
-fn runs_a_client_over_devices_that_tell_all(rt: HostRuntime) {
+fn runs_a_client_over_recording_devices(rt: HostRuntime) {
     let plan = client_words(rt.alloc(), &["coap+tcp://127.0.0.1/"]).expect(&rt, "a plan");
     let mut wire = ScriptedClientWire {
         rt: &rt,
@@ -187,7 +187,7 @@ fn runs_a_client_over_devices_that_tell_all(rt: HostRuntime) {
     };
     let mut out = RecordingOutlet::new(rt.alloc(), usize::MAX, usize::MAX);
     let mut err = RecordingOutlet::new(rt.alloc(), usize::MAX, usize::MAX);
-    let result = run_told(rt.alloc(), &mut wire, &mut clock, &mut out, &mut err, &plan);
+    let result = run_recorded(rt.alloc(), &mut wire, &mut clock, &mut out, &mut err, &plan);
     assert!(&rt; result == Ok(0));
     assert!(&rt; wire.given.as_slice() == b"\x00\xe1\x31\x45\x01\xffhi".as_slice());
     assert!(&rt;

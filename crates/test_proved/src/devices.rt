@@ -30,7 +30,7 @@ impl<'a> Pieces<'a> {
 }
 
 impl Source for Pieces<'_> {
-    ghost told = { λ s. record { pieces = Some (map vec_items s.given.items); remaining = None } };
+    ghost trace = { λ s. record { pieces = Some (map vec_items s.given.items); remaining = None } };
 
     ghost is_failed = { λ s. s.failed };
 

@@ -18,6 +18,6 @@ mod examples;
 #[cfg(test)]
 mod laws;
 #[cfg(test)]
-mod sinks;
+mod recording;
 #[cfg(test)]
-mod told;
+mod sinks;

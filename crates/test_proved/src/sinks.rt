@@ -33,7 +33,7 @@ fn writes_into_a_slice(rt: HostRuntime) -> Result<(), Fail> {
 }
 
 #[test]
-fn writes_behind_what_is_there(rt: HostRuntime) -> Result<(), Fail> {
+fn writes_after_content(rt: HostRuntime) -> Result<(), Fail> {
     let mut bytes = Vec::with_capacity(rt.alloc(), 10)?;
     bytes.push(0x99)?;
     fill(&rt, &mut bytes)?;

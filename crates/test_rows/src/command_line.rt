@@ -26,115 +26,115 @@ pub(crate) fn words_of(text: &str) -> ArrayVec<&str, MOST> {
 }
 
 /// Writes an error: the kind if `clap` rejects the arguments, otherwise the text.
-pub(crate) fn tell_fault(fault: &WordsFault, told: &mut RowLine) {
-    told.number(u64::from(fault.number()));
+pub(crate) fn tell_fault(fault: &WordsFault, results: &mut RowLine) {
+    results.number(u64::from(fault.number()));
     match fault {
         WordsFault::Usage(error) => {
-            told.debug(&error.kind());
-            told.debug(&fault.is_help_or_version());
+            results.debug(&error.kind());
+            results.debug(&fault.is_help_or_version());
         }
-        _ => told.text(fault),
+        _ => results.text(fault),
     }
 }
 
 /// Writes an entry of an application in hexadecimal digits: the segments of its path, its methods and its attributes.
-fn tell_entry(entry: &ApplicationEntry, told: &mut RowLine) {
+fn tell_entry(entry: &ApplicationEntry, results: &mut RowLine) {
     for segment in entry.prefix().segments() {
-        told.word("segment");
-        told.hex(segment);
+        results.word("segment");
+        results.hex(segment);
     }
-    told.word("methods");
+    results.word("methods");
     for method in entry.methods() {
-        told.number(u64::from(method.byte()));
+        results.number(u64::from(method.byte()));
     }
-    told.hex(entry.attributes());
+    results.hex(entry.attributes());
 }
 
 /// Writes the entries of an application.
-fn tell_applications(plan: &ServerPlan, told: &mut RowLine) {
+fn tell_applications(plan: &ServerPlan, results: &mut RowLine) {
     if let Some(applications) = &plan.applications {
-        told.word("application");
-        told.number(u64::from(applications.deadline()));
+        results.word("application");
+        results.number(u64::from(applications.deadline()));
         for entry in applications.entries() {
-            tell_entry(entry, told);
+            tell_entry(entry, results);
         }
     }
 }
 
 /// Writes a plan of `coap-server`.
-fn tell_server(plan: &ServerPlan, told: &mut RowLine) {
+fn tell_server(plan: &ServerPlan, results: &mut RowLine) {
     match &plan.mode {
         Mode::Listen(address, port) => {
-            told.word("listen");
-            told.text(address);
-            told.number(u64::from(*port));
+            results.word("listen");
+            results.text(address);
+            results.number(u64::from(*port));
         }
-        Mode::Stdio => told.word("stdio"),
+        Mode::Stdio => results.word("stdio"),
         Mode::Script(name) => {
-            told.word("script");
-            told.text(name);
+            results.word("script");
+            results.text(name);
         }
     }
-    tell_limits(&plan.limits, told);
-    told.number(plan.connections as u64);
-    told.number(plan.dynamic_max as u64);
-    told.number(plan.turns);
-    told.debug(&plan.log);
-    told.number(u64::from(plan.idle));
-    told.number(plan.starts.moment);
-    told.number(plan.starts.versions);
-    told.number(plan.starts.ids);
-    told.debug(&plan.record);
-    told.number(plan.record_limit);
-    tell_applications(plan, told);
+    tell_limits(&plan.limits, results);
+    results.number(plan.connections as u64);
+    results.number(plan.dynamic_max as u64);
+    results.number(plan.turns);
+    results.debug(&plan.log);
+    results.number(u64::from(plan.idle));
+    results.number(plan.starts.moment);
+    results.number(plan.starts.versions);
+    results.number(plan.starts.ids);
+    results.debug(&plan.record);
+    results.number(plan.record_limit);
+    tell_applications(plan, results);
 }
 
 /// Writes a plan of `coap-client`.
-fn tell_client(plan: &ClientPlan, told: &mut RowLine) {
-    told.debug(&plan.method);
-    tell_target(&plan.target, told);
-    told.debug(&plan.observe);
-    told.number(u64::from(plan.wait));
-    told.debug(&plan.plain);
-    told.debug(&plan.newline);
-    told.debug(&plan.content_format);
-    told.debug(&plan.accept);
+fn tell_client(plan: &ClientPlan, results: &mut RowLine) {
+    results.debug(&plan.method);
+    tell_target(&plan.target, results);
+    results.debug(&plan.observe);
+    results.number(u64::from(plan.wait));
+    results.debug(&plan.plain);
+    results.debug(&plan.newline);
+    results.debug(&plan.content_format);
+    results.debug(&plan.accept);
     match &plan.option {
         Some((number, value)) => {
-            told.number(u64::from(*number));
-            told.hex(value);
+            results.number(u64::from(*number));
+            results.hex(value);
         }
-        None => told.word("None"),
+        None => results.word("None"),
     }
-    told.hex(&plan.payload);
-    told.debug(&plan.input);
-    told.debug(&plan.output);
-    told.debug(&plan.log);
+    results.hex(&plan.payload);
+    results.debug(&plan.input);
+    results.debug(&plan.output);
+    results.debug(&plan.log);
 }
 
 /// Writes the text of the error, in which byte 7 means a line feed, or `none` if the arguments are valid.
-fn tell_text<P: Drop>(read: Result<P, WordsFault>, told: &mut RowLine) {
+fn tell_text<P: Drop>(read: Result<P, WordsFault>, results: &mut RowLine) {
     match read {
-        Ok(_) => told.word("none"),
-        Err(fault) => told.text(&fault),
+        Ok(_) => results.word("none"),
+        Err(fault) => results.text(&fault),
     }
-    put_for(told.writer(), b'\n', 7);
+    put_for(results.writer(), b'\n', 7);
 }
 
 /// Parses the arguments of a command line, and writes the plan or the error.
-pub(crate) fn play(alloc: Global, event: &str, told: &mut RowLine) {
+pub(crate) fn play(alloc: Global, event: &str, results: &mut RowLine) {
     let (word, rest) = cut(event);
     let words = words_of(rest);
     match word {
         "server" => match server_words(alloc, words.as_slice()) {
-            Ok(plan) => tell_server(&plan, told),
-            Err(fault) => tell_fault(&fault, told),
+            Ok(plan) => tell_server(&plan, results),
+            Err(fault) => tell_fault(&fault, results),
         },
         "client" => match client_words(alloc, words.as_slice()) {
-            Ok(plan) => tell_client(&plan, told),
-            Err(fault) => tell_fault(&fault, told),
+            Ok(plan) => tell_client(&plan, results),
+            Err(fault) => tell_fault(&fault, results),
         },
-        "server-text" => tell_text(server_words(alloc, words.as_slice()), told),
-        _ => tell_text(client_words(alloc, words.as_slice()), told),
+        "server-text" => tell_text(server_words(alloc, words.as_slice()), results),
+        _ => tell_text(client_words(alloc, words.as_slice()), results),
     }
 }

@@ -62,42 +62,42 @@ pub(crate) fn configured(text: &str) -> Option<Config> {
 }
 
 /// Writes each value of a configuration as its accessor returns it.
-fn tell_config(config: &Config, told: &mut RowLine) {
-    tell_limits(&config.limits(), told);
-    told.number(config.connections() as u64);
-    told.number(config.dynamic_max() as u64);
-    told.number(config.rep_max() as u64);
-    told.number(config.turns());
-    told.debug(&config.starts());
+fn tell_config(config: &Config, results: &mut RowLine) {
+    tell_limits(&config.limits(), results);
+    results.number(config.connections() as u64);
+    results.number(config.dynamic_max() as u64);
+    results.number(config.rep_max() as u64);
+    results.number(config.turns());
+    results.debug(&config.starts());
 }
 
 /// Creates a configuration, and writes each of its values, or the error.
-fn config(text: &str, told: &mut RowLine) {
+fn config(text: &str, results: &mut RowLine) {
     let Ok(limits) = limits_of(text) else {
-        return told.word("refused");
+        return results.word("refused");
     };
     match config_of(limits, text) {
-        Ok(config) => tell_config(&config, told),
-        Err(fault) => told.fault(&fault, fault as u8),
+        Ok(config) => tell_config(&config, results),
+        Err(fault) => results.fault(&fault, fault as u8),
     }
 }
 
 /// Executes an event, and writes its result.
-pub(crate) fn play(event: &str, told: &mut RowLine) {
+pub(crate) fn play(event: &str, results: &mut RowLine) {
     let (word, rest) = cut(event);
     match word {
-        "config" => config(rest, told),
-        "starts" => told.debug(&Starts::default()),
+        "config" => config(rest, results),
+        "starts" => results.debug(&Starts::default()),
         "faults" if rest == "io" => {
             for fault in IO_FAULTS {
-                told.fault(fault, *fault as u8);
+                results.fault(fault, *fault as u8);
             }
         }
         "faults" if rest == "application" => {
             for fault in APPLICATION_FAULTS {
-                told.fault(fault, *fault as u8);
+                results.fault(fault, *fault as u8);
             }
         }
-        _ => limits::play(event, told),
+        _ => limits::play(event, results),
     }
 }

@@ -22,21 +22,21 @@ impl Layer for Directory {
         Some(Directory::new(alloc, limit, capacity))
     }
 
-    fn play(&mut self, alloc: Global, event: &str, bytes: &mut Vec<u8>, told: &mut RowLine) {
+    fn play(&mut self, alloc: Global, event: &str, bytes: &mut Vec<u8>, results: &mut RowLine) {
         let (now, digits) = cut(event);
         read_hex(digits, bytes);
         let Ok(request) = parse(bytes) else {
-            return told.word("strange");
+            return results.word("strange");
         };
         let reply = self.reply(number(now).min(4_294_967_295) as u64, LOOKUP, &request);
         let Ok(mut response) = Vec::with_capacity(alloc, ROOM) else {
-            return told.word("memory");
+            return results.word("memory");
         };
         let token = TokenRef::empty();
         if write_response(reply, self.content(), &token, &mut response) {
-            told.hex(&response);
+            results.hex(&response);
         } else {
-            told.word("too large");
+            results.word("too large");
         }
     }
 }

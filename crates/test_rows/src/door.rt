@@ -78,8 +78,8 @@ pub(crate) fn play(
 ) {
     let (times, wires) = cut(text);
     let passes = times.strip_prefix("passes,");
-    let tells_waits = how == "waits" || how == "answer";
-    let log = CallLog::new(page, tells_waits, number(passes.unwrap_or("0")) as u64);
+    let records_waits = how == "waits" || how == "answer";
+    let log = CallLog::new(page, records_waits, number(passes.unwrap_or("0")) as u64);
     let moments = match passes {
         Some(_) => None,
         None => Some(Moments { text: times }),

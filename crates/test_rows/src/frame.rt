@@ -10,37 +10,37 @@ use coap_frame::{FrameEvent, Framed, Framer};
 use std::alloc::{AllocError, Global};
 
 /// Writes the result of `Framer::next`, and the number of bytes taken.
-fn found(framed: &Framed, told: &mut RowLine) {
+fn found(framed: &Framed, results: &mut RowLine) {
     match framed.what {
-        FrameEvent::More => told.word("More"),
+        FrameEvent::More => results.word("More"),
         FrameEvent::Frame(frame) => {
-            told.word("Frame");
-            told.hex(frame);
+            results.word("Frame");
+            results.hex(frame);
         }
         FrameEvent::Whole(frame) => {
-            told.word("Whole");
-            told.hex(frame);
+            results.word("Whole");
+            results.hex(frame);
         }
-        FrameEvent::Fault(fault) => told.fault(&fault, fault as u8),
+        FrameEvent::Fault(fault) => results.fault(&fault, fault as u8),
     }
-    told.word("taken");
-    told.number(framed.taken as u64);
+    results.word("taken");
+    results.number(framed.taken as u64);
 }
 
 /// Passes bytes to the framer one by one. Each must be taken without completing a frame.
-fn each(framer: &mut Framer, bytes: &[u8], told: &mut RowLine) {
-    told.word("More");
+fn each(framer: &mut Framer, bytes: &[u8], results: &mut RowLine) {
+    results.word("More");
     for byte in bytes {
         let piece = [*byte];
         let framed = framer.next(&piece);
         if framed.taken != 1 || !matches!(framed.what, FrameEvent::More) {
-            told.word("not for each");
+            results.word("not for each");
         }
     }
 }
 
 /// Passes an input slice to the framer, frame by frame. Writes each result, and the number of bytes that are left.
-fn all(framer: &mut Framer, piece: &[u8], told: &mut RowLine) {
+fn all(framer: &mut Framer, piece: &[u8], results: &mut RowLine) {
     let mut rest = piece;
     for _ in 0..piece.len() {
         if rest.is_empty() {
@@ -48,37 +48,37 @@ fn all(framer: &mut Framer, piece: &[u8], told: &mut RowLine) {
         }
         let framed = framer.next(rest);
         let taken = framed.taken;
-        found(&framed, told);
+        found(&framed, results);
         rest = &rest[taken..];
     }
-    told.word("left");
-    told.number(rest.len() as u64);
+    results.word("left");
+    results.number(rest.len() as u64);
 }
 
 /// Passes an input slice that contains a whole frame, and then the bytes after that frame while the frame is borrowed.
 /// Writes the second result, and then the frame.
-fn hold(framer: &mut Framer, piece: &[u8], told: &mut RowLine) {
+fn hold(framer: &mut Framer, piece: &[u8], results: &mut RowLine) {
     let framed = framer.next(piece);
     let taken = framed.taken;
     let FrameEvent::Whole(frame) = framed.what else {
-        told.word("split");
+        results.word("split");
         return;
     };
-    found(&framer.next(&piece[taken..]), told);
-    told.word("held");
-    told.hex(frame);
+    found(&framer.next(&piece[taken..]), results);
+    results.word("held");
+    results.hex(frame);
 }
 
 /// Undoes `Framer::next` for the last frame, with its last input slice. The frame is a split one, or an empty CSM that
 /// was whole in its input slice.
 #[tactic(auto, unfolding(coap_wire::specs::StreamPrefix::prefix_kind, coap_wire::specs::Reading::declared_of, coap_wire::specs::Reading::length_at, coap_wire::specs::Reading::option_number_at))]
-fn unread(framer: &mut Framer, piece: &[u8], told: &mut RowLine) {
+fn unread(framer: &mut Framer, piece: &[u8], results: &mut RowLine) {
     if framer.spent() > 0 {
         framer.unread(piece);
     } else if piece == [0x00, 0xe1].as_slice() && framer.max() == 1_152 && framer.kept() == 0 {
         framer.unread(&[0x00, 0xe1]);
     } else {
-        told.word("refused");
+        results.word("refused");
     }
 }
 
@@ -94,31 +94,31 @@ impl Layer for Framer {
 
     /// Executes an event, and writes its result, the maximum frame size, and the numbers of bytes copied, kept and
     /// spent.
-    fn play(&mut self, _alloc: Global, event: &str, bytes: &mut Vec<u8>, told: &mut RowLine) {
+    fn play(&mut self, _alloc: Global, event: &str, bytes: &mut Vec<u8>, results: &mut RowLine) {
         let (word, rest) = cut(event);
         read_hex(rest, bytes);
         match word {
-            "next" => found(&self.next(bytes), told),
-            "each" => each(self, bytes, told),
-            "all" => all(self, bytes, told),
-            "hold" => hold(self, bytes, told),
-            "unread" => unread(self, bytes, told),
+            "next" => found(&self.next(bytes), results),
+            "each" => each(self, bytes, results),
+            "all" => all(self, bytes, results),
+            "hold" => hold(self, bytes, results),
+            "unread" => unread(self, bytes, results),
             "clear" => self.clear(),
             "raise" => {
                 if let Err(fault) = self.raise(number(rest).min(4_294_967_295)) {
-                    told.fault(&fault, fault as u8);
+                    results.fault(&fault, fault as u8);
                 }
             }
             "look" | "copied" => {}
-            _ => told.word("strange"),
+            _ => results.word("strange"),
         }
-        told.word("max");
-        told.number(self.max() as u64);
-        told.word("kept");
-        told.number(self.kept() as u64);
-        told.word("spent");
-        told.number(self.spent() as u64);
-        told.word("copied");
-        told.number(self.copied());
+        results.word("max");
+        results.number(self.max() as u64);
+        results.word("kept");
+        results.number(self.kept() as u64);
+        results.word("spent");
+        results.number(self.spent() as u64);
+        results.word("copied");
+        results.number(self.copied());
     }
 }

@@ -39,10 +39,10 @@ pub(crate) struct ClientServerPair {
     down: usize,
 }
 
-/// Returns the prefix of the queued bytes to pass next, after `behind` bytes of the stream.
-fn piece<'a>(front: &'a [u8], behind: usize, cut: usize, most: usize) -> &'a [u8] {
-    let left = if behind < cut {
-        cut - behind
+/// Returns the prefix of the queued bytes to pass next, after `passed` bytes of the stream.
+fn piece<'a>(front: &'a [u8], passed: usize, cut: usize, most: usize) -> &'a [u8] {
+    let left = if passed < cut {
+        cut - passed
     } else {
         usize::MAX
     };
@@ -79,15 +79,15 @@ fn with_client(
 }
 
 /// Passes queued bytes of the client to the server, and returns the number of bytes taken.
-fn to_server(joined: &mut ClientServerPair, told: &mut RowLine) -> usize {
+fn to_server(joined: &mut ClientServerPair, results: &mut RowLine) -> usize {
     let front = joined.client.front();
     let piece = piece(front, joined.up, joined.cut, joined.most);
     let Ok(taken) = joined.server.take(joined.id, piece) else {
-        told.word("memory");
+        results.word("memory");
         return 0;
     };
     if taken.bytes > joined.client.waiting() {
-        told.word("refused");
+        results.word("refused");
         return 0;
     }
     joined.client.written(taken.bytes);
@@ -96,7 +96,7 @@ fn to_server(joined: &mut ClientServerPair, told: &mut RowLine) -> usize {
 }
 
 /// Passes queued bytes of the server to the client, writes the event, and returns the number of bytes taken.
-fn to_client(joined: &mut ClientServerPair, told: &mut RowLine) -> usize {
+fn to_client(joined: &mut ClientServerPair, results: &mut RowLine) -> usize {
     let Some(front) = joined.server.front(joined.id) else {
         return 0;
     };
@@ -105,32 +105,32 @@ fn to_client(joined: &mut ClientServerPair, told: &mut RowLine) -> usize {
         .take(piece(front, joined.down, joined.cut, joined.most));
     let bytes = taken.bytes;
     if let Some(event) = taken.event() {
-        told.word(",");
-        client::tell_event(&event, told);
+        results.word(",");
+        client::tell_event(&event, results);
     }
     if joined.server.written(joined.id, bytes).is_err() {
-        told.word("refused");
+        results.word("refused");
     }
     joined.down = joined.down.saturating_add(bytes);
     bytes
 }
 
 /// Passes bytes in both directions until none is left.
-fn settle(joined: &mut ClientServerPair, told: &mut RowLine) {
+fn settle(joined: &mut ClientServerPair, results: &mut RowLine) {
     for _ in 0..ROUNDS {
-        let up = to_server(joined, told);
-        let down = to_client(joined, told);
+        let up = to_server(joined, results);
+        let down = to_client(joined, results);
         if up == 0 && down == 0 {
             return;
         }
     }
-    told.word("restless");
+    results.word("restless");
 }
 
 /// Stores bytes at the path `a` of the server.
-fn put(server: &mut Server, bytes: &[u8], told: &mut RowLine) {
+fn put(server: &mut Server, bytes: &[u8], results: &mut RowLine) {
     if let Some(path) = PathKey::from_segments(&[b"a"]) {
-        told.debug(&server.put(&path, Some(0), bytes).is_ok());
+        results.debug(&server.put(&path, Some(0), bytes).is_ok());
     }
 }
 
@@ -145,18 +145,18 @@ impl Layer for ClientServerPair {
     }
 
     /// Executes an event, and writes its result, the events of the client and the number of outstanding requests.
-    fn play(&mut self, alloc: Global, event: &str, bytes: &mut Vec<u8>, told: &mut RowLine) {
+    fn play(&mut self, alloc: Global, event: &str, bytes: &mut Vec<u8>, results: &mut RowLine) {
         let (word, rest) = cut(event);
         match word {
             "put" => {
                 read_hex(rest, bytes);
-                put(&mut self.server, bytes, told);
+                put(&mut self.server, bytes, results);
             }
-            "tick" => told.debug(&self.server.tick(number(rest) as u64).is_ok()),
-            _ => client::act(alloc, &mut self.client, event, bytes, told),
+            "tick" => results.debug(&self.server.tick(number(rest) as u64).is_ok()),
+            _ => client::act(alloc, &mut self.client, event, bytes, results),
         }
-        settle(self, told);
-        told.word(";");
-        told.number(self.client.outstanding() as u64);
+        settle(self, results);
+        results.word(";");
+        results.number(self.client.outstanding() as u64);
     }
 }

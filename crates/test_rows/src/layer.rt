@@ -9,5 +9,5 @@ pub(crate) trait Layer: Drop + Sized {
     fn opened(alloc: Global, words: &str) -> Option<Result<Self, AllocError>>;
 
     /// Executes an event, and writes its result and the state of the value into the line.
-    fn play(&mut self, alloc: Global, event: &str, bytes: &mut Vec<u8>, told: &mut RowLine);
+    fn play(&mut self, alloc: Global, event: &str, bytes: &mut Vec<u8>, results: &mut RowLine);
 }

@@ -53,32 +53,32 @@ pub(crate) fn limits_of(text: &str) -> Result<Limits, LimitFault> {
 }
 
 /// Writes each limit as its accessor returns it.
-pub(crate) fn tell_limits(limits: &Limits, told: &mut RowLine) {
-    told.number(limits.max_message() as u64);
-    told.number(limits.max_sent() as u64);
-    told.number(limits.queue() as u64);
-    told.number(limits.pending() as u64);
-    told.number(limits.observers() as u64);
-    told.number(limits.outstanding() as u64);
+pub(crate) fn tell_limits(limits: &Limits, results: &mut RowLine) {
+    results.number(limits.max_message() as u64);
+    results.number(limits.max_sent() as u64);
+    results.number(limits.queue() as u64);
+    results.number(limits.pending() as u64);
+    results.number(limits.observers() as u64);
+    results.number(limits.outstanding() as u64);
 }
 
 /// Executes an event, and writes its result.
-pub(crate) fn play(event: &str, told: &mut RowLine) {
+pub(crate) fn play(event: &str, results: &mut RowLine) {
     match event {
         "faults send" => {
             for fault in SEND_FAULTS {
-                told.fault(fault, *fault as u8);
+                results.fault(fault, *fault as u8);
             }
         }
         "faults reasons" => {
             for reason in REASONS {
-                told.debug(reason);
-                told.number(u64::from(reason.number()));
+                results.debug(reason);
+                results.number(u64::from(reason.number()));
             }
         }
         _ => match limits_of(event) {
-            Ok(limits) => tell_limits(&limits, told),
-            Err(fault) => told.fault(&fault, fault as u8),
+            Ok(limits) => tell_limits(&limits, results),
+            Err(fault) => results.fault(&fault, fault as u8),
         },
     }
 }

@@ -14,13 +14,13 @@ use coap_wire::{BuildFault, Builder, MessageRef, Token, parse};
 use std::alloc::{AllocError, Global};
 
 /// Passes a message to the link, and writes the verdict.
-fn hear(link: &mut Link, bytes: &[u8], told: &mut RowLine) {
+fn hear(link: &mut Link, bytes: &[u8], results: &mut RowLine) {
     let Ok(message) = parse(bytes) else {
-        return told.word("strange");
+        return results.word("strange");
     };
     match link.phase() {
-        Phase::Waiting | Phase::Open if link.ready() => told.debug(&link.on(&message)),
-        _ => told.word("refused"),
+        Phase::Waiting | Phase::Open if link.ready() => results.debug(&link.on(&message)),
+        _ => results.word("refused"),
     }
 }
 
@@ -35,38 +35,40 @@ fn built<'a>(message: &MessageRef<'a>) -> Result<Builder<'a>, BuildFault> {
 }
 
 /// Sends a message as a response, as a request, or as a cancellation under its token, and writes the result.
-fn send(link: &mut Link, word: &str, bytes: &[u8], how: &str, told: &mut RowLine) {
+fn send(link: &mut Link, word: &str, bytes: &[u8], how: &str, results: &mut RowLine) {
     let Ok(message) = parse(bytes) else {
-        return told.word("strange");
+        return results.word("strange");
     };
     let Ok(built) = built(&message) else {
-        return told.word("strange");
+        return results.word("strange");
     };
     match (word, link.phase()) {
-        ("request", _) => told.debug(&link.request(&built, how == "observe")),
-        ("cancel", _) => told.debug(&link.cancel(&message.token().to_token(), &built)),
-        (_, Phase::Open | Phase::Releasing(_)) if link.ready() => told.debug(&link.reply(&built)),
-        _ => told.word("refused"),
+        ("request", _) => results.debug(&link.request(&built, how == "observe")),
+        ("cancel", _) => results.debug(&link.cancel(&message.token().to_token(), &built)),
+        (_, Phase::Open | Phase::Releasing(_)) if link.ready() => results.debug(&link.reply(
+            &built,
+        )),
+        _ => results.word("refused"),
     }
 }
 
 /// Delays the response to the request with a token until the given time, in seconds, and writes the result. With
 /// another word than `hold`, the application may answer until then.
-fn hold(link: &mut Link, word: &str, token: &[u8], moment: u64, told: &mut RowLine) {
+fn hold(link: &mut Link, word: &str, token: &[u8], moment: u64, results: &mut RowLine) {
     let Ok(token) = Token::try_from(token) else {
-        return told.word("strange");
+        return results.word("strange");
     };
     match link.phase() {
-        Phase::Open => told.debug(&match word {
+        Phase::Open => results.debug(&match word {
             "hold" => link.hold(token, moment),
             _ => link.hold_request(token, moment),
         }),
-        _ => told.word("refused"),
+        _ => results.word("refused"),
     }
 }
 
 /// Rejects the bytes after the messages that were processed.
-fn reject(link: &mut Link, fault: &str, told: &mut RowLine) {
+fn reject(link: &mut Link, fault: &str, results: &mut RowLine) {
     let fault = match fault {
         "format" => Reject::Format,
         "large" => Reject::TooLarge,
@@ -75,30 +77,30 @@ fn reject(link: &mut Link, fault: &str, told: &mut RowLine) {
     match link.phase() {
         Phase::Waiting | Phase::Open if link.ready() => {
             link.reject(fault);
-            told.word("-");
+            results.word("-");
         }
-        _ => told.word("refused"),
+        _ => results.word("refused"),
     }
 }
 
 /// Announces another Max-Message-Size, and writes the current one.
-fn announce(link: &mut Link, size: usize, told: &mut RowLine) {
+fn announce(link: &mut Link, size: usize, results: &mut RowLine) {
     let size = size.min(4_294_967_295) as u32;
     match link.phase() {
         Phase::Open if link.ready() && link.takes_announcement(size) => link.announce(size),
-        _ => told.word("refused"),
+        _ => results.word("refused"),
     }
-    told.word("own");
-    told.number(link.own_max() as u64);
+    results.word("own");
+    results.number(link.own_max() as u64);
 }
 
 /// Removes bytes from the front of the queue, as written.
-fn written(link: &mut Link, count: usize, told: &mut RowLine) {
+fn written(link: &mut Link, count: usize, results: &mut RowLine) {
     if count > link.waiting() {
-        return told.word("refused");
+        return results.word("refused");
     }
     link.written(count);
-    told.word("-");
+    results.word("-");
 }
 
 impl Layer for Link {
@@ -116,41 +118,41 @@ impl Layer for Link {
 
     /// Executes an event, and writes its result. Then writes the phase, the Max-Message-Size of the peer, the free
     /// queue space, whether the link is ready and whether finished, and the queued bytes.
-    fn play(&mut self, _alloc: Global, event: &str, bytes: &mut Vec<u8>, told: &mut RowLine) {
+    fn play(&mut self, _alloc: Global, event: &str, bytes: &mut Vec<u8>, results: &mut RowLine) {
         let (word, rest) = cut(event);
         let (digits, last) = cut(rest);
         read_hex(digits, bytes);
         let moment = number(last);
         match word {
-            "hear" => hear(self, bytes, told),
-            "reply" | "request" | "cancel" => send(self, word, bytes, last, told),
-            "hold" | "await" => hold(self, word, bytes, moment as u64, told),
-            "respond" => told.debug(&self.respond(bytes)),
-            "due" if self.ready() => told.debug(&self.due(moment as u64)),
-            "release" => told.debug(&self.release()),
-            "ping" => told.debug(&self.ping(last == "custody")),
-            "reject" => reject(self, last, told),
+            "hear" => hear(self, bytes, results),
+            "reply" | "request" | "cancel" => send(self, word, bytes, last, results),
+            "hold" | "await" => hold(self, word, bytes, moment as u64, results),
+            "respond" => results.debug(&self.respond(bytes)),
+            "due" if self.ready() => results.debug(&self.due(moment as u64)),
+            "release" => results.debug(&self.release()),
+            "ping" => results.debug(&self.ping(last == "custody")),
+            "reject" => reject(self, last, results),
             "end" => {
                 self.end(last == "cut");
-                told.word("-");
+                results.word("-");
             }
-            "announce" => announce(self, moment, told),
-            "write" => written(self, moment, told),
+            "announce" => announce(self, moment, results),
+            "write" => written(self, moment, results),
             "count" => {
-                told.number(self.pending() as u64);
-                told.number(self.outstanding() as u64);
+                results.number(self.pending() as u64);
+                results.number(self.outstanding() as u64);
             }
-            "token" => told.number(u64::from(self.peer_token())),
-            "part" => told.hex(first_part(self.parts())),
-            "look" => told.word("-"),
-            _ => told.word("refused"),
+            "token" => results.number(u64::from(self.peer_token())),
+            "part" => results.hex(first_part(self.parts())),
+            "look" => results.word("-"),
+            _ => results.word("refused"),
         }
-        told.debug(&self.phase());
-        told.number(self.peer_max() as u64);
-        told.number(self.free() as u64);
-        told.debug(&self.ready());
-        told.debug(&self.finished());
-        told.number(self.waiting() as u64);
-        told.hex(self.front());
+        results.debug(&self.phase());
+        results.number(self.peer_max() as u64);
+        results.number(self.free() as u64);
+        results.debug(&self.ready());
+        results.debug(&self.finished());
+        results.number(self.waiting() as u64);
+        results.hex(self.front());
     }
 }

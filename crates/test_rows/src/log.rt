@@ -9,17 +9,17 @@ pub(crate) type Page = RefCell<RowLine>;
 
 /// Records a call by its word, a number, the bytes of a write, and the result.
 pub(crate) fn note<T: Debug>(page: &Page, call: &str, number: u64, bytes: &[u8], answer: &T) {
-    if let Ok(mut told) = page.try_borrow_mut() {
-        told.word(call);
-        told.number(number);
-        told.hex(bytes);
-        told.debug(answer);
+    if let Ok(mut results) = page.try_borrow_mut() {
+        results.word(call);
+        results.number(number);
+        results.hex(bytes);
+        results.debug(answer);
     }
 }
 
 /// Writes the result of a run after the calls.
 pub(crate) fn tell_result<T: Debug>(page: &Page, answer: &T) {
-    if let Ok(mut told) = page.try_borrow_mut() {
-        told.debug(answer);
+    if let Ok(mut results) = page.try_borrow_mut() {
+        results.debug(answer);
     }
 }

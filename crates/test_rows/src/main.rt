@@ -17,13 +17,13 @@
 #![tactic(auto)]
 
 mod application;
-mod asked;
 mod board;
 mod client;
 mod command_line;
 mod config;
 mod directory;
 mod door;
+mod fields;
 mod frame;
 mod joined;
 mod layer;
@@ -81,21 +81,21 @@ fn play_rows<L: Layer, R: Print + AllocGlobal>(
     words: &str,
     rows: &str,
     bytes: &mut Vec<u8>,
-    told: &mut RowLine,
+    results: &mut RowLine,
 ) {
     let mut opened = L::opened(rt.alloc(), words);
     match &opened {
         Some(Ok(_)) => {}
-        Some(Err(_)) => told.word("memory"),
-        None => told.word("refused"),
+        Some(Err(_)) => results.word("memory"),
+        None => results.word("refused"),
     }
-    told.write_line(&mut io::writer(rt));
+    results.write_line(&mut io::writer(rt));
     for row in rows.lines() {
         match &mut opened {
-            Some(Ok(value)) => value.play(rt.alloc(), row, bytes, told),
-            _ => told.word("nothing"),
+            Some(Ok(value)) => value.play(rt.alloc(), row, bytes, results),
+            _ => results.word("nothing"),
         }
-        told.write_line(&mut io::writer(rt));
+        results.write_line(&mut io::writer(rt));
     }
 }
 
@@ -105,29 +105,34 @@ fn play<R: Print + AllocGlobal>(
     opening: &str,
     rows: &str,
     bytes: &mut Vec<u8>,
-    told: &mut RowLine,
+    results: &mut RowLine,
 ) {
     let (layer, words) = cut(opening);
     match layer {
-        "frame" => play_rows::<Framer, R>(rt, words, rows, bytes, told),
-        "queue" => play_rows::<OutQueue, R>(rt, words, rows, bytes, told),
-        "link" => play_rows::<Link, R>(rt, words, rows, bytes, told),
-        "store" => play_rows::<Store, R>(rt, words, rows, bytes, told),
-        "serve" => play_rows::<Server, R>(rt, words, rows, bytes, told),
-        "directory" => play_rows::<Directory, R>(rt, words, rows, bytes, told),
-        "client" => play_rows::<Client, R>(rt, words, rows, bytes, told),
-        "joined" => play_rows::<ClientServerPair, R>(rt, words, rows, bytes, told),
-        "stdio" => play_rows::<Config, R>(rt, words, rows, bytes, told),
-        _ => play_rows::<Plain, R>(rt, layer, rows, bytes, told),
+        "frame" => play_rows::<Framer, R>(rt, words, rows, bytes, results),
+        "queue" => play_rows::<OutQueue, R>(rt, words, rows, bytes, results),
+        "link" => play_rows::<Link, R>(rt, words, rows, bytes, results),
+        "store" => play_rows::<Store, R>(rt, words, rows, bytes, results),
+        "serve" => play_rows::<Server, R>(rt, words, rows, bytes, results),
+        "directory" => play_rows::<Directory, R>(rt, words, rows, bytes, results),
+        "client" => play_rows::<Client, R>(rt, words, rows, bytes, results),
+        "joined" => play_rows::<ClientServerPair, R>(rt, words, rows, bytes, results),
+        "stdio" => play_rows::<Config, R>(rt, words, rows, bytes, results),
+        _ => play_rows::<Plain, R>(rt, layer, rows, bytes, results),
     }
 }
 
 /// Plays each opening row of a text with the rows after it.
-fn play_all<R: Print + AllocGlobal>(rt: &R, text: &str, bytes: &mut Vec<u8>, told: &mut RowLine) {
+fn play_all<R: Print + AllocGlobal>(
+    rt: &R,
+    text: &str,
+    bytes: &mut Vec<u8>,
+    results: &mut RowLine,
+) {
     let text = text.strip_prefix("= ").unwrap_or(text);
     for section in text.split("\n= ") {
         let (opening, rows) = section.split_once('\n').unwrap_or((section, ""));
-        play(rt, opening, rows, bytes, told);
+        play(rt, opening, rows, bytes, results);
     }
 }
 
@@ -137,10 +142,10 @@ fn read_and_play(rt: &(impl Input + Print + AllocGlobal)) -> Option<()> {
     let mut text = Vec::with_capacity(rt.alloc(), ROWS_ROOM).ok()?;
     rt.reader().read_to_end(&mut text).ok()?;
     let mut bytes = Vec::with_capacity(rt.alloc(), ROOM).ok()?;
-    let mut told = RowLine::new(rt.alloc(), LINE_ROOM).ok()?;
+    let mut results = RowLine::new(rt.alloc(), LINE_ROOM).ok()?;
     let rows = str::from_utf8(&text).ok()?;
     if !rows.is_empty() {
-        play_all(rt, rows, &mut bytes, &mut told);
+        play_all(rt, rows, &mut bytes, &mut results);
     }
     Some(())
 }

@@ -40,15 +40,15 @@ impl Layer for Plain {
         Some(Ok(plain))
     }
 
-    fn play(&mut self, alloc: Global, event: &str, bytes: &mut Vec<u8>, told: &mut RowLine) {
+    fn play(&mut self, alloc: Global, event: &str, bytes: &mut Vec<u8>, results: &mut RowLine) {
         match self {
-            Plain::Wire => wire::play(event, bytes, told),
-            Plain::Limits => config::play(event, told),
-            Plain::Print => print::play(event, bytes, told),
-            Plain::Script => script::play(alloc, event, bytes, told),
-            Plain::Target => target::play(alloc, event, told),
-            Plain::Words => command_line::play(alloc, event, told),
-            Plain::Run => run::play(alloc, event, bytes, told),
+            Plain::Wire => wire::play(event, bytes, results),
+            Plain::Limits => config::play(event, results),
+            Plain::Print => print::play(event, bytes, results),
+            Plain::Script => script::play(alloc, event, bytes, results),
+            Plain::Target => target::play(alloc, event, results),
+            Plain::Words => command_line::play(alloc, event, results),
+            Plain::Run => run::play(alloc, event, bytes, results),
         }
     }
 }

@@ -10,34 +10,34 @@ use coap_print::{Line, describe};
 use coap_wire::parse;
 
 /// Writes the line that describes a message.
-fn tell_description(bytes: &[u8], told: &mut RowLine) {
+fn tell_description(bytes: &[u8], results: &mut RowLine) {
     let Ok(message) = parse(bytes) else {
-        return told.word("strange");
+        return results.word("strange");
     };
     let mut line = Line::new();
     describe(&mut line, &message);
-    told.word(line.as_str());
+    results.word(line.as_str());
 }
 
 /// Appends to a line, and writes the line after each part.
-fn tell_line(bytes: &[u8], told: &mut RowLine) {
+fn tell_line(bytes: &[u8], results: &mut RowLine) {
     let mut line = Line::new();
     line.hex(bytes);
     line.text("c");
-    told.word(line.as_str());
+    results.word(line.as_str());
     line.number(7);
-    told.word(line.as_str());
+    results.word(line.as_str());
     line.escaped(b"more");
-    told.word(line.as_str());
+    results.word(line.as_str());
 }
 
 /// Executes an event, and writes its result.
-pub(crate) fn play(event: &str, bytes: &mut Vec<u8>, told: &mut RowLine) {
+pub(crate) fn play(event: &str, bytes: &mut Vec<u8>, results: &mut RowLine) {
     let (word, rest) = cut(event);
     read_hex(rest, bytes);
     match word {
-        "describe" => tell_description(bytes, told),
-        "line" => tell_line(bytes, told),
-        _ => told.word("strange"),
+        "describe" => tell_description(bytes, results),
+        "line" => tell_line(bytes, results),
+        _ => results.word("strange"),
     }
 }

@@ -20,7 +20,7 @@ impl Layer for OutQueue {
     }
 
     /// Executes an event. Writes its result, the free space, the room, the number of queued bytes, and these bytes.
-    fn play(&mut self, _alloc: Global, event: &str, bytes: &mut Vec<u8>, told: &mut RowLine) {
+    fn play(&mut self, _alloc: Global, event: &str, bytes: &mut Vec<u8>, results: &mut RowLine) {
         let (word, rest) = cut(event);
         let count = number(rest);
         read_hex(rest, bytes);
@@ -28,13 +28,13 @@ impl Layer for OutQueue {
             ("append", more) if more.len() <= self.room() => self.append(more),
             ("push", [byte]) if self.room() > 0 => self.push(*byte),
             ("write", _) if count <= self.waiting() => self.written(count),
-            ("part", _) => told.hex(first_part(self.parts())),
+            ("part", _) => results.hex(first_part(self.parts())),
             ("look", _) => {}
-            _ => told.word("refused"),
+            _ => results.word("refused"),
         }
-        told.number(self.free() as u64);
-        told.number(self.room() as u64);
-        told.number(self.waiting() as u64);
-        told.hex(self.front());
+        results.number(self.free() as u64);
+        results.number(self.room() as u64);
+        results.number(self.waiting() as u64);
+        results.hex(self.front());
     }
 }

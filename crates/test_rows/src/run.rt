@@ -25,22 +25,22 @@ fn run(
     moments: &str,
     mut wire: Line,
     plan: &ClientPlan,
-    told: &mut RowLine,
+    results: &mut RowLine,
 ) {
     let mut clock = Moments { text: moments };
     let mut out = ScriptedOutlet::new(kind == "full");
     let mut err = ScriptedOutlet::new(kind == "mute");
     match run_client(alloc, &mut wire, &mut clock, &mut out, &mut err, plan) {
-        Ok(status) => told.number(u64::from(status)),
-        Err(fault) => told.fault(&fault, fault as u8),
+        Ok(status) => results.number(u64::from(status)),
+        Err(fault) => results.fault(&fault, fault as u8),
     }
-    told.hex(&out.bytes);
-    told.hex(&err.bytes);
-    told.hex(&wire.written);
+    results.hex(&out.bytes);
+    results.hex(&err.bytes);
+    results.hex(&wire.written);
 }
 
 /// Executes a row, and writes its result.
-pub(crate) fn play(alloc: Global, event: &str, bytes: &mut Vec<u8>, told: &mut RowLine) {
+pub(crate) fn play(alloc: Global, event: &str, bytes: &mut Vec<u8>, results: &mut RowLine) {
     let (kind, event) = cut(event);
     let (writes, event) = cut(event);
     let (moments, event) = cut(event);
@@ -53,7 +53,7 @@ pub(crate) fn play(alloc: Global, event: &str, bytes: &mut Vec<u8>, told: &mut R
         written: ArrayVec::new(),
     };
     match client_words(alloc, words_of(line).as_slice()) {
-        Ok(plan) => run(alloc, kind, moments, wire, &plan, told),
-        Err(fault) => tell_fault(&fault, told),
+        Ok(plan) => run(alloc, kind, moments, wire, &plan, results),
+        Err(fault) => tell_fault(&fault, results),
     }
 }

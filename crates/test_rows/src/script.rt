@@ -14,79 +14,79 @@ use std::alloc::Global;
 use std::fmt::Write;
 
 /// Writes the name of an event, its number, which is that of a connection or a time, and its bytes.
-fn on(word: &str, number: u64, bytes: &[u8], told: &mut RowLine) {
-    told.word(word);
-    told.number(number);
-    told.hex(bytes);
+fn on(word: &str, number: u64, bytes: &[u8], results: &mut RowLine) {
+    results.word(word);
+    results.number(number);
+    results.hex(bytes);
 }
 
 /// Writes the hex digits of each segment of a path with a slash before each, and bytes.
-fn at(path: &PathKey, bytes: &[u8], told: &mut RowLine) {
+fn at(path: &PathKey, bytes: &[u8], results: &mut RowLine) {
     for segment in path.segments() {
-        let _ = told.write_str("/");
-        told.hex(segment);
+        let _ = results.write_str("/");
+        results.hex(segment);
     }
-    told.hex(bytes);
+    results.hex(bytes);
 }
 
 /// Writes an event.
-fn tell_event(event: &Event, told: &mut RowLine) {
+fn tell_event(event: &Event, results: &mut RowLine) {
     match event {
-        Event::Open => told.word("Open"),
-        Event::In { connection, bytes } => on("In", *connection, bytes, told),
+        Event::Open => results.word("Open"),
+        Event::In { connection, bytes } => on("In", *connection, bytes, results),
         Event::Drain { connection, most } => {
-            on("Drain", *connection, &[], told);
-            told.debug(most);
+            on("Drain", *connection, &[], results);
+            results.debug(most);
         }
-        Event::Tick { moment } => on("Tick", *moment, &[], told),
+        Event::Tick { moment } => on("Tick", *moment, &[], results),
         Event::Put {
             path,
             format,
             payload,
         } => {
-            told.word("Put");
-            told.debug(format);
-            at(path, payload, told);
+            results.word("Put");
+            results.debug(format);
+            at(path, payload, results);
         }
         Event::Remove { path, text } => {
-            told.word("Remove");
-            at(path, text, told);
+            results.word("Remove");
+            at(path, text, results);
         }
-        Event::End { connection } => on("End", *connection, &[], told),
-        Event::Release { connection } => on("Release", *connection, &[], told),
+        Event::End { connection } => on("End", *connection, &[], results),
+        Event::Release { connection } => on("Release", *connection, &[], results),
         Event::Respond {
             connection,
             response,
-        } => on("Respond", *connection, response, told),
-        Event::Drop { connection } => on("Drop", *connection, &[], told),
-        Event::Status { connection } => on("Status", *connection, &[], told),
+        } => on("Respond", *connection, response, results),
+        Event::Drop { connection } => on("Drop", *connection, &[], results),
+        Event::Status { connection } => on("Status", *connection, &[], results),
     }
-    told.word(";");
+    results.word(";");
 }
 
 /// Writes the number and the text of an error.
-fn tell_fault(fault: ScriptFault, told: &mut RowLine) {
-    told.number(u64::from(fault.number()));
-    told.text(&fault);
+fn tell_fault(fault: ScriptFault, results: &mut RowLine) {
+    results.number(u64::from(fault.number()));
+    results.text(&fault);
 }
 
 /// Executes a row, and writes its result.
-pub(crate) fn play(alloc: Global, row: &str, bytes: &mut Vec<u8>, told: &mut RowLine) {
+pub(crate) fn play(alloc: Global, row: &str, bytes: &mut Vec<u8>, results: &mut RowLine) {
     let (word, rest) = cut(row);
     read_hex(rest, bytes);
     match word {
         "read" => match script(alloc, bytes) {
             Ok(events) => {
                 for event in &events {
-                    tell_event(event, told);
+                    tell_event(event, results);
                 }
             }
-            Err(fault) => tell_fault(fault, told),
+            Err(fault) => tell_fault(fault, results),
         },
         "faults" => {
-            tell_fault(ScriptFault::Line(12), told);
-            tell_fault(ScriptFault::Memory, told);
+            tell_fault(ScriptFault::Line(12), results);
+            tell_fault(ScriptFault::Memory, results);
         }
-        _ => told.word("strange"),
+        _ => results.word("strange"),
     }
 }

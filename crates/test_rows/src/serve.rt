@@ -25,26 +25,32 @@ use coap_server_engine::{ReplayFault, Server};
 use std::alloc::{AllocError, Global};
 
 /// Replays the lines of a script, and writes the lines of the server.
-fn replay(alloc: Global, server: &mut Server, row: &str, bytes: &mut Vec<u8>, told: &mut RowLine) {
+fn replay(
+    alloc: Global,
+    server: &mut Server,
+    row: &str,
+    bytes: &mut Vec<u8>,
+    results: &mut RowLine,
+) {
     bytes.clear();
     let _ = bytes.extend_from_slice(row.as_bytes());
     let _ = bytes.push(b'\n');
     put_for(bytes, b'|', b'\n');
     match script(alloc, bytes) {
         Ok(events) => {
-            let outcome = server.replay(&events, &mut WriteOutlet::new(told.writer()));
-            put_for(told.writer(), b'\n', b'|');
+            let outcome = server.replay(&events, &mut WriteOutlet::new(results.writer()));
+            put_for(results.writer(), b'\n', b'|');
             match outcome {
-                Ok(()) => told.end_line(),
-                Err(ReplayFault::Write) => told.word(" unwritten"),
+                Ok(()) => results.end_line(),
+                Err(ReplayFault::Write) => results.word(" unwritten"),
                 Err(ReplayFault::Memory(number)) => {
-                    told.word(" memory");
-                    told.number(number);
+                    results.word(" memory");
+                    results.number(number);
                 }
             }
         }
-        Err(ScriptFault::Line(_)) => told.word("strange"),
-        Err(ScriptFault::Memory) => told.word("memory"),
+        Err(ScriptFault::Line(_)) => results.word("strange"),
+        Err(ScriptFault::Memory) => results.word("memory"),
     }
 }
 
@@ -64,25 +70,25 @@ impl Layer for Server {
     }
 
     /// Executes a row: a single call, or the lines of a script that the server replays. Writes the result.
-    fn play(&mut self, alloc: Global, event: &str, bytes: &mut Vec<u8>, told: &mut RowLine) {
+    fn play(&mut self, alloc: Global, event: &str, bytes: &mut Vec<u8>, results: &mut RowLine) {
         let (word, rest) = cut(event);
         let (connection, last) = cut(rest);
         let connection = number(connection) as u64;
         match word {
             "take" => {
                 read_hex(last, bytes);
-                told.debug(&self.take(connection, bytes));
+                results.debug(&self.take(connection, bytes));
             }
-            "written" => told.debug(&self.written(connection, number(last))),
+            "written" => results.debug(&self.written(connection, number(last))),
             "announce" => {
                 let size = number(last).min(4_294_967_295) as u32;
-                told.debug(&self.announce(connection, size));
+                results.debug(&self.announce(connection, size));
             }
             "part" => match self.parts(connection) {
-                Some(parts) => told.hex(first_part(parts)),
-                None => told.word("nosuch"),
+                Some(parts) => results.hex(first_part(parts)),
+                None => results.word("nosuch"),
             },
-            _ => replay(alloc, self, event, bytes, told),
+            _ => replay(alloc, self, event, bytes, results),
         }
     }
 }

@@ -136,18 +136,18 @@ impl Layer for Config {
 
     /// Executes an event, and writes its result. The devices own the result line during the run. The line in its place
     /// has no capacity, so that `RowLine::new` allocates nothing.
-    fn play(&mut self, alloc: Global, event: &str, bytes: &mut Vec<u8>, told: &mut RowLine) {
+    fn play(&mut self, alloc: Global, event: &str, bytes: &mut Vec<u8>, results: &mut RowLine) {
         let (word, rest) = cut(event);
         let (digits, last) = cut(rest);
         read_hex(digits, bytes);
         let Ok(none) = RowLine::new(alloc, 0) else {
-            return told.word("memory");
+            return results.word("memory");
         };
-        let page = RefCell::new(mem::replace(told, none));
+        let page = RefCell::new(mem::replace(results, none));
         match word {
             "serve" => serve(alloc, self, bytes, last, &page),
             _ => door::play(alloc, self, word, bytes, last, &page),
         }
-        *told = page.into_inner();
+        *results = page.into_inner();
     }
 }

@@ -23,13 +23,13 @@ use coap_wire::{MessageRef, parse};
 use std::alloc::{AllocError, Global};
 
 /// Writes the location of a new resource.
-fn tell_location(location: Option<UriPath>, told: &mut RowLine) {
+fn tell_location(location: Option<UriPath>, results: &mut RowLine) {
     if let Some(path) = location {
         for segment in path {
-            told.hex(segment);
+            results.hex(segment);
         }
     }
-    told.word(";");
+    results.word(";");
 }
 
 /// Returns the word for a change.
@@ -61,18 +61,18 @@ fn word_of_watch(watch: Watch) -> &'static str {
 
 /// Writes a plan: the code, the change, the effect on the observer, each part of the response, and the payload. Writes
 /// the change again, as the plan gives it up.
-fn tell_plan(plan: Plan, told: &mut RowLine) {
-    told.number(u64::from(plan.code().byte()));
-    told.word(word_of_change(&plan.change()));
-    told.word(word_of_watch(plan.watch()));
-    told.debug(&plan.hold());
-    told.debug(&plan.etag());
-    told.debug(&plan.format());
-    told.debug(&plan.max_age());
-    tell_location(plan.location(), told);
-    told.debug(&plan.size1());
-    told.hex(plan.payload());
-    told.word(word_of_planned(plan.into_change().change()));
+fn tell_plan(plan: Plan, results: &mut RowLine) {
+    results.number(u64::from(plan.code().byte()));
+    results.word(word_of_change(&plan.change()));
+    results.word(word_of_watch(plan.watch()));
+    results.debug(&plan.hold());
+    results.debug(&plan.etag());
+    results.debug(&plan.format());
+    results.debug(&plan.max_age());
+    tell_location(plan.location(), results);
+    results.debug(&plan.size1());
+    results.hex(plan.payload());
+    results.word(word_of_planned(plan.into_change().change()));
 }
 
 /// Returns the plan for the request that the bytes encode, at the given time. The plan borrows the store and these
@@ -83,18 +83,18 @@ fn planned<'s, 'r>(store: &'s Store, bytes: &'r [u8], moment: u64) -> Option<Pla
 }
 
 /// Writes the plan for the request that the bytes encode, at the given time.
-fn tell_planned(store: &Store, bytes: &[u8], moment: u64, told: &mut RowLine) {
+fn tell_planned(store: &Store, bytes: &[u8], moment: u64, results: &mut RowLine) {
     if let Some(plan) = planned(store, bytes, moment) {
-        tell_plan(plan, told);
+        tell_plan(plan, results);
     }
 }
 
 /// Applies the change that a request makes, or writes `memory` if allocation fails.
-fn make(store: &mut Store, request: &MessageRef, told: &mut RowLine) {
+fn make(store: &mut Store, request: &MessageRef, results: &mut RowLine) {
     // The change borrows the request alone.
     let change = store.answer(request, 0).change();
     if store.apply(change).is_err() {
-        told.word("memory");
+        results.word("memory");
     }
 }
 
@@ -111,37 +111,37 @@ fn path_of(request: &MessageRef) -> Option<PathKey> {
 }
 
 /// Writes the segments of a key, whether its copy is equal, and whether the key is the path of the request.
-fn tell_path(path: &PathKey, request: &MessageRef, told: &mut RowLine) {
+fn tell_path(path: &PathKey, request: &MessageRef, results: &mut RowLine) {
     for segment in path.segments() {
-        told.hex(segment);
+        results.hex(segment);
     }
-    told.debug(&(path.duplicate() == *path));
-    told.debug(&request_path(request).is_some_and(|asked| asked == *path));
+    results.debug(&(path.duplicate() == *path));
+    results.debug(&request_path(request).is_some_and(|fields| fields == *path));
 }
 
 /// Writes a state, or nothing if the resource is absent.
-fn tell_state(state: &State, told: &mut RowLine) {
+fn tell_state(state: &State, results: &mut RowLine) {
     if let State::Present(present) = state {
-        told.number(present.version());
-        told.debug(&present.format());
-        told.hex(present.bytes());
+        results.number(present.version());
+        results.debug(&present.format());
+        results.hex(present.bytes());
     }
 }
 
 /// Executes a call of the embedding program with the path of a request, and writes the result.
-fn change(store: &mut Store, word: &str, request: &MessageRef, rest: &str, told: &mut RowLine) {
+fn change(store: &mut Store, word: &str, request: &MessageRef, rest: &str, results: &mut RowLine) {
     let Some(path) = path_of(request) else {
-        return told.word("none");
+        return results.word("none");
     };
     let [moment, format, ..] = numbers(rest);
     let (moment, format) = (moment as u64, u16::try_from(format).ok());
     match word {
-        "path" => tell_path(&path, request, told),
-        "put" => told.debug(&store.put(&path, format, request.payload())),
-        "remove" => told.debug(&store.remove(&path)),
-        "state" => tell_state(&store.state(&path, moment), told),
-        "notify" => tell_plan(store.notification(&path, format, moment), told),
-        _ => told.word("strange"),
+        "path" => tell_path(&path, request, results),
+        "put" => results.debug(&store.put(&path, format, request.payload())),
+        "remove" => results.debug(&store.remove(&path)),
+        "state" => tell_state(&store.state(&path, moment), results),
+        "notify" => tell_plan(store.notification(&path, format, moment), results),
+        _ => results.word("strange"),
     }
 }
 
@@ -156,20 +156,20 @@ impl Layer for Store {
     }
 
     /// Executes an event, and writes its result.
-    fn play(&mut self, _alloc: Global, event: &str, bytes: &mut Vec<u8>, told: &mut RowLine) {
+    fn play(&mut self, _alloc: Global, event: &str, bytes: &mut Vec<u8>, results: &mut RowLine) {
         let (word, rest) = cut(event);
         let (digits, rest) = cut(rest);
         read_hex(digits, bytes);
         let Ok(request) = parse(bytes) else {
-            return told.word("strange");
+            return results.word("strange");
         };
         match word {
-            "ask" => tell_planned(self, bytes, number(rest) as u64, told),
+            "ask" => tell_planned(self, bytes, number(rest) as u64, results),
             "make" => {
-                tell_planned(self, bytes, 0, told);
-                make(self, &request, told);
+                tell_planned(self, bytes, 0, results);
+                make(self, &request, results);
             }
-            _ => change(self, word, &request, rest, told),
+            _ => change(self, word, &request, rest, results),
         }
     }
 }

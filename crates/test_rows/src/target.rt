@@ -5,26 +5,26 @@ use coap_request::Target;
 use std::alloc::Global;
 
 /// Writes the number of parts, and each part.
-fn tell_parts(parts: &[Vec<u8>], told: &mut RowLine) {
-    told.number(parts.len() as u64);
+fn tell_parts(parts: &[Vec<u8>], results: &mut RowLine) {
+    results.number(parts.len() as u64);
     for part in parts {
-        told.hex(part);
+        results.hex(part);
     }
 }
 
 /// Writes the parts of a target.
-pub(crate) fn tell_target(target: &Target, told: &mut RowLine) {
-    told.debug(&target.is_address());
-    told.hex(target.host());
-    told.number(u64::from(target.port()));
-    tell_parts(target.segments(), told);
-    tell_parts(target.arguments(), told);
+pub(crate) fn tell_target(target: &Target, results: &mut RowLine) {
+    results.debug(&target.is_address());
+    results.hex(target.host());
+    results.number(u64::from(target.port()));
+    tell_parts(target.segments(), results);
+    tell_parts(target.arguments(), results);
 }
 
 /// Parses a URI, and writes the target or the error.
-pub(crate) fn play(alloc: Global, text: &str, told: &mut RowLine) {
+pub(crate) fn play(alloc: Global, text: &str, results: &mut RowLine) {
     match Target::read(alloc, text) {
-        Ok(target) => tell_target(&target, told),
-        Err(fault) => told.fault(&fault, fault as u8),
+        Ok(target) => tell_target(&target, results),
+        Err(fault) => results.fault(&fault, fault as u8),
     }
 }

@@ -43,85 +43,85 @@ const CODES: [Code; 26] = [
 ];
 
 /// Writes the byte, the class and the detail of each code.
-fn tell_codes(codes: &[Code], told: &mut RowLine) {
+fn tell_codes(codes: &[Code], results: &mut RowLine) {
     for code in codes {
-        told.hex(&[code.byte()]);
-        told.number(u64::from(code.class()));
-        told.number(u64::from(code.detail()));
+        results.hex(&[code.byte()]);
+        results.number(u64::from(code.class()));
+        results.number(u64::from(code.detail()));
     }
 }
 
 /// Writes an option.
-fn tell_option(option: &OptionRef, told: &mut RowLine) {
-    told.number(u64::from(option.number));
-    told.hex(option.value);
+fn tell_option(option: &OptionRef, results: &mut RowLine) {
+    results.number(u64::from(option.number));
+    results.hex(option.value);
 }
 
 /// Parses a message and writes its parts, or the error. After the last option, the iterator must be empty.
-fn read(bytes: &[u8], told: &mut RowLine) {
+fn read(bytes: &[u8], results: &mut RowLine) {
     match parse(bytes) {
         Ok(message) => {
-            told.hex(&[message.code().byte()]);
-            told.hex(message.token().bytes());
+            results.hex(&[message.code().byte()]);
+            results.hex(message.token().bytes());
             let mut options = message.options();
             for option in options.by_ref() {
-                tell_option(&option, told);
+                tell_option(&option, results);
             }
-            told.debug(&options.next().is_some());
-            told.hex(message.payload());
+            results.debug(&options.next().is_some());
+            results.hex(message.payload());
         }
-        Err(fault) => told.fault(&fault, fault as u8),
+        Err(fault) => results.fault(&fault, fault as u8),
     }
 }
 
 /// Writes the recognized options of a message, and the number of the first critical one that is not recognized. After
 /// the last option, the iterator must be empty.
-fn known(bytes: &[u8], told: &mut RowLine) {
+fn known(bytes: &[u8], results: &mut RowLine) {
     let Ok(message) = parse(bytes) else {
-        return told.word("strange");
+        return results.word("strange");
     };
     let mut options = message.known();
     for option in options.by_ref() {
-        tell_option(&option, told);
+        tell_option(&option, results);
     }
-    told.debug(&options.next().is_some());
-    told.debug(&message.first_critical());
+    results.debug(&options.next().is_some());
+    results.debug(&message.first_critical());
 }
 
 /// Writes the code, the token, the size and the encoding of a message.
-fn tell_built(message: &Builder, room: &mut [u8], told: &mut RowLine) {
-    told.hex(&[message.code().byte()]);
-    told.hex(message.token().bytes());
-    told.number(message.size());
+fn tell_built(message: &Builder, room: &mut [u8], results: &mut RowLine) {
+    results.hex(&[message.code().byte()]);
+    results.hex(message.token().bytes());
+    results.number(message.size());
     let mut sink = SliceSink::new(room);
     if message.size() > sink.room() as u64 {
-        return told.word("refused");
+        return results.word("refused");
     }
     message.write(&mut sink);
-    told.hex(sink.written());
+    results.hex(sink.written());
 }
 
 /// Adds an option if the name is a number, otherwise the payload, and writes the error if that fails.
-fn add<'a>(message: &mut Builder<'a>, name: &str, value: &'a [u8], told: &mut RowLine) {
+fn add<'a>(message: &mut Builder<'a>, name: &str, value: &'a [u8], results: &mut RowLine) {
     let answer = match name.parse::<u16>() {
         Ok(number) => message.option(number, value),
         Err(_) => message.payload(value),
     };
     if let Err(fault) = answer {
-        told.fault(&fault, fault as u8);
+        results.fault(&fault, fault as u8);
     }
 }
 
 /// Writes a message with this token.
-fn tell_other(message: &Builder, token: &Token, room: &mut [u8], told: &mut RowLine) {
+fn tell_other(message: &Builder, token: &Token, room: &mut [u8], results: &mut RowLine) {
     let other = message.with_token(token);
-    tell_built(&other, room, told);
+    tell_built(&other, room, results);
 }
 
 /// Writes a message with the token of these bytes.
-fn tell_with(message: &Builder, bytes: &[u8], room: &mut [u8], told: &mut RowLine) {
+fn tell_with(message: &Builder, bytes: &[u8], room: &mut [u8], results: &mut RowLine) {
     let token = Token::try_from(bytes).unwrap_or(Token::new());
-    tell_other(message, &token, room, told);
+    tell_other(message, &token, room, results);
 }
 
 /// Builds a message of a code and a token, adds the parts that words name, and writes the results. Each part has a
@@ -132,27 +132,27 @@ fn build<'a>(
     mut rest: &'a [u8],
     text: &str,
     room: &mut [u8],
-    told: &mut RowLine,
+    results: &mut RowLine,
 ) {
     for word in text.split(' ') {
         let (name, length) = word.split_once('=').unwrap_or((word, ""));
-        let (value, behind) = rest.split_at_checked(number(length)).unwrap_or_default();
-        rest = behind;
+        let (value, later) = rest.split_at_checked(number(length)).unwrap_or_default();
+        rest = later;
         match name {
-            "look" => tell_built(&message, room, told),
-            "token" => tell_with(&message, value, room, told),
-            _ => add(&mut message, name, value, told),
+            "look" => tell_built(&message, room, results),
+            "token" => tell_with(&message, value, room, results),
+            _ => add(&mut message, name, value, results),
         }
     }
 }
 
 /// Builds a message from its code, its token and further parts, in the order of the bytes. The first word is the length
 /// of the token.
-fn write(text: &str, bytes: &mut Vec<u8>, told: &mut RowLine) {
+fn write(text: &str, bytes: &mut Vec<u8>, results: &mut RowLine) {
     let count = bytes.len();
     let room = count.saturating_mul(2).saturating_add(FORMS);
     if bytes.resize(room, 0).is_err() || count > bytes.len() {
-        return told.word("refused");
+        return results.word("refused");
     }
     let (read, room) = bytes.split_at_mut(count);
     let (length, text) = cut(text);
@@ -161,40 +161,40 @@ fn write(text: &str, bytes: &mut Vec<u8>, told: &mut RowLine) {
     let code = code.first().copied().unwrap_or(0);
     let token = Token::try_from(token).unwrap_or(Token::new());
     let message = Builder::new(Code::new(code), &token);
-    build(message, rest, text, room, told);
+    build(message, rest, text, room, results);
 }
 
 /// Writes whether an option with the given number is repeatable, and its minimum and maximum length.
-fn tell_kind(number: usize, told: &mut RowLine) {
+fn tell_kind(number: usize, results: &mut RowLine) {
     let Ok(number) = u16::try_from(number) else {
         return;
     };
     if let Some(kind) = kind(number) {
-        told.debug(&kind.repeatable);
-        told.number(u64::from(kind.min));
-        told.number(u64::from(kind.max));
+        results.debug(&kind.repeatable);
+        results.number(u64::from(kind.min));
+        results.number(u64::from(kind.max));
     }
 }
 
 /// Executes an event, and writes its result.
-pub(crate) fn play(event: &str, bytes: &mut Vec<u8>, told: &mut RowLine) {
+pub(crate) fn play(event: &str, bytes: &mut Vec<u8>, results: &mut RowLine) {
     let (word, rest) = cut(event);
     let (first, text) = cut(rest);
     read_hex(first, bytes);
     match word {
-        "kind" => tell_kind(number(rest), told),
+        "kind" => tell_kind(number(rest), results),
         "uint" => {
             let bytes = uint_bytes(number(rest) as u64);
-            told.hex(&bytes);
-            told.debug(&uint_value(&bytes));
+            results.hex(&bytes);
+            results.debug(&uint_value(&bytes));
         }
-        "write" => write(text, bytes, told),
-        "read" => read(bytes, told),
-        "known" => known(bytes, told),
-        "declared" => told.debug(&declared(bytes)),
-        "code" => tell_codes(&[Code::new(bytes.first().copied().unwrap_or(0))], told),
-        "codes" => tell_codes(&CODES, told),
-        "value" => told.debug(&uint_value(bytes)),
-        _ => told.word("strange"),
+        "write" => write(text, bytes, results),
+        "read" => read(bytes, results),
+        "known" => known(bytes, results),
+        "declared" => results.debug(&declared(bytes)),
+        "code" => tell_codes(&[Code::new(bytes.first().copied().unwrap_or(0))], results),
+        "codes" => tell_codes(&CODES, results),
+        "value" => results.debug(&uint_value(bytes)),
+        _ => results.word("strange"),
     }
 }

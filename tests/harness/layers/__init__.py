@@ -19,7 +19,7 @@ class Step:
 
     event: str
     wanted: str
-    told: Callable[[str], str] = str.strip
+    reported: Callable[[str], str] = str.strip
     meanwhile: tuple = ()
 
 

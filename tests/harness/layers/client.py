@@ -37,7 +37,7 @@ def opened(opening):
     return f"= client {opening if len(opening.split()) > 2 else f'{USUAL} {opening}'}"
 
 
-def asked(words, token="-"):
+def requested(words, token="-"):
     """Returns the fields of a request in the form of the probe."""
     fields = {"observe": "0", "plain": "0", **dict.fromkeys(("format", "accept", "option"), "65536"),
               "value": "-", "payload": "-"}
@@ -59,9 +59,9 @@ def event_of(text):
     keep, text = ("keep ", text[5:]) if text.startswith("keep ") else ("", text)
     word, *rest = text.split(" ")
     if word == "send":
-        return f"{keep}send {rest[0]} {repeated(rest[1])} {asked(rest[2:])}"
+        return f"{keep}send {rest[0]} {repeated(rest[1])} {requested(rest[2:])}"
     if word == "cancel":
-        return f"{keep}send cancel {repeated(rest[1])} {asked(rest[2:], rest[0])}"
+        return f"{keep}send cancel {repeated(rest[1])} {requested(rest[2:], rest[0])}"
     return keep + spelled(text)
 
 
@@ -76,7 +76,7 @@ def wanted_of(text):
     return re.sub("\0", lambda _: next(parts), spelled(BRACKETS.sub("\0", text)))
 
 
-def told_as(wanted):
+def reported_as(wanted):
     """Returns a function that converts a line to the form of the expected result."""
     if re.search(r" \([a-z]", wanted):
         return str.strip
@@ -97,13 +97,13 @@ def cancelled(event, line):
 def step(row):
     """Returns the step of a row."""
     event, _, wanted = row.partition(" => ")
-    event, short = event_of(event), told_as(wanted)
+    event, short = event_of(event), reported_as(wanted)
 
-    def told(line):
+    def reported(line):
         *words, count, front = cancelled(event, with_codes(short(line))).split(" ")
         return " ".join([*words, *([] if int(count) == len(front.strip("-")) // 2 else ["uneven"]), front])
 
-    return Step(event, wanted_of(wanted), told)
+    return Step(event, wanted_of(wanted), reported)
 
 
 def given(line):

@@ -25,7 +25,7 @@ def settings(text):
     return dict(zip(words[::2], map(int, words[1::2]), strict=True))
 
 
-def told(line):
+def reported(line):
     """Returns a line with the initial values as numbers alone."""
     return re.sub(r"Starts \{ moment: (\d+), versions: (\d+), ids: (\d+) \}", r"\1 \2 \3", quoted(line))
 
@@ -38,4 +38,4 @@ def steps(opening, rows):
             values = {**USUAL, **settings(opening), **settings(event)}
             event = " ".join(["config", *(str(values[name]) for name in USUAL)])
             assert len(values) == len(USUAL), row
-        yield Step(event, wanted, told)
+        yield Step(event, wanted, reported)

@@ -94,7 +94,7 @@ def call_of(words):
             else f"{place}>{len(handed) if came.isdigit() else came}")
 
 
-def told(line):
+def reported(line):
     """Returns the line of the probe in the form of the row: calls, the bytes that connections accepted, and the result
     unless it is `Turns`."""
     words, calls, written = line.split(), [], {}
@@ -120,7 +120,7 @@ def steps(opening, rows):
         if create != last:
             yield Step(create, "")
         last = create
-        yield Step(event, spelled(expanded(wanted)), told)
+        yield Step(event, spelled(expanded(wanted)), reported)
 
 
 def struck(step, line, again, line_again):

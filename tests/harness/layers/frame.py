@@ -20,23 +20,23 @@ PROBE = "test_rows"
 LOOKS = ("look", "copied")
 
 
-def told_as(event):
+def reported_as(event):
     """Returns a function that converts the line of an event to the form of the expected result."""
     word = event.partition(" ")[0]
 
-    def told(line):
+    def reported(line):
         found = re.fullmatch(r"(.*)max (\d+) (kept \d+ spent \d+) copied (\d+)", quoted(line))
         what, largest, kept, copied = found.groups()
         if word in ("next", "each", "all", "hold"):
             return what + kept
         return what + (f"copied {copied} {kept}" if word == "copied" else f"max {largest} {kept}")
 
-    return told
+    return reported
 
 
 def found_in(line):
     """Returns the outcomes of a line, the number of bytes taken, and the number of bytes kept."""
-    what, _, kept = told_as("all")(line).partition("left 0 kept ")
+    what, _, kept = reported_as("all")(line).partition("left 0 kept ")
     found = re.findall(r"((?:Frame|Whole) [0-9a-f]+|More|\w+ \d+ \".*?\") taken (\d+)", what)
     return [it for it, _ in found], sum(int(taken) for _, taken in found), kept.split(" ")[0]
 
@@ -69,7 +69,7 @@ def steps(opening, rows):
         if event.startswith("cuts "):
             yield from cuts(digits(event.removeprefix("cuts ")), [digits(frame) for frame in wanted.split()])
         else:
-            yield Step(spelled(event).removesuffix(" -"), spelled(wanted), told_as(event))
+            yield Step(spelled(event).removesuffix(" -"), spelled(wanted), reported_as(event))
 
 
 def refused(event, line, again):

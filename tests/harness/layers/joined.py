@@ -10,7 +10,7 @@ result of the event or `-`, the events of the client in order, and the number of
 import re
 
 from layers import Step
-from layers.client import cancelled, event_of, told_as, wanted_of, with_codes
+from layers.client import cancelled, event_of, reported_as, wanted_of, with_codes
 
 PROBE = "test_rows"
 LOOKS = ("look",)
@@ -29,13 +29,13 @@ def opened(opening):
 def step(row):
     """Returns the step of a row."""
     event, _, wanted = row.partition(" => ")
-    event, short = event_of(event), told_as(wanted)
+    event, short = event_of(event), reported_as(wanted)
 
-    def told(line):
+    def reported(line):
         line = re.sub(r"^true ", "- ", cancelled(event, with_codes(short(line))))
         return line.replace(" ,", ",").replace(" ;", ";")
 
-    return Step(event, wanted_of(wanted), told)
+    return Step(event, wanted_of(wanted), reported)
 
 
 def steps(opening, rows):

@@ -90,11 +90,11 @@ def wanted_of(text):
 STATE = re.compile(r"(.*) (\S+) (\d+) (\d+) (true|false) (true|false) (\d+) (\S+)")
 
 
-def told_as(event):
+def reported_as(event):
     """Returns a function that converts the line of an event to the form of the expected result."""
     names = {"count": "pending {} outstanding {}", "token": "token {}"}.get(event.partition(" ")[0])
 
-    def told(line):
+    def reported(line):
         result, phase, peer, free, ready, finished, count, front = STATE.fullmatch(line.strip()).groups()
         result = names.format(*result.split()) if names else result
         ready = "ready" if ready == "true" else "unready"
@@ -102,7 +102,7 @@ def told_as(event):
         uneven = "" if int(count) == len(front.strip("-")) // 2 else " another count waits"
         return f"{result} {phase} {peer} {free} {ready} {finished}{uneven} {front}"
 
-    return told
+    return reported
 
 
 def steps(opening, rows):
@@ -111,7 +111,7 @@ def steps(opening, rows):
     yield Step(f"= link {limits}", "")
     for row in [*first, *([row] if row else []), *rows]:
         event, _, wanted = row.partition(" => ")
-        yield Step(event_of(event), wanted_of(wanted), told_as(event))
+        yield Step(event_of(event), wanted_of(wanted), reported_as(event))
 
 
 def refused(event, line, again):

@@ -49,24 +49,24 @@ def page(digits_):
     return text.replace("\n", "\\n") or "-"
 
 
-def told_as(wanted):
+def reported_as(wanted):
     """Returns a function that converts a line to the form of the expected result."""
 
-    def told(line):
+    def reported(line):
         *status, out, err, written = line.split()
         status = " ".join(status)
         if " (" not in wanted:
             status = re.sub(r" \d+ \(.*\)", "", status)
         return f"{status}; {page(out)}; {page(err)}; {written}"
 
-    return told
+    return reported
 
 
 def steps(opening, rows):
     yield Step("= run", "")
     for row in rows:
         event, _, wanted = row.partition(" => ")
-        yield Step(event_of(event), wanted_of(wanted), told_as(wanted))
+        yield Step(event_of(event), wanted_of(wanted), reported_as(wanted))
 
 
 def struck(step, line, again, line_again):

@@ -21,7 +21,7 @@ def event_of(event):
     return f"read {bytes_of(text).hex()}" if word == "bytes" else event
 
 
-def told(line):
+def reported(line):
     """Returns the line of the probe with each semicolon next to its event, and the segments of a path in one word.
 
     Each event has only what it needs, and the Content-Format of a `Put` comes after its path."""
@@ -34,7 +34,8 @@ def steps(opening, rows):
     yield Step("= script", "")
     for row in rows:
         event, _, wanted = row.partition(" => ")
-        yield Step(event_of(event), re.sub(r"'([^']*)'", lambda text: text[1].encode().hex(), repeated(wanted)), told)
+        wanted = re.sub(r"'([^']*)'", lambda text: text[1].encode().hex(), repeated(wanted))
+        yield Step(event_of(event), wanted, reported)
 
 
 def refused(event, line, again):

@@ -88,15 +88,15 @@ def lines_of(rows):
     return [(spelled_lines(event), spelled_lines(line)) for event, _, line in rows]
 
 
-def told_as(event):
+def reported_as(event):
     """Returns a function that converts the line of an event to the form of the expected result."""
     return answer_of if event.startswith(CALLS) else str.strip
 
 
 def meanwhile_of(rows):
     """Returns the steps to play if an allocation fails in the first of these rows."""
-    behind = itertools.takewhile(lambda row: row.startswith(MEANWHILE), rows[1:])
-    return tuple(Step(*pair, told_as(pair[0])) for pair in lines_of([row.removeprefix(MEANWHILE) for row in behind]))
+    later = itertools.takewhile(lambda row: row.startswith(MEANWHILE), rows[1:])
+    return tuple(Step(*pair, reported_as(pair[0])) for pair in lines_of([row.removeprefix(MEANWHILE) for row in later]))
 
 
 def answer_of(line):
@@ -115,7 +115,7 @@ def steps(opening, rows):
     yield Step(opened(said), "")
     for place, row in enumerate(rows):
         for event, line in lines_of([row]):
-            yield Step(event, line, told_as(event), meanwhile_of(rows[place:]))
+            yield Step(event, line, reported_as(event), meanwhile_of(rows[place:]))
 
 
 def ends_of(data):
@@ -197,8 +197,8 @@ def struck(step, line, again, line_again):
     counted once.
     """
     if "|" in step.event:
-        told = line.rpartition(" memory ")[0] + line_again if "memory" != line.strip() else line_again
-        return [] if told == step.wanted else [f"{step.event}: {told}"]
+        reported = line.rpartition(" memory ")[0] + line_again if "memory" != line.strip() else line_again
+        return [] if reported == step.wanted else [f"{step.event}: {reported}"]
     if step.event.startswith("in ") and again.startswith("status "):
         return [] if line_again.startswith(again) else [f"{again}: {line_again}"]
     if step.event.startswith("in ") and again != step.event:
@@ -207,7 +207,7 @@ def struck(step, line, again, line_again):
         (first, *requests), (wanted, *others) = line_again.strip().split("|"), step.wanted.split("|")
         (count, stop), right = count_of(first), others[len(others) - len(requests) :] == requests
         return [] if right and (count + left, stop) == count_of(wanted) else [f"{again}: {line_again}"]
-    return [] if step.told(line_again) == step.wanted else [f"{again}: {line_again}"]
+    return [] if step.reported(line_again) == step.wanted else [f"{again}: {line_again}"]
 
 
 AS_BEFORE = "the server as before"

@@ -76,15 +76,15 @@ class Run:
     def opening(self):
         return "= stdio " + " ".join(str(self.said.get(name, usual)) for name, usual in LIMITS.items())
 
-    def told(self, line):
+    def reported(self, line):
         """Returns the line of the probe in the form of the row."""
-        return self.told_by(*calls_of(line))
+        return self.reported_by(*calls_of(line))
 
-    def told_by(self, calls, answer):
+    def reported_by(self, calls, answer):
         """Returns calls and a result in the form of the row."""
         if self.calls is not None:
             return "; ".join([call_line(*call) for call in calls] + [answer])
-        return told_counts(calls, answer, self.counts)
+        return reported_counts(calls, answer, self.counts)
 
 
 def calls_of(line):
@@ -99,7 +99,7 @@ def calls_of(line):
 
 
 def answer_of(text):
-    """Returns the result of a run. `untold` follows if it does not say which device failed."""
+    """Returns the result of a run. `unreported` follows if it does not say which device failed."""
     result, *failed = text.rsplit(" ", 2)
     report = re.fullmatch(r"Ok\(Report \{ read: (\d+), messages: (\d+), reason: (.+) \}\)", result)
     if failed != [str(result == it).lower() for it in ("Err(Read)", "Err(Write)")]:
@@ -115,7 +115,7 @@ def call_line(word, handed, came):
     return f"write {handed}" if len(bytes_of(handed)) == int(came) else f"write {handed} took {came}"
 
 
-def told_counts(calls, answer, counts):
+def reported_counts(calls, answer, counts):
     """Returns the bytes written, the result, and the counts that are checked."""
     taken = [(bytes_of(handed), int(came)) for word, handed, came in calls if word == "write" and came != "failed"]
     written = b"".join(handed[:count] for handed, count in taken)
@@ -245,15 +245,15 @@ def runs(opening, rows):
 def steps(opening, rows):
     if opening == "faults":
         yield Step("= limits", "")
-        told = lambda line: re.sub(r"\w+ (\d) \(([^()]*)\)", r"\1 \2", line).strip()
-        yield Step("faults io", rows[0].partition(" => ")[2], told)
+        reported = lambda line: re.sub(r"\w+ (\d) \(([^()]*)\)", r"\1 \2", line).strip()
+        yield Step("faults io", rows[0].partition(" => ")[2], reported)
         return
     last = ""
     for run in runs(opening, rows):
         if run.opening() != last:
             last = run.opening()
             yield Step(last, "")
-        yield RunStep(run.event(), run.wanted(), run.told, run=run)
+        yield RunStep(run.event(), run.wanted(), run.reported, run=run)
 
 
 def struck(step, line, again, line_again):

@@ -11,7 +11,7 @@ a version.
 - `remove /a => Ok(())` is `Store::remove`.
 - `state 10 /a => version=1 format=0 | 'x'` is the state at time 10, or `absent`.
 - `notify 10 /a format=0 => ..` is the notification at time 10 to an observer with this format.
-- `path /a / => key 61 - same asked` is the `PathKey` of the segments, or `none`. The result has the segments and
+- `path /a / => key 61 - same requested` is the `PathKey` of the segments, or `none`. The result has the segments and
   whether the copy of the key is equal. Last comes whether the key is the path of a request with these options.
 - `listed => ..` has the part of the listing after the built-in resources. `0..500` are the resources `0` to `499`,
   `bytes` is `x` followed by each byte, and other words are parts of the listing themselves.
@@ -70,13 +70,13 @@ def parts_of(line):
     digits = lambda it: bytes(map(int, it[1].replace(",", " ").split())).hex() or "-"
     line = re.sub(r"Some\(\[([0-9, ]*)\]\)", digits, line)
     head, tail = (part.split() for part in re.split(r"(?:^| ); ", line))
-    code, change, watch, held, etag, form, age, *location = head
+    code, change, watch, delay, etag, form, age, *location = head
     size1, payload, again = tail
     if again != change:
         raise ValueError(line)
     plan = {"code": int(code), "change": change, "watch": watch, "payload": payload_of(payload)}
     plan["location"] = list(map(bytes_of, location))
-    for name, value in (("held", held), ("etag", etag), ("format", form), ("max-age", age), ("size1", size1)):
+    for name, value in (("held", delay), ("etag", etag), ("format", form), ("max-age", age), ("size1", size1)):
         if value != "None":
             plan[name] = some(value)
     return plan
@@ -98,7 +98,7 @@ def response_of(line, token):
     return encoded(plan["code"], token, options, plan["payload"]).hex()
 
 
-def told_plan(line):
+def reported_plan(line):
     """Returns the line of a plan in the form of the rows, with hex digits for bytes."""
     plan = parts_of(line)
     text = f"{plan['code'] >> 5}.{plan['code'] & 31:02}"
@@ -110,7 +110,7 @@ def told_plan(line):
     return text + (f" | {plan['payload'].hex()}" if plan["payload"] else "")
 
 
-def told_state(line):
+def reported_state(line):
     """Returns the line of a state in the form of the rows."""
     if not line.strip():
         return "absent"
@@ -119,23 +119,23 @@ def told_state(line):
     return text + (f" | {payload}" if payload != "-" else "")
 
 
-def told_path(line):
+def reported_path(line):
     """Returns the segments of a key and what it is compared with, in the form of the rows."""
     if line.strip() == "none":
         return "none"
-    *segments, same, asked = line.split()
-    same, asked = "same" if same == "true" else "other", "asked" if asked == "true" else "not asked"
-    return " ".join(["key", *segments, same, asked])
+    *segments, same, requested = line.split()
+    same, requested = "same" if same == "true" else "other", "asked" if requested == "true" else "not asked"
+    return " ".join(["key", *segments, same, requested])
 
 
-def told_answer(line):
+def reported_answer(line):
     """Returns the result of `Store::put` in the form of the rows: the version, `memory` or the error."""
     return re.sub(r"^(?:Ok|Err)\((\w+)\)", lambda it: it[1].replace("Memory", "memory"), line).strip()
 
 
-def told_listing(line):
+def reported_listing(line):
     """Returns the text of a listing, whose plan must have a format and no other option."""
-    head, _, payload = told_plan(line).partition(" | ")
+    head, _, payload = reported_plan(line).partition(" | ")
     return bytes.fromhex(payload).decode() if head == "2.05 format=40" else line
 
 
@@ -190,25 +190,25 @@ def inside(word, rest, wanted):
     form = "".join(it[7:] for it in words if it.startswith("format=")) or "65536"
     path = options_of(it for it in words if not it.startswith("format="))
     event = " ".join([word, encoded(3, b"", path, payload_of(payload)).hex(), moment or "0", form])
-    told = {"state": told_state, "notify": told_plan}.get(word)
-    if told:
-        return Step(event, wanted_of(wanted), told)
+    reported = {"state": reported_state, "notify": reported_plan}.get(word)
+    if reported:
+        return Step(event, wanted_of(wanted), reported)
     if word == "path":
-        return Step(event, spelled(wanted), told_path)
-    return Step(event, wanted, told_answer if word == "put" else str.strip)
+        return Step(event, spelled(wanted), reported_path)
+    return Step(event, wanted, reported_answer if word == "put" else str.strip)
 
 
 def step_of(row):
     event, _, wanted = row.partition(" => ")
     word, _, rest = event.partition(" ")
     if word == "listed":
-        return Step(f"ask {LISTING}", BUILT_IN + entries(wanted), told_listing)
+        return Step(f"ask {LISTING}", BUILT_IN + entries(wanted), reported_listing)
     if word in ("make", "ask", "at"):
         return exchange(word, rest, wanted)
     if word in ("put", "remove", "state", "notify", "path"):
         return inside(word, rest, wanted)
     made, text = word == "do", event.removeprefix("do ")
-    return Step(("make " if made else "ask ") + request_of(text), wanted_of(wanted), told_plan)
+    return Step(("make " if made else "ask ") + request_of(text), wanted_of(wanted), reported_plan)
 
 
 def each(count, row):

@@ -38,22 +38,22 @@ def target_of(words):
     return f"{kind} {text_of(host)} {port} {parts[0]} {parts[1]}", words
 
 
-def told_as(wanted):
+def reported_as(wanted):
     """Returns a function that converts a line to the form of the expected result."""
 
-    def told(line):
+    def reported(line):
         if line.startswith(("true ", "false ")):
             return target_of(line.split())[0]
         return line.strip() if " (" in wanted else line.partition(" ")[0]
 
-    return told
+    return reported
 
 
 def steps(opening, rows):
     yield Step("= target", "")
     for row in rows:
         text, _, wanted = row.partition(" => ")
-        yield Step(repeated(text), repeated(wanted), told_as(wanted))
+        yield Step(repeated(text), repeated(wanted), reported_as(wanted))
 
 
 def refused(event, line, again):

@@ -20,7 +20,7 @@ from message_syntax import bytes_of, digits, encoded, spelled
 PROBE = "test_rows"
 
 
-def told_word(word):
+def reported_word(word):
     """Returns a word of a message with hex digits for its bytes."""
     name, equals, value = word.rpartition("=")
     return name + equals + (value if "(" in value else digits(value))
@@ -33,24 +33,24 @@ def part(word):
     return value, f"{name or 'payload'}={len(value)}"
 
 
-def options_told(words):
+def reported_options(words):
     """Returns options, a number and a value each, in the form of the rows."""
     return [f"{number}={value}" for number, value in zip(words[::2], words[1::2], strict=True)]
 
 
-def told_as(event):
+def reported_as(event):
     """Returns a function that converts the line of an event to the form of the expected result."""
     word = event.partition(" ")[0]
 
-    def told(line):
+    def reported(line):
         words = line.split()
         if word == "read" and words[-2:-1] in (["true"], ["false"]):
             code, token, *options, more, payload = words
-            return " ".join([code, token, *options_told(options), *(["more"] if more == "true" else []), payload])
+            return " ".join([code, token, *reported_options(options), *(["more"] if more == "true" else []), payload])
         if word == "known":
             *options, more, critical = words
             critical = critical.removeprefix("Some(").removesuffix(")")
-            return " ".join(["known", *options_told(options), *(["more"] if more == "true" else []),
+            return " ".join(["known", *reported_options(options), *(["more"] if more == "true" else []),
                              *([] if critical == "None" else ["critical", critical])])
         if word in ("code", "codes"):
             codes = zip(words[::3], words[1::3], words[2::3], strict=True)
@@ -59,7 +59,7 @@ def told_as(event):
             return f"{'several' if words[0] == 'true' else 'one'} of {words[1]} to {words[2]}" if words else "unknown"
         return quoted(line) if word in ("read", "write") else line.strip()
 
-    return told
+    return reported
 
 
 def write(message, further):
@@ -73,7 +73,7 @@ def written(message, wanted):
     """Yields steps that build a message and parse it. A rejected part must leave the message unchanged."""
     message, _, refused = message.partition(" but ")
     built, *faults = wanted.split(", ")
-    code, token, *_ = words = [told_word(word) for word in message.split()]
+    code, token, *_ = words = [reported_word(word) for word in message.split()]
     size, frame = built.split()
     looked = f"{code} {token} {size} {digits(frame)}"
     look = (b"", "look")
@@ -82,14 +82,14 @@ def written(message, wanted):
         " ".join([looked, *(f"{fault} {looked}" for fault in faults)]),
         quoted,
     )
-    yield Step(f"read {digits(frame)}", " ".join(words), told_as("read"))
+    yield Step(f"read {digits(frame)}", " ".join(words), reported_as("read"))
     yield Step(f"declared {digits(frame)}", f"Size({size})")
 
 
 def with_token(token, message, wanted):
     """Returns a step that shows a message with another token, and then the message itself."""
     token = bytes_of(token)
-    wanted = " ".join(told_word(word) for word in wanted.split() if word != "of")
+    wanted = " ".join(reported_word(word) for word in wanted.split() if word != "of")
     yield Step(write(message, [(token, f"token={len(token)}"), (b"", "look")]), wanted)
 
 
@@ -109,8 +109,8 @@ def step(row):
     if word in ("get", "frame"):
         event = f"known {get(text) if word == 'get' else text}"
     event = spelled(event).removesuffix(" -")
-    told = wanted if '"' in wanted else " ".join(map(told_word, wanted.split()))
-    return [Step(event, told, told_as(event))]
+    reported = wanted if '"' in wanted else " ".join(map(reported_word, wanted.split()))
+    return [Step(event, reported, reported_as(event))]
 
 
 def steps(opening, rows):

@@ -25,7 +25,7 @@ METHODS = ("Get", "Put", "Post", "Delete")
 NAMES = ("observe", "wait", "plain", "newline", "format", "accept", "option", "payload", "input", "output")
 
 
-def client_told(words):
+def reported_client(words):
     """Returns the fields of the plan of a client, each after its name."""
     target, words = target_of(words[1:])
     if words[6] != "None":
@@ -35,7 +35,7 @@ def client_told(words):
     return target + "".join(named) + ("" if log == "Nothing" else f" log {log}")
 
 
-def server_told(words):
+def reported_server(words):
     """Returns the words of the plan of a server, without those that most command lines leave out."""
     count = 10 if words[0] == "stdio" else 12 if words[0] == "listen" else 11
     log, idle, *starts, record, limit = words[count : count + 7]
@@ -46,7 +46,7 @@ def server_told(words):
     return " ".join([*words[:count], *named, *words[count + 7 :]])
 
 
-def fault_told(line):
+def reported_fault(line):
     """Returns the line of an error with its kind first, and with its text in parentheses."""
     number, rest = line.strip().split(" ", 1)
     usage = re.fullmatch(r"(\w+) (true|false)", rest)
@@ -55,16 +55,16 @@ def fault_told(line):
     return f"{'memory' if rest == 'no memory' else 'fault'} {number} ({rest})"
 
 
-def told_as(wanted):
+def reported_as(wanted):
     """Returns a function that converts a line to the form of the expected result."""
 
-    def told(line):
+    def reported(line):
         words = line.split()
         if words[0] in METHODS:
-            return f"{words[0]} {client_told(words)}"
+            return f"{words[0]} {reported_client(words)}"
         if words[0] in ("listen", "stdio", "script"):
-            return server_told(words)
-        line = fault_told(line)
+            return reported_server(words)
+        line = reported_fault(line)
         words = line.split()
         if " (" in wanted or re.fullmatch(r"(asks|usage) \w+ \d", wanted):
             return line.strip()
@@ -72,7 +72,7 @@ def told_as(wanted):
             return re.sub(r"fault \d+ \((.*)\)", r"\1", line.strip())
         return " ".join(words[:2]) if words[0] in ("asks", "usage") else line.strip()
 
-    return told
+    return reported
 
 
 def steps(opening, rows):
@@ -82,7 +82,7 @@ def steps(opening, rows):
         if event.split(" ")[0].endswith("-text"):
             yield Step(event, wanted, lambda line: line.strip().replace("\a", "\\n"))
         else:
-            yield Step(repeated(event).strip(), repeated(wanted), told_as(wanted))
+            yield Step(repeated(event).strip(), repeated(wanted), reported_as(wanted))
 
 
 def refused(event, line, again):

@@ -51,9 +51,9 @@ def check_socketpair(checks, words):
 def check_libcoap(checks, archive, driver, room):
     """Links libcoap's library too, first shared, then static with every object of both archives. Compares the bytes
     with those of the library alone."""
-    asked = run(["pkg-config", "--cflags", "--libs", "libcoap-3-notls"])
-    checks.same("pkg-config of libcoap", (asked.returncode, asked.stderr), (0, b""))
-    shared = [archive, *asked.stdout.decode().split()]
+    requested = run(["pkg-config", "--cflags", "--libs", "libcoap-3-notls"])
+    checks.same("pkg-config of libcoap", (requested.returncode, requested.stderr), (0, b""))
+    shared = [archive, *requested.stdout.decode().split()]
     both = [word for name in (archive, "-l:libcoap-3-notls.a")
             for word in ("-Wl,--whole-archive", name, "-Wl,--no-whole-archive")]
     sent = bytes.fromhex("00e1" "010101")

@@ -23,16 +23,16 @@ def check_lifetime(checks, peer):
     checks.same("long lifetime", peer.register(["ep=long", "base=coap://h"], b"</a>")[0], CREATED)
     sent = time.monotonic()
     checks.same("short lifetime", peer.register(["ep=short", "base=coap://h", f"lt={LIFETIME}"], b"</a>")[0], CREATED)
-    registered = found_at = asked = time.monotonic()
+    registered = found_at = requested = time.monotonic()
 
     def is_found(name):
         return any(f"ep={name}" in attributes for _, attributes in links_of(peer.look("ep")[1]))
 
     # Only times before and after requests are compared. So a pause of this script or of the directory is no failure.
-    while is_found("short") and asked < registered + LIMIT:
-        found_at = asked
+    while is_found("short") and requested < registered + LIMIT:
+        found_at = requested
         time.sleep(0.02)
-        asked = time.monotonic()
+        requested = time.monotonic()
     checks.same("it was found until a second before its end", time.monotonic() >= sent + LIFETIME - 1, True)
     checks.same("it was not found after its end", found_at <= registered + LIFETIME or found_at - registered, True)
     checks.same("one is left", [is_found(it) for it in ("short", "long")], [False, True])
@@ -51,9 +51,9 @@ def check_many(checks, server):
         created += code == CREATED
         known.add(number)
         if number % 10 == 9:
-            asked = choice.choice(tuple(known) if len(known) < 50 else (number, number - 5))
-            _, text = peers[(number * 7) % PEERS].look("ep", f"ep=e{asked}")
-            wrong += [it for it in links_of(text) if f"ep=e{asked}" in it[1]] == [] or len(links_of(text)) != 1
+            requested = choice.choice(tuple(known) if len(known) < 50 else (number, number - 5))
+            _, text = peers[(number * 7) % PEERS].look("ep", f"ep=e{requested}")
+            wrong += [it for it in links_of(text) if f"ep=e{requested}" in it[1]] == [] or len(links_of(text)) != 1
     checks.same("registrations under load", (created, wrong), (ENDPOINTS, 0))
     removed = 0
     for number in range(0, ENDPOINTS, 100):

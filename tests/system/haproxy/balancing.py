@@ -51,8 +51,8 @@ def check_killed(checks, setting):
         with front.greeted(source) as observer:
             checks.same("an observer", observer.ask(spelled(GET, b"o", "who", True)), (CONTENT, b"o", b"one"))
             front.kill("one")
-            told, seconds = front.who(source)
-            checks.same("the next connection goes to the other server", (told, seconds < AT_ONCE or seconds),
+            got, seconds = front.who(source)
+            checks.same("the next connection goes to the other server", (got, seconds < AT_ONCE or seconds),
                         ("two", True))
             checks.same("the observer's connection ends", observer.end()[1] is not None, True)
         with front.greeted(source) as observer:

@@ -28,8 +28,8 @@ def check_silent(checks, setting):
             # A rejected connection may be reset before this call returns.
             with contextlib.suppress(ConnectionResetError):
                 silent.append(stack.enter_context(connect(front.port, "127.0.0.2")))
-        told, seconds = front.who("127.0.0.3")
-        checks.same("another source beside %d silent peers" % SILENT, (told, seconds < AT_ONCE or seconds),
+        got, seconds = front.who("127.0.0.3")
+        checks.same("another source beside %d silent peers" % SILENT, (got, seconds < AT_ONCE or seconds),
                     ("one", True))
         checks.same("libcoap beside them", libcoap(front, "/who", ["-a", "127.0.0.4"]), (0, b"one\n", b""))
         front.wait(lambda: held(silent) <= HELD, AT_ONCE)
@@ -46,8 +46,8 @@ def check_places(checks, setting):
             with contextlib.suppress(OSError):
                 greeted += stack.enter_context(front.peer(Kind("127.0.0.2"))).greet()
         checks.same("connected peers of one source", greeted, HELD)
-        told, seconds = front.who("127.0.0.3")
-        checks.same("another source beside them", (told, seconds < AT_ONCE or seconds), ("one", True))
+        got, seconds = front.who("127.0.0.3")
+        checks.same("another source beside them", (got, seconds < AT_ONCE or seconds), ("one", True))
 
 
 def check_rate(checks, setting):
@@ -55,12 +55,12 @@ def check_rate(checks, setting):
     allowed = 20
     places = [("conn_rate(10s)", "conn_rate(3s)"), ("sc0_conn_rate gt 100", "sc0_conn_rate gt %d" % allowed)]
     with setting.front(places=places) as front:
-        began, told = time.monotonic(), []
-        while len(told) < allowed + 5:
-            told.append(front.who("127.0.0.2")[0] == "one")
+        began, got = time.monotonic(), []
+        while len(got) < allowed + 5:
+            got.append(front.who("127.0.0.2")[0] == "one")
         took = time.monotonic() - began
         # On a slow machine, some of them may fall into the next period.
-        checks.same("connections of a quick source", told == [True] * allowed + [False] * 5 or took > 2 or told, True)
+        checks.same("connections of a quick source", got == [True] * allowed + [False] * 5 or took > 2 or got, True)
         checks.same("another source beside it", front.who("127.0.0.3")[0], "one")
         checks.same("the quick source later", front.wait(lambda: front.who("127.0.0.2")[0] == "one" or time.sleep(1)),
                     True)

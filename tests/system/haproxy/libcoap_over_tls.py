@@ -39,9 +39,9 @@ def check_libcoap(checks, setting):
             ("GET of the stored resource", [], "/stored", (0, b"first\n", b"")),
         ):
             checks.same("libcoap over TLS: %s" % name, libcoap(front, path, words), wanted)
-        told = libcoap(front, "/", [], "another.pem")[1]
-        told = b"unable to get local issuer" in told, b"coap+tcp" in told
-        checks.same("libcoap, with another authority", told, (True, False))
+        got = libcoap(front, "/", [], "another.pem")[1]
+        got = b"unable to get local issuer" in got, b"coap+tcp" in got
+        checks.same("libcoap, with another authority", got, (True, False))
         check_body(checks, front)
         check_observer(checks, front)
 
@@ -51,8 +51,8 @@ def check_body(checks, front):
     there, back = (os.path.join(front.folder, name) for name in ("there", "back"))
     with open(there, "wb") as file:
         file.write(BODY)
-    told = libcoap(front, "/body", ["-m", "put", "-t", "42", "-f", there])
-    checks.same("libcoap over TLS: PUT of a body", told, (0, b"", b""))
+    got = libcoap(front, "/body", ["-m", "put", "-t", "42", "-f", there])
+    checks.same("libcoap over TLS: PUT of a body", got, (0, b"", b""))
     checks.same("libcoap over TLS: GET of a body", libcoap(front, "/body", ["-o", back])[0], 0)
     with open(back, "rb") as file:
         checks.same("libcoap over TLS: the body", file.read() == BODY, True)
@@ -90,6 +90,6 @@ def check_observer(checks, front):
     with observing(front, "/stored") as printed:
         checks.same("libcoap over TLS: the observer's first state", printed(states[:1]), states[:1])
         for number in (1, 2):
-            told = libcoap(front, "/stored", ["-m", "put", "-e", states[number].decode()])
-            checks.same("libcoap over TLS: change %d" % number, told, (0, b"", b""))
+            got = libcoap(front, "/stored", ["-m", "put", "-e", states[number].decode()])
+            checks.same("libcoap over TLS: change %d" % number, got, (0, b"", b""))
             checks.same("libcoap over TLS: the observer after it", printed(states[:number + 1]), states[:number + 1])

@@ -18,9 +18,9 @@ IDLE = [
 ]
 
 
-def lasted(told, least):
+def lasted(got, least):
     """Returns the bytes received before the end of a connection, and true if the end came after its timeout."""
-    stream, seconds = told
+    stream, seconds = got
     return stream, seconds is not None and seconds >= least - 0.5 or seconds
 
 
@@ -57,10 +57,10 @@ def check_alive(checks, setting):
         while time.monotonic() - began < 2 * TUNNEL and not troubles:
             number += 1
             state, token = b"%d" % number, bytes([number])
-            told = changes.ask(spelled(PUT, b"p", "seen", payload=state)), observes.next()
-            told += (pings.ask(bytes([1, PING]) + token),)
+            got = changes.ask(spelled(PUT, b"p", "seen", payload=state)), observes.next()
+            got += (pings.ask(bytes([1, PING]) + token),)
             wanted = (CHANGED, b"p", b""), (CONTENT, b"o", state), (PONG, token, b"")
-            troubles += [(number, told)] if told != wanted else []
+            troubles += [(number, got)] if got != wanted else []
             time.sleep(TUNNEL / 6)
         checks.same("missing notifications and Pongs", troubles, [])
         checks.same("number of changes", number > 2 or number, True)
@@ -77,8 +77,8 @@ def check_unread(checks, setting):
         peer = stack.enter_context(front.greeted(HOST))
         stores.greet()
         put = b"\xb4body\xff" + BODY
-        told = stores.ask(b"\xe0" + (len(put) - 269).to_bytes(2, "big") + bytes([PUT]) + put)
-        checks.same("a stored body", told, (CREATED, b"", b""))
+        got = stores.ask(b"\xe0" + (len(put) - 269).to_bytes(2, "big") + bytes([PUT]) + put)
+        checks.same("a stored body", got, (CREATED, b"", b""))
         # The peer has the limits of the server, and the buffers on the path are too small for all responses.
         peer.connection.sendall(OWN_SETTINGS + spelled(GET, b"g", "body") * 1000)
         checks.same("the peer is connected at first", front.counts("coaps")["scur"], "1")

@@ -15,8 +15,8 @@ def refused(front, kind):
         with front.peer(kind) as peer:
             with contextlib.suppress(OSError):
                 peer.connection.sendall(PEER_SETTINGS + spelled(GET, b"", ""))
-            told, seconds = peer.end()
-            return told if seconds is not None else "no end"
+            got, seconds = peer.end()
+            return got if seconds is not None else "no end"
     except ssl.SSLError as trouble:
         return trouble.reason
 
@@ -26,11 +26,11 @@ def check_tls(checks, setting):
     with setting.front() as front:
         for version in (ssl.TLSVersion.TLSv1_2, ssl.TLSVersion.TLSv1_3):
             with front.peer(Kind(tls=version)) as peer:
-                told = peer.connection.version(), peer.connection.selected_alpn_protocol(), peer.greet()
-            checks.same("a peer with %s" % version.name, told, (version.name.replace("_", "."), "coap", True))
+                got = peer.connection.version(), peer.connection.selected_alpn_protocol(), peer.greet()
+            checks.same("a peer with %s" % version.name, got, (version.name.replace("_", "."), "coap", True))
         with front.peer(Kind(protocols=("h2", "coap"))) as peer:
-            told = peer.connection.selected_alpn_protocol(), peer.greet()
-        checks.same("a peer that offers coap too", told, ("coap", True))
+            got = peer.connection.selected_alpn_protocol(), peer.greet()
+        checks.same("a peer that offers coap too", got, ("coap", True))
         taken = front.taken()
         checks.same("a peer without ALPN", refused(front, Kind(protocols=None)), b"")
         checks.same("a peer with another protocol", refused(front, Kind(protocols=("h2",))), b"")
@@ -40,8 +40,8 @@ def check_tls(checks, setting):
         checks.same("a peer with TLS 1.1", refused(front, Kind(tls=old)), "TLSV1_ALERT_PROTOCOL_VERSION")
         with Stream(connect(front.port)) as plain:
             plain.connection.sendall(PEER_SETTINGS + spelled(GET, b"q", "who"))
-            told, seconds = plain.end()
-        checks.same("a peer without TLS", (OWN_SETTINGS in told, seconds is None), (False, False))
+            got, seconds = plain.end()
+        checks.same("a peer without TLS", (OWN_SETTINGS in got, seconds is None), (False, False))
         checks.same("connections of these peers at the server", front.taken() - taken, 0)
 
 

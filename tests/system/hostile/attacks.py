@@ -51,11 +51,11 @@ class Peer:
 
     async def read(self, size):
         """Returns `size` bytes, or fewer at the end of the connection."""
-        told, loop = b"", asyncio.get_running_loop()
+        got, loop = b"", asyncio.get_running_loop()
         with contextlib.suppress(ConnectionError):
-            while len(told) < size and (piece := await loop.sock_recv(self.connection, size - len(told))):
-                told += piece
-        return told
+            while len(got) < size and (piece := await loop.sock_recv(self.connection, size - len(got))):
+                got += piece
+        return got
 
     async def rest(self):
         """Returns all bytes until the end of the connection."""
@@ -146,16 +146,16 @@ async def rambling(peer, number, over):
 KINDS = [slow, broken_off, half_closed, too_long, long_token, unsettled, flooding, rambling]
 
 
-def last_text(told):
+def last_text(got):
     """Returns the text of the Abort at the end of the bytes received, or an empty text. Returns malformed bytes
     unchanged."""
     try:
-        frames, left = messages.split(told)
+        frames, left = messages.split(got)
         parsed = [messages.parse(frame) for frame in frames]
     except messages.Malformed:
-        return told
+        return got
     if left or ABORT in [code for code, *_ in parsed[:-1]]:
-        return told
+        return got
     return parsed[-1][3].decode(errors="replace") if parsed and parsed[-1][0] == ABORT else ""
 
 
@@ -204,8 +204,8 @@ async def act(kind, number, address, peer, over):
             await peer.open(address)
         if peer.greeting != OWN_SETTINGS:
             return "greeting %r" % peer.greeting
-        told, wanted = await kind(peer, number, over)
-        return "" if told == wanted else "received %r, not %r" % (told[-100:], wanted[-100:])
+        got, wanted = await kind(peer, number, over)
+        return "" if got == wanted else "received %r, not %r" % (got[-100:], wanted[-100:])
 
 
 async def attack(kind, number, address, peer, over, acts):

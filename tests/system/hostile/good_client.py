@@ -33,19 +33,19 @@ class GoodClient:
         self.connection = socket.create_connection(address, ANSWERED_IN)
         self.connection.sendall(PEER_SETTINGS)
         self.left = b""
-        self.told = []
+        self.got = []
         self.slowest = 0
 
     def next(self, ends):
         """Returns the token of the next message, and its code, whether it has Observe, and its payload."""
-        while not self.told:
+        while not self.got:
             self.connection.settimeout(max(ends - time.monotonic(), 0.001))
             piece = self.connection.recv(4096)
             if not piece:
                 raise ConnectionError("the connection ended")
             frames, self.left = messages.split(self.left + piece)
-            self.told += [messages.parse(frame) for frame in frames]
-        code, token, options, payload = self.told.pop(0)
+            self.got += [messages.parse(frame) for frame in frames]
+        code, token, options, payload = self.got.pop(0)
         return token, (code, OBSERVE in [number for number, _ in options], payload)
 
     def ask(self, stream, count):

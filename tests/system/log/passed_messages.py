@@ -23,7 +23,7 @@ def passed_in(texts):
     return [found.groups() for it in texts if (found := PASSED.fullmatch(it))]
 
 
-def asked(count, size):
+def requested(count, size):
     """Returns a PUT of a resource of this size and `count` GETs of it, each with a token of its own. Returns each
     request of the log too, with its response."""
     path, gets = [(11, b"a")], [bytes([at]) for at in range(1, count + 1)]
@@ -36,7 +36,7 @@ def check_wraps(checks):
     """If a connection sends more bytes than its queue has, the log names every message in order, and its last line has
     the counts."""
     for limit, queue, count, size in (("65536", "131072", 40, 4_000), ("1152", "2000", 40, 300)):
-        stream, pairs = asked(count, size)
+        stream, pairs = requested(count, size)
         words = [SERVER, "--stdio", "--log", "3", "-d", "1", "--max-sent", limit, "--queue", queue]
         ran = subprocess.run(words, input=SETTINGS + stream, capture_output=True, timeout=LIMIT)
         texts, name = texts_of(ran.stderr), f"a queue of {queue} bytes"
@@ -51,7 +51,7 @@ def check_wraps(checks):
 def check_parts(checks):
     """If a socket accepts only a part of the queued bytes, the log names exactly the messages that were sent."""
     count, size = 40, 2_000
-    stream, pairs = asked(count, size)
+    stream, pairs = requested(count, size)
     wanted = {"in": [CSM_IN, *(it for it, _ in pairs)], "out": [CSM_OUT, *(it for _, it in pairs)]}
     with logging("--log", "3", "-d", "1") as (_, port, name):
         with socket.socket() as peer:

@@ -88,11 +88,11 @@ def check_lines(checks, manual, source):
     """Checks that the source has each line of the manual, and the manual each line of the source."""
     said = {front_of(text.removeprefix(manual.name).removeprefix(": "))
             for text in re.findall(r'b?"([^"\n]+?)(?:\\n)?"', source)}
-    told = set(re.findall(r'"%s: ([^"{]+)' % manual.name, source))
-    listed = {front_of(line) for line in manual.lines_told()}
+    reported = set(re.findall(r'"%s: ([^"{]+)' % manual.name, source))
+    listed = {front_of(line) for line in manual.reported_lines()}
     checks.same("%s: lines missing in the source" % manual.name, sorted(listed - said), [])
     checks.same("%s: lines missing in the manual" % manual.name,
-                sorted({front_of(it) for it in told} - UNREACHED - listed), [])
+                sorted({front_of(it) for it in reported} - UNREACHED - listed), [])
 
 
 def entries_of(manual, shared):
@@ -175,8 +175,8 @@ def check_reasons(checks, shared):
 
 def check_faults(checks, manual, program, faults):
     """Checks that each error is reported with the line and the status of the manual."""
-    statuses = manual.lines_told()
+    statuses = manual.reported_lines()
     for words, stream, line in faults:
         status, _, error = run([program] + words, stream)
-        told = error.startswith("%s: %s" % (manual.name, front_of(line)))
-        checks.same("%s %r: %r and the status" % (manual.name, words, line), (told, status), (True, statuses[line]))
+        reported = error.startswith("%s: %s" % (manual.name, front_of(line)))
+        checks.same("%s %r: %r and the status" % (manual.name, words, line), (reported, status), (True, statuses[line]))

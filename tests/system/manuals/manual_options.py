@@ -45,10 +45,10 @@ def check_options(checks, manual):
             checks.same("%s: range of %s in %r" % (manual.name, it.name, text), has_range(text, manual.name, it), True)
         defaults = [it.default for it in its]
         if len(its) > 1 and all(defaults):
-            told = "by default %s and %s" % (", ".join(defaults[:-1]), defaults[-1]) in text
+            reported = "by default %s and %s" % (", ".join(defaults[:-1]), defaults[-1]) in text
         else:
-            told = all(has_default(text, it) for it in defaults)
-        checks.same("%s: defaults %s in %r" % (manual.name, defaults, text), told, True)
+            reported = all(has_default(text, it) for it in defaults)
+        checks.same("%s: defaults %s in %r" % (manual.name, defaults, text), reported, True)
 
 
 def nested_in(manual, line):

@@ -58,7 +58,7 @@ class Manual:
         text = "\n".join(self.sections["SYNOPSIS"])
         return [("-" + name, value or "") for name, value in re.findall(r"\bFl (\S+)(?: Ar (\S+))?", text)]
 
-    def lines_told(self):
+    def reported_lines(self):
         """Returns the lines listed as diagnostics, each with its status."""
         found, status, depth = {}, None, 0
         for line in self.sections["DIAGNOSTICS"]:

@@ -32,7 +32,7 @@ def check_idle(checks, program):
         soon(lambda: observer.get(f"{PREFIX}/a"), (CONTENT, b"1", None))
         token = observer.send(GET, f"{PREFIX}/a", [(OBSERVE, b"")])
         checks.same("an observer", observer.wait(token).payload, b"1")
-        asked = time.monotonic()
+        requested = time.monotonic()
         checks.same("a silent peer with a CSM", silent.code(GET, "time"), CONTENT)
         # More than the sockets and the queue have room for.
         deaf.socket.sendall(encode(GET, b"d", [(URI_PATH, PREFIX.encode()), (URI_PATH, b"large")]) * 500)
@@ -47,7 +47,7 @@ def check_idle(checks, program):
             ended = ended or end_of(silent, 0.5)
         checks.same("a peer with Pings stays", set(pongs), {PONG})
         checks.same("the observer stays", notified, None)
-        checks.same("the silent peer ends after its time", ended is not None and ended - asked >= 3, True)
+        checks.same("the silent peer ends after its time", ended is not None and ended - requested >= 3, True)
         checks.same("it has a Release", signals(silent), [SETTINGS, RELEASE])
         for name, it in (("one that reads nothing", deaf.socket), ("one without a CSM", others[1])):
             checks.same(f"{name} ends too", quick.says(f"connection {number_of(quick, it)} ended\n"), True)

@@ -29,10 +29,10 @@ def refused_words(name, values, clashes, targets=()):
 
 def check_words(program, name, rows, checks):
     """Checks arguments that are invalid, or with which the program fails."""
-    for words, status, told in rows:
+    for words, status, reported in rows:
         done = run(program, words, b"open\n")
         # The text of clap has several lines, which are not compared.
-        wanted = (done.stderr or None) if told is None else b"%s: %s\n" % (name.encode(), told.encode())
+        wanted = (done.stderr or None) if reported is None else b"%s: %s\n" % (name.encode(), reported.encode())
         checks.same("%s %r" % (name, words), (done.returncode, done.stdout, done.stderr), (status, b"", wanted))
 
 

@@ -167,12 +167,12 @@ def check_scripts(program, checks):
     words, script, lines = LISTED_SCRIPT
     checks.same("lines with an entry", replay(program, script.encode(), words), [(0, lines.encode(), b"")] * 2)
     for script, number in BAD_SCRIPTS:
-        told = b"coap-server: bad script line %d\n" % number
-        checks.same("bad script %r" % script, replay(program, script.encode()), [(1, b"", told)] * 2)
+        reported = b"coap-server: bad script line %d\n" % number
+        checks.same("bad script %r" % script, replay(program, script.encode()), [(1, b"", reported)] * 2)
     for name in ["/nothing/here", "nothing", ""]:
         done = run(program, ["--script", name])
-        told = b"coap-server: cannot open %s\n" % name.encode()
-        checks.same("no script %r" % name, (done.returncode, done.stdout, done.stderr), (3, b"", told))
+        reported = b"coap-server: cannot open %s\n" % name.encode()
+        checks.same("no script %r" % name, (done.returncode, done.stdout, done.stderr), (3, b"", reported))
     done = run(program, ["--script", "/"])
     checks.same("script that cannot be read", (done.returncode, done.stdout, done.stderr),
                 (3, b"", b"coap-server: cannot read\n"))

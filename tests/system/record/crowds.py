@@ -12,7 +12,7 @@ import time
 
 from greeted_peers import (
     ACCEPT, CONTENT_FORMAT, CUSTODY, DELETE, GET, IF_MATCH, IF_NONE_MATCH, OBSERVE, OSCORE, PEER_SETTINGS, PING, PUT,
-    URI_QUERY, asked,
+    URI_QUERY, requested,
 )
 from message_syntax import encoded, uint
 from peers import LIMIT, Server, reset
@@ -42,17 +42,17 @@ def some_message(chance):
     token, path, kind = (chance.randbytes(chance.randrange(9)), "r%d" % chance.randrange(RESOURCES + 2),
                          chance.randrange(16))
     if kind < 5:
-        return asked(GET, token, path)
+        return requested(GET, token, path)
     if kind < 9:
         options = chance.choice([[], [], [], [(CONTENT_FORMAT, uint(60))], [(IF_NONE_MATCH, b"")], [(IF_MATCH, b"")]])
-        return asked(PUT, token, path, options, chance.randbytes(chance.randrange(1, 60)))
+        return requested(PUT, token, path, options, chance.randbytes(chance.randrange(1, 60)))
     return [
-        asked(GET, token, "time"),
-        asked(GET, token, ""),
-        asked(DELETE, token, path),
-        asked(GET, token, ".well-known/core"),
-        asked(GET, token, "async", [(URI_QUERY, b"%d" % chance.randrange(3))]),
-        asked(GET, token, path, chance.choice([[(ACCEPT, uint(60))], [(OSCORE, b"")]])),
+        requested(GET, token, "time"),
+        requested(GET, token, ""),
+        requested(DELETE, token, path),
+        requested(GET, token, ".well-known/core"),
+        requested(GET, token, "async", [(URI_QUERY, b"%d" % chance.randrange(3))]),
+        requested(GET, token, path, chance.choice([[(ACCEPT, uint(60))], [(OSCORE, b"")]])),
         encoded(PING, token, chance.choice([[], [(CUSTODY, b"")]]), b""),
     ][kind - 9]
 
@@ -64,13 +64,13 @@ def messages(chance, pool, count):
 
 def listings(count):
     """Returns the bytes of a CSM and of requests with long responses."""
-    return PEER_SETTINGS + asked(GET, b"\x2a", ".well-known/core") * (count - 1)
+    return PEER_SETTINGS + requested(GET, b"\x2a", ".well-known/core") * (count - 1)
 
 
 def observations(chance, count):
     """Returns the bytes of a CSM and of requests that observe, or that end an observation."""
     paths = ["time", *("r%d" % it for it in range(6))]
-    said = [asked(GET, bytes([it % 20]), chance.choice(paths), [(OBSERVE, uint(chance.choice([0, 0, 0, 1])))])
+    said = [requested(GET, bytes([it % 20]), chance.choice(paths), [(OBSERVE, uint(chance.choice([0, 0, 0, 1])))])
             for it in range(count - 1)]
     return PEER_SETTINGS + b"".join(said)
 

@@ -17,7 +17,7 @@ PEER_SETTINGS, GET_ROOT = bytes.fromhex("00e1"), bytes.fromhex("010101")
 GREETED = bytes.fromhex(CSM + "a14501" + GREETING)
 
 
-def asked(code, token, path, options=(), payload=b""):
+def requested(code, token, path, options=(), payload=b""):
     """Returns a request for a path."""
     named = [(URI_PATH, it.encode()) for it in path.split("/") if it]
     return encoded(code, token, sorted([*options, *named], key=lambda it: it[0]), payload)

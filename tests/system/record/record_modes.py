@@ -9,15 +9,15 @@ import tempfile
 
 import rows
 from checks import CSM
-from greeted_peers import GET, GET_ROOT, GREETED, PEER_SETTINGS, PUT, asked
+from greeted_peers import GET, GET_ROOT, GREETED, PEER_SETTINGS, PUT, requested
 from peers import LIMIT, LOCAL, Server, free_port, read_to_end, started
 from records import joined, record_in, replay, said_by, until
 
 
 def check_streams(checks, server):
     """Checks the record of a server over standard input and output, alone and with a log."""
-    stored = b"".join(asked(PUT, bytes([it]), "a", (), b"x" * it) + asked(GET, b"", "a") for it in range(1, 12))
-    stream = PEER_SETTINGS + GET_ROOT + stored + asked(GET, b"", "time")
+    stored = b"".join(requested(PUT, bytes([it]), "a", (), b"x" * it) + requested(GET, b"", "a") for it in range(1, 12))
+    stream = PEER_SETTINGS + GET_ROOT + stored + requested(GET, b"", "time")
     streams = {"whole": stream, "cut": stream[:-1], "nothing": b"",
                "malformed": PEER_SETTINGS + GET_ROOT + bytes.fromhex("0f01") + stream}
     words = ["--stdio", "-d", "2", "--starts", "1234567890,77,41"]
@@ -91,7 +91,7 @@ def check_modes(checks, server):
 
 def check_memory(checks, server):
     """Makes each allocation of a server with a record fail in turn. The record has all that its peer received."""
-    stream = PEER_SETTINGS + GET_ROOT + asked(PUT, b"\x02", "a", (), b"x") + asked(GET, b"\x03", "a")
+    stream = PEER_SETTINGS + GET_ROOT + requested(PUT, b"\x02", "a", (), b"x") + requested(GET, b"\x03", "a")
     with tempfile.TemporaryDirectory() as folder:
         shim = rows.compiled_shim(folder)
         for over in (over_streams, over_socket):

@@ -42,8 +42,8 @@ def check_address(checks, programs):
             done = client(programs.server, ["-A", host, "-p", str(port)])
             checks.same("an address that is not available", done, (3, b"", cannot_listen(why)))
     port = free_port()
-    told = b"coap-server: listening on %s:%d\ncoap-server: too many turns\n" % (LOCAL.encode(), port)
-    checks.same("turns", client(programs.server, ["-A", LOCAL, "-p", str(port), "--turns", "1"]), (3, b"", told))
+    reported = b"coap-server: listening on %s:%d\ncoap-server: too many turns\n" % (LOCAL.encode(), port)
+    checks.same("turns", client(programs.server, ["-A", LOCAL, "-p", str(port), "--turns", "1"]), (3, b"", reported))
 
 
 def silent_port(stack, hosts, other):
@@ -82,11 +82,11 @@ def check_addresses(checks, programs):
             (["127.0.0.7", unreachable], 1, "host unreachable", 0), ([], 1, "unknown name", 0),
             (["127.0.0.7"] * 31 + [good], 1, "coap+tcp", 0), (["127.0.0.7"] * 32 + [good], 1, "connection refused", 0),
         ]
-        for addresses, seconds, told, after in rows:
+        for addresses, seconds, reported, after in rows:
             names = {"NAMES": " ".join(addresses)} if addresses else {}
             done = client(programs.client, ["-B", str(seconds), "coap+tcp://many.test:%d/" % port],
                           **waits.how(**names))
-            wanted = (0, told.encode(), b"") if told == "coap+tcp" else (3, b"", cannot_connect(told))
+            wanted = (0, reported.encode(), b"") if reported == "coap+tcp" else (3, b"", cannot_connect(reported))
             checks.same("a name for %r, -B %d" % (addresses, seconds), done, wanted)
             checks.same("a name for %r, -B %d: %.2f s" % (addresses, seconds, waits.passed()),
                         after <= waits.passed() + 0.01 < after + 0.9, True)

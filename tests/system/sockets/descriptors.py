@@ -107,13 +107,13 @@ def check_closed(checks, programs):
                     held = [os.readlink("/proc/%d/fd/%d" % (process.pid, number)) for number in numbers]
                     peer.sendall(bytes.fromhex("00e1"))
                     payload = b"" if 0 in numbers else b"\xff" + body
-                    asked = bytes.fromhex(CSM + ("210301b178" if 0 in numbers else "d1040301b178")) + payload
-                    got = read_bytes(peer, len(asked))
+                    requested = bytes.fromhex(CSM + ("210301b178" if 0 in numbers else "d1040301b178")) + payload
+                    got = read_bytes(peer, len(requested))
                     # 4.04 with a payload, which the client writes to standard error.
                     peer.sendall(bytes.fromhex("318401ff6869"))
                     more, _ = read_to_end(peer)
                 checks.same("a client without %r: open files" % (numbers,), held, ["/dev/null"] * len(numbers))
-                checks.same("a client without %r: bytes at its peer" % (numbers,), got + more, asked)
+                checks.same("a client without %r: bytes at its peer" % (numbers,), got + more, requested)
                 said = b"" if 2 in numbers else b"4.04 hi\n"
                 checks.same("a client without %r" % (numbers,),
                             (process.wait(LIMIT), process.stdout.read(), process.stderr.read()), (2, b"", said))

@@ -33,11 +33,11 @@ def check_requests(checks, programs):
             checks.same("coap-client %r %s" % (words, path), client(programs.client, [*words, server.uri(path)]),
                         wanted)
         began = int(time.time())
-        told = client(programs.client, [server.uri("/time")])
-        checks.same("/time is the seconds since 1970", abs(int(told[1] or 0) - began) <= 2, True)
+        reported = client(programs.client, [server.uri("/time")])
+        checks.same("/time is the seconds since 1970", abs(int(reported[1] or 0) - began) <= 2, True)
 
 
-def asked_by(length):
+def requested_by(length):
     """Returns an empty CSM and a GET of the root with a token of this length, and all bytes that a server sends for
     them."""
     token = bytes(range(100, 100 + length))
@@ -52,12 +52,12 @@ def check_tokens(checks, programs):
     with Server(programs.server) as server:
         for length in (8, 9, 12, 13, 64):
             with server.connect() as peer:
-                sent, wanted = asked_by(length)
+                sent, wanted = requested_by(length)
                 peer.sendall(sent)
                 checks.same("a token of %d bytes" % length, read_bytes(peer, len(wanted)), wanted)
         with server.connect() as peer:
             # An empty CSM, and the message up to the byte that completes its token length.
-            peer.sendall(asked_by(65)[0][:5])
+            peer.sendall(requested_by(65)[0][:5])
             checks.same("a token of 65 bytes", read_to_end(peer),
                         (bytes.fromhex(CSM + ABORTS["bad token length"]), "the end"))
 
@@ -164,9 +164,9 @@ def check_recorded(checks, programs):
     checks.same("the server has the time of the system", abs(moment - time.time()) < 60, True)
     words = ["-d", "1", "--starts", "%d,%d,0" % (moment, moment * 65_536)]
     script = "open\nin 1 00e1\nin 1 410301b161ff78\nin 1 210102b161\ndrain 1\n"
-    for mode, stream, told in (
+    for mode, stream, reported in (
         (["--stdio"], bytes.fromhex(sent), got),
         (["--script", "-"], script.encode(), b"open 1\nin 1 2\nin 1 7\nin 1 5\nout 1 %s\n" % got.hex().encode()),
     ):
         done = subprocess.run([programs.server, *words, *mode], input=stream, capture_output=True, timeout=LIMIT)
-        checks.same("replayed with %s" % mode[0], (done.returncode, done.stdout, done.stderr), (0, told, b""))
+        checks.same("replayed with %s" % mode[0], (done.returncode, done.stdout, done.stderr), (0, reported, b""))

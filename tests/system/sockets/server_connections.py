@@ -50,9 +50,9 @@ def check_files(checks, programs):
                     (len(pauses) > 1, [it for it in pauses if not 0.99 < it < 1.9]), (True, []))
         os.set_blocking(server.process.stderr.fileno(), False)
         texts = re.findall(r"Z coap-server: (.*): (\d+) so far\n", (server.process.stderr.read() or b"").decode())
-        told = {text: [int(number) for it, number in texts if it == text] for text, _ in texts}
-        starved = told.pop("connections not accepted for lack of descriptors or memory", [])
-        checks.same("failed calls in the log", told, {"failed waits": [1], "connections not accepted": [1, 2]})
+        reported = {text: [int(number) for it, number in texts if it == text] for text, _ in texts}
+        starved = reported.pop("connections not accepted for lack of descriptors or memory", [])
+        checks.same("failed calls in the log", reported, {"failed waits": [1], "connections not accepted": [1, 2]})
         checks.same("calls without a descriptor in the log", (len(starved) > 1, starved),
                     (True, list(range(1, len(starved) + 1))))
 

@@ -42,7 +42,7 @@ impl Run {
         ensures next { IfOk result (λ next. next ≡ spec.watched self.old.cancelled self.old.first self.old.started
             self.old.moment plan.now (spec.ended_by
             (spec.cancelling_refusal self.old.client (option_map (λ t. t.items) self.old.token) plan.now))) }
-        ensures told { OnOk result (AddsBytes (E.written err.old) (E.written err.new)
+        ensures reported { OnOk result (AddsBytes (E.written err.old) (E.written err.new)
             (if spec.is_to_cancel self.old.cancelled self.old.first self.old.moment plan.now.observe then
             spec.refusal_text (spec.cancelling_refusal self.old.client (option_map (λ t. t.items) self.old.token)
             plan.now) else [])) }

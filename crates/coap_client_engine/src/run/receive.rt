@@ -1,8 +1,8 @@
 //! Input of a run: one read of the wire, and the processing of the bytes that were read.
 
 ghost use Rattle.std.specs.Prelude.{◌≡◌, ◌≤◌, ◌||◌, ◌∷◌, false, is_err, [], length, drop, IfOk, IfSome, OnOk};
-ghost use Rattle.coap_client_engine.specs.Prelude.{TellsMore, count_passed, AddsBytes, IsStatus, IsFresh, with_outlets};
-ghost use Rattle.coap_client_engine.specs.Prelude.{with_wire, IsReady, IsHeard, IsTaken, ExtendsTrace};
+ghost use Rattle.coap_client_engine.specs.Prelude.{AddsCalls, count_passed, AddsBytes, IsStatus, IsFresh, with_outlets};
+ghost use Rattle.coap_client_engine.specs.Prelude.{with_wire, IsReady, IsAfterRead, IsTaken, ExtendsTrace};
 ghost use Rattle.coap_client_engine.specs.Prelude.{ExtendsAllTraces};
 ghost use Rattle.coap_client_engine.specs.ClientValues as value;
 ghost use Rattle.coap_client_engine.specs.RunCauses as causes;
@@ -21,7 +21,7 @@ impl Run {
         requires { E.is_failed err.old ≡ false }
         ensures runs { ExtendsAllTraces (with_wire (W.given wire.old) (W.written wire.old) (W.answers wire.old)
             (E.written err.old)) (with_wire (W.given wire.new) (W.written wire.new) (W.answers wire.new)
-            (E.written err.new)) IsFresh IsHeard self.old self.new result }
+            (E.written err.new)) IsFresh IsAfterRead self.old self.new result }
         ensures status { IfOk result (λ next. IfSome next IsStatus) }
         ensures output { E.is_failed err.new ≡ is_err result }
     {
@@ -29,7 +29,7 @@ impl Run {
             return Ok(None);
         }
         let got = self.read(wire);
-        match stop_behind(self.client.phase(), got) {
+        match stop_after(self.client.phase(), got) {
             Some(reason) => {
                 self.cause = Some(Cause::Stopped(reason));
                 stopped(err, reason)
@@ -43,7 +43,7 @@ impl Run {
         ensures count { length self.new.rest ≡ count_passed result }
         ensures gave { AddsBytes (W.given wire.old) (W.given wire.new) self.new.rest }
         ensures wrote { AddsBytes (W.written wire.old) (W.written wire.new) [] }
-        ensures answered { TellsMore (W.answers wire.old) (W.answers wire.new) (result ∷ []) }
+        ensures answered { AddsCalls (W.answers wire.old) (W.answers wire.new) (result ∷ []) }
         ensures client { self.new.client ≡ spec.client_read self.old.client result }
         ensures kept { (self.new.token ≡ self.old.token) × (self.new.started ≡ self.old.started)
             × (self.new.moment ≡ self.old.moment) × (self.new.first ≡ self.old.first)
@@ -108,34 +108,35 @@ impl Run {
     fn take<O: Outlet, E: Outlet>(&mut self, out: &mut O, err: &mut E, newline: bool) -> StepResult
         requires out_works { O.is_failed out.old ≡ false }
         requires err_works { E.is_failed err.old ≡ false }
-        ensures next { IfOk result (λ next. next ≡ spec.status_told
+        ensures next { IfOk result (λ next. next ≡ spec.event_status
             (value.taking self.old.client self.old.rest).event) }
         ensures out { OnOk result (AddsBytes (O.written out.old) (O.written out.new)
-            (spec.output_told (value.taking self.old.client self.old.rest).event newline)) }
+            (spec.event_output (value.taking self.old.client self.old.rest).event newline)) }
         ensures err { OnOk result (AddsBytes (E.written err.old) (E.written err.new)
-            (spec.errors_told (value.taking self.old.client self.old.rest).event)) }
+            (spec.event_errors (value.taking self.old.client self.old.rest).event)) }
         ensures client { self.new.client ≡ (value.taking self.old.client self.old.rest).client }
         ensures rest { OnOk result (self.new.rest ≡ drop (value.taking self.old.client self.old.rest).count
             self.old.rest) }
         ensures within { (value.taking self.old.client self.old.rest).count ≤ length self.old.rest }
         ensures kept { (self.new.token ≡ self.old.token) × (self.new.started ≡ self.old.started)
             × (self.new.moment ≡ self.old.moment) × (self.new.cancelled ≡ self.old.cancelled) }
-        ensures first { OnOk result (self.new.first ≡ spec.first_told (value.taking self.old.client self.old.rest).event
+        ensures first { OnOk result (self.new.first ≡ spec.event_first
+            (value.taking self.old.client self.old.rest).event
             self.old.first self.old.moment) }
         ensures cause { OnOk result (self.new.cause ≡ causes.cause_after self.old.cause
-            (causes.cause_told (value.taking self.old.client self.old.rest).event)) }
+            (causes.event_cause (value.taking self.old.client self.old.rest).event)) }
         ensures status { IfOk result (λ next. IfSome next IsStatus) }
         ensures output { (O.is_failed out.new || E.is_failed err.new) ≡ is_err result }
     {
         let taken = self.client.take(self.rest.bytes());
         let bytes = taken.bytes;
-        let (heard, cause) = match taken.event() {
+        let (outcome, cause) = match taken.event() {
             Some(event) => (handle_event(&event, out, err, newline)?, cause_of(&event)),
             None => (EventOutcome::Nothing, None),
         };
         self.rest.advance(bytes);
         self.record_cause(cause);
-        match heard {
+        match outcome {
             EventOutcome::Nothing => Ok(None),
             EventOutcome::Notified => {
                 if self.first.is_none() {
@@ -149,8 +150,8 @@ impl Run {
 }
 
 /// Returns the reason if a read ends the run: the input has ended, or the wire has failed.
-fn stop_behind(phase: Phase, got: Got) -> Option<Reason>
-    ensures { result ≡ spec.stop_behind phase got }
+fn stop_after(phase: Phase, got: Got) -> Option<Reason>
+    ensures { result ≡ spec.stop_after phase got }
 {
     match got {
         Got::Bytes(_) => None,

@@ -26,7 +26,7 @@ pub(super) fn handle_event<O: Outlet, E: Outlet>(
 ) -> Result<EventOutcome, WriteFailed>
     requires out_works { O.is_failed out.old ≡ false }
     requires err_works { E.is_failed err.old ≡ false }
-    ensures heard { IfOk result (λ heard. heard ≡ spec.heard_of (event_value event.now)) }
+    ensures outcome { IfOk result (λ outcome. outcome ≡ spec.outcome_of (event_value event.now)) }
     ensures out { OnOk result (AddsBytes (O.written out.old) (O.written out.new)
         (spec.output_of (event_value event.now) newline)) }
     ensures err { OnOk result (AddsBytes (E.written err.old) (E.written err.new)
@@ -97,7 +97,7 @@ fn answered<O: Outlet, E: Outlet>(
 /// Reports the error of a request, which ends the run.
 pub(super) fn refused<E: Outlet>(err: &mut E, fault: RequestFault) -> StepResult
     requires { E.is_failed err.old ≡ false }
-    ensures told { OnOk result (AddsBytes (E.written err.old) (E.written err.new) (text.fault_line fault)) }
+    ensures reported { OnOk result (AddsBytes (E.written err.old) (E.written err.new) (text.fault_line fault)) }
     ensures ended { IfOk result (λ next. next ≡ Some 3) }
     ensures status { IfOk result (λ next. IfSome next IsStatus) }
     ensures output { E.is_failed err.new ≡ is_err result }
@@ -109,7 +109,7 @@ pub(super) fn refused<E: Outlet>(err: &mut E, fault: RequestFault) -> StepResult
 /// Reports the stop of the connection, which ends the run.
 pub(super) fn stopped<E: Outlet>(err: &mut E, reason: Reason) -> StepResult
     requires { E.is_failed err.old ≡ false }
-    ensures told { OnOk result (AddsBytes (E.written err.old) (E.written err.new) (text.stop_line reason)) }
+    ensures reported { OnOk result (AddsBytes (E.written err.old) (E.written err.new) (text.stop_line reason)) }
     ensures ended { IfOk result (λ next. next ≡ Some 3) }
     ensures status { IfOk result (λ next. IfSome next IsStatus) }
     ensures output { E.is_failed err.new ≡ is_err result }

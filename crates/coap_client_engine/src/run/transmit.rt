@@ -1,7 +1,7 @@
 //! Output of a run: the request, the cancellation of its observation, and one write to the wire.
 
 ghost use Rattle.std.specs.Prelude.{◌≡◌, ◌++◌, ◌∷◌, ℕ, List, false, is_err, [], option_map, IfOk, IfSome, OnOk};
-ghost use Rattle.coap_client_engine.specs.Prelude.{TellsMore, bytes_passed, count_passed, AddsBytes, extras_value};
+ghost use Rattle.coap_client_engine.specs.Prelude.{AddsCalls, bytes_passed, count_passed, AddsBytes, extras_value};
 ghost use Rattle.coap_client_engine.specs.Prelude.{IsStatus, ClientCall, ClientShows, with_wire, Flushes};
 ghost use Rattle.coap_client_engine.specs.ClientValues as value;
 ghost use Rattle.coap_client_engine.specs.RunCauses as causes;
@@ -30,7 +30,7 @@ impl Run {
         requires { E.is_failed err.old ≡ false }
         ensures next { IfOk result (λ next. next ≡ spec.ended_by
             (spec.asking_refusal self.old.client self.old.token plan.now)) }
-        ensures told { OnOk result (AddsBytes (E.written err.old) (E.written err.new)
+        ensures reported { OnOk result (AddsBytes (E.written err.old) (E.written err.new)
             (spec.refusal_text (spec.asking_refusal self.old.client self.old.token plan.now))) }
         ensures after { self.new.client ≡ spec.client_asking self.old.client self.old.token plan.now }
         ensures token { option_map (λ t. t.items) self.new.token
@@ -70,7 +70,7 @@ impl Run {
         requires { E.is_failed err.old ≡ false }
         ensures next { IfOk result (λ next. next ≡ spec.ended_by
             (spec.cancelling_refusal self.old.client (option_map (λ t. t.items) self.old.token) plan.now)) }
-        ensures told { OnOk result (AddsBytes (E.written err.old) (E.written err.new)
+        ensures reported { OnOk result (AddsBytes (E.written err.old) (E.written err.new)
             (spec.refusal_text (spec.cancelling_refusal self.old.client (option_map (λ t. t.items) self.old.token)
             plan.now))) }
         ensures after { self.new.client
@@ -144,7 +144,7 @@ impl Run {
         ensures wrote { AddsBytes (W.written wire.old) (W.written wire.new)
             (bytes_passed self.old.client.link.waiting result) }
         ensures gave { AddsBytes (W.given wire.old) (W.given wire.new) [] }
-        ensures answered { TellsMore (W.answers wire.old) (W.answers wire.new) (result ∷ []) }
+        ensures answered { AddsCalls (W.answers wire.old) (W.answers wire.new) (result ∷ []) }
         ensures kept { (self.new.rest ≡ self.old.rest) × (self.new.token ≡ self.old.token)
             × (self.new.started ≡ self.old.started) × (self.new.moment ≡ self.old.moment)
             × (self.new.first ≡ self.old.first) × (self.new.cancelled ≡ self.old.cancelled)

@@ -1,7 +1,7 @@
 //! Entries of the application that the values of `--application` name.
 
 ghost use Rattle.std.specs.Prelude.{◌≡◌, IfOk, map, option_map};
-ghost use Rattle.coap_command_line.specs.Prelude.{found_of, rows_of, AddsText, TellsEntries};
+ghost use Rattle.coap_command_line.specs.Prelude.{found_of, rows_of, AddsText, GivesEntries};
 ghost use Rattle.coap_command_line.specs.ApplicationWords as spec;
 
 use crate::arguments::option_values::{after, before, named_value, texts_of};
@@ -119,7 +119,7 @@ fn add_text(alloc: Global, entries: &mut Applications, text: &[u8]) -> Result<bo
 /// - `Refused`: a text names no entry, or `Applications::add` rejects the entry.
 /// - `Memory`: allocation failed.
 pub fn entries_in<'a>(alloc: Global, texts: &[&'a str]) -> Result<Applications, EntryFault<'a>>
-    ensures { TellsEntries (spec.with_texts spec.no_entries (map (λ t. t.now) texts.now)) result }
+    ensures { GivesEntries (spec.with_texts spec.no_entries (map (λ t. t.now) texts.now)) result }
 {
     let Ok(mut entries) = Applications::new(alloc, DEADLINE) else {
         return Err(EntryFault::Memory);
@@ -141,7 +141,7 @@ pub(super) fn applications<'a>(
     alloc: Global,
     matches: &ArgMatches<'a>,
 ) -> Result<Option<Applications>, EntryFault<'a>>
-    ensures { TellsEntries (spec.applications_said (rows_of (found_of matches.now))) result }
+    ensures { GivesEntries (spec.applications_said (rows_of (found_of matches.now))) result }
 {
     let Some(texts) = texts_of(matches, "--application") else {
         return Ok(None);

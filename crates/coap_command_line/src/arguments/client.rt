@@ -2,7 +2,7 @@
 
 ghost use Rattle.std.specs.Prelude.{◌≡◌, IfOk, MatchOption, None, Some, codes, false, option_map, true};
 ghost use Rattle.coap_command_line.specs.Prelude.{after_first, before_first, list_any, found_of, rows_of};
-ghost use Rattle.coap_command_line.specs.Prelude.{named, number_within, option_value, TellsClientPlan, client_value};
+ghost use Rattle.coap_command_line.specs.Prelude.{named, number_within, option_value, GivesClientPlan, client_value};
 ghost use Rattle.coap_command_line.specs.Prelude.{TellsExtra, extra_value, GivesUnlessMemory, target_of};
 ghost use Rattle.coap_command_line.specs.ClientWords as spec;
 ghost use Rattle.coap_request.specs.declared.request.Method.TheVariants.{Get};
@@ -200,10 +200,7 @@ fn extra_in(alloc: Global, text: &str) -> Result<Option<(u16, Vec<u8>)>, AllocEr
 ///
 /// - `Value`: the text of the option is invalid.
 /// - `Memory`: allocation failed.
-fn extra(
-    alloc: Global,
-    matches: &ArgMatches<'_>,
-) -> Result<Option<(u16, Vec<u8>)>, WordsFault>
+fn extra(alloc: Global, matches: &ArgMatches<'_>) -> Result<Option<(u16, Vec<u8>)>, WordsFault>
     ensures { TellsExtra (spec.extra_said (rows_of (found_of matches.now))) result }
 {
     match text_of(matches, "-O") {
@@ -282,7 +279,7 @@ fn plan_with(
 /// Returns the plan for the options that `clap` found, or the error `Target`, `Value`, `Clash` or `Memory`.
 #[tactic(auto, unfolding(crate::specs::ClientWords::client_plan_in))]
 pub(super) fn client_plan(alloc: Global, matches: &ArgMatches<'_>) -> Result<ClientPlan, WordsFault>
-    ensures { TellsClientPlan (spec.client_plan_in (rows_of (found_of matches.now))) result }
+    ensures { GivesClientPlan (spec.client_plan_in (rows_of (found_of matches.now))) result }
 {
     let target = match parse_target(alloc, matches) {
         Ok(target) => target,

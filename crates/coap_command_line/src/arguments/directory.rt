@@ -2,7 +2,7 @@
 
 ghost use Rattle.std.specs.Prelude.{◌≡◌, ◌≤◌, IfOk, codes, map, option_map};
 ghost use Rattle.coap_command_line.specs.Prelude.{found_of, rows_of, named};
-ghost use Rattle.coap_command_line.specs.DirectoryWords.{IsDirectoryPlan, TellsDirectoryPlan};
+ghost use Rattle.coap_command_line.specs.DirectoryWords.{IsDirectoryPlan, GivesDirectoryPlan};
 ghost use Rattle.coap_command_line.specs.DirectoryWords as spec;
 ghost use Rattle.coap_command_line.specs.Reasons.{line_of};
 
@@ -84,7 +84,7 @@ fn directory_values(matches: &ArgMatches<'_>) -> Result<DirectoryValues, BadValu
 /// Returns the plan for the options that `clap` found, or the error `Value`, `Clash` or `Memory`.
 #[tactic(auto, unfolding(crate::specs::DirectoryWords::directory_plan_in))]
 fn directory_plan(alloc: Global, matches: &ArgMatches<'_>) -> Result<DirectoryPlan, WordsFault>
-    ensures plan { TellsDirectoryPlan (spec.directory_plan_in (rows_of (found_of matches.now))) result }
+    ensures plan { GivesDirectoryPlan (spec.directory_plan_in (rows_of (found_of matches.now))) result }
     ensures connections { IfOk result (λ plan. (1 ≤ plan.connections) × (plan.connections ≤ 256)) }
     ensures registrations { IfOk result (λ plan. (1 ≤ plan.registrations) × (plan.registrations ≤ 100000)) }
     ensures limit { IfOk result (λ plan. 1 ≤ plan.record_limit) }

@@ -2,7 +2,7 @@
 
 ghost use Rattle.std.specs.Prelude.{◌≡◌, IfOk, codes, map, option_map};
 ghost use Rattle.coap_command_line.specs.Prelude.{found_of, rows_of, named};
-ghost use Rattle.coap_command_line.specs.ExplainWords.{IsExplainPlan, TellsExplainPlan};
+ghost use Rattle.coap_command_line.specs.ExplainWords.{IsExplainPlan, GivesExplainPlan};
 ghost use Rattle.coap_command_line.specs.ExplainWords as spec;
 ghost use Rattle.coap_command_line.specs.Reasons.{line_of};
 
@@ -55,7 +55,7 @@ fn file_name<'a>(matches: &ArgMatches<'a>) -> &'a str
 /// Returns the plan for the options that `clap` found, or the error `Value` or `Memory`.
 #[tactic(auto, unfolding(crate::specs::ExplainWords::explain_plan_in))]
 fn explain_plan(alloc: Global, matches: &ArgMatches<'_>) -> Result<ExplainPlan, WordsFault>
-    ensures { TellsExplainPlan (spec.explain_plan_in (rows_of (found_of matches.now))) result }
+    ensures { GivesExplainPlan (spec.explain_plan_in (rows_of (found_of matches.now))) result }
 {
     let connection = connection(matches)?;
     let file = String::from_str(alloc, file_name(matches))?;

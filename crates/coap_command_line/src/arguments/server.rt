@@ -2,7 +2,7 @@
 
 ghost use Rattle.std.specs.Prelude.{◌≡◌, ◌<◌, ◌≤◌, ◌+◌, ◌^◌, IfOk, IfSome, Some, codes, option_map};
 ghost use Rattle.coap_command_line.specs.Prelude.{found_of, rows_of, named, number_within, option_value, mode_value};
-ghost use Rattle.coap_command_line.specs.Prelude.{TellsServerPlan};
+ghost use Rattle.coap_command_line.specs.Prelude.{GivesServerPlan};
 ghost use Rattle.coap_command_line.specs.ServerWords as spec;
 
 use crate::arguments::WordsFault;
@@ -322,7 +322,7 @@ fn mode_in(
 /// Returns the plan for the options that `clap` found, or the error `Value`, `Clash` or `Memory`.
 #[tactic(auto, unfolding(crate::specs::ServerWords::server_plan_in))]
 pub(super) fn server_plan(alloc: Global, matches: &ArgMatches<'_>) -> Result<ServerPlan, WordsFault>
-    ensures plan { TellsServerPlan (spec.server_plan_in (rows_of (found_of matches.now))) result }
+    ensures plan { GivesServerPlan (spec.server_plan_in (rows_of (found_of matches.now))) result }
     ensures id_left { IfOk result (λ plan. plan.starts.ids + 1 < 2 ^ 64) }
     ensures limit { IfOk result (λ plan. 1 ≤ plan.record_limit) }
 {

@@ -5,7 +5,7 @@ ghost use Rattle.std.specs.Prelude.{OnOk, OnErr, Err, nat_lt, not, remove};
 ghost use Rattle.coap_conn.specs.Prelude.{is_open, History, Message, after, LinkShows, can_hold, link_after, RefusedBy};
 ghost use Rattle.coap_conn.specs.Prelude.{frame_refusal, OnMessage, is_plain_response as is_plain, observes};
 ghost use Rattle.coap_conn.specs.Prelude.{is_response as is_response_code, fit, fits, limit_in};
-ghost use Rattle.coap_conn.specs.Prelude.{bare_response, free_in, message_of, stop, standing_in, link_with, spelling};
+ghost use Rattle.coap_conn.specs.Prelude.{bare_response, free_in, message_of, stop, state_in, link_with, spelling};
 ghost use Rattle.coap_conn.specs.Prelude.{send, response_refusal, room_refusal};
 ghost use Rattle.coap_conn.specs.Calls as call;
 
@@ -30,7 +30,7 @@ impl Link {
     /// The phase is `Open`.
     pub fn hold_request(&mut self, token: Token, moment: u64) -> Result<(), Full>
         requires open { is_open self.old.phase ≡ true }
-        ensures held { OnOk result (IsTrue (can_hold self.old)) }
+        ensures pending { OnOk result (IsTrue (can_hold self.old)) }
         ensures full { OnErr result (IsFalse (can_hold self.old)) }
         ensures after { OnOk result (self.new ≡ link_after self.old (call.HoldRequest token.items moment)) }
         ensures shows { OnOk result ((h : History) → LinkShows self.old h →
@@ -109,11 +109,11 @@ impl Link {
     ///
     /// `NoRoom`: the queue has no room for the bare form. The link is unchanged.
     fn respond_bare(&mut self, index: usize, message: &MessageRef) -> Result<Reply, RespondFault>
-        requires within { index < length self.old.held }
+        requires within { index < length self.old.pending }
         requires large { fits (limit_in self.old) message.now ≡ false }
         ensures reply { IfOk result (λ r. r ≡ fit (limit_in self.old) message.now (bare_response message.now)) }
-        ensures after { OnOk result (self.new ≡ link_with self.old (send (record (standing_in self.old)
-            { held = remove self.old.held index }) message.now (bare_response message.now))) }
+        ensures after { OnOk result (self.new ≡ link_with self.old (send (record (state_in self.old)
+            { pending = remove self.old.pending index }) message.now (bare_response message.now))) }
         ensures room { RefusedBy result (room_refusal self.old message.now) }
         ensures err { OnErr result (self.new ≡ self.old) }
     {

@@ -1,7 +1,7 @@
 //! Pending entries of a link: adding a delayed response, and removing the entry that is due.
 
 ghost use Rattle.std.specs.Prelude.{◌≡◌, ℕ, List, true, IsTrue, IsFalse, OnOk, OnErr};
-ghost use Rattle.coap_conn.specs.Prelude.{IsAnswering, is_open, AnAnswer, AnExpired, answer_told, due_told, first_due};
+ghost use Rattle.coap_conn.specs.Prelude.{IsAnswering, is_open, AnAnswer, AnExpired, answer_by, due_result, first_due};
 ghost use Rattle.coap_conn.specs.Prelude.{due_value, History};
 ghost use Rattle.coap_conn.specs.Prelude.{after, LinkShows, IsReady, can_hold, link_after};
 ghost use Rattle.coap_conn.specs.Calls as call;
@@ -24,7 +24,7 @@ impl Link {
     /// The phase is `Open`.
     pub fn hold(&mut self, token: Token, moment: u64) -> Result<(), Full>
         requires open { is_open self.old.phase ≡ true }
-        ensures held { OnOk result (IsTrue (can_hold self.old)) }
+        ensures pending { OnOk result (IsTrue (can_hold self.old)) }
         ensures full { OnErr result (IsFalse (can_hold self.old)) }
         ensures after { OnOk result (self.new ≡ link_after self.old (call.Hold token.items moment)) }
         ensures shows { OnOk result ((h : History) → LinkShows self.old h →
@@ -54,7 +54,7 @@ impl Link {
     /// The queue has room for a message of `max_sent` bytes.
     pub fn due(&mut self, now: u64) -> Due
         requires ready { IsReady self.old }
-        ensures due { due_value result ≡ due_told (first_due now self.old.held) }
+        ensures due { due_value result ≡ due_result (first_due now self.old.pending) }
         ensures after { self.new ≡ link_after self.old (call.Due now) }
         ensures shows { (h : History) → LinkShows self.old h → LinkShows self.new (after h (call.Due now)) }
         // If a response is due, or a request has expired, the preconditions of `reply` hold.
@@ -82,7 +82,7 @@ impl Link {
 
 /// Returns the result for a response that is due, or for a request that the application has not answered.
 fn due_response(responder: Responder, token: Token) -> Due
-    ensures { due_value result ≡ answer_told responder token.items }
+    ensures { due_value result ≡ answer_by responder token.items }
 {
     match responder {
         Responder::Engine => Due::Answer(token),

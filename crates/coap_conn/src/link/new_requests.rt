@@ -38,7 +38,7 @@ impl Link {
         ensures err { OnErr result (self.new ≡ self.old) }
     {
         let token = self.next_token()?;
-        self.queue_asked(&message.with_token(&token))?;
+        self.queue_request(&message.with_token(&token))?;
         self.enter(if observe {
             Outstanding::Observation {
                 token: copy_of(&token),
@@ -74,11 +74,11 @@ impl Link {
             return Err(RequestFault::NotOpen);
         };
         let lies = TokenRef::of(token);
-        if !may_cancel_in(&self.asked, &lies) {
+        if !may_cancel_in(&self.outstanding, &lies) {
             return Err(RequestFault::NoSuchToken);
         }
-        self.queue_asked(&message.with_token(token))?;
-        cancel_in(&mut self.asked, &lies);
+        self.queue_request(&message.with_token(token))?;
+        cancel_in(&mut self.outstanding, &lies);
         Ok(())
     }
 
@@ -98,7 +98,7 @@ impl Link {
         ensures err { OnErr result (self.new ≡ self.old) }
     {
         let token = self.next_token()?;
-        self.queue_asked(&ping_to(&token, custody))?;
+        self.queue_request(&ping_to(&token, custody))?;
         self.enter(Outstanding::Ping(copy_of(&token)));
         Ok(token)
     }
@@ -123,10 +123,10 @@ impl Link {
             return Err(NotOutstanding);
         };
         let lies = TokenRef::of(token);
-        if !has_entry_in(&self.asked, &lies) {
+        if !has_entry_in(&self.outstanding, &lies) {
             return Err(NotOutstanding);
         }
-        remove_entry_in(&mut self.asked, &lies);
+        remove_entry_in(&mut self.outstanding, &lies);
         Ok(())
     }
 
@@ -154,7 +154,7 @@ impl Link {
         let Phase::Open = self.phase else {
             return Err(RequestFault::NotOpen);
         };
-        if !may_cancel_in(&self.asked, &TokenRef::of(token)) {
+        if !may_cancel_in(&self.outstanding, &TokenRef::of(token)) {
             return Err(RequestFault::NoSuchToken);
         }
         Ok(())
@@ -173,7 +173,7 @@ impl Link {
         let Phase::Open = self.phase else {
             return Err(RequestFault::NotOpen);
         };
-        if self.asked.len() >= self.limits.outstanding() {
+        if self.outstanding.len() >= self.limits.outstanding() {
             return Err(RequestFault::TooMany);
         }
         if self.tokens == u64::MAX {
@@ -187,7 +187,7 @@ impl Link {
     /// # Errors
     ///
     /// Returns `TooBig` or `NoRoom`, in this order and as `request` does; the link is then unchanged.
-    fn queue_asked<const N: usize>(
+    fn queue_request<const N: usize>(
         &mut self,
         message: &MessageBuilder<N>,
     ) -> Result<(), RequestFault>
@@ -218,7 +218,7 @@ impl Link {
                   self.old.tokens + 1;
             } }
     {
-        self.asked.push_reserved(one);
+        self.outstanding.push_reserved(one);
         self.tokens += 1;
     }
 }

@@ -5,7 +5,7 @@ ghost use Rattle.coap_conn.specs.Prelude.{bad_csm_option, IsLive, IsAnswering, i
 ghost use Rattle.coap_conn.specs.Prelude.{is_reserved as reserved, checks_critical_options as minds_critical, react};
 ghost use Rattle.coap_conn.specs.Prelude.{csm_reaction, live_reaction, open_reaction, ping_reaction, request_reaction};
 ghost use Rattle.coap_conn.specs.Prelude.{release_reaction, response_reaction, pong_reaction, History, after};
-ghost use Rattle.coap_conn.specs.Prelude.{LinkShows, IsReady, standing_in, link_with, link_handled, link_after_csm};
+ghost use Rattle.coap_conn.specs.Prelude.{LinkShows, IsReady, state_in, link_with, link_handled, link_after_csm};
 ghost use Rattle.coap_conn.specs.Prelude.{link_after, verdict_value};
 ghost use Rattle.coap_conn.specs.Verdicts as verdict;
 ghost use Rattle.coap_conn.specs.declared.phase.Phase.TheVariants as phase;
@@ -31,12 +31,12 @@ impl Link {
     pub fn on<'m>(&mut self, message: &MessageRef<'m>) -> Verdict<'m>
         requires ready { IsReady self.old }
         requires live { IsLive self.old.phase }
-        ensures verdict { verdict_value result ≡ (react (standing_in self.old) message.now).verdict }
+        ensures verdict { verdict_value result ≡ (react (state_in self.old) message.now).verdict }
         ensures after { self.new ≡ link_after self.old (call.Handle message.now) }
         ensures shows { (h : History) → LinkShows self.old h → LinkShows self.new (after h (call.Handle message.now)) }
         // After a request the link is unchanged, and the preconditions of `reply` hold.
         ensures unchanged { verdict_value result ≡ verdict.Request → self.new ≡ self.old }
-        ensures asked { verdict_value result ≡ verdict.Request → IsReady self.new × IsAnswering self.new.phase }
+        ensures requested { verdict_value result ≡ verdict.Request → IsReady self.new × IsAnswering self.new.phase }
     {
         self.handle(message)
     }
@@ -70,7 +70,7 @@ impl Link {
     #[tactic(auto, unfolding(crate::specs::Reaction::live_reaction))]
     fn handle<'m>(&mut self, message: &MessageRef<'m>) -> Verdict<'m>
         requires { IsReady self.old }
-        ensures verdict { verdict_value result ≡ (live_reaction (standing_in self.old) message.now).verdict }
+        ensures verdict { verdict_value result ≡ (live_reaction (state_in self.old) message.now).verdict }
         ensures after { self.new ≡ link_handled self.old message.now }
     {
         let code = message.code();
@@ -96,7 +96,7 @@ impl Link {
     fn on_csm<'m>(&mut self, message: &MessageRef<'m>) -> Verdict<'m>
         requires { IsReady self.old }
         ensures verdict { verdict_value result
-            ≡ (csm_reaction (standing_in self.old) (bad_csm_option message.now)).verdict }
+            ≡ (csm_reaction (state_in self.old) (bad_csm_option message.now)).verdict }
         ensures after { self.new ≡ link_after_csm self.old message.now }
     {
         match announced_size(message) {
@@ -130,8 +130,8 @@ impl Link {
     /// Processes any other message on an open connection.
     fn on_open<'m>(&mut self, message: &MessageRef<'m>) -> Verdict<'m>
         requires { IsReady self.old }
-        ensures verdict { verdict_value result ≡ (open_reaction (standing_in self.old) message.now).verdict }
-        ensures after { self.new ≡ link_with self.old (open_reaction (standing_in self.old) message.now).effect }
+        ensures verdict { verdict_value result ≡ (open_reaction (state_in self.old) message.now).verdict }
+        ensures after { self.new ≡ link_with self.old (open_reaction (state_in self.old) message.now).effect }
     {
         let code = message.code();
         if checks_critical_options(code) && has_critical_option(message) {
@@ -157,8 +157,8 @@ impl Link {
     /// list. If that list is full, the Pong is sent at once without Custody.
     fn on_ping<'m>(&mut self, message: &MessageRef<'m>) -> Verdict<'m>
         requires { IsReady self.old }
-        ensures verdict { verdict_value result ≡ (ping_reaction (standing_in self.old) message.now).verdict }
-        ensures after { self.new ≡ link_with self.old (ping_reaction (standing_in self.old) message.now).effect }
+        ensures verdict { verdict_value result ≡ (ping_reaction (state_in self.old) message.now).verdict }
+        ensures after { self.new ≡ link_with self.old (ping_reaction (state_in self.old) message.now).effect }
     {
         let custody = asks_custody(message);
         if !custody || self.pending.is_empty() {
@@ -174,13 +174,13 @@ impl Link {
 
     /// Processes a Pong: removes the outstanding Ping with its token (RFC 8323 section 5.4).
     fn on_pong<'m>(&mut self, message: &MessageRef<'m>) -> Verdict<'m>
-        ensures verdict { verdict_value result ≡ (pong_reaction (standing_in self.old) message.now).verdict }
-        ensures after { self.new ≡ link_with self.old (pong_reaction (standing_in self.old) message.now).effect }
+        ensures verdict { verdict_value result ≡ (pong_reaction (state_in self.old) message.now).verdict }
+        ensures after { self.new ≡ link_with self.old (pong_reaction (state_in self.old) message.now).effect }
     {
-        if !has_ping_in(&self.asked, message.token()) {
+        if !has_ping_in(&self.outstanding, message.token()) {
             return Verdict::Stranger;
         }
-        remove_ping_in(&mut self.asked, message.token());
+        remove_ping_in(&mut self.outstanding, message.token());
         Verdict::Pong {
             token: message.token().copy(),
             custody: asks_custody(message),
@@ -190,25 +190,25 @@ impl Link {
     /// Processes a Release: drops all outstanding entries, since no response is accepted after it (RFC 8323 section
     /// 5.5).
     fn on_release(&mut self) -> Verdict<'static>
-        ensures verdict { verdict_value result ≡ (release_reaction (standing_in self.old)).verdict }
-        ensures after { self.new ≡ link_with self.old (release_reaction (standing_in self.old)).effect }
+        ensures verdict { verdict_value result ≡ (release_reaction (state_in self.old)).verdict }
+        ensures after { self.new ≡ link_with self.old (release_reaction (state_in self.old)).effect }
     {
         self.phase = Phase::Releasing(Reason::PeerRelease);
-        self.asked.clear();
+        self.outstanding.clear();
         Verdict::Stopped(Reason::PeerRelease)
     }
 
     /// Processes a response: if it is the last one, removes the request or observation with its token (RFC 7252 section
     /// 5.3.2, RFC 7641 section 4.2).
     fn on_response<'m>(&mut self, message: &MessageRef<'m>) -> Verdict<'m>
-        ensures verdict { verdict_value result ≡ (response_reaction (standing_in self.old) message.now).verdict }
-        ensures after { self.new ≡ link_with self.old (response_reaction (standing_in self.old) message.now).effect }
+        ensures verdict { verdict_value result ≡ (response_reaction (state_in self.old) message.now).verdict }
+        ensures after { self.new ≡ link_with self.old (response_reaction (state_in self.old) message.now).effect }
     {
-        let Some(last) = last_in(&self.asked, message) else {
+        let Some(last) = last_in(&self.outstanding, message) else {
             return Verdict::Stranger;
         };
         if last {
-            remove_request_in(&mut self.asked, message.token());
+            remove_request_in(&mut self.outstanding, message.token());
         }
         Verdict::Answer {
             token: message.token().copy(),
@@ -220,9 +220,9 @@ impl Link {
     fn on_request<'m>(&mut self, message: &MessageRef<'m>) -> Verdict<'m>
         requires { IsReady self.old }
         ensures verdict { verdict_value result
-            ≡ (request_reaction (standing_in self.old) message.now self.old.role).verdict }
+            ≡ (request_reaction (state_in self.old) message.now self.old.role).verdict }
         ensures after { self.new
-            ≡ link_with self.old (request_reaction (standing_in self.old) message.now self.old.role).effect }
+            ≡ link_with self.old (request_reaction (state_in self.old) message.now self.old.role).effect }
     {
         match self.role {
             Role::Server => Verdict::Request,
@@ -235,9 +235,9 @@ impl Link {
     fn refuse<'m>(&mut self, message: &MessageRef<'m>) -> Verdict<'m>
         requires { IsReady self.old }
         ensures verdict { verdict_value result
-            ≡ (request_reaction (standing_in self.old) message.now role.Client).verdict }
+            ≡ (request_reaction (state_in self.old) message.now role.Client).verdict }
         ensures after { self.new
-            ≡ link_with self.old (request_reaction (standing_in self.old) message.now role.Client).effect }
+            ≡ link_with self.old (request_reaction (state_in self.old) message.now role.Client).effect }
     {
         let response = ShortBuilder::new(Code::NOT_IMPLEMENTED, message.token().copy());
         let bare = bare_of(response.code(), response.token());

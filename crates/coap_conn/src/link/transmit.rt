@@ -2,8 +2,9 @@
 
 ghost use Rattle.std.specs.Prelude.{◌≡◌, ◌++◌, false, true, [], OnOk, OnErr};
 ghost use Rattle.coap_conn.specs.Prelude.{Message, RefusedBy, fit, fits, fitted, bare_response, IsAnswering, stop};
-ghost use Rattle.coap_conn.specs.Prelude.{abort, send, told_of, pong_with, sends, History, after, LinkShows, bytes_of};
-ghost use Rattle.coap_conn.specs.Prelude.{own_csm, IsReady, limit_in, standing_in, link_with, link_after};
+ghost use Rattle.coap_conn.specs.Prelude.{abort, send, reply_verdict, pong_with, sends, History, after, LinkShows};
+ghost use Rattle.coap_conn.specs.Prelude.{bytes_of};
+ghost use Rattle.coap_conn.specs.Prelude.{own_csm, IsReady, limit_in, state_in, link_with, link_after};
 ghost use Rattle.coap_conn.specs.Prelude.{verdict_value, release_refusal};
 ghost use Rattle.coap_conn.specs.declared.phase.Phase.TheVariants.{Open};
 ghost use Rattle.coap_conn.specs.Verdicts as verdict;
@@ -141,7 +142,7 @@ impl Link {
     fn send(&mut self, whole: &ShortBuilder, less: &ShortBuilder) -> Reply
         requires { IsReady self.old }
         ensures reply { result ≡ fit (limit_in self.old) whole.now less.now }
-        ensures after { self.new ≡ link_with self.old (send (standing_in self.old) whole.now less.now) }
+        ensures after { self.new ≡ link_with self.old (send (state_in self.old) whole.now less.now) }
     {
         let reply = self.queue_fitted(whole, less);
         match reply {
@@ -165,7 +166,7 @@ impl Link {
             result ≡ fit (limit_in self.old) response (bare_response response) }
         ensures after { (response : Message) → response.code ≡ code → response.token ≡ token.now →
             fits (limit_in self.old) response ≡ false →
-            self.new ≡ link_with self.old (send (standing_in self.old) response (bare_response response)) }
+            self.new ≡ link_with self.old (send (state_in self.old) response (bare_response response)) }
     {
         let bare = bare_of(code, token);
         let limit = self.limit();
@@ -179,8 +180,8 @@ impl Link {
     /// Queues the reply to a received message, as `send` does, and returns the verdict on that message.
     pub(super) fn answer(&mut self, whole: &ShortBuilder, less: &ShortBuilder) -> Verdict<'static>
         requires { IsReady self.old }
-        ensures verdict { verdict_value result ≡ told_of (fit (limit_in self.old) whole.now less.now) }
-        ensures after { self.new ≡ link_with self.old (send (standing_in self.old) whole.now less.now) }
+        ensures verdict { verdict_value result ≡ reply_verdict (fit (limit_in self.old) whole.now less.now) }
+        ensures after { self.new ≡ link_with self.old (send (state_in self.old) whole.now less.now) }
     {
         match self.send(whole, less) {
             Reply::Whole => Verdict::Done,
@@ -193,10 +194,10 @@ impl Link {
     pub(super) fn pong(&mut self, token: &TokenRef, custody: bool) -> Verdict<'static>
         requires { IsReady self.old }
         ensures verdict { verdict_value result
-            ≡ (sends (standing_in self.old) (pong_with custody token.now)
+            ≡ (sends (state_in self.old) (pong_with custody token.now)
             (pong_with false token.now)).verdict }
         ensures after { self.new
-            ≡ link_with self.old (sends (standing_in self.old) (pong_with custody token.now)
+            ≡ link_with self.old (sends (state_in self.old) (pong_with custody token.now)
             (pong_with false token.now)).effect }
     {
         // Without options, the bytes go into the queue one by one. For a short token that costs less than an array.
@@ -214,10 +215,10 @@ impl Link {
     fn pong_fitted(&mut self, token: &TokenRef, custody: bool) -> Verdict<'static>
         requires { IsReady self.old }
         ensures verdict { verdict_value result
-            ≡ (sends (standing_in self.old) (pong_with custody token.now)
+            ≡ (sends (state_in self.old) (pong_with custody token.now)
             (pong_with false token.now)).verdict }
         ensures after { self.new
-            ≡ link_with self.old (sends (standing_in self.old) (pong_with custody token.now)
+            ≡ link_with self.old (sends (state_in self.old) (pong_with custody token.now)
             (pong_with false token.now)).effect }
     {
         let pong = pong_to(token, custody);
@@ -229,11 +230,11 @@ impl Link {
     /// other function sets the phase `Stopped`.
     pub(super) fn stop(&mut self, reason: Reason) -> Verdict<'static>
         ensures verdict { verdict_value result ≡ verdict.Stopped reason }
-        ensures after { self.new ≡ link_with self.old (stop (standing_in self.old) reason []) }
+        ensures after { self.new ≡ link_with self.old (stop (state_in self.old) reason []) }
     {
         self.phase = Phase::Stopped(reason);
         self.pending.clear();
-        self.asked.clear();
+        self.outstanding.clear();
         Verdict::Stopped(reason)
     }
 
@@ -242,7 +243,7 @@ impl Link {
     pub(super) fn abort(&mut self, reason: Reason) -> Verdict<'static>
         requires { IsReady self.old }
         ensures verdict { verdict_value result ≡ verdict.Stopped reason }
-        ensures after { self.new ≡ link_with self.old (abort (standing_in self.old) reason) }
+        ensures after { self.new ≡ link_with self.old (abort (state_in self.old) reason) }
     {
         if let Some(text) = abort_text(reason) {
             let number = bad_csm_number(reason);

@@ -5,22 +5,22 @@ use Rattle.std.proofs.KnownBytes.{Consumes-nil, Consumes-trans}
 use Rattle.std.proofs.lemmas.List.{append-nil, take-take}
 use Rattle.std.proofs.lemmas.List.Folds.{concat-append}
 use Rattle.coap_io.specs.Prelude.{concat, Consumes, IsAtEnd, AddsBytes, DeviceTrace, FoundEnd, EndsAt, HasGiven}
-use Rattle.coap_io.specs.Prelude.{is_failed_write, TellsMore, IsWithin, bytes_passed, Got}
+use Rattle.coap_io.specs.Prelude.{is_failed_write, AddsCalls, IsWithin, bytes_passed, Got}
 use Rattle.coap_io.specs.declared.wire.Got.TheVariants.{Bytes}
 
-pub told_none : {A : Type 0} (a : Option (List A)) → TellsMore a a []
-told_none a = grind (arith, append-nil)
+pub no_calls : {A : Type 0} (a : Option (List A)) → AddsCalls a a []
+no_calls a = grind (arith, append-nil)
 
-pub told_then : {A : Type 0} (a b c : Option (List A)) (xs ys : List A) → TellsMore a b xs → TellsMore b c ys
-    → TellsMore a c (xs ++ ys)
-told_then a b c xs ys p q = grind (arith, append_assoc)
+pub calls_then : {A : Type 0} (a b c : Option (List A)) (xs ys : List A) → AddsCalls a b xs → AddsCalls b c ys
+    → AddsCalls a c (xs ++ ys)
+calls_then a b c xs ys p q = grind (arith, append_assoc)
 
 pub bytes_none : (a : Option (List ℕ)) → AddsBytes a a []
-bytes_none a = told_none a
+bytes_none a = no_calls a
 
 pub bytes_then : (a b c : Option (List ℕ)) (xs ys : List ℕ) → AddsBytes a b xs → AddsBytes b c ys
     → AddsBytes a c (xs ++ ys)
-bytes_then a b c xs ys p q = told_then a b c xs ys p q
+bytes_then a b c xs ys p q = calls_then a b c xs ys p q
 
 -- If the last of all chunks is empty, it is the last of `ys`, or the last of `xs` and `ys` has none.
 end_found : (left : List ℕ) (c : Option (List ℕ)) (xs ys : List (List ℕ)) → (FoundEnd xs → left ≡ [])
@@ -38,12 +38,12 @@ end_then (Some x) None c xs ys fewer first rest second found = absurd fewer
 end_then (Some x) (Some y) c xs ys fewer first rest second found = end_found y c xs ys first rest second found
 
 pub given_none : (a : DeviceTrace) → HasGiven a a []
-given_none a = record { more = told_none a.pieces; fewer = Consumes-nil a.remaining; end = λ e. absurd e }
+given_none a = record { more = no_calls a.pieces; fewer = Consumes-nil a.remaining; end = λ e. absurd e }
 
 pub given_then : (a b c : DeviceTrace) (xs ys : List (List ℕ)) → HasGiven a b xs
     → HasGiven b c ys → HasGiven a c (xs ++ ys)
 given_then a b c xs ys p q = record {
-  more = told_then a.pieces b.pieces c.pieces xs ys p.more q.more;
+  more = calls_then a.pieces b.pieces c.pieces xs ys p.more q.more;
   fewer = rw concat-append (Consumes-trans a.remaining b.remaining c.remaining (concat xs) (concat ys) p.fewer q.fewer);
   end = end_then a.remaining b.remaining c.remaining xs ys p.fewer p.end q.fewer q.end;
 }

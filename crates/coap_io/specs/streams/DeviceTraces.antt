@@ -4,11 +4,11 @@ use Rattle.coap_io.specs.declared.wire.Wait.{Wait}
 
 -- Holds if a device that records its calls has added these to its record, in order. Nothing is claimed of a device that
 -- records none.
-abbrev pub TellsMore : {A : Type 0} → Option (List A) → Option (List A) → List A → Type 0
-TellsMore None new more = Unit {0}
-TellsMore (Some before) new more = new ≡ Some (before ++ more)
+abbrev pub AddsCalls : {A : Type 0} → Option (List A) → Option (List A) → List A → Type 0
+AddsCalls None new more = Unit {0}
+AddsCalls (Some before) new more = new ≡ Some (before ++ more)
 
 -- A call of a door: `next` handed out this wire or none, or `wait` was called with these arguments.
 pub data DoorCall (W : Type 0) : Type 0 where
-  Asked : (handed : Option W) → DoorCall W
+  Requested : (handed : Option W) → DoorCall W
   Waited : (wait : Wait) (opens : Bool) → DoorCall W

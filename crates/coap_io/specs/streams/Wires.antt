@@ -5,7 +5,7 @@ use Rattle.coap_io.specs.declared.wire.Got.TheVariants.{Bytes, Later, End, Faile
 use Rattle.coap_io.specs.declared.wire.Wait.{Wait}
 use Rattle.coap_io.specs.declared.wire.Wait.TheVariants.{No, Until, Forever}
 use Rattle.coap_io.specs.streams.Device.{AddsBytes}
-use Rattle.coap_io.specs.streams.DeviceTraces.{TellsMore}
+use Rattle.coap_io.specs.streams.DeviceTraces.{AddsCalls}
 
 -- Holds if a result passes on no bytes, or at least one and at most `room`.
 abbrev pub IsWithin : ℕ → Got → Type 0
@@ -37,7 +37,7 @@ write_outcome Failed = Failed
 
 -- Holds if a wire was written once with this outcome, as far as the wire records results.
 pub data IsOneWrite (before after : Option (List Got)) (outcome : Got) : Type 0 where
-  Answered : (answer : Got) → TellsMore before after (answer ∷ []) → outcome ≡ write_outcome answer
+  Answered : (answer : Got) → AddsCalls before after (answer ∷ []) → outcome ≡ write_outcome answer
       → IsOneWrite before after outcome
 
 -- The same wait, but until `moment` at the latest.
@@ -63,12 +63,12 @@ trace_by given written answers rooms wire =
     record { given = given wire; written = written wire; answers = answers wire; rooms = rooms wire }
 
 -- Holds if a wire was read once, into a buffer of `room` bytes, with this result and these bytes.
-pub record IsReadOnce (room : ℕ) (before after : WireTrace) (heard : Got) (bytes : List ℕ) : Type 0 where
+pub record IsReadOnce (room : ℕ) (before after : WireTrace) (received : Got) (bytes : List ℕ) : Type 0 where
   pub gave : AddsBytes before.given after.given bytes
-  pub count : length bytes ≡ count_passed heard
+  pub count : length bytes ≡ count_passed received
   pub wrote : AddsBytes before.written after.written []
-  pub answered : TellsMore before.answers after.answers (heard ∷ [])
-  pub had_room : TellsMore before.rooms after.rooms (room ∷ [])
+  pub answered : AddsCalls before.answers after.answers (received ∷ [])
+  pub had_room : AddsCalls before.rooms after.rooms (room ∷ [])
 
 -- Holds if a wire was written once, with a prefix of these bytes and this outcome.
 pub record IsWrittenOnce (bytes : List ℕ) (before after : WireTrace) (wrote : Got) : Type 0 where
@@ -76,9 +76,9 @@ pub record IsWrittenOnce (bytes : List ℕ) (before after : WireTrace) (wrote : 
   pub took : AddsBytes before.written after.written (bytes_passed bytes wrote)
   pub gave : AddsBytes before.given after.given []
   pub answered : IsOneWrite before.answers after.answers wrote
-  pub no_read : TellsMore before.rooms after.rooms []
+  pub no_read : AddsCalls before.rooms after.rooms []
 
 -- Holds if the readiness that a wire reports agrees with that which it records, if it records any.
-abbrev pub MatchesTrace : (told : Option Bool) (answer : Bool) → Type 0
+abbrev pub MatchesTrace : (recorded : Option Bool) (answer : Bool) → Type 0
 MatchesTrace None answer = Unit {0}
-MatchesTrace (Some told) answer = answer ≡ told
+MatchesTrace (Some recorded) answer = answer ≡ recorded

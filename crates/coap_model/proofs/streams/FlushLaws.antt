@@ -13,7 +13,7 @@ use Rattle.coap_model.proofs.world.GrowLaws.{settled_handled, written_handled}
 use Rattle.coap_model.proofs.world.EntryLemmas.{all_to, count_within}
 use Rattle.coap_model.proofs.world.SideLaws.{IsAtRest, left_on, once_less, at_rest, settled_rests, side_at_rest_stays}
 use Rattle.coap_model.proofs.world.PlaceLaws.{AreDistinct, places_unchanged}
-use Rattle.coap_model.proofs.world.HearingLaws.{AllHear, step_hears}
+use Rattle.coap_model.proofs.world.EndOfInputLaws.{AllHear, step_hears}
 use Rattle.coap_model.proofs.world.CustodyLaws.{written_same}
 use Rattle.coap_model.proofs.world.WalkLaws.{written_between}
 use Rattle.coap_model.proofs.world.AcrossLaws.{written_there}

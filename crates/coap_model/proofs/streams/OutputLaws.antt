@@ -7,7 +7,7 @@ use Rattle.coap_model.specs.Prelude.{stop_of, LimitValues, bytes_of, ConfigValue
 use Rattle.coap_model.specs.Prelude.{side_faulted, settled, new_side, waiting_on, settled_within, ConnectionEntry}
 use Rattle.coap_model.specs.Prelude.{World}
 use Rattle.coap_model.specs.Prelude.{side_of, acted, step, Step, new_world, AcceptedCall, Opened, Took, spelled_on}
-use Rattle.coap_model.specs.Prelude.{taken_in, size_by, beyond, steps_by, steps_behind, steps_of, written_times}
+use Rattle.coap_model.specs.Prelude.{taken_in, size_by, beyond, steps_by, later_steps, steps_of, written_times}
 use Rattle.coap_model.specs.Prelude.{flushed, flushed_after, only_id, stream_of, steps_for, world_for, side_for}
 use Rattle.coap_model.specs.Prelude.{Outcome, outcome_on, outcome, stdio_output}
 use Rattle.std.proofs.lemmas.Bool.{eqb-true, cond_both}
@@ -18,7 +18,7 @@ use Rattle.coap_model.specs.world.World.{changed_at}
 use Rattle.coap_model.specs.world.World as world
 use Rattle.coap_model.proofs.streams.FlushLaws.{map_stays, idle_step, flush_leaves, quiet_flush}
 use Rattle.coap_model.proofs.world.PlaceLaws.{AreDistinct, of_each, first_there}
-use Rattle.coap_model.proofs.world.HearingLaws.{AllHear, step_hears}
+use Rattle.coap_model.proofs.world.EndOfInputLaws.{AllHear, step_hears}
 use Rattle.coap_model.proofs.world.AcrossLaws.{handled_there, faulted_there}
 use Rattle.coap_model.proofs.world.ReachedLaws.{step_distinct}
 use Rattle.coap_model.proofs.world.LimitLaws.{step_fits}
@@ -190,7 +190,7 @@ module _ (c : ConfigValues) where
 
   -- For no input, the world is the one in which the CSM was written.
   pub world_for_none : world_for c [] ≡ flushed c.limits id world_opened
-  unfolding world_for flushed_after steps_of steps_behind steps_by
+  unfolding world_for flushed_after steps_of later_steps steps_by
   world_for_none =
       ap (flushed_after c.limits id (new_world c))
       (steps_of_more M opening (Took id []) ∙ ap (λ (ss : List Step). world.Opened id ∷ ss)

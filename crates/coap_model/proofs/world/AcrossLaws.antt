@@ -35,7 +35,7 @@ pub record HoldsOf (R : Connection → Connection → Type 0) (w : World) (st : 
   pub announced : (size : ℕ) → st ≡ world.Announced id size → (s : Connection) → R s (side_announced s size)
   pub responded : (s : Connection) (m : Message) → R s (side_responded s m)
   -- It also holds if settling follows.
-  pub told : (store : StoreValue) (now : ℕ) (s t : Connection) → R s t → R s (settled_once store now t)
+  pub reported : (store : StoreValue) (now : ℕ) (s t : Connection) → R s t → R s (settled_once store now t)
 
 -- The relation holds between the connection before a step and after it, or from a new connection if the step opened it.
 abbrev pub HoldsFrom : (Connection → Connection → Type 0) → LimitValues → World → Step → ℕ → Connection → Type 0
@@ -107,8 +107,8 @@ module _ (R : Connection → Connection → Type 0) (limits : LimitValues) (w : 
 
   once_across : (store : StoreValue) (now : ℕ) (t : Connection) → HoldsFrom R limits w st id t
       → HoldsFrom R limits w st id (settled_once store now t)
-  once_across store now t (inl old) = inl (old.0, old.1, holds.told store now old.0 t old.2)
-  once_across store now t (inr new) = inr (new.0, new.1, holds.told store now (new_side limits) t new.2)
+  once_across store now t (inl old) = inl (old.0, old.1, holds.reported store now old.0 t old.2)
+  once_across store now t (inr new) = inr (new.0, new.1, holds.reported store now (new_side limits) t new.2)
 
   pub step_across : (t : Connection) → side_of id (world.step limits w st).sides ≡ Some t → HoldsFrom R limits w st id t
   unfolding world.step
@@ -202,7 +202,7 @@ module _ (R : History → History → Type 0) (keeps : KeepsAll R) where
     released = released_between R keeps.composes.same keeps.releases;
     announced = λ size is s. announced_between R keeps.composes.same keeps.announces s size;
     responded = responded_between R keeps.composes.same keeps.responds;
-    told = λ store now s t is.
+    reported = λ store now s t is.
         keeps.composes.then s.history t.history _ is
         (once_between R R keeps.composes.same keeps.composes.then keeps.replies keeps.lets_go keeps.pongs store now t);
   }

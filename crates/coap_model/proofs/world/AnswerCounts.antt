@@ -41,13 +41,13 @@ requests ms token = count (asks_with token) ms
 abbrev pub responses : List Message → Tally
 responses ms token = count (responds token) ms
 
-abbrev pub held_back : List PendingEntryValue → Tally
-held_back es token = count (awaits token) es
+abbrev pub pending_count : List PendingEntryValue → Tally
+pending_count es token = count (awaits token) es
 
 -- ---- a Ping that was handled
 
 -- A Ping that asks for this Pong was handled. For each token, at most n requests were handled before it.
-pub record IsBehind (ms : List Message) (n : Tally) (token : List ℕ) : Type 0 where
+pub record FollowsPing (ms : List Message) (n : Tally) (token : List ℕ) : Type 0 where
   pub earlier : List Message
   pub ping : Message
   pub later : List Message
@@ -55,9 +55,9 @@ pub record IsBehind (ms : List Message) (n : Tally) (token : List ℕ) : Type 0 
   pub asks : asks_pong ping token ≡ true
   pub few : AtMost (requests earlier) n
 
-still_behind : (ms more ns : List Message) (n k : Tally) → ns ≡ ms ++ more → AtMost n k → (token : List ℕ)
-    → IsBehind ms n token → IsBehind ns k token
-still_behind ms more ns n k grown grows token is = record {
+still_follows : (ms more ns : List Message) (n k : Tally) → ns ≡ ms ++ more → AtMost n k → (token : List ℕ)
+    → FollowsPing ms n token → FollowsPing ns k token
+still_follows ms more ns n k grown grows token is = record {
   earlier = is.earlier;
   ping = is.ping;
   later = is.later ++ more;
@@ -97,50 +97,51 @@ module _ {A : Type 0} (row : RowOf A) where
 
   -- Each Pong with Custody follows the responses to the requests before its Ping, if n responses come before the first
   -- of these items.
-  abbrev pub Behind : List Message → Tally → List A → Type 0
-  Behind ms n [] = Unit {0}
-  Behind ms n (x ∷ xs) = row.Claims x (IsBehind ms n) × Behind ms (plus n (tally_of (x ∷ []))) xs
+  abbrev pub AllFollow : List Message → Tally → List A → Type 0
+  AllFollow ms n [] = Unit {0}
+  AllFollow ms n (x ∷ xs) = row.Claims x (FollowsPing ms n) × AllFollow ms (plus n (tally_of (x ∷ []))) xs
 
-  pub behind_longer : (ms more ns : List Message) (n k : Tally) (xs : List A) → ns ≡ ms ++ more → AtMost n k
-      → Behind ms n xs → Behind ns k xs
-  behind_longer ms more ns n k [] grown grows is = tt
-  behind_longer ms more ns n k (x ∷ xs) grown grows is = (
-    row.to x (IsBehind ms n) (IsBehind ns k) (still_behind ms more ns n k grown grows) is.0,
-    behind_longer ms more ns (plus n (tally_of (x ∷ []))) (plus k (tally_of (x ∷ []))) xs grown
+  pub follow_longer : (ms more ns : List Message) (n k : Tally) (xs : List A) → ns ≡ ms ++ more → AtMost n k
+      → AllFollow ms n xs → AllFollow ns k xs
+  follow_longer ms more ns n k [] grown grows is = tt
+  follow_longer ms more ns n k (x ∷ xs) grown grows is = (
+    row.to x (FollowsPing ms n) (FollowsPing ns k) (still_follows ms more ns n k grown grows) is.0,
+    follow_longer ms more ns (plus n (tally_of (x ∷ []))) (plus k (tally_of (x ∷ []))) xs grown
         (λ t. omega (arith, grows t)) is.1,
   )
 
   -- The same without a further message.
-  pub behind_grows : (ms : List Message) (n k : Tally) (xs : List A) → AtMost n k → Behind ms n xs → Behind ms k xs
-  behind_grows ms n k xs = behind_longer ms [] ms n k xs (sym (append-nil ms))
+  pub follow_grows : (ms : List Message) (n k : Tally) (xs : List A) → AtMost n k → AllFollow ms n xs
+      → AllFollow ms k xs
+  follow_grows ms n k xs = follow_longer ms [] ms n k xs (sym (append-nil ms))
 
   -- The same for items after others.
-  pub behind_then : (ms : List Message) (n k : Tally) (xs ys : List A) → AtMost k (plus n (tally_of xs))
-      → Behind ms n xs → Behind ms k ys → Behind ms n (xs ++ ys)
-  behind_then ms n k [] ys few is then = behind_grows ms k n ys (λ t. omega (arith, few t)) then
-  behind_then ms n k (x ∷ xs) ys few is then =
-      (is.0, behind_then ms (plus n (tally_of (x ∷ []))) k xs ys (λ t. omega (arith, few t)) is.1 then)
+  pub follow_then : (ms : List Message) (n k : Tally) (xs ys : List A) → AtMost k (plus n (tally_of xs))
+      → AllFollow ms n xs → AllFollow ms k ys → AllFollow ms n (xs ++ ys)
+  follow_then ms n k [] ys few is then = follow_grows ms k n ys (λ t. omega (arith, few t)) then
+  follow_then ms n k (x ∷ xs) ys few is then =
+      (is.0, follow_then ms (plus n (tally_of (x ∷ []))) k xs ys (λ t. omega (arith, few t)) is.1 then)
 
   -- The same for one of the items.
-  pub behind_at : (ms : List Message) (n k : Tally) (xs : List A) (y : A) (ys : List A)
-      → AtMost (plus n (tally_of xs)) k → Behind ms n (xs ++ y ∷ ys) → row.Claims y (IsBehind ms k)
-  behind_at ms n k [] y ys few is = (behind_grows ms n k (y ∷ []) (λ t. omega (arith, few t)) (is.0, tt)).0
-  behind_at ms n k (x ∷ xs) y ys few is =
-      behind_at ms (plus n (tally_of (x ∷ []))) k xs y ys (λ t. omega (arith, few t)) is.1
+  pub follow_at : (ms : List Message) (n k : Tally) (xs : List A) (y : A) (ys : List A)
+      → AtMost (plus n (tally_of xs)) k → AllFollow ms n (xs ++ y ∷ ys) → row.Claims y (FollowsPing ms k)
+  follow_at ms n k [] y ys few is = (follow_grows ms n k (y ∷ []) (λ t. omega (arith, few t)) (is.0, tt)).0
+  follow_at ms n k (x ∷ xs) y ys few is =
+      follow_at ms (plus n (tally_of (x ∷ []))) k xs y ys (λ t. omega (arith, few t)) is.1
 
   -- The same without one item, which is now before the first.
-  pub behind_without : (ms : List Message) (n k : Tally) (xs : List A) (y : A) (ys : List A)
-      → AtMost (plus n (tally_of (y ∷ []))) k → Behind ms n (xs ++ y ∷ ys) → Behind ms k (xs ++ ys)
-  behind_without ms n k [] y ys grows is = behind_grows ms (plus n (tally_of (y ∷ []))) k ys grows is.1
-  behind_without ms n k (x ∷ xs) y ys grows is = (
-    (behind_grows ms n k (x ∷ []) (λ t. omega (arith, grows t)) (is.0, tt)).0,
-    behind_without ms (plus n (tally_of (x ∷ []))) (plus k (tally_of (x ∷ []))) xs y ys
+  pub follow_without : (ms : List Message) (n k : Tally) (xs : List A) (y : A) (ys : List A)
+      → AtMost (plus n (tally_of (y ∷ []))) k → AllFollow ms n (xs ++ y ∷ ys) → AllFollow ms k (xs ++ ys)
+  follow_without ms n k [] y ys grows is = follow_grows ms (plus n (tally_of (y ∷ []))) k ys grows is.1
+  follow_without ms n k (x ∷ xs) y ys grows is = (
+    (follow_grows ms n k (x ∷ []) (λ t. omega (arith, grows t)) (is.0, tt)).0,
+    follow_without ms (plus n (tally_of (x ∷ []))) (plus k (tally_of (x ∷ []))) xs y ys
         (λ t. omega (arith, grows t)) is.1,
   )
 
 -- Messages among which there is no such Pong.
 pub pongs_other : (ms : List Message) (n : Tally) (qs : List Message)
-    → AllByRecursion (λ q. is_custody_pong q ≡ false) qs → Behind queue ms n qs
+    → AllByRecursion (λ q. is_custody_pong q ≡ false) qs → AllFollow queue ms n qs
 pongs_other ms n [] others = tt
 pongs_other ms n (q ∷ qs) others = (λ pong. absurd cc, pongs_other ms (plus n (responses (q ∷ []))) qs others.1)
 
@@ -150,13 +151,13 @@ pongs_other ms n (q ∷ qs) others = (λ pong. absurd cc, pongs_other ms (plus n
 response_by : (token : List ℕ) (q : Message) (qs : List Message) (is : Bool) → responds token q ≡ is
     → 1 ≤ responses (q ∷ qs) token → (1 ≤ responses qs token → HasResponse token qs) → HasResponse token (q ∷ qs)
 response_by token q qs true is some later =
-    record { before = []; response = q; behind = qs; there = refl; responds_to = is }
+    record { before = []; response = q; rest = qs; there = refl; responds_to = is }
 response_by token q qs false is some later =
     let found = later (omega (arith, some, ap one is)) in
     record {
       before = q ∷ found.before;
       response = found.response;
-      behind = found.behind;
+      rest = found.rest;
       responds_to = found.responds_to;
       there = ap (λ (xs : List Message). q ∷ xs) found.there;
     }
@@ -172,7 +173,7 @@ one_token token other q is = grind (arith, (bytes_decides q.token token).0)
 
 -- Without that response, enough are left for the later requests.
 own_rest : (m : Message) (ms qs : List Message) (place : HasResponse m.token qs) → is_asking m ≡ true
-    → AtMost (requests (m ∷ ms)) (responses qs) → AtMost (requests ms) (responses (place.before ++ place.behind))
+    → AtMost (requests (m ∷ ms)) (responses qs) → AtMost (requests ms) (responses (place.before ++ place.rest))
 own_rest m ms qs place asks few t = grind (arith, few t, one_token m.token t, count_more (responds t))
 
 own_first : (m : Message) (ms qs : List Message) → is_asking m ≡ true → AtMost (requests (m ∷ ms)) (responses qs)
@@ -186,6 +187,6 @@ own_answers [] qs few = tt
 own_answers (m ∷ ms) qs few =
     elim (cases_Bool (is_asking m)) [
       | inl asks ↦ let place = own_first m ms qs asks few in
-          rw asks (place, own_answers ms (place.before ++ place.behind) (own_rest m ms qs place asks few))
+          rw asks (place, own_answers ms (place.before ++ place.rest) (own_rest m ms qs place asks few))
       | inr other ↦ rw other (own_answers ms qs (λ t. omega (arith, few t)))
     ]

@@ -6,7 +6,7 @@ use Rattle.std.proofs.lemmas.Bool.{both_ways}
 use Rattle.std.proofs.lemmas.List.{append-nil}
 use Rattle.coap_model.specs.Prelude.{Message, StreamFault, Stream, Phase, Reject, Reason, takes_messages, answers}
 use Rattle.coap_model.specs.Prelude.{is_open, fit, pong_with, PendingEntryValue, without_due, due_index, reject_of}
-use Rattle.coap_model.specs.Prelude.{reject_reason, History, standing_now, limit_now, StoreValue, ConfigValues}
+use Rattle.coap_model.specs.Prelude.{reject_reason, History, state_now, limit_now, StoreValue, ConfigValues}
 use Rattle.coap_model.specs.Prelude.{Connection, handles, side_after, side_faulted, settled, new_side, settled_once}
 use Rattle.coap_model.specs.Prelude.{World}
 use Rattle.coap_model.specs.Prelude.{Step, side_of, AcceptedCall, Took, stream_on, steps_by, world_after, spelled_on}
@@ -14,7 +14,7 @@ use Rattle.coap_model.specs.Prelude.{message_reason, LimitValues}
 use Rattle.coap_model.proofs.world.StepLaws.{world_same, world_step, nothing_spelled, world_first}
 use Rattle.coap_model.proofs.world.TookLaws.{Adds}
 use Rattle.coap_conn.proofs.ReactionLaws.{StopsAtMost}
-use Rattle.coap_model.proofs.world.ToldMessages.{sent_either}
+use Rattle.coap_model.proofs.world.QueuedMessages.{sent_either}
 use Rattle.coap_model.specs.Prelude.{without_request, bare_response}
 use Rattle.coap_model.proofs.world.WalkLaws.{sent, Replies, LetsGo, Pongs, Responds, responded_between, settled_between}
 use Rattle.coap_model.proofs.world.WalkLaws.{Between, once_between}
@@ -26,24 +26,24 @@ use Rattle.coap_conn.specs.declared.phase.Phase.TheVariants as phase
 use Rattle.coap_model.specs.world.World as world
 use Rattle.coap_conn.proofs.PendingLaws.{due_pong}
 use Rattle.coap_wire.proofs.NumberLaws.{none_or_some}
-use Rattle.coap_model.proofs.world.CustodyLaws.{HasHeard, handled_hears}
+use Rattle.coap_model.proofs.world.CustodyLaws.{HasReceived, handled_hears}
 use Rattle.coap_model.proofs.world.SideLaws.{handles_parts}
 
 -- ---- sending handles no message
 
 -- A connection that has stopped for a reason has no pending entry.
 abbrev pub HasStopped : History → Reason → Type 0
-HasStopped h why = (h.phase ≡ phase.Stopped why) × (h.held ≡ [])
+HasStopped h why = (h.phase ≡ phase.Stopped why) × (h.pending ≡ [])
 
 -- No message was handled since this history, and a stop is final.
-pub record HandlesNothing (before : History) (heard : List Message) (now : Phase)
-    (held : List PendingEntryValue) : Type 0 where
-  pub handled : heard ≡ before.handled
-  pub stopped : (why : Reason) → HasStopped before why → (now ≡ phase.Stopped why) × (held ≡ [])
+pub record HandlesNothing (before : History) (received : List Message) (now : Phase)
+    (pending : List PendingEntryValue) : Type 0 where
+  pub handled : received ≡ before.handled
+  pub stopped : (why : Reason) → HasStopped before why → (now ≡ phase.Stopped why) × (pending ≡ [])
   pub stops : StopsAtMost before.phase → StopsAtMost now
 
 abbrev pub HandlesNone : History → History → Type 0
-HandlesNone h k = HandlesNothing h k.handled k.phase k.held
+HandlesNone h k = HandlesNothing h k.handled k.phase k.pending
 
 rests_self : (h : History) → HandlesNone h h
 rests_self h = record { handled = refl; stopped = λ why is. is; stops = λ is. is }
@@ -56,18 +56,18 @@ rests_then h k g p q = record {
 }
 
 -- A message is sent on a connection that has not stopped.
-sent_rests : (h : History) (held : List PendingEntryValue) (m less : Message) → ((why : Reason) → HasStopped h why → ⊥)
-    → HandlesNone h (sent (holding h held) m less)
-sent_rests h held m less live = record {
+sent_rests : (h : History) (pending : List PendingEntryValue) (m less : Message)
+    → ((why : Reason) → HasStopped h why → ⊥) → HandlesNone h (sent (holding h pending) m less)
+sent_rests h pending m less live = record {
   handled = refl;
   stopped = λ why is. absurd (live why is);
-  stops = λ is. sent_either (standing_now (holding h held)) m less (fit (limit_now h) m less)
+  stops = λ is. sent_either (state_now (holding h pending)) m less (fit (limit_now h) m less)
       (λ es now. StopsAtMost now) is refl;
 }
 
 response_rests : Replies HandlesNone
 response_rests h token observe r does room =
-    sent_rests h h.held _ _ (λ why is. both_ways (answers h.phase) (ap answers is.0) does)
+    sent_rests h h.pending _ _ (λ why is. both_ways (answers h.phase) (ap answers is.0) does)
 
 -- If nothing is pending, nothing is due.
 first_rests : LetsGo HandlesNone
@@ -76,12 +76,12 @@ first_rests h now = grind arith
 
 pong_rests : Pongs HandlesNone
 pong_rests h now token due room =
-    let there = due_pong now h.held token due in
-    sent_rests h (without_due now h.held) (pong_with true token) (pong_with false token) (λ why is. cc)
+    let there = due_pong now h.pending token due in
+    sent_rests h (without_due now h.pending) (pong_with true token) (pong_with false token) (λ why is. cc)
 
 respond_rests : Responds HandlesNone
 respond_rests h m answering none =
-    sent_rests h (without_request m.token h.held) m (bare_response m)
+    sent_rests h (without_request m.token h.pending) m (bare_response m)
     (λ why is. both_ways (answers h.phase) (ap answers is.0) answering)
 
 -- Settling handles no message.
@@ -128,7 +128,7 @@ pub data TakesSo (M id : ℕ) (es : List AcceptedCall) (bytes : List ℕ) (s : C
 pub data Became (before after : Stream) (s t : Connection) (message : Bool) : Type 0 where
   Stayed : message ≡ false → t ≡ s → after.messages ≡ before.messages → after.fault ≡ before.fault
       → Became before after s t message
-  Heard : message ≡ true → handles s ≡ true → (m : Message) → t.history.handled ≡ s.history.handled ++ m ∷ []
+  Reacted : message ≡ true → handles s ≡ true → (m : Message) → t.history.handled ≡ s.history.handled ++ m ∷ []
       → StopsAtMost t.history.phase → after.messages ≡ before.messages ++ m ∷ [] → after.fault ≡ None
       → Became before after s t message
   Rejected : message ≡ false → handles s ≡ true → (fault : StreamFault) → HasRejected fault s.history t.history
@@ -157,14 +157,14 @@ module _ (c : ConfigValues) (es : List AcceptedCall) (id : ℕ) (bytes : List �
   )
   became (OneMessage e does m adds) =
       let after = handled_there c.limits w id m s there in
-      let heard : HasHeard w.store.applications m s.history (side_after w.store w.now s m).history =
+      let received : HasReceived w.store.applications m s.history (side_after w.store w.now s m).history =
       rw does (handled_hears w.store w.now s m) in
       let rests = settled_handles_none after.0 w.now (side_after w.store w.now s m) in (
         settled after.0 w.now (side_after w.store w.now s m),
         ap (λ (v : World). side_of id v.sides) (world_step c es (Took id bytes) (world.Handled id m) adds.steps)
             ∙ after.1,
-        Heard e does m (rests.handled ∙ heard.handled_more (handles_parts s does).0)
-            (rests.stops (heard.stops (live_stop s does)))
+        Reacted e does m (rests.handled ∙ received.handled_more (handles_parts s does).0)
+            (rests.stops (received.stops (live_stop s does)))
             (ap (λ (u : Stream). u.messages) adds.stream) (ap (λ (u : Stream). u.fault) adds.stream),
       )
   became (OneFault e does fault rest adds) =
@@ -209,7 +209,7 @@ rests_of w st id away = record {
       });
   announced = λ size is s. announced_between HandlesNone rests_self (λ h n opened room fit. rests_self h) s size;
   responded = responded_between HandlesNone rests_self respond_rests;
-  told = λ store now s t is. rests_then s.history t.history (settled_once store now t).history is
+  reported = λ store now s t is. rests_then s.history t.history (settled_once store now t).history is
       (once_between HandlesNone HandlesNone rests_self rests_then response_rests first_rests pong_rests store now t);
 }
 
@@ -233,7 +233,7 @@ pub became_agrees : (u v : Stream) (s t : Connection) (message : Bool) → Becam
     → Agrees u s → Agrees v t
 became_agrees u v s t message (Stayed none same messages fault) is =
     rw same (record { handled = is.handled ∙ sym messages; stopped = λ f e. is.stopped f (sym fault ∙ e) })
-became_agrees u v s t message (Heard one does m handled stops messages fault) is = grind arith
+became_agrees u v s t message (Reacted one does m handled stops messages fault) is = grind arith
 became_agrees u v s t message (Rejected none does fault rejects messages at) is = grind arith
 
 -- ---- after accepted events

@@ -6,32 +6,33 @@ use Rattle.coap_model.specs.Prelude.{Responder, Engine, Application}
 use Rattle.coap_model.specs.Prelude.{AllByRecursion, list_any, remove, Message, Phase, LimitValues, takes_messages}
 use Rattle.coap_model.specs.Prelude.{answers, is_open, fit, bare_response, PendingEntryValue, Answer, Pong, without_due}
 use Rattle.coap_model.specs.Prelude.{ConnectionState, send, is_custody_pong, pong_with, History, limit_now}
-use Rattle.coap_model.specs.Prelude.{standing_now}
+use Rattle.coap_model.specs.Prelude.{state_now}
 use Rattle.coap_model.specs.Prelude.{after, may_hold, StoreValue, Response, answer_of, prompt_answer, each_at}
 use Rattle.coap_model.specs.Prelude.{ApplicationsValue, application_deadline, Delay, delay_or, delay_of, asks_delayed}
 use Rattle.coap_model.specs.Prelude.{response_with_observe, Observer, without_token, notification}
-use Rattle.coap_model.specs.Prelude.{notification_message, Connection, handles, with_history, held_for, moment_after}
-use Rattle.coap_model.specs.Prelude.{asks_answer, side_handled, side_after, next_held, held_message, settled_once}
+use Rattle.coap_model.specs.Prelude.{notification_message, Connection, handles, with_history, delay_for, moment_after}
+use Rattle.coap_model.specs.Prelude.{asks_answer, side_handled, side_after, next_pending, late_message, settled_once}
 use Rattle.coap_model.specs.Prelude.{side_written, next_due, notified, side_answered, side_with, asks_pending}
 use Rattle.coap_model.specs.Prelude.{CorrespondTo}
-use Rattle.coap_model.specs.Prelude.{QueuesCustody, IsFirstHeld, KeepsPending, AddsAsked, KeepsPendingOver, Reason}
-use Rattle.coap_model.specs.Prelude.{PeerTooSmall, standing_due, standing_without, without_request}
+use Rattle.coap_model.specs.Prelude.{QueuesCustody, IsFirstPending, KeepsPending, AddsRequested, KeepsPendingOver}
+use Rattle.coap_model.specs.Prelude.{Reason}
+use Rattle.coap_model.specs.Prelude.{PeerTooSmall, state_due, state_without, without_request}
 use Rattle.std.proofs.lemmas.Bool.{and_from, both_ways, cond-true, cond_both, or_from}
 use Rattle.std.proofs.lemmas.List.{append_cancel_left, append-nil}
 use Rattle.std.specs.Prelude.{is_some, is_none}
 use lib.Pointwise.{bytes_decides}
 use Rattle.coap_conn.proofs.PendingLaws.{custody_at_once, due_pong}
 use Rattle.coap_conn.proofs.RequestLemmas.{react_asks}
-use Rattle.coap_store.proofs.HoldLaws.{held_of}
+use Rattle.coap_store.proofs.HoldLaws.{delay_of_answer}
 use Rattle.coap_model.proofs.OptionLemmas.{same_there}
 use Rattle.coap_model.proofs.world.EntryLemmas.{all_to}
-use Rattle.coap_model.proofs.world.WalkLaws.{held_is, there_where, said_request, sent, without_first, Replies}
+use Rattle.coap_model.proofs.world.WalkLaws.{pending_is, there_where, said_request, sent, without_first, Replies}
 use Rattle.coap_model.proofs.world.WalkLaws.{after_between, faulted_between, written_between, ended_between}
 use Rattle.coap_model.proofs.world.WalkLaws.{released_between, announced_between, responded_between, once_between}
-use Rattle.coap_model.proofs.world.WalkLaws.{heard, holding}
+use Rattle.coap_model.proofs.world.WalkLaws.{received, holding}
 use Rattle.coap_model.proofs.world.GoingOn.{Keeps}
 use Rattle.coap_conn.proofs.ReactionLaws.{IsPlain, react_so, IsNoPong, StopsAtMost}
-use Rattle.coap_model.proofs.world.ToldMessages.{Queues, sent_either, sent_all, reply_either}
+use Rattle.coap_model.proofs.world.QueuedMessages.{Queues, sent_either, sent_all, reply_either}
 use Rattle.coap_model.proofs.world.RespondedLaws.{allowed, plain_codes, response_is_no_pong}
 use Rattle.coap_model.specs.Prelude.{side_responded, response_refusal, link_of, with_effect, RespondFault, KeepsBut}
 use Rattle.coap_model.proofs.world.SideLaws.{replied_cases, handles_parts}
@@ -40,7 +41,7 @@ use Rattle.coap_conn.specs.SignalOptions as option
 use Rattle.coap_conn.specs.declared.phase.Phase.TheVariants as phase
 use Rattle.coap_conn.specs.Calls as call
 use Rattle.std.proofs.lemmas.List.Folds.{list_any-append}
-use Rattle.coap_conn.proofs.StopLaws.{told_over}
+use Rattle.coap_conn.proofs.StopLaws.{stopped_over}
 
 -- ---- a Pong with Custody among queued messages
 
@@ -87,7 +88,7 @@ bare_no_pong m = grind arith
 reply_gives : Replies (Gives ⊥)
 reply_gives h token observe r does room =
     let m : Message = response_with_observe token observe r in (
-      (send (standing_now h) m (bare_response m)).queued,
+      (send (state_now h) m (bare_response m)).queued,
       refl,
       λ pong. grind (arith, response_no_pong token observe r, bare_no_pong m),
     )
@@ -95,13 +96,13 @@ reply_gives h token observe r does room =
 -- ---- effects that queue such a Pong
 
 pub custody_waits : (store : StoreValue) (now : ℕ) (s : Connection) (m : Message)
-    → QueuesCustody s (side_after store now s m) → s.history.held ≡ []
+    → QueuesCustody s (side_after store now s m) → s.history.pending ≡ []
 custody_waits store now s m =
-    custody_gives (s.history.held ≡ []) s (side_after store now s m)
-    (after_between (λ h. Gives (h.held ≡ []) h) (Gives ⊥) (λ h. gives_none (h.held ≡ []) h h refl)
-    (λ h. gives_then (h.held ≡ []) h)
-    (λ h m takes room. (_, refl, custody_at_once (standing_now h) m)) (λ h. gives_none ⊥ h h refl) reply_gives
-    (λ h by token moment opened may. gives_none ⊥ h (holding h (h.held ++ Answer by token moment ∷ [])) refl) store
+    custody_gives (s.history.pending ≡ []) s (side_after store now s m)
+    (after_between (λ h. Gives (h.pending ≡ []) h) (Gives ⊥) (λ h. gives_none (h.pending ≡ []) h h refl)
+    (λ h. gives_then (h.pending ≡ []) h)
+    (λ h m takes room. (_, refl, custody_at_once (state_now h) m)) (λ h. gives_none ⊥ h h refl) reply_gives
+    (λ h by token moment opened may. gives_none ⊥ h (holding h (h.pending ++ Answer by token moment ∷ [])) refl) store
     now s m)
 
 -- Plain effects queue no such Pong.
@@ -116,17 +117,17 @@ plain_queues_no_custody s t queues =
 
 -- The first pending entry is a Pong.
 abbrev IsPongFirst : History → Type 0
-IsPongFirst h = (token : List ℕ) × (rest : List PendingEntryValue) × (h.held ≡ Pong token ∷ rest)
+IsPongFirst h = (token : List ℕ) × (rest : List PendingEntryValue) × (h.pending ≡ Pong token ∷ rest)
 
 pub custody_comes_first : (store : StoreValue) (now : ℕ) (s : Connection) → QueuesCustody s (settled_once store now s)
-    → (token : List ℕ) × IsFirstHeld s token
+    → (token : List ℕ) × IsFirstPending s token
 custody_comes_first store now s custody =
     let first = custody_gives (IsPongFirst s.history) s (settled_once store now s)
     (once_between (λ h. Gives (IsPongFirst h) h) (Gives ⊥) (λ h. gives_none (IsPongFirst h) h h refl)
     (λ h. gives_then (IsPongFirst h) h) reply_gives
     (λ h now. gives_none (IsPongFirst h) h (without_first h now) refl)
-    (λ h now token due room. (_, refl, λ pong. (token, without_due now h.held, due_pong now h.held token due))) store
-    now s) custody in
+    (λ h now token due room. (_, refl, λ pong. (token, without_due now h.pending, due_pong now h.pending token due)))
+    store now s) custody in
     (first.0, record { rest = first.1; first = first.2 })
 
 -- ---- the order of pending entries
@@ -149,11 +150,11 @@ stand_append a (m ∷ ms) ns (e ∷ es) fs (inl here) more = inl (here.0, stand_
 stand_append a (m ∷ ms) ns (e ∷ es) fs (inr later) more = inr (stand_append a ms ns (e ∷ es) fs later more)
 
 -- A message asks for the entry that it adds.
-stand_added : (a : Option ApplicationsValue) (m : Message) (es : List PendingEntryValue) → AddsAsked a m es
+stand_added : (a : Option ApplicationsValue) (m : Message) (es : List PendingEntryValue) → AddsRequested a m es
     → CorrespondTo a (m ∷ []) es
 unfolding CorrespondTo
 stand_added a m [] adds = tt
-stand_added a m (e ∷ []) adds = inl (adds.asked.0, tt)
+stand_added a m (e ∷ []) adds = inl (adds.requested.0, tt)
 stand_added a m (e ∷ d ∷ es) adds = absurd (omega (arith, adds.few))
 
 -- The same without the first entry, and without any entry.
@@ -186,62 +187,64 @@ unfolding without_request
 stand_request a ms token es stand = grind (arith, stand_removed)
 
 -- Each entry was asked for.
-pub stand_asked : (a : Option ApplicationsValue) (ms : List Message) (before : List PendingEntryValue)
+pub each_requested : (a : Option ApplicationsValue) (ms : List Message) (before : List PendingEntryValue)
     (e : PendingEntryValue) (after : List PendingEntryValue) → CorrespondTo a ms (before ++ e ∷ after)
     → list_any (λ m. asks_pending a m e) ms ≡ true
 unfolding CorrespondTo
-stand_asked a [] [] e after stand = absurd stand
-stand_asked a [] (b ∷ before) e after stand = absurd stand
-stand_asked a (m ∷ ms) [] e after stand = grind (arith, stand_asked a ms [] e after)
-stand_asked a (m ∷ ms) (b ∷ before) e after stand =
-    grind (arith, stand_asked a ms before e after, stand_asked a ms (b ∷ before) e after)
+each_requested a [] [] e after stand = absurd stand
+each_requested a [] (b ∷ before) e after stand = absurd stand
+each_requested a (m ∷ ms) [] e after stand = grind (arith, each_requested a ms [] e after)
+each_requested a (m ∷ ms) (b ∷ before) e after stand =
+    grind (arith, each_requested a ms before e after, each_requested a ms (b ∷ before) e after)
 
 -- ---- a request
 
 -- A request does not change the pending entries, and the connection stays open.
-pub asked_quiet : (s : Connection) (m : Message) → asks_answer s m ≡ true
-    → ((after s.history (call.Handle m)).held ≡ s.history.held)
+pub request_quiet : (s : Connection) (m : Message) → asks_answer s m ≡ true
+    → ((after s.history (call.Handle m)).pending ≡ s.history.pending)
     × (is_open (after s.history (call.Handle m)).phase ≡ true)
-asked_quiet s m asks =
-    let quiet = react_asks (standing_now s.history) m (said_request _ asks) in
-    grind (arith, told_over (standing_now s.history) m)
+request_quiet s m asks =
+    let quiet = react_asks (state_now s.history) m (said_request _ asks) in
+    grind (arith, stopped_over (state_now s.history) m)
 
 -- So its delayed response is appended to them.
-pub held_when_asked : (store : StoreValue) (now : ℕ) (s : Connection) (m : Message) (d : Delay) → handles s ≡ true
-    → asks_answer s m ≡ true → held_for (after s.history (call.Handle m)) (delay_of store now m) ≡ Some d
-    → (side_after store now s m).history.held ≡ s.history.held ++ Answer d.by m.token (moment_after now d.seconds) ∷ []
+pub pending_when_requested : (store : StoreValue) (now : ℕ) (s : Connection) (m : Message) (d : Delay)
+    → handles s ≡ true
+    → asks_answer s m ≡ true → delay_for (after s.history (call.Handle m)) (delay_of store now m) ≡ Some d
+    → (side_after store now s m).history.pending ≡ s.history.pending ++ Answer d.by m.token (moment_after now d.seconds)
+    ∷ []
 unfolding side_after
-held_when_asked store now s m d does asks is = grind (arith, asked_quiet s m asks, held_is)
+pending_when_requested store now s m d does asks is = grind (arith, request_quiet s m asks, pending_is)
 
 -- A delayed response is pending only if the list has a place for it.
-pub held_where : (h : History) (delay : Option Delay) (d : Delay) → held_for h delay ≡ Some d
+pub pending_where : (h : History) (delay : Option Delay) (d : Delay) → delay_for h delay ≡ Some d
     → (may_hold h ≡ true) × (delay ≡ Some d)
-held_where h None d is = absurd cc
-held_where h (Some e) d is = there_where (may_hold h) (Some e) d is
+pending_where h None d is = absurd cc
+pending_where h (Some e) d is = there_where (may_hold h) (Some e) d is
 
 -- The message asks for the responder of its delay.
-asked_by : (store : StoreValue) (now : ℕ) (m : Message) (d : Delay) (deadline : Option ℕ) (hold : Option ℕ)
+delay_requested : (store : StoreValue) (now : ℕ) (m : Message) (d : Delay) (deadline : Option ℕ) (hold : Option ℕ)
     → application_deadline store.applications m ≡ deadline → (answer_of store now m).hold ≡ hold
     → delay_or deadline hold ≡ Some d → asks_delayed store.applications d.by m ≡ true
-asked_by store now m d None None by holds is = absurd cc
-asked_by store now m d None (Some seconds) by holds is =
+delay_requested store now m d None None by holds is = absurd cc
+delay_requested store now m d None (Some seconds) by holds is =
     subst (λ (e : Delay). asks_delayed store.applications e.by m ≡ true)
-    (same_there (record { by = Engine; seconds = seconds }) d is) (held_of store now m seconds holds).asked
-asked_by store now m d (Some deadline) hold by holds is =
+    (same_there (record { by = Engine; seconds = seconds }) d is) (delay_of_answer store now m seconds holds).requested
+delay_requested store now m d (Some deadline) hold by holds is =
     subst (λ (e : Delay). asks_delayed store.applications e.by m ≡ true)
     (same_there (record { by = Application; seconds = deadline }) d is) (ap is_some by)
 
-delayed_asked : (store : StoreValue) (now : ℕ) (m : Message) (d : Delay) → delay_of store now m ≡ Some d
+delayed_requested : (store : StoreValue) (now : ℕ) (m : Message) (d : Delay) → delay_of store now m ≡ Some d
     → asks_delayed store.applications d.by m ≡ true
-delayed_asked store now m d is =
-    asked_by store now m d (application_deadline store.applications m) (answer_of store now m).hold refl refl is
+delayed_requested store now m d is =
+    delay_requested store now m d (application_deadline store.applications m) (answer_of store now m).hold refl refl is
 
 -- The possible cases of a message: no request, a request with a delayed response, and one with an immediate response.
 pub handled_cases : (store : StoreValue) (now : ℕ) (s : Connection) (m : Message) (P : Connection → Type 0)
     → (asks_answer s m ≡ false → P (with_history s (after s.history (call.Handle m))))
     → (asks_answer s m ≡ true → (by : Responder) (moment : ℕ) → asks_delayed store.applications by m ≡ true
     → P (side_with (holding (after s.history (call.Handle m))
-    ((after s.history (call.Handle m)).held ++ Answer by m.token moment ∷ [])) (without_token m.token s.observers)))
+    ((after s.history (call.Handle m)).pending ++ Answer by m.token moment ∷ [])) (without_token m.token s.observers)))
     → (asks_answer s m ≡ true → P (side_answered store now (after s.history (call.Handle m))
     (without_token m.token s.observers) m (prompt_answer store now m)))
     → P (side_handled store now s m)
@@ -250,10 +253,10 @@ handled_cases store now s m P other late prompt =
     let others : List Observer = without_token m.token s.observers in
     let delay : Option Delay = delay_of store now m in
     cond_both (asks_answer s m) _ _ P (λ asks. replied_cases store now h others m delay P (λ d is. (
-    let both : (may_hold h ≡ true) × (delay ≡ Some d) = held_where h delay d is in
-    subst (λ (k : History). P (side_with k others)) (sym (held_is h d.by m.token (moment_after now d.seconds)
-    ∙ cond-true _ _ h (and_from _ _ (asked_quiet s m asks).1 both.0)))
-    (late asks d.by (moment_after now d.seconds) (delayed_asked store now m d both.1))
+    let both : (may_hold h ≡ true) × (delay ≡ Some d) = pending_where h delay d is in
+    subst (λ (k : History). P (side_with k others)) (sym (pending_is h d.by m.token (moment_after now d.seconds)
+    ∙ cond-true _ _ h (and_from _ _ (request_quiet s m asks).1 both.0)))
+    (late asks d.by (moment_after now d.seconds) (delayed_requested store now m d both.1))
     )) (λ none. prompt asks)) other
 
 -- ---- the entries that a message adds
@@ -261,65 +264,65 @@ handled_cases store now s m P other late prompt =
 -- More entries are pending, and the message asks for each new one; or the connection has stopped and has none.
 abbrev Over : Option ApplicationsValue → Message → List PendingEntryValue → List PendingEntryValue → Phase → Type 0
 Over a m before after now =
-    ((more : List PendingEntryValue) × (after ≡ before ++ more) × AddsAsked a m more)
+    ((more : List PendingEntryValue) × (after ≡ before ++ more) × AddsRequested a m more)
     ⊎ ((why : Reason) × (now ≡ phase.Stopped why) × (after ≡ []))
 
 adds_none : (a : Option ApplicationsValue) (m : Message) (es : List PendingEntryValue) (now : Phase)
     → Over a m es es now
-adds_none a m es now = inl ([], sym (append-nil es), record { few = omega arith; asked = tt })
+adds_none a m es now = inl ([], sym (append-nil es), record { few = omega arith; requested = tt })
 
 adds_one : (a : Option ApplicationsValue) (m : Message) (before : List PendingEntryValue) (e : PendingEntryValue)
     (now : Phase) → asks_pending a m e ≡ true → Over a m before (before ++ e ∷ []) now
-adds_one a m before e now asks = inl (e ∷ [], refl, record { few = omega arith; asked = (asks, tt) })
+adds_one a m before e now asks = inl (e ∷ [], refl, record { few = omega arith; requested = (asks, tt) })
 
 -- A message was handled while messages were accepted, and it may have stopped the connection.
 pub record HandlesOne (a : Option ApplicationsValue) (m : Message) (before : History) (handled : List Message)
-    (held : List PendingEntryValue) (now : Phase) : Type 0 where
+    (pending : List PendingEntryValue) (now : Phase) : Type 0 where
   pub handled_more : takes_messages before.phase ≡ true → handled ≡ before.handled ++ m ∷ []
   pub stops : StopsAtMost before.phase → StopsAtMost now
-  pub adds : Over a m before.held held now
+  pub adds : Over a m before.pending pending now
 
-abbrev pub HasHeard : Option ApplicationsValue → Message → History → History → Type 0
-HasHeard a m h k = HandlesOne a m h k.handled k.held k.phase
+abbrev pub HasReceived : Option ApplicationsValue → Message → History → History → Type 0
+HasReceived a m h k = HandlesOne a m h k.handled k.pending k.phase
 
-message_hears : (a : Option ApplicationsValue) (h : History) (m : Message) → HasHeard a m h (after h (call.Handle m))
+message_hears : (a : Option ApplicationsValue) (h : History) (m : Message) → HasReceived a m h (after h (call.Handle m))
 message_hears a h m =
-    let s : ConnectionState = standing_now h in
+    let s : ConnectionState = state_now h in
     let does =
-    react_so s m (λ e. (StopsAtMost s.phase → StopsAtMost e.phase) × Over a m s.held e.held e.phase) (record {
-      stays = (λ is. is, adds_none a m s.held s.phase);
-      stands = λ now outstanding stands. (stands, adds_none a m s.held now);
+    react_so s m (λ e. (StopsAtMost s.phase → StopsAtMost e.phase) × Over a m s.pending e.pending e.phase) (record {
+      stays = (λ is. is, adds_none a m s.pending s.phase);
+      silent = λ now outstanding silent. (silent, adds_none a m s.pending now);
       stops = λ why farewell plain one may. (λ is. may, inr (why, refl, refl));
-      queues = λ n none. (λ is. is, adds_none a m s.held s.phase);
+      queues = λ n none. (λ is. is, adds_none a m s.pending s.phase);
       keeps = λ ping custody some. (
         λ is. is,
-        adds_one a m s.held (Pong m.token) s.phase (rw (ping, custody, (bytes_decides m.token m.token).1 refl) refl),
+        adds_one a m s.pending (Pong m.token) s.phase (rw (ping, custody, (bytes_decides m.token m.token).1 refl) refl),
       );
     }) in
-    cond_both (takes_messages h.phase) (heard h m) h (HasHeard a m h)
+    cond_both (takes_messages h.phase) (received h m) h (HasReceived a m h)
     (λ takes. record { handled_more = λ takes. refl; stops = does.0; adds = does.1 })
     (λ off. record {
       handled_more = λ takes. absurd (both_ways _ off takes);
       stops = λ is. is;
-      adds = adds_none a m h.held h.phase;
+      adds = adds_none a m h.pending h.phase;
     })
 
 pub handled_hears : (store : StoreValue) (now : ℕ) (s : Connection) (m : Message)
-    → HasHeard store.applications m s.history (side_handled store now s m).history
+    → HasReceived store.applications m s.history (side_handled store now s m).history
 handled_hears store now s m =
     let a : Option ApplicationsValue = store.applications in
     let h : History = after s.history (call.Handle m) in
-    let heard : HasHeard a m s.history h = message_hears a s.history m in
-    handled_cases store now s m (λ t. HasHeard a m s.history t.history) (λ other. heard)
-    (λ asks by moment asked. record {
-      handled_more = heard.handled_more;
-      stops = heard.stops;
+    let received : HasReceived a m s.history h = message_hears a s.history m in
+    handled_cases store now s m (λ t. HasReceived a m s.history t.history) (λ other. received)
+    (λ asks by moment requested. record {
+      handled_more = received.handled_more;
+      stops = received.stops;
       adds =
-          rw (asked_quiet s m asks).0 (adds_one a m s.history.held (Answer by m.token moment) h.phase
-          (rw (asked, (bytes_decides m.token m.token).1 refl) refl));
+          rw (request_quiet s m asks).0 (adds_one a m s.history.pending (Answer by m.token moment) h.phase
+          (rw (requested, (bytes_decides m.token m.token).1 refl) refl));
     })
-    (λ asks. reply_either h _ (HandlesOne a m s.history) heard
-    (record { handled_more = heard.handled_more; stops = λ is. refl; adds = inr (PeerTooSmall, refl, refl) }))
+    (λ asks. reply_either h _ (HandlesOne a m s.history) received
+    (record { handled_more = received.handled_more; stops = λ is. refl; adds = inr (PeerTooSmall, refl, refl) }))
 
 pub handled_over : (store : StoreValue) (now : ℕ) (s : Connection) (m : Message)
     → KeepsPendingOver store.applications m s (side_handled store now s m)
@@ -328,37 +331,38 @@ handled_over store now s m = grind (arith, handled_hears store now s m)
 pub if_over : (a : Option ApplicationsValue) (m : Message) (does : Bool) (s t : Connection) → KeepsPendingOver a m s t
     → KeepsPendingOver a m s (cond does t s)
 if_over a m true s t over = over
-if_over a m false s t over = inl ([], sym (append-nil s.history.held), record { few = omega arith; asked = tt })
+if_over a m false s t over = inl ([], sym (append-nil s.history.pending), record { few = omega arith; requested = tt })
 
 -- ---- histories
 
-abbrev pub Stands : Option ApplicationsValue → History → Type 0
-Stands a h = CorrespondTo a h.handled h.held
+abbrev pub Corresponds : Option ApplicationsValue → History → Type 0
+Corresponds a h = CorrespondTo a h.handled h.pending
 
-sent_still_stands : (a : Option ApplicationsValue) (h : History) (m less : Message) → Stands a h
-    → Stands a (sent h m less)
+sent_corresponds : (a : Option ApplicationsValue) (h : History) (m less : Message) → Corresponds a h
+    → Corresponds a (sent h m less)
 unfolding CorrespondTo
-sent_still_stands a h m less stand =
-    sent_either (standing_now h) m less (fit (limit_now h) m less) (λ es now. CorrespondTo a h.handled es) stand tt
+sent_corresponds a h m less stand =
+    sent_either (state_now h) m less (fit (limit_now h) m less) (λ es now. CorrespondTo a h.handled es) stand tt
 
 -- The message asks for the entries that it added.
-heard_stands : (a : Option ApplicationsValue) (m : Message) (h k : History) → takes_messages h.phase ≡ true
-    → HasHeard a m h k → Stands a h → Stands a k
+received_corresponds : (a : Option ApplicationsValue) (m : Message) (h k : History) → takes_messages h.phase ≡ true
+    → HasReceived a m h k → Corresponds a h → Corresponds a k
 unfolding CorrespondTo
-heard_stands a m h k takes heard stand = rw (heard.handled_more takes) (by heard.adds)
+received_corresponds a m h k takes received stand = rw (received.handled_more takes) (by received.adds)
   where
-    by : Over a m h.held k.held k.phase → CorrespondTo a (h.handled ++ m ∷ []) k.held
-    by (inl more) = rw more.1 (stand_append a h.handled (m ∷ []) h.held more.0 stand (stand_added a m more.0 more.2))
+    by : Over a m h.pending k.pending k.phase → CorrespondTo a (h.handled ++ m ∷ []) k.pending
+    by (inl more) = rw more.1 (stand_append a h.handled (m ∷ []) h.pending more.0 stand (stand_added a m more.0 more.2))
     by (inr over) = rw over.2 tt
 
-pub stands_keeps : (limits : LimitValues) (a : Option ApplicationsValue) → Keeps limits a (λ s. Stands a s.history)
+pub corresponds_keeps : (limits : LimitValues) (a : Option ApplicationsValue)
+    → Keeps limits a (λ s. Corresponds a s.history)
 unfolding side_after CorrespondTo
-stands_keeps limits a = let R : History → History → Type 0 = λ h k. Stands a h → Stands a k in record {
+corresponds_keeps limits a = let R : History → History → Type 0 = λ h k. Corresponds a h → Corresponds a k in record {
   first = tt;
   handled =
-      λ store now s m same is stand. cond_both (handles s) (side_handled store now s m) s (λ t. Stands a t.history)
-      (λ does. heard_stands a m s.history (side_handled store now s m).history (handles_parts s does).0
-      (subst (λ b. HasHeard b m s.history (side_handled store now s m).history) same (handled_hears store now s m))
+      λ store now s m same is stand. cond_both (handles s) (side_handled store now s m) s (λ t. Corresponds a t.history)
+      (λ does. received_corresponds a m s.history (side_handled store now s m).history (handles_parts s does).0
+      (subst (λ b. HasReceived b m s.history (side_handled store now s m).history) same (handled_hears store now s m))
       stand) (λ off. stand);
   faulted = faulted_between R (λ h stand. stand) (λ h fault takes room stand. tt);
   written = written_between R (λ h stand. stand) (λ h n within stand. stand);
@@ -366,43 +370,43 @@ stands_keeps limits a = let R : History → History → Type 0 = λ h k. Stands 
   released = released_between R (λ h stand. stand) (λ h opened none stand. tt);
   announced = announced_between R (λ h stand. stand) (λ h n opened room fit stand. stand);
   responded = responded_between R (λ h stand. stand) (λ h m answering none stand.
-      sent_either (standing_without m.token (standing_now h)) m (bare_response m)
+      sent_either (state_without m.token (state_now h)) m (bare_response m)
       (fit (limit_now h) m (bare_response m)) (λ es now. CorrespondTo a h.handled es)
-      (stand_request a h.handled m.token h.held stand) tt);
-  told =
+      (stand_request a h.handled m.token h.pending stand) tt);
+  reported =
       once_between R R (λ h stand. stand) (λ h k g one two stand. two (one stand))
-      (λ h token observe r does room. sent_still_stands a h _ _)
-      (λ h now. stand_due a h.handled now h.held)
-      (λ h now token due room stand. sent_still_stands a (without_first h now) _ _
-      (stand_due a h.handled now h.held stand));
+      (λ h token observe r does room. sent_corresponds a h _ _)
+      (λ h now. stand_due a h.handled now h.pending)
+      (λ h now token due room stand. sent_corresponds a (without_first h now) _ _
+      (stand_due a h.handled now h.pending stand));
 }
 
 -- ---- effects that do not change the pending entries
 
 -- The pending entries are the same, or the connection has stopped.
 abbrev pub Leaves : History → History → Type 0
-Leaves h k = (k.held ≡ h.held) ⊎ ((why : Reason) × (k.phase ≡ phase.Stopped why))
+Leaves h k = (k.pending ≡ h.pending) ⊎ ((why : Reason) × (k.phase ≡ phase.Stopped why))
 
 -- So the pending entries are kept.
 pub left_kept : (s t : Connection) → Leaves s.history t.history → KeepsPending s t
-left_kept s t leaves = let none = append-nil s.history.held in grind arith
+left_kept s t leaves = let none = append-nil s.history.pending in grind arith
 
-pub written_same : (s : Connection) (n : ℕ) → (side_written s n).history.held ≡ s.history.held
-written_same s n = written_between (λ h k. k.held ≡ h.held) (λ h. refl) (λ h n within. refl) s n
+pub written_same : (s : Connection) (n : ℕ) → (side_written s n).history.pending ≡ s.history.pending
+written_same s n = written_between (λ h k. k.pending ≡ h.pending) (λ h. refl) (λ h n within. refl) s n
 
 -- A response of the application removes the request that it answers.
 pub responded_keeps : (s : Connection) (m : Message) → answers s.history.phase ≡ true
     → response_refusal (link_of s.history) m ≡ None
-    → KeepsBut (without_request m.token s.history.held) (side_responded s m)
+    → KeepsBut (without_request m.token s.history.pending) (side_responded s m)
 unfolding side_responded
 responded_keeps s m answering none =
     let h : History = s.history in
     let less : Message = bare_response m in
-    let e = send (standing_without m.token (standing_now h)) m less in
-    subst (λ (b : Bool). KeepsBut (without_request m.token h.held) (with_history s (cond b (with_effect h e) h)))
+    let e = send (state_without m.token (state_now h)) m less in
+    subst (λ (b : Bool). KeepsBut (without_request m.token h.pending) (with_history s (cond b (with_effect h e) h)))
     (sym (and_from _ _ answering (ap (λ (o : Option RespondFault). is_none o) none)))
-    (sent_either (standing_without m.token (standing_now h)) m less (fit (limit_now h) m less)
-    (λ es now. (es ≡ without_request m.token h.held) ⊎ ((why : Reason) × (now ≡ phase.Stopped why))) (inl refl)
+    (sent_either (state_without m.token (state_now h)) m less (fit (limit_now h) m less)
+    (λ es now. (es ≡ without_request m.token h.pending) ⊎ ((why : Reason) × (now ≡ phase.Stopped why))) (inl refl)
     (inr (PeerTooSmall, refl)))
 
 -- It queues no Pong.
@@ -411,7 +415,7 @@ responded_no_custody s m =
     custody_gives ⊥ s (side_responded s m)
     (responded_between (Gives ⊥) (λ h. gives_none ⊥ h h refl) (λ h n answering none. (
     let codes = plain_codes n (allowed (link_of h) n none).plain in
-    let s : ConnectionState = standing_without n.token (standing_now h) in (
+    let s : ConnectionState = state_without n.token (state_now h) in (
       (send s n (bare_response n)).queued,
       refl,
       λ pong.
@@ -422,44 +426,44 @@ responded_no_custody s m =
     ))) s m)
 
 -- If no entry is due, settling only notifies an observer.
-pub told_keeps : (store : StoreValue) (now : ℕ) (s : Connection) → next_held now s ≡ None
+pub notified_keeps : (store : StoreValue) (now : ℕ) (s : Connection) → next_pending now s ≡ None
     → KeepsPending s (settled_once store now s)
 unfolding settled_once
-told_keeps store now s is = rw is (by (next_due store now s))
+notified_keeps store now s is = rw is (by (next_due store now s))
   where
     by : (found : Option Observer) → KeepsPending s (notified store now s found)
     by None = left_kept s s (inl refl)
     by (Some o) =
         left_kept s (notified store now s (Some o))
         (reply_either s.history (notification_message o.token (notification store now o))
-        (λ ms es now. (es ≡ s.history.held) ⊎ ((why : Reason) × (now ≡ phase.Stopped why))) (inl refl)
+        (λ ms es now. (es ≡ s.history.pending) ⊎ ((why : Reason) × (now ≡ phase.Stopped why))) (inl refl)
         (inr (PeerTooSmall, refl)))
 
 -- ---- the first due entry is removed
 
 pub sent_when_due : (store : StoreValue) (now : ℕ) (s : Connection) (by : Responder) (token : List ℕ) (moment : ℕ)
-    → next_held now s ≡ Some (Answer by token moment)
-    → (settled_once store now s).history ≡ after (after s.history (call.Due now)) (call.Reply (held_message by token))
+    → next_pending now s ≡ Some (Answer by token moment)
+    → (settled_once store now s).history ≡ after (after s.history (call.Due now)) (call.Reply (late_message by token))
 unfolding settled_once
 sent_when_due store now s by token moment is = rw is refl
 
-pub taken_out : (store : StoreValue) (now : ℕ) (s : Connection) (e : PendingEntryValue) → next_held now s ≡ Some e
+pub taken_out : (store : StoreValue) (now : ℕ) (s : Connection) (e : PendingEntryValue) → next_pending now s ≡ Some e
     → answers s.history.phase ≡ true → (settled_once store now s).history.phase ≡ s.history.phase
-    → (settled_once store now s).history.held ≡ without_due now s.history.held
+    → (settled_once store now s).history.pending ≡ without_due now s.history.pending
 unfolding settled_once
 taken_out store now s e is answering same = grind arith
 
 -- ---- its message is sent
 
 pub answer_sent : (store : StoreValue) (now : ℕ) (s : Connection) (by : Responder) (token : List ℕ) (moment : ℕ)
-    → next_held now s ≡ Some (Answer by token moment) → answers s.history.phase ≡ true
-    → (settled_once store now s).history.queued ≡ s.history.queued ++ (send (standing_due now (standing_now s.history))
-    (held_message by token) (bare_response (held_message by token))).queued
+    → next_pending now s ≡ Some (Answer by token moment) → answers s.history.phase ≡ true
+    → (settled_once store now s).history.queued ≡ s.history.queued ++ (send (state_due now (state_now s.history))
+    (late_message by token) (bare_response (late_message by token))).queued
 unfolding settled_once
 answer_sent store now s by token moment is answering = grind (arith, append-nil)
 
-pub pong_sent : (store : StoreValue) (now : ℕ) (s : Connection) (token : List ℕ) → next_held now s ≡ Some (Pong token)
-    → (settled_once store now s).history.queued ≡ s.history.queued
-    ++ (send (standing_due now (standing_now s.history)) (pong_with true token) (pong_with false token)).queued
+pub pong_sent : (store : StoreValue) (now : ℕ) (s : Connection) (token : List ℕ)
+    → next_pending now s ≡ Some (Pong token) → (settled_once store now s).history.queued ≡ s.history.queued
+    ++ (send (state_due now (state_now s.history)) (pong_with true token) (pong_with false token)).queued
 unfolding settled_once
 pong_sent store now s token is = grind arith

@@ -4,10 +4,11 @@ use Rattle.std.proofs.Common.{inl, inr}
 use Rattle.std.proofs.lemmas.Bool.{cases_Bool}
 use Rattle.std.proofs.lemmas.List.{append-nil, map-append}
 use Rattle.std.proofs.Math.Seq.{drop-append_seam}
-use Rattle.coap_model.specs.Prelude.{StreamFault, Stream, split, behind, continued, split_on, ConfigValues, new_world}
+use Rattle.coap_model.specs.Prelude.{StreamFault, Stream, split, stream_after, continued, split_on, ConfigValues}
+use Rattle.coap_model.specs.Prelude.{new_world}
 use Rattle.coap_model.specs.Prelude.{after_steps, AcceptedCall, Took, Ended, taken_in, taken_on, size_by, size_on}
-use Rattle.coap_model.specs.Prelude.{stream_on, spelled_on, beyond, steps_by, steps_behind, steps_of, world_after}
-use Rattle.coap_model.proofs.world.StepLaws.{taken_then, steps_behind_more, size_then, sizes_then, read_before}
+use Rattle.coap_model.specs.Prelude.{stream_on, spelled_on, beyond, steps_by, later_steps, steps_of, world_after}
+use Rattle.coap_model.proofs.world.StepLaws.{taken_then, later_steps_more, size_then, sizes_then, read_before}
 use Rattle.coap_model.proofs.world.StepLaws.{stream_more, spelled_by, spelled_then}
 use Rattle.coap_model.proofs.world.TookLaws.{nothing_beyond}
 
@@ -37,23 +38,25 @@ by_alike M es fs (Took id bytes) alike =
 by_alike M es fs (Ended id) alike = cc (stream_alike M id es fs alike)
 by_alike M es fs e alike = refl
 
-behind_alike : (M : ℕ) (es fs gs : List AcceptedCall) → SpellAlike M es fs → steps_behind M es gs ≡ steps_behind M fs gs
-unfolding steps_behind
-behind_alike M es fs [] alike = refl
-behind_alike M es fs (g ∷ gs) alike =
-    cc (by_alike M es fs g alike, behind_alike M (es ++ g ∷ []) (fs ++ g ∷ []) gs (alike_by M es fs g alike))
+after_alike : (M : ℕ) (es fs gs : List AcceptedCall) → SpellAlike M es fs → later_steps M es gs ≡ later_steps M fs gs
+unfolding later_steps
+after_alike M es fs [] alike = refl
+after_alike M es fs (g ∷ gs) alike =
+    cc (by_alike M es fs g alike, after_alike M (es ++ g ∷ []) (fs ++ g ∷ []) gs (alike_by M es fs g alike))
 
 -- ---- a stream continued in two parts
 
 -- A stream continued by s and then by t.
 parts : (id : ℕ) (before s t : Stream) (fault : Option StreamFault) → before.fault ≡ None → s.fault ≡ fault
-    → beyond id before (continued (behind before.messages s) fault t) ≡ beyond id before (behind before.messages s)
-    ++ beyond id (behind before.messages s) (continued (behind before.messages s) fault t)
+    → beyond id before (continued (stream_after before.messages s) fault t)
+    ≡ beyond id before (stream_after before.messages s)
+    ++ beyond id (stream_after before.messages s) (continued (stream_after before.messages s) fault t)
 parts id before s t None none is =
     rw (drop-append_seam (before.messages ++ s.messages) t.messages)
     (simp (none, is, append_assoc, drop-append_seam, map-append, append-nil))
 parts id before s t (Some fault) none is =
-    rw (nothing_beyond id (behind before.messages s)) (sym (append-nil (beyond id before (behind before.messages s))))
+    rw (nothing_beyond id (stream_after before.messages s)) (sym
+    (append-nil (beyond id before (stream_after before.messages s))))
 
 -- A stream continued by xs and then by ys.
 beyond_parts : (M id : ℕ) (before : Stream) (fault : Option StreamFault) (xs ys : List ℕ) → before.fault ≡ fault
@@ -61,7 +64,7 @@ beyond_parts : (M id : ℕ) (before : Stream) (fault : Option StreamFault) (xs y
     ≡ beyond id before (split_on M before xs) ++ beyond id (split_on M before xs) (split_on M (split_on M before xs) ys)
 beyond_parts M id before None xs ys none =
     let s : Stream = split M (before.rest ++ xs) in
-    let on : split_on M before xs ≡ behind before.messages s = rw none refl in
+    let on : split_on M before xs ≡ stream_after before.messages s = rw none refl in
     rw on (parts id before s (split M (s.rest ++ ys)) s.fault none refl)
 beyond_parts M id before (Some fault) xs ys is =
     let on : (zs : List ℕ) → split_on M before zs ≡ before = λ zs. rw is refl in
@@ -104,16 +107,16 @@ by_parts M es id xs ys =
 
 pub cut_steps : (M : ℕ) (es fs : List AcceptedCall) (id : ℕ) (xs ys : List ℕ)
     → steps_of M (es ++ Took id (xs ++ ys) ∷ fs) ≡ steps_of M (es ++ Took id xs ∷ Took id ys ∷ fs)
-unfolding steps_of steps_behind
+unfolding steps_of later_steps
 cut_steps M es fs id xs ys =
     let half : List AcceptedCall = es ++ Took id xs ∷ [] in
     rw (
-      steps_behind_more M [] es (Took id (xs ++ ys) ∷ fs),
-      steps_behind_more M [] es (Took id xs ∷ Took id ys ∷ fs),
+      later_steps_more M [] es (Took id (xs ++ ys) ∷ fs),
+      later_steps_more M [] es (Took id xs ∷ Took id ys ∷ fs),
       by_parts M es id xs ys,
-      behind_alike M (es ++ Took id (xs ++ ys) ∷ []) (half ++ Took id ys ∷ []) fs (spelled_twice M es id xs ys),
+      after_alike M (es ++ Took id (xs ++ ys) ∷ []) (half ++ Took id ys ∷ []) fs (spelled_twice M es id xs ys),
       append_assoc (steps_by M es (Took id xs)) (steps_by M half (Took id ys))
-          (steps_behind M (half ++ Took id ys ∷ []) fs),
+          (later_steps M (half ++ Took id ys ∷ []) fs),
     ) refl
 
 pub cut_worlds : (c : ConfigValues) (es fs : List AcceptedCall) (id : ℕ) (xs ys : List ℕ)

@@ -54,7 +54,7 @@ all_become P due after (o ∷ os) all new =
 
 -- ---- the entry that a request asks for
 
-pub asks_to_enter : (asked : Watch) → asks_entry asked ≡ true → asked ≡ watch.Add
+pub asks_to_enter : (requested : Watch) → asks_entry requested ≡ true → requested ≡ watch.Add
 asks_to_enter watch.Add e = refl
 asks_to_enter other e = absurd cc
 
@@ -108,11 +108,11 @@ unfolding count_due
 none_counted due [] e = refl
 none_counted due (o ∷ os) e = grind (arith, none_counted due os)
 
-count_behind : {O : Type 0} (due : O → Bool) (front os : List O) → count_due due front ≡ 0
+count_later : {O : Type 0} (due : O → Bool) (front os : List O) → count_due due front ≡ 0
     → count_due due (front ++ os) ≡ count_due due os
 unfolding count_due
-count_behind due [] os none = refl
-count_behind due (q ∷ front) os none = grind (arith, count_behind due front os)
+count_later due [] os none = refl
+count_later due (q ∷ front) os none = grind (arith, count_later due front os)
 
 -- The count decreases by one if elements that are not due replace the first due one.
 pub count_less : {O : Type 0} (due : O → Bool) (os : List O) (o : O) (after : List O) → count_due due after ≡ 0
@@ -120,4 +120,4 @@ pub count_less : {O : Type 0} (due : O → Bool) (os : List O) (o : O) (after : 
 unfolding count_due first_becomes
 count_less due [] o after quiet e = absurd cc
 count_less due (p ∷ os) o after quiet e =
-    grind (arith, count_behind due after os quiet, count_less due os o after quiet)
+    grind (arith, count_later due after os quiet, count_less due os o after quiet)

@@ -192,10 +192,11 @@ filter_more p n ms more ns grown few =
 pub only_moves : (s t : Connection) (r : ApplicationRequest) → Moves s t → IsKept s r → IsOnly t r
 only_moves s t r moves is current =
     let place = slice_get_within s.history.handled r.handled r.request is.there.0 in
-    let rest : drop (suc r.handled) t.history.handled ≡ drop (suc r.handled) s.history.handled ++ moves.heard =
+    let rest : drop (suc r.handled) t.history.handled ≡ drop (suc r.handled) s.history.handled ++ moves.received =
     ap (drop (suc r.handled)) moves.handled
-    ∙ drop-append-le (suc r.handled) s.history.handled moves.heard (omega (arith, place)) in
-    let none = all_parts (λ m. asks_with r.request.token m ≡ false) (drop (suc r.handled) s.history.handled) moves.heard
+    ∙ drop-append-le (suc r.handled) s.history.handled moves.received (omega (arith, place)) in
+    let none = all_parts (λ m. asks_with r.request.token m ≡ false) (drop (suc r.handled) s.history.handled)
+    moves.received
     (subst (NoneAsk r.request.token) rest current.1) in
     let before = is.only (current.0, none.0) in
     let after = moves.spares r.request.token none.1 before.0 in (
@@ -206,11 +207,11 @@ only_moves s t r moves is current =
           ∙ append-nil (filter (responds r.request.token) (drop r.queued s.history.queued)) ∙ before.1,
     )
 
-pub there_moves : (h k : History) (heard : List Message) (r : ApplicationRequest) → k.handled ≡ h.handled ++ heard
+pub there_moves : (h k : History) (received : List Message) (r : ApplicationRequest) → k.handled ≡ h.handled ++ received
     → IsThere h r → IsThere k r
-there_moves h k heard r handled is = (
+there_moves h k received r handled is = (
   subst (λ (ms : List Message). slice_get ms r.handled ≡ Some r.request) (sym handled)
-      (still_at h.handled heard r.handled r.request is.0),
+      (still_at h.handled received r.handled r.request is.0),
   is.1,
 )
 
@@ -221,7 +222,7 @@ module _ (a : Option ApplicationsValue) where
     account = account;
     there =
         all_to (IsThere s.history) (IsThere t.history)
-        (λ r. there_moves s.history t.history moves.heard r moves.handled) rs is.there;
+        (λ r. there_moves s.history t.history moves.received r moves.handled) rs is.there;
     apart = is.apart;
     only =
         all_to (IsKept s) (IsOnly t) (λ r. only_moves s t r moves) rs

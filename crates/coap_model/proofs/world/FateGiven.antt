@@ -11,10 +11,11 @@ use Rattle.std.proofs.lemmas.List.Sorted.{IsPermutation-to_front, IsPermutation-
 use Rattle.std.proofs.lemmas.List.Sorted.{All-permutation}
 use Rattle.coap_model.specs.Prelude.{AllByRecursion, list_any, Engine, Application, Message, Phase, Reply, Whole, Bare}
 use Rattle.coap_model.specs.Prelude.{Stopped, LimitValues, ConfigValues}
-use Rattle.coap_model.specs.Prelude.{answers, fit, bare_response, History, limit_now, standing_now, with_effect, send}
-use Rattle.coap_model.specs.Prelude.{may_hold, response_refusal, link_of, standing_without, pong_with}
-use Rattle.coap_model.specs.Prelude.{PendingEntryValue, Answer, Pong, StoreValue, Connection, handles, held_message}
-use Rattle.coap_model.specs.Prelude.{next_held, settled_once, settled, side_responded, is_asking, application_deadline}
+use Rattle.coap_model.specs.Prelude.{answers, fit, bare_response, History, limit_now, state_now, with_effect, send}
+use Rattle.coap_model.specs.Prelude.{may_hold, response_refusal, link_of, state_without, pong_with}
+use Rattle.coap_model.specs.Prelude.{PendingEntryValue, Answer, Pong, StoreValue, Connection, handles, late_message}
+use Rattle.coap_model.specs.Prelude.{next_pending, settled_once, settled, side_responded, is_asking}
+use Rattle.coap_model.specs.Prelude.{application_deadline}
 use Rattle.coap_model.specs.Prelude.{World, Step, new_world, side_of, acted, after_steps, AcceptedCall, steps_by}
 use Rattle.coap_model.specs.Prelude.{steps_of, world_after, stream_on, IsAccepted, AreAccepted}
 use Rattle.coap_model.specs.Prelude.{Fate, Unanswered, Answered, ApplicationRequest, is_unanswered, has_stopped}
@@ -32,7 +33,7 @@ use Rattle.coap_model.proofs.world.AcrossLaws.{KeepsAll, all_across, step_across
 use Rattle.coap_model.proofs.world.StepLaws.{by_events, world_first, world_more, steps_of_more, each_beyond}
 use Rattle.coap_model.proofs.world.ReachedLaws.{IsReached, accepted_is, number_given, ids_grow, OpensNext, on_one}
 use Rattle.coap_model.proofs.world.PlaceLaws.{nobody}
-use Rattle.coap_model.proofs.world.ToldMessages.{sent_either}
+use Rattle.coap_model.proofs.world.QueuedMessages.{sent_either}
 use Rattle.coap_model.proofs.world.EntryLemmas.{all_to, all_append}
 use Rattle.coap_model.proofs.world.FateLists.{waits, IsOld, old_fate}
 use Rattle.coap_model.proofs.world.FateLaws.{Accounted, fate_at}
@@ -142,8 +143,8 @@ due_gives s None rs = refl
 due_gives s (Some (Answer Engine token moment)) rs = refl
 due_gives s (Some (Answer Application token moment)) rs =
     responses_with (λ r. is_unanswered_with token r && r.deadline == moment)
-    (fate_by Engine s.history (held_message Application token))
-    (engine_gives s.history (held_message Application token))
+    (fate_by Engine s.history (late_message Application token))
+    (engine_gives s.history (late_message Application token))
     (λ r is. (and_parts (waits r) _ (and_parts (is_unanswered_with token r) _ is).0).0) rs
 due_gives s (Some (Pong token)) rs = refl
 
@@ -152,8 +153,8 @@ within_gives : (turns : ℕ) (store : StoreValue) (now : ℕ) (s : Connection) (
 unfolding requests_within requests_once
 within_gives zero store now s rs = refl
 within_gives (suc turns) store now s rs =
-    within_gives turns store now (settled_once store now s) (requests_due s (next_held now s) rs)
-    ∙ due_gives s (next_held now s) rs
+    within_gives turns store now (settled_once store now s) (requests_due s (next_pending now s) rs)
+    ∙ due_gives s (next_pending now s) rs
 
 then_gives : (id : ℕ) (w : World) (rs : List ApplicationRequest)
     → responses_to (requests_then id w rs) ≡ responses_to rs
@@ -161,7 +162,7 @@ unfolding requests_then requests_settled
 then_gives id w rs =
     there_or_not (side_of id w.sides)
     (λ found. responses_to (if_there found (requests_settled w.store w.now) rs) ≡ responses_to rs) (λ none. refl)
-    (λ s found. within_gives (length s.history.held + length s.observers) w.store w.now s rs)
+    (λ s found. within_gives (length s.history.pending + length s.observers) w.store w.now s rs)
 
 -- ---- steps without a response of the application on a connection
 
@@ -209,7 +210,7 @@ all_run = record {
   replies = λ h token observe r does room live. answers_runs h.phase does;
   holds = λ h by token moment opened may live. live;
   lets_go = λ h now live. live;
-  pongs = λ h now token due room. sent_either (standing_now (without_first h now)) (pong_with true token)
+  pongs = λ h now token due room. sent_either (state_now (without_first h now)) (pong_with true token)
       (pong_with false token) (fit (limit_now h) (pong_with true token) (pong_with false token))
       (λ es p. has_stopped p ≡ false → has_stopped h.phase ≡ false) (λ live. live) (λ live. absurd cc);
   rejects = λ h fault takes room live. absurd cc;
@@ -435,7 +436,7 @@ module _ (c : ConfigValues) (id : ℕ) where
       some =
           let next = response_next c.applications s.history m allows in
           one_waits c.applications s.history rs test (Rattle.coap_conn.specs.PendingEntries.is_request_for m.token)
-          next.same next.of_application on (allowed (link_of s.history) m allows).asked account
+          next.same next.of_application on (allowed (link_of s.history) m allows).requested account
 
       abbrev placed : Message × ℕ
       placed = (m, length s.history.queued)
@@ -501,12 +502,12 @@ module _ (c : ConfigValues) (id : ℕ) where
       unfolding side_responded
       over_by is =
           let k : History =
-          with_effect s.history (send (standing_without m.token (standing_now s.history)) m (bare_response m)) in
+          with_effect s.history (send (state_without m.token (state_now s.history)) m (bare_response m)) in
           subst (λ (b : Bool).
           has_stopped (cond (b && is_none (response_refusal (link_of s.history) m)) k s.history).phase ≡ true) (sym on)
           (subst (λ (o : Option RespondFault). has_stopped (cond (is_none o) k s.history).phase ≡ true) (sym allows)
           (ap (λ (r : Reply).
-          has_stopped (send_as (standing_without m.token (standing_now s.history)) m (bare_response m) r).phase) is))
+          has_stopped (send_as (state_without m.token (state_now s.history)) m (bare_response m) r).phase) is))
 
       over_then : (store : StoreValue) (now : ℕ) → its_reply ≡ Stopped
           → has_stopped (settled store now (side_responded s m)).history.phase ≡ true

@@ -8,7 +8,7 @@ use Rattle.coap_model.specs.Prelude.{ticks}
 use Rattle.coap_model.specs.Prelude.{side_after, side_faulted, side_written, side_ended, side_released, side_announced}
 use Rattle.coap_model.specs.Prelude.{side_responded, settled}
 use Rattle.coap_model.specs.Prelude.{World, Step, ConnectionEntry, side_of, acted, after_steps, AcceptedCall, steps_of}
-use Rattle.coap_model.specs.Prelude.{steps_by, steps_behind, world_after, stream_on, IsAccepted, AreAccepted}
+use Rattle.coap_model.specs.Prelude.{steps_by, later_steps, world_after, stream_on, IsAccepted, AreAccepted}
 use Rattle.coap_model.specs.Prelude.{ApplicationRequest, if_there, requests_after, requests_responded, requests_settled}
 use Rattle.coap_model.specs.Prelude.{requests_acted, requests_then, requests_by, requests_on}
 use Rattle.coap_model.specs.Prelude.{given_in, given_on, IsGone, WasDropped, response_refusal, link_of}
@@ -38,7 +38,7 @@ step_gone limits id w st apart none = step_keeps (λ v. side_of id v.sides ≡ N
   opened = λ other is free.
       other_more id w.sides (record { id = other; side = new_side limits }) (subst (OpensNot id) is apart) ∙ none;
   changed = λ v g keeps still. none_mapped id g keeps v.sides still;
-  told = λ v store now still. still;
+  reported = λ v store now still. still;
   dropped = λ other. elim (cases_eq other id) [
     | inl here ↦ ap (λ (n : ℕ). side_of id (but n w.sides)) here ∙ dropped_here id w.sides
     | inr away ↦ dropped_elsewhere other id w.sides away ∙ none
@@ -173,7 +173,7 @@ module _ (c : ConfigValues) (id : ℕ) where
   GoneAfter es = side_of id (world_after c es).sides ≡ None → IsGone c id es
 
   first_gone : GoneAfter []
-  unfolding requests_on steps_of steps_behind requests_by given_on
+  unfolding requests_on steps_of later_steps requests_by given_on
   first_gone none = inl (refl, refl)
 
   module _ (es : List AcceptedCall) (accepted : AreAccepted c es) (before : GoneAfter es) where

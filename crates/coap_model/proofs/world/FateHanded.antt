@@ -7,10 +7,10 @@ use Rattle.std.proofs.lemmas.List.{append-nil, map-append, nil_from_length}
 use Rattle.std.proofs.lemmas.List.Elements.{filter-append}
 use Rattle.std.proofs.Math.Seq.{drop-length, drop-append_seam}
 use Rattle.coap_model.specs.Prelude.{Engine, Application, Message, StreamFault, message_of, FormatFault}
-use Rattle.coap_model.specs.Prelude.{FrameEventValue, AFrame, AFault, ConfigValues, standing_now, may_hold, is_asking}
+use Rattle.coap_model.specs.Prelude.{FrameEventValue, AFrame, AFault, ConfigValues, state_now, may_hold, is_asking}
 use Rattle.coap_model.specs.Prelude.{PendingEntryValue, Answer, Pong, StoreValue, answer_of, application_deadline}
-use Rattle.coap_model.specs.Prelude.{Connection, Delay, delay_by, delay_or, delay_of, held_for, asks_answer, handles}
-use Rattle.coap_model.specs.Prelude.{held_message, next_held, settled_once, settled, side_after, side_faulted}
+use Rattle.coap_model.specs.Prelude.{Connection, Delay, delay_by, delay_or, delay_of, delay_for, asks_answer, handles}
+use Rattle.coap_model.specs.Prelude.{late_message, next_pending, settled_once, settled, side_after, side_faulted}
 use Rattle.coap_model.specs.Prelude.{World, Step, side_of, acted, AcceptedCall, Took, steps_by, world_after, stream_on}
 use Rattle.coap_model.specs.Prelude.{size_on, takes, IsAccepted, AreAccepted}
 use Rattle.coap_model.specs.Prelude.{Fate, ApplicationRequest, new_request, fate_by, is_unanswered_with, with_fate}
@@ -34,8 +34,8 @@ use Rattle.coap_model.proofs.world.TookLaws.{no_bytes_steps, Adds, adds_frame}
 use Rattle.coap_model.proofs.world.ReachedLaws.{IsReached, accepted_is, handling_goes_on, takes_there, on_one}
 use Rattle.coap_model.proofs.world.ReachedLaws.{number_given}
 use Rattle.coap_model.proofs.world.BecameLaws.{settled_handles_none, side_rejects, HandlesNone, IsElsewhere, rests_of}
-use Rattle.coap_model.proofs.world.CustodyLaws.{HasHeard, handled_hears}
-use Rattle.coap_model.proofs.world.AskedLaws.{answered_is_request}
+use Rattle.coap_model.proofs.world.CustodyLaws.{HasReceived, handled_hears}
+use Rattle.coap_model.proofs.world.AnsweredRequests.{answered_is_request}
 use Rattle.coap_model.proofs.world.FateKept.{after_message}
 use Rattle.coap_model.proofs.world.FateGiven.{requests_last}
 
@@ -68,7 +68,7 @@ due_hands s None rs = refl
 due_hands s (Some (Answer Engine token moment)) rs = refl
 due_hands s (Some (Answer Application token moment)) rs =
     fate_hands (λ r. is_unanswered_with token r && r.deadline == moment)
-    (fate_by Engine s.history (held_message Application token)) rs
+    (fate_by Engine s.history (late_message Application token)) rs
 due_hands s (Some (Pong token)) rs = refl
 
 within_hands : (turns : ℕ) (store : StoreValue) (now : ℕ) (s : Connection) (rs : List ApplicationRequest)
@@ -76,8 +76,8 @@ within_hands : (turns : ℕ) (store : StoreValue) (now : ℕ) (s : Connection) (
 unfolding requests_within requests_once
 within_hands zero store now s rs = refl
 within_hands (suc turns) store now s rs =
-    within_hands turns store now (settled_once store now s) (requests_due s (next_held now s) rs)
-    ∙ due_hands s (next_held now s) rs
+    within_hands turns store now (settled_once store now s) (requests_due s (next_pending now s) rs)
+    ∙ due_hands s (next_pending now s) rs
 
 then_hands : (id : ℕ) (w : World) (rs : List ApplicationRequest)
     → handed_requests (requests_then id w rs) ≡ handed_requests rs
@@ -85,7 +85,7 @@ unfolding requests_then requests_settled
 then_hands id w rs =
     there_or_not (side_of id w.sides)
     (λ found. handed_requests (if_there found (requests_settled w.store w.now) rs) ≡ handed_requests rs) (λ none. refl)
-    (λ s found. within_hands (length s.history.held + length s.observers) w.store w.now s rs)
+    (λ s found. within_hands (length s.history.pending + length s.observers) w.store w.now s rs)
 
 -- ---- a message
 
@@ -101,15 +101,15 @@ module _ (store : StoreValue) (now : ℕ) (s : Connection) (m : Message) where
   only_none true = refl
   only_none false = refl
 
-  engine_not : (hold : Option ℕ) → is_by_application (held_for h (delay_by Engine hold)) ≡ false
+  engine_not : (hold : Option ℕ) → is_by_application (delay_for h (delay_by Engine hold)) ≡ false
   engine_not None = refl
   engine_not (Some seconds) = elim (cases_Bool (may_hold h)) [ inl may ↦ rw may refl | inr full ↦ rw full refl ]
 
-  application_may : (d : Delay) → d.by ≡ Application → is_by_application (held_for h (Some d)) ≡ may_hold h
+  application_may : (d : Delay) → d.by ≡ Application → is_by_application (delay_for h (Some d)) ≡ may_hold h
   application_may d by = elim (cases_Bool (may_hold h)) [ inl may ↦ rw (may, by) refl | inr full ↦ rw full refl ]
 
   new_hands : (o : Option ℕ) → handed_requests (new_request now s m o)
-      ≡ only_if (asks_answer s m) (is_by_application (held_for h (delay_or o (answer_of store now m).hold)))
+      ≡ only_if (asks_answer s m) (is_by_application (delay_for h (delay_or o (answer_of store now m).hold)))
   new_hands None =
       sym (ap (only_if (asks_answer s m)) (engine_not (answer_of store now m).hold) ∙ only_none (asks_answer s m))
   new_hands (Some seconds) =
@@ -119,8 +119,9 @@ module _ (store : StoreValue) (now : ℕ) (s : Connection) (m : Message) where
   -- A message that is no request is not handed over.
   other_hands : is_asking m ≡ false → handed_in store now s m ≡ []
   other_hands other = elim (cases_Bool (asks_answer s m)) [
-    | inl asks ↦ absurd (both_ways (is_asking m) other (answered_is_request (standing_now s.history) m asks))
-    | inr not_asked ↦ ap (λ (b : Bool). only_if b (is_by_application (held_for h (delay_of store now m)))) not_asked
+    | inl asks ↦ absurd (both_ways (is_asking m) other (answered_is_request (state_now s.history) m asks))
+    | inr not_requested ↦ ap (λ (b : Bool). only_if b (is_by_application (delay_for h (delay_of store now m))))
+        not_requested
   ]
 
   after_hands : (rs : List ApplicationRequest) → handles s ≡ true
@@ -253,12 +254,12 @@ module _ (c : ConfigValues) (es : List AcceptedCall) (id : ℕ) (e : AcceptedCal
       let same : made ≡ t =
       same_there made t
       (sym (ap (λ (v : World). side_of id v.sides) (world_step c es e (world.Handled id m) one) ∙ after.1) ∙ then) in
-      let heard : HasHeard w.store.applications m s.history (side_after w.store w.now s m).history =
+      let received : HasReceived w.store.applications m s.history (side_after w.store w.now s m).history =
       rw does (handled_hears w.store w.now s m) in
       let handled : t.history.handled ≡ s.history.handled ++ m ∷ [] =
       ap (λ (u : Connection). u.history.handled) (sym same)
       ∙ (settled_handles_none after.0 w.now (side_after w.store w.now s m)).handled
-      ∙ heard.handled_more (handles_parts s does).0 in
+      ∙ received.handled_more (handles_parts s does).0 in
       let since : drop (length s.history.handled) t.history.handled ≡ m ∷ [] =
       ap (drop (length s.history.handled)) handled ∙ drop-append_seam s.history.handled (m ∷ []) in
       let requests : requests_acted id w (world.Handled id m) rs ≡ requests_after w.store w.now s m rs =

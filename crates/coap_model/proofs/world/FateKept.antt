@@ -11,13 +11,13 @@ use Rattle.coap_model.specs.Prelude.{Reply, Whole, Bare, Stopped, Server, LimitV
 use Rattle.coap_model.specs.Prelude.{takes_messages, answers, is_open, fit, fitted, bare_response, PendingEntryValue}
 use Rattle.coap_model.specs.Prelude.{Answer, Pong, first_due, without_due, has_request}
 use Rattle.coap_model.specs.Prelude.{ConnectionState, stop_of, Reaction, reaction_unless, react, send, send_as, stay}
-use Rattle.coap_model.specs.Prelude.{History, limit_now, standing_now, with_effect, after, may_hold}
-use Rattle.coap_model.specs.Prelude.{response_refusal, link_of, standing_without, without_request, IsFirstRequest}
+use Rattle.coap_model.specs.Prelude.{History, limit_now, state_now, with_effect, after, may_hold}
+use Rattle.coap_model.specs.Prelude.{response_refusal, link_of, state_without, without_request, IsFirstRequest}
 use Rattle.coap_model.specs.Prelude.{ApplicationsValue, application_deadline, StoreValue, response_with_observe}
 use Rattle.coap_model.specs.Prelude.{is_asking, says, only, prompt_answer, answer_of}
-use Rattle.coap_model.specs.Prelude.{Connection, handles, held_message, after_sent, next_held, moment_after}
+use Rattle.coap_model.specs.Prelude.{Connection, handles, late_message, after_sent, next_pending, moment_after}
 use Rattle.coap_model.specs.Prelude.{with_history, notified, next_due, Observer, goes_on, notification}
-use Rattle.coap_model.specs.Prelude.{is_request, Delay, delay_or, delay_by, delay_of, hold_call, held_for, asks_answer}
+use Rattle.coap_model.specs.Prelude.{is_request, Delay, delay_or, delay_by, delay_of, hold_call, delay_for, asks_answer}
 use Rattle.coap_model.specs.Prelude.{side_handled, side_after, side_with, side_answered, side_replied, without_token}
 use Rattle.coap_model.specs.Prelude.{side_responded, side_faulted, side_written, side_ended, side_released}
 use Rattle.coap_model.specs.Prelude.{side_announced, settled_once, awaits}
@@ -36,20 +36,21 @@ use Rattle.coap_conn.proofs.AskingLaws.{none_where}
 use Rattle.coap_store.specs.Answer as answer
 use Rattle.coap_store.proofs.ApplicationLaws.{prompt_handed}
 use Rattle.coap_model.proofs.OptionLemmas.{there_is, there_is_none, same_there}
-use Rattle.coap_model.proofs.world.WalkLaws.{heard, sent, holding, without_first, said_request, held_is, answer_goes}
+use Rattle.coap_model.proofs.world.WalkLaws.{received, sent, holding, without_first, said_request, pending_is}
+use Rattle.coap_model.proofs.world.WalkLaws.{answer_goes}
 use Rattle.coap_model.proofs.world.WalkLaws.{if_between, faulted_between, written_between, ended_between}
 use Rattle.coap_model.proofs.world.WalkLaws.{released_between, announced_between}
-use Rattle.coap_model.proofs.world.SideLaws.{replied_cases, settled_cases, held_room, handles_parts}
+use Rattle.coap_model.proofs.world.SideLaws.{replied_cases, settled_cases, pending_room, handles_parts}
 use Rattle.coap_model.proofs.world.GoingOn.{IsSide}
 use Rattle.coap_model.proofs.world.EntryLemmas.{all_to, all_append}
 use Rattle.coap_model.proofs.world.RespondedLaws.{allowed, answered_request}
-use Rattle.coap_model.proofs.world.ToldMessages.{open_answers}
-use Rattle.coap_model.proofs.world.CustodyLaws.{asked_quiet, handled_hears, held_where}
-use Rattle.coap_model.proofs.world.AskedLaws.{answered_is_request, asked_or_over}
+use Rattle.coap_model.proofs.world.QueuedMessages.{open_answers}
+use Rattle.coap_model.proofs.world.CustodyLaws.{request_quiet, handled_hears, pending_where}
+use Rattle.coap_model.proofs.world.AnsweredRequests.{answered_is_request, requested_or_over}
 use Rattle.coap_model.proofs.world.FateWalk.{KeepsRequests, requests_kept}
 use Rattle.coap_model.proofs.world.FateLists.{waits, without_found, IsNew, IsOld, old_fate, own_more}
 use Rattle.coap_model.proofs.world.FateLists as lists
-use Rattle.coap_model.proofs.world.FateLaws.{StillHeld, held_same, held_over, Passes, Accounted, passes_same}
+use Rattle.coap_model.proofs.world.FateLaws.{StillPending, pending_same, pending_over, Passes, Accounted, passes_same}
 use Rattle.coap_model.proofs.world.FateLaws.{passes_then, passes_keep, reply_passes, reject_passes, end_passes}
 use Rattle.coap_model.proofs.world.FateLaws.{release_passes, announce_passes, write_passes, engine_passes, pong_passes}
 use Rattle.coap_model.proofs.world.FateLaws.{fate_at, sent_messages, sent_answered, fate_new, fate_has, IsNext}
@@ -74,9 +75,10 @@ request_of_application token (Pong other) is = absurd cc
 
 module _ (a : Option ApplicationsValue) where
   pub response_next : (h : History) (m : Message) → response_refusal (link_of h) m ≡ None
-      → IsNext a h (is_unanswered_with m.token) (is_request_for m.token) Application m (without_request m.token h.held)
+      → IsNext a h (is_unanswered_with m.token) (is_request_for m.token) Application m
+      (without_request m.token h.pending)
   response_next h m none =
-      let first : IsFirstRequest h.held m.token (without_request m.token h.held) =
+      let first : IsFirstRequest h.pending m.token (without_request m.token h.pending) =
       answered_request (link_of h) m none in
       record {
         unanswered = λ r is. (and_parts (waits r) _ is).0;
@@ -91,11 +93,12 @@ module _ (a : Option ApplicationsValue) where
       }
 
   -- If the connection sends no responses, no request is pending.
-  pub never_answered : (h : History) (m : Message) → answers h.phase ≡ false → (answers h.phase ≡ false → h.held ≡ [])
-      → response_refusal (link_of h) m ≡ None → ⊥
+  pub never_answered : (h : History) (m : Message) → answers h.phase ≡ false
+      → (answers h.phase ≡ false → h.pending ≡ []) → response_refusal (link_of h) m ≡ None → ⊥
   never_answered h m off quiet none =
-      both_ways (has_request m.token h.held) (ap (λ (es : List PendingEntryValue). has_request m.token es) (quiet off))
-      (allowed (link_of h) m none).asked
+      both_ways (has_request m.token h.pending) (ap (λ (es : List PendingEntryValue). has_request m.token es)
+      (quiet off))
+      (allowed (link_of h) m none).requested
 
   pub responded_kept : (s : Connection) (m : Message) (rs : List ApplicationRequest) → Accounted a s.history rs
       → Accounted a (side_responded s m).history (requests_responded s m rs)
@@ -103,7 +106,7 @@ module _ (a : Option ApplicationsValue) where
   responded_kept s m rs is =
       let h : History = s.history in
       let none : Bool = is_none (response_refusal (link_of h) m) in
-      let k : History = with_effect h (send (standing_without m.token (standing_now h)) m (bare_response m)) in
+      let k : History = with_effect h (send (state_without m.token (state_now h)) m (bare_response m)) in
       let qs : List ApplicationRequest = with_fate (is_unanswered_with m.token) (fate_by Application h m) rs in
       elim (cases_Bool none) [
         | inl so ↦ (
@@ -112,7 +115,7 @@ module _ (a : Option ApplicationsValue) where
               | inl on ↦ subst (λ (b : Bool). Accounted a (cond (answers h.phase && b) k h) (cond b qs rs)) (sym so)
                   (subst (λ (b : Bool). Accounted a (cond (b && true) k h) qs) (sym on)
                   (answer_kept a h rs (is_unanswered_with m.token) (is_request_for m.token) Application m
-                  (without_request m.token h.held) (response_next h m allows) is on))
+                  (without_request m.token h.pending) (response_next h m allows) is on))
               | inr off ↦ absurd (never_answered h m off is.quiet allows)
             ])
         | inr refused ↦ subst (λ (b : Bool). Accounted a (cond (answers h.phase && b) k h) (cond b qs rs)) (sym refused)
@@ -123,18 +126,18 @@ module _ (a : Option ApplicationsValue) where
   -- ---- the deadline
 
   pub deadline_next : (h : History) (now : ℕ) (token : List ℕ) (moment : ℕ)
-      → first_due now h.held ≡ Some (Answer Application token moment)
+      → first_due now h.pending ≡ Some (Answer Application token moment)
       → IsNext a h (λ r. is_unanswered_with token r && r.deadline == moment)
-      (λ e. is_request_for token e && is_answer_at moment e) Engine (held_message Application token)
-      (without_due now h.held)
+      (λ e. is_request_for token e && is_answer_at moment e) Engine (late_message Application token)
+      (without_due now h.pending)
   deadline_next h now token moment is =
-      let first = due_answer now h.held Application token moment is in
+      let first = due_answer now h.pending Application token moment is in
       let entry : PendingEntryValue → Bool = λ e. is_request_for token e && is_answer_at moment e in
       record {
         unanswered = λ r so. (and_parts (waits r) _ (and_parts (is_unanswered_with token r) _ so).0).0;
         same = λ r so. rw so refl;
         may = λ r so handed. (
-          (λ is. ap (held_message Application)
+          (λ is. ap (late_message Application)
               (sym (has_token token r.request.token (waits r) (and_parts (is_unanswered_with token r) _ so).0))),
           (λ other. absurd (both_ways r.handed other handed)),
         );
@@ -148,21 +151,21 @@ module _ (a : Option ApplicationsValue) where
       }
 
   -- If an entry is pending, responses are sent.
-  pub held_answers : (h : History) (before : List PendingEntryValue) (e : PendingEntryValue)
-      (later : List PendingEntryValue) → (answers h.phase ≡ false → h.held ≡ []) → h.held ≡ before ++ e ∷ later
+  pub pending_answers : (h : History) (before : List PendingEntryValue) (e : PendingEntryValue)
+      (later : List PendingEntryValue) → (answers h.phase ≡ false → h.pending ≡ []) → h.pending ≡ before ++ e ∷ later
       → answers h.phase ≡ true
-  held_answers h before e later quiet there = grind (arith, quiet, length-append before (e ∷ later))
+  pending_answers h before e later quiet there = grind (arith, quiet, length-append before (e ∷ later))
 
   expired_kept : (h : History) (now : ℕ) (token : List ℕ) (moment : ℕ) (rs : List ApplicationRequest)
-      → first_due now h.held ≡ Some (Answer Application token moment) → Accounted a h rs
+      → first_due now h.pending ≡ Some (Answer Application token moment) → Accounted a h rs
       → Accounted a (after_sent h now (Answer Application token moment))
       (with_fate (λ r. is_unanswered_with token r && r.deadline == moment)
-      (fate_by Engine h (held_message Application token)) rs)
+      (fate_by Engine h (late_message Application token)) rs)
   expired_kept h now token moment rs is account =
-      let first = due_answer now h.held Application token moment is in
+      let first = due_answer now h.pending Application token moment is in
       let on : answers h.phase ≡ true =
-      held_answers h first.before (Answer Application token moment) first.after account.quiet first.there in
-      let response : Message = held_message Application token in
+      pending_answers h first.before (Answer Application token moment) first.after account.quiet first.there in
+      let response : Message = late_message Application token in
       let test : ApplicationRequest → Bool = λ r. is_unanswered_with token r && r.deadline == moment in
       let qs : List ApplicationRequest = with_fate test (fate_by Engine h response) rs in
       let g : History = without_first h now in
@@ -170,12 +173,12 @@ module _ (a : Option ApplicationsValue) where
       (sym (answer_goes h now Application token moment is))
       (subst (λ (b : Bool). Accounted a (cond b (sent g response (bare_response response)) g) qs) (sym on)
       (answer_kept a h rs test (λ e. is_request_for token e && is_answer_at moment e) Engine response
-      (without_due now h.held) (deadline_next h now token moment is) account on))
+      (without_due now h.pending) (deadline_next h now token moment is) account on))
 
   -- ---- settling
 
   due_kept : (s : Connection) (now : ℕ) (e : PendingEntryValue) (rs : List ApplicationRequest)
-      → first_due now s.history.held ≡ Some e → Accounted a s.history rs
+      → first_due now s.history.pending ≡ Some e → Accounted a s.history rs
       → Accounted a (after_sent s.history now e) (requests_due s (Some e) rs)
   due_kept s now (Answer Engine token moment) rs is account =
       passes_keep a s.history _ rs (engine_passes a s.history now token moment is) account
@@ -188,14 +191,14 @@ module _ (a : Option ApplicationsValue) where
   notified_passes store now s None = passes_same a s.history
   notified_passes store now s (Some o) = reply_passes a s.history _
 
-  pub told_kept : (store : StoreValue) (now : ℕ) (s : Connection) (rs : List ApplicationRequest)
+  pub reported_kept : (store : StoreValue) (now : ℕ) (s : Connection) (rs : List ApplicationRequest)
       → Accounted a s.history rs → Accounted a (settled_once store now s).history (requests_once now s rs)
   unfolding requests_once
-  told_kept store now s rs is =
-      settled_cases store now s (λ t. Accounted a t.history (requests_due s (next_held now s) rs))
+  reported_kept store now s rs is =
+      settled_cases store now s (λ t. Accounted a t.history (requests_due s (next_pending now s) rs))
       (λ e found.
       subst (λ (o : Option PendingEntryValue). Accounted a (after_sent s.history now e) (requests_due s o rs))
-      (sym found) (due_kept s now e rs (held_room now s e found).1 is))
+      (sym found) (due_kept s now e rs (pending_room now s e found).1 is))
       (λ none. subst (λ (o : Option PendingEntryValue). Accounted a
       (notified store now s (next_due store now s)).history (requests_due s o rs)) (sym none)
       (passes_keep a s.history _ rs (notified_passes store now s (next_due store now s)) is))
@@ -206,27 +209,28 @@ module _ (a : Option ApplicationsValue) where
   running_live p live = grind arith
 
   -- The pending entries and the phase after a message.
-  abbrev LeavesHeld : History → Reaction → Type 0
-  LeavesHeld h r = StillHeld h.held h.phase r.effect.held r.effect.phase
+  abbrev LeavesPending : History → Reaction → Type 0
+  LeavesPending h r = StillPending h.pending h.phase r.effect.pending r.effect.phase
 
-  heard_held : (h : History) (m : Message) → takes_messages h.phase ≡ true
-      → StillHeld h.held h.phase (react (standing_now h) m).effect.held (react (standing_now h) m).effect.phase
+  received_pending : (h : History) (m : Message) → takes_messages h.phase ≡ true
+      → StillPending h.pending h.phase (react (state_now h) m).effect.pending (react (state_now h) m).effect.phase
   unfolding react
-  heard_held h m live = by (stop_of h.phase) live
+  received_pending h m live = by (stop_of h.phase) live
     where
-      by : (over : Option Reason) → is_none over ≡ true → LeavesHeld h (reaction_unless (standing_now h) m over)
-      by None none = live_so (standing_now h) m (LeavesHeld h) (record {
-        asked = held_same h.held h.phase;
-        stands = λ now outstanding what other may on. record {
+      by : (over : Option Reason) → is_none over ≡ true → LeavesPending h (reaction_unless (state_now h) m over)
+      by None none = live_so (state_now h) m (LeavesPending h) (record {
+        requested = pending_same h.pending h.phase;
+        silent = λ now outstanding what other may on. record {
           running = λ off. (running_live h.phase live, refl);
           quiet = λ quiet off. quiet (on off);
         };
-        stops = λ why farewell what plain one may. held_over h.held h.phase why;
-        queues = λ n what may. held_same h.held h.phase;
+        stops = λ why farewell what plain one may. pending_over h.pending h.phase why;
+        queues = λ n what may. pending_same h.pending h.phase;
         keeps = λ now other ping custody some. record {
           running = λ off. (
             off,
-            filter-append is_of_application h.held (Pong m.token ∷ []) ∙ append-nil (filter is_of_application h.held),
+            filter-append is_of_application h.pending (Pong m.token ∷ [])
+                ∙ append-nil (filter is_of_application h.pending),
           );
           quiet =
               λ quiet off. absurd (omega (arith, some, ap (λ (es : List PendingEntryValue). length es) (quiet off)));
@@ -236,33 +240,33 @@ module _ (a : Option ApplicationsValue) where
 
   message_passes : (h : History) (m : Message) → is_for_application a m ≡ false → Passes a h (after h (call.Handle m))
   message_passes h m other =
-      if_between (Passes a) (takes_messages h.phase) h (heard h m) (passes_same a h)
+      if_between (Passes a) (takes_messages h.phase) h (received h m) (passes_same a h)
       (λ takes. record {
         limits = refl;
-        heard = m ∷ [];
+        received = m ∷ [];
         handled = refl;
         none = rw other refl;
         more = _;
         queued = refl;
-        held = heard_held h m takes;
+        pending = received_pending h m takes;
       })
 
   -- A response that the engine delays is pending.
   hold_passes : (h : History) (token : List ℕ) (moment : ℕ) → Passes a h (after h (hold_call Engine token moment))
   hold_passes h token moment =
-      if_between (Passes a) (is_open h.phase && may_hold h) h (holding h (h.held ++ Answer Engine token moment ∷ []))
+      if_between (Passes a) (is_open h.phase && may_hold h) h (holding h (h.pending ++ Answer Engine token moment ∷ []))
       (passes_same a h) (λ so. record {
         limits = refl;
-        heard = [];
+        received = [];
         handled = sym (append-nil h.handled);
         none = refl;
         more = [];
         queued = sym (append-nil h.queued);
-        held = record {
+        pending = record {
           running = λ on. (
             on,
-            filter-append is_of_application h.held (Answer Engine token moment ∷ [])
-                ∙ append-nil (filter is_of_application h.held),
+            filter-append is_of_application h.pending (Answer Engine token moment ∷ [])
+                ∙ append-nil (filter is_of_application h.pending),
           );
           quiet = λ quiet off. absurd
               (both_ways (answers h.phase) off (open_answers h.phase (and_parts (is_open h.phase) (may_hold h) so).0));
@@ -284,23 +288,23 @@ module _ (a : Option ApplicationsValue) where
   other_passes store now s m same other =
       let h : History = after s.history (call.Handle m) in
       let others : List Observer = without_token m.token s.observers in
-      let heard : Passes a s.history h = message_passes s.history m other in
+      let received : Passes a s.history h = message_passes s.history m other in
       cond_both (asks_answer s m) _ _ (λ (t : Connection). Passes a s.history t.history)
       (λ asks. replied_cases store now h others m (delay_of store now m)
       (λ (t : Connection). Passes a s.history t.history)
       (λ d is. (
-      let request : is_asking m ≡ true = answered_is_request (standing_now s.history) m asks in
+      let request : is_asking m ≡ true = answered_is_request (state_now s.history) m asks in
       let none : application_deadline store.applications m ≡ None =
       there_is_none (application_deadline store.applications m)
       (ap (λ (b : Option ApplicationsValue). is_some (application_deadline b m)) same
       ∙ sym (ap (λ b. b && is_some (application_deadline a m)) request) ∙ other) in
-      let by : d.by ≡ Engine = engine_delays store now m d none (held_where h (delay_of store now m) d is).1 in
+      let by : d.by ≡ Engine = engine_delays store now m d none (pending_where h (delay_of store now m) d is).1 in
       subst (λ (by : Responder). Passes a s.history (after h (hold_call by m.token (moment_after now d.seconds))))
       (sym by)
-      (passes_then a s.history h _ heard (hold_passes h m.token (moment_after now d.seconds)))
+      (passes_then a s.history h _ received (hold_passes h m.token (moment_after now d.seconds)))
       ))
-      (λ none. passes_then a s.history h _ heard (reply_passes a h _)))
-      (λ other. heard)
+      (λ none. passes_then a s.history h _ received (reply_passes a h _)))
+      (λ other. received)
 
   -- No request is added.
   none_added : (store : StoreValue) (now : ℕ) (s : Connection) (m : Message) (rs : List ApplicationRequest)
@@ -319,25 +323,25 @@ module _ (a : Option ApplicationsValue) where
       → r.queued ≡ length h.queued → r.handled ≡ length h.handled → k.limits ≡ h.limits
       → HasFate k r r.fate → IsNew (length h.queued) r.fate
       → (has_stopped k.phase ≡ false → (has_stopped h.phase ≡ false)
-      × (filter is_of_application k.held ≡ filter is_of_application h.held ++ map entry_of (filter waits (r ∷ []))))
-      → (has_stopped k.phase ≡ false → waits r ≡ true → r.handed ≡ true)
-      → (answers k.phase ≡ false → k.held ≡ []) → Accounted a h rs → Accounted a k (rs ++ r ∷ [])
-  added_kept h k rs r more for handled queued at at_handled limits has new held handed quiet is = record {
+      × (filter is_of_application k.pending ≡ filter is_of_application h.pending
+      ++ map entry_of (filter waits (r ∷ [])))) → (has_stopped k.phase ≡ false → waits r ≡ true → r.handed ≡ true)
+      → (answers k.phase ≡ false → k.pending ≡ []) → Accounted a h rs → Accounted a k (rs ++ r ∷ [])
+  added_kept h k rs r more for handled queued at at_handled limits has new pending handed quiet is = record {
     requests =
         map-append (λ (q : ApplicationRequest). q.request) rs (r ∷ []) ∙ ap (λ ms. ms ++ r.request ∷ []) is.requests
         ∙ sym (ap (filter (is_for_application a)) handled
         ∙ filter-append (is_for_application a) h.handled (r.request ∷ []) ∙ rw for refl);
     pending = λ on. (
-        let before = held on in
+        let before = pending on in
         ap (map entry_of) (filter-append waits rs (r ∷ []))
         ∙ map-append entry_of (filter waits rs) (filter waits (r ∷ []))
         ∙ ap (λ es. es ++ map entry_of (filter waits (r ∷ []))) (is.pending before.0) ∙ sym before.1);
     quiet = quiet;
     handed =
-        λ on. all_append (λ q. waits q ≡ true → q.handed ≡ true) rs (r ∷ []) (is.handed (held on).0) (handed on, tt);
+        λ on. all_append (λ q. waits q ≡ true → q.handed ≡ true) rs (r ∷ []) (is.handed (pending on).0) (handed on, tt);
     answered = all_append (λ q. HasFate k q q.fate) rs (r ∷ [])
         (still_answered h k
-        (record { limits = limits; heard = r.request ∷ []; handled = handled; more = more; queued = queued })
+        (record { limits = limits; received = r.request ∷ []; handled = handled; more = more; queued = queued })
         rs is.answered) (has, tt);
     own =
         own_more (length h.queued) r rs new (all_to (λ q. HasFate h q q.fate) (λ q. IsOld (length h.queued) q.fate)
@@ -359,19 +363,19 @@ module _ (a : Option ApplicationsValue) where
   -- A message leaves the limits.
   pub message_limits : (h : History) (m : Message) → (after h (call.Handle m)).limits ≡ h.limits
   message_limits h m =
-      cond_both (takes_messages h.phase) (heard h m) h (λ (k : History). k.limits ≡ h.limits)
+      cond_both (takes_messages h.phase) (received h m) h (λ (k : History). k.limits ≡ h.limits)
       (λ takes. refl) (λ off. refl)
 
   -- A request queues nothing.
-  pub asked_queued : (h : History) (m : Message) → is_request (react (standing_now h) m).verdict ≡ true
+  pub request_queued : (h : History) (m : Message) → is_request (react (state_now h) m).verdict ≡ true
       → (after h (call.Handle m)).queued ≡ h.queued
-  asked_queued h m asks =
-      cond_both (takes_messages h.phase) (heard h m) h (λ (k : History). k.queued ≡ h.queued)
+  request_queued h m asks =
+      cond_both (takes_messages h.phase) (received h m) h (λ (k : History). k.queued ≡ h.queued)
       (λ takes. ap (λ ms. h.queued ++ ms)
-      (react_asks (standing_now h) m (said_request (react (standing_now h) m).verdict asks)).nothing
+      (react_asks (state_now h) m (said_request (react (state_now h) m).verdict asks)).nothing
       ∙ append-nil h.queued) (λ off. refl)
 
-  pub no_place : (h : History) (d : Delay) → held_for h (Some d) ≡ None → may_hold h ≡ false
+  pub no_place : (h : History) (d : Delay) → delay_for h (Some d) ≡ None → may_hold h ≡ false
   no_place h d =
       cond_both (may_hold h) (Some d) None (λ (o : Option Delay). o ≡ None → may_hold h ≡ false)
       (λ may none. absurd cc) (λ full none. full)
@@ -389,13 +393,13 @@ module _ (a : Option ApplicationsValue) where
   and_none false = refl
 
   sent_kept : (s : ConnectionState) (m less : Message) (r : Reply) → has_stopped (send_as s m less r).phase ≡ false
-      → (send_as s m less r).held ≡ s.held
+      → (send_as s m less r).pending ≡ s.pending
   sent_kept s m less Whole on = refl
   sent_kept s m less Bare on = refl
   sent_kept s m less Stopped on = absurd cc
 
   sent_quiet : (s : ConnectionState) (m less : Message) (r : Reply) → answers s.phase ≡ true
-      → answers (send_as s m less r).phase ≡ false → (send_as s m less r).held ≡ []
+      → answers (send_as s m less r).phase ≡ false → (send_as s m less r).pending ≡ []
   sent_quiet s m less Whole on off = absurd (both_ways (answers s.phase) off on)
   sent_quiet s m less Bare on off = absurd (both_ways (answers s.phase) off on)
   sent_quiet s m less Stopped on off = refl
@@ -409,7 +413,7 @@ module _ (a : Option ApplicationsValue) where
       deadline = moment_after now seconds;
       handled = length s.history.handled;
       queued = length s.history.queued;
-      alone = not (list_any (awaits m.token) s.history.held);
+      alone = not (list_any (awaits m.token) s.history.pending);
       handed = asks_answer s m && may_hold (after_message s m);
       fate = fate;
     }
@@ -424,51 +428,52 @@ module _ (a : Option ApplicationsValue) where
 
     -- The connection stops.
     over_kept : ((after_message s m).handled ≡ s.history.handled ++ m ∷ [])
-        → has_stopped (react (standing_now s.history) m).effect.phase ≡ true
+        → has_stopped (react (state_now s.history) m).effect.phase ≡ true
         → Accounted a (after_message s m) (rs ++ request_with (first_fate (after_message s m) m) ∷ [])
     over_kept handled over =
-        let same : (after_message s m) ≡ heard s.history m =
-        cond-true (takes_messages s.history.phase) (heard s.history m) s.history live in
+        let same : (after_message s m) ≡ received s.history m =
+        cond-true (takes_messages s.history.phase) (received s.history m) s.history live in
         let stopped : has_stopped (after_message s m).phase ≡ true =
         ap (λ (k : History). has_stopped k.phase) same ∙ over in
         let none : (first_fate (after_message s m) m) ≡ Unanswered = unanswered_over (may_hold (after_message s m))
         (after_message s m) (refusal_of m) (off_over (after_message s m).phase stopped) in
         subst (λ (fate : Fate). Accounted a (after_message s m) (rs ++ request_with fate ∷ [])) (sym none)
         (added_kept s.history (after_message s m) rs (request_with Unanswered)
-        (react (standing_now s.history) m).effect.queued for handled (ap (λ (k : History). k.queued) same) refl refl
+        (react (state_now s.history) m).effect.queued for handled (ap (λ (k : History). k.queued) same) refl refl
         (message_limits s.history m) tt tt
         (λ on. absurd (both_ways (has_stopped (after_message s m).phase) on stopped))
         (λ on. absurd (both_ways (has_stopped (after_message s m).phase) on stopped))
-        (λ off. ap (λ (k : History). k.held) same
-        ∙ (heard_held s.history m live).quiet is.quiet (ap (λ (k : History). answers k.phase) (sym same) ∙ off)) is)
+        (λ off. ap (λ (k : History). k.pending) same
+        ∙ (received_pending s.history m live).quiet is.quiet (ap (λ (k : History). answers k.phase) (sym same) ∙ off))
+        is)
 
     module _ (asks : asks_answer s m ≡ true) where
       queued_same : (after_message s m).queued ≡ s.history.queued
-      queued_same = asked_queued s.history m asks
+      queued_same = request_queued s.history m asks
 
       answering : answers (after_message s m).phase ≡ true
-      answering = open_answers (after_message s m).phase (asked_quiet s m asks).1
+      answering = open_answers (after_message s m).phase (request_quiet s m asks).1
 
       -- The request is pending.
       pending_kept : may_hold (after_message s m) ≡ true → (holding (after_message s m)
-          ((after_message s m).held ++ Answer Application m.token (moment_after now seconds) ∷ [])).handled
+          ((after_message s m).pending ++ Answer Application m.token (moment_after now seconds) ∷ [])).handled
           ≡ s.history.handled ++ m ∷ []
           → Accounted a (holding (after_message s m)
-          ((after_message s m).held ++ Answer Application m.token (moment_after now seconds) ∷ []))
+          ((after_message s m).pending ++ Answer Application m.token (moment_after now seconds) ∷ []))
           (rs ++ request_with (first_fate (after_message s m) m) ∷ [])
       pending_kept may handled =
           let entry : PendingEntryValue = Answer Application m.token (moment_after now seconds) in
           let none : (first_fate (after_message s m) m) ≡ Unanswered =
           ap (λ b. cond b Unanswered (fate_by Engine (after_message s m) (refusal_of m))) may in
-          subst (λ (fate : Fate). Accounted a (holding (after_message s m) ((after_message s m).held ++ entry ∷ []))
+          subst (λ (fate : Fate). Accounted a (holding (after_message s m) ((after_message s m).pending ++ entry ∷ []))
           (rs ++ request_with fate ∷ [])) (sym none)
-          (added_kept s.history (holding (after_message s m) ((after_message s m).held ++ entry ∷ [])) rs
+          (added_kept s.history (holding (after_message s m) ((after_message s m).pending ++ entry ∷ [])) rs
           (request_with Unanswered) [] for handled (queued_same ∙ sym (append-nil s.history.queued)) refl refl
           (message_limits s.history m) tt tt
           (λ on. (
             on_before,
-            filter-append is_of_application (after_message s m).held (entry ∷ [])
-                ∙ ap (λ es. filter is_of_application es ++ entry ∷ []) (asked_quiet s m asks).0,
+            filter-append is_of_application (after_message s m).pending (entry ∷ [])
+                ∙ ap (λ es. filter is_of_application es ++ entry ∷ []) (request_quiet s m asks).0,
           ))
           (λ on waiting. and_from (asks_answer s m) (may_hold (after_message s m)) asks may)
           (λ off. absurd (both_ways (answers (after_message s m).phase) off answering)) is)
@@ -487,7 +492,7 @@ module _ (a : Option ApplicationsValue) where
           ap (λ b. cond b Unanswered (fate_by Engine (after_message s m) (refusal_of m))) full
           ∙ ap (λ b. cond b fate Unanswered) answering in
           let queued : k.queued ≡ (after_message s m).queued ++ messages_of fate =
-          ap (λ ms. (after_message s m).queued ++ ms) (sent_messages a (standing_now (after_message s m)) Engine
+          ap (λ ms. (after_message s m).queued ++ ms) (sent_messages a (state_now (after_message s m)) Engine
           (refusal_of m) r (length (after_message s m).handled) (length (after_message s m).queued)) in
           let count : length (after_message s m).queued ≡ length s.history.queued = ap (λ ms. length ms) queued_same in
           let apart : (request_with fate).handed ≡ false =
@@ -507,21 +512,22 @@ module _ (a : Option ApplicationsValue) where
           (fate_new a Engine (refusal_of m) r (length (after_message s m).handled) (length (after_message s m).queued)))
           (λ on. (
             on_before,
-            (let over : is_unanswered fate ≡ false = sent_answered a (standing_now (after_message s m)) Engine
+            (let over : is_unanswered fate ≡ false = sent_answered a (state_now (after_message s m)) Engine
                 (refusal_of m) r (length (after_message s m).handled) (length (after_message s m).queued) on in
                 ap (filter is_of_application)
-                (sent_kept (standing_now (after_message s m)) (refusal_of m) (bare_response (refusal_of m)) r on
-                ∙ (asked_quiet s m asks).0)
+                (sent_kept (state_now (after_message s m)) (refusal_of m) (bare_response (refusal_of m)) r on
+                ∙ (request_quiet s m asks).0)
                 ∙ sym
-                (ap (λ b. filter is_of_application s.history.held ++ map entry_of (cond b (request_with fate ∷ []) []))
-                over ∙ append-nil (filter is_of_application s.history.held))),
+                (ap (λ b. filter is_of_application s.history.pending
+                ++ map entry_of (cond b (request_with fate ∷ []) []))
+                over ∙ append-nil (filter is_of_application s.history.pending))),
           ))
-          (λ on waiting. absurd (both_ways (is_unanswered fate) (sent_answered a (standing_now (after_message s m))
+          (λ on waiting. absurd (both_ways (is_unanswered fate) (sent_answered a (state_now (after_message s m))
           Engine (refusal_of m) r (length (after_message s m).handled) (length (after_message s m).queued) on) waiting))
-          (sent_quiet (standing_now (after_message s m)) (refusal_of m) (bare_response (refusal_of m)) r answering) is))
+          (sent_quiet (state_now (after_message s m)) (refusal_of m) (bare_response (refusal_of m)) r answering) is))
 
       replied_kept : IsKeptAt (side_replied store now (after_message s m) (without_token m.token s.observers) m
-          (held_for (after_message s m) (delay_of store now m)))
+          (delay_for (after_message s m) (delay_of store now m)))
       replied_kept =
           let others : List Observer = without_token m.token s.observers in
           let hold : Option ℕ = (answer_of store now m).hold in
@@ -529,25 +535,25 @@ module _ (a : Option ApplicationsValue) where
           let delay : delay_of store now m ≡ Some d = ap (λ (o : Option ℕ). delay_or o hold) deadline in
           replied_cases store now (after_message s m) others m (delay_of store now m) IsKeptAt
           (λ e found. (
-          let both = held_where (after_message s m) (delay_of store now m) e found in
+          let both = pending_where (after_message s m) (delay_of store now m) e found in
           subst (λ (f : Delay).
           IsKeptAt (side_with (after (after_message s m) (hold_call f.by m.token (moment_after now f.seconds))) others))
           (same_there d e (sym delay ∙ both.1))
           (subst (λ (k : History). IsKeptAt (side_with k others))
-          (sym (held_is (after_message s m) Application m.token (moment_after now seconds)
-          ∙ cond-true _ _ (after_message s m) (and_from _ _ (asked_quiet s m asks).1 both.0)))
+          (sym (pending_is (after_message s m) Application m.token (moment_after now seconds)
+          ∙ cond-true _ _ (after_message s m) (and_from _ _ (request_quiet s m asks).1 both.0)))
           (pending_kept both.0))
           ))
           (λ none. subst (λ (r : answer.Answer). IsKeptAt (side_answered store now (after_message s m) others m r))
           (sym (prompt_handed store now m seconds deadline))
-          (refused_kept (no_place (after_message s m) d (ap (held_for (after_message s m)) (sym delay) ∙ none))))
+          (refused_kept (no_place (after_message s m) d (ap (delay_for (after_message s m)) (sym delay) ∙ none))))
 
     handed_kept : s.history.role ≡ Server → (side_handled store now s m).history.handled ≡ s.history.handled ++ m ∷ []
         → Accounted a (side_handled store now s m).history (rs ++ request_with (first_fate (after_message s m) m) ∷ [])
     handed_kept server =
         cond_both (asks_answer s m) _ _ IsKeptAt replied_kept
         (λ other handled.
-        elim (asked_or_over (standing_now s.history) m server live (and_parts (is_asking m) _ for).0) [
+        elim (requested_or_over (state_now s.history) m server live (and_parts (is_asking m) _ for).0) [
           | inl asks ↦ absurd (both_ways (asks_answer s m) other asks)
           | inr over ↦ over_kept handled over
         ])
@@ -617,7 +623,7 @@ module _ (a : Option ApplicationsValue) where
     announced = λ s size rs. passes_keep a s.history (side_announced s size).history rs
         (announced_between (Passes a) (passes_same a) (announce_passes a) s size);
     responded = responded_kept;
-    told = told_kept;
+    reported = reported_kept;
   }
 
 -- After any events, the requests that the application answers are accounted for.

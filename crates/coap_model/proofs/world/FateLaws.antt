@@ -10,11 +10,11 @@ use Rattle.coap_model.specs.Prelude.{AllByRecursion, Responder, Engine, Message,
 use Rattle.coap_model.specs.Prelude.{Stopped}
 use Rattle.coap_model.specs.Prelude.{answers, fit, fitted, bare_response, PendingEntryValue, Answer, Pong, first_due}
 use Rattle.coap_model.specs.Prelude.{without_due}
-use Rattle.coap_model.specs.Prelude.{ConnectionState, send_as, pong_with, History, limit_now, standing_now, with_effect}
+use Rattle.coap_model.specs.Prelude.{ConnectionState, send_as, pong_with, History, limit_now, state_now, with_effect}
 use Rattle.coap_model.specs.Prelude.{after, own_csm, release}
 use Rattle.coap_model.specs.Prelude.{reject_reason, end_reason}
 use Rattle.coap_model.specs.Prelude.{ApplicationsValue}
-use Rattle.coap_model.specs.Prelude.{held_message, after_sent}
+use Rattle.coap_model.specs.Prelude.{late_message, after_sent}
 use Rattle.coap_model.specs.Prelude.{Answered, IsReduced, limit_after, LimitValues, Fate, ApplicationRequest}
 use Rattle.coap_model.specs.Prelude.{is_for_application, is_unanswered, messages_of, entry_of, is_of_application}
 use Rattle.coap_model.specs.Prelude.{has_stopped, fate_of, fate_by, MayAnswer, HasFate, HaveOwnAnswers, with_fate}
@@ -25,7 +25,7 @@ use Rattle.coap_conn.proofs.PendingLaws.{due_answer, due_pong}
 use Rattle.coap_model.proofs.world.WalkLaws.{sent, without_first, due_is, answer_goes, if_between, Rejects, Ends}
 use Rattle.coap_model.proofs.world.WalkLaws.{Releases, Announces, Writes}
 use Rattle.coap_model.proofs.world.EntryLemmas.{all_to}
-use Rattle.coap_model.proofs.world.ToldMessages.{sent_either}
+use Rattle.coap_model.proofs.world.QueuedMessages.{sent_either}
 use Rattle.coap_model.proofs.world.FateLists.{waits, without_found, filter_without, map_without, waiting_without}
 use Rattle.coap_model.proofs.world.FateLists.{fate_requests, fate_all, IsNew, IsOld, old_fate, own_with, own_more}
 use Rattle.coap_model.proofs.world.FateLists.{next_at, still_fate, Extends}
@@ -34,28 +34,29 @@ use Rattle.coap_model.proofs.world.FateLists as lists
 -- ---- pending entries and the phase
 
 -- From one pending list and phase to the next, the requests for the application stay, or the connection stops.
-pub record StillHeld (es : List PendingEntryValue) (p : Phase) (fs : List PendingEntryValue) (q : Phase) : Type 0 where
-  pub running : has_stopped q ≡ false
-      → (has_stopped p ≡ false) × (filter is_of_application fs ≡ filter is_of_application es)
-  pub quiet : (answers p ≡ false → es ≡ []) → answers q ≡ false → fs ≡ []
+pub record StillPending (es : List PendingEntryValue) (p : Phase) (fs : List PendingEntryValue) (q : Phase) : Type 0
+  where
+    pub running : has_stopped q ≡ false
+        → (has_stopped p ≡ false) × (filter is_of_application fs ≡ filter is_of_application es)
+    pub quiet : (answers p ≡ false → es ≡ []) → answers q ≡ false → fs ≡ []
 
-pub held_same : (es : List PendingEntryValue) (p : Phase) → StillHeld es p es p
-held_same es p = record { running = λ on. (on, refl); quiet = λ quiet. quiet }
+pub pending_same : (es : List PendingEntryValue) (p : Phase) → StillPending es p es p
+pending_same es p = record { running = λ on. (on, refl); quiet = λ quiet. quiet }
 
-pub held_over : (es : List PendingEntryValue) (p : Phase) (why : Reason) → StillHeld es p [] (phase.Stopped why)
-held_over es p why = record { running = λ on. absurd cc; quiet = λ quiet off. refl }
+pub pending_over : (es : List PendingEntryValue) (p : Phase) (why : Reason) → StillPending es p [] (phase.Stopped why)
+pending_over es p why = record { running = λ on. absurd cc; quiet = λ quiet off. refl }
 
-pub held_then : (es fs gs : List PendingEntryValue) (p q r : Phase) → StillHeld es p fs q
-    → StillHeld fs q gs r → StillHeld es p gs r
-held_then es fs gs p q r one two = record {
+pub pending_then : (es fs gs : List PendingEntryValue) (p q r : Phase) → StillPending es p fs q
+    → StillPending fs q gs r → StillPending es p gs r
+pending_then es fs gs p q r one two = record {
   running = λ on. let last = two.running on in let first = one.running last.0 in (first.0, last.1 ∙ first.1);
   quiet = λ quiet. two.quiet (one.quiet quiet);
 }
 
 -- An entry that is no request for the application is removed.
-pub held_gone : (before : List PendingEntryValue) (e : PendingEntryValue) (later : List PendingEntryValue) (p : Phase)
-    → is_of_application e ≡ false → StillHeld (before ++ e ∷ later) p (before ++ later) p
-held_gone before e later p other = record {
+pub pending_gone : (before : List PendingEntryValue) (e : PendingEntryValue) (later : List PendingEntryValue)
+    (p : Phase) → is_of_application e ≡ false → StillPending (before ++ e ∷ later) p (before ++ later) p
+pending_gone before e later p other = record {
   running = λ on. (
     on,
     filter-append is_of_application before later
@@ -70,19 +71,19 @@ held_gone before e later p other = record {
 -- A history continues another one, in which no request for the application was handled since.
 pub record Passes (a : Option ApplicationsValue) (h k : History) : Type 0 where
   pub limits : k.limits ≡ h.limits
-  pub heard : List Message
-  pub handled : k.handled ≡ h.handled ++ heard
-  pub none : filter (is_for_application a) heard ≡ []
+  pub received : List Message
+  pub handled : k.handled ≡ h.handled ++ received
+  pub none : filter (is_for_application a) received ≡ []
   pub more : List Message
   pub queued : k.queued ≡ h.queued ++ more
-  pub held : StillHeld h.held h.phase k.held k.phase
+  pub pending : StillPending h.pending h.phase k.pending k.phase
 
 -- The requests are accounted for. Those that were handled are these. The unanswered ones were handed to the application
 -- and are pending, and the answer to each other one is queued at its own place.
 pub record Accounted (a : Option ApplicationsValue) (h : History) (rs : List ApplicationRequest) : Type 0 where
   pub requests : map (λ r. r.request) rs ≡ filter (is_for_application a) h.handled
-  pub pending : has_stopped h.phase ≡ false → map entry_of (filter waits rs) ≡ filter is_of_application h.held
-  pub quiet : answers h.phase ≡ false → h.held ≡ []
+  pub pending : has_stopped h.phase ≡ false → map entry_of (filter waits rs) ≡ filter is_of_application h.pending
+  pub quiet : answers h.phase ≡ false → h.pending ≡ []
   pub handed : has_stopped h.phase ≡ false → AllByRecursion (λ r. waits r ≡ true → r.handed ≡ true) rs
   pub answered : AllByRecursion (λ r. HasFate h r r.fate) rs
   pub own : HaveOwnAnswers rs
@@ -97,11 +98,12 @@ grown h k more rs queued counted =
     (λ r few. omega (arith, few, ap (λ (ms : List Message). length ms) queued, length-append h.queued more)) rs counted
 
 -- So are those handled.
-pub later : (h k : History) (heard : List Message) (rs : List ApplicationRequest) → k.handled ≡ h.handled ++ heard
+pub later : (h k : History) (received : List Message) (rs : List ApplicationRequest) → k.handled ≡ h.handled ++ received
     → AllByRecursion (λ r. r.handled < length h.handled) rs → AllByRecursion (λ r. r.handled < length k.handled) rs
-later h k heard rs handled since =
+later h k received rs handled since =
     all_to (λ r. r.handled < length h.handled) (λ r. r.handled < length k.handled)
-    (λ r few. omega (arith, few, ap (λ (ms : List Message). length ms) handled, length-append h.handled heard)) rs since
+    (λ r few. omega (arith, few, ap (λ (ms : List Message). length ms) handled, length-append h.handled received)) rs
+    since
 
 pub still_answered : (h k : History) → Extends h k → (rs : List ApplicationRequest)
     → AllByRecursion (λ r. HasFate h r r.fate) rs → AllByRecursion (λ r. HasFate k r r.fate) rs
@@ -112,119 +114,121 @@ module _ (a : Option ApplicationsValue) where
   pub passes_same : (h : History) → Passes a h h
   passes_same h = record {
     limits = refl;
-    heard = [];
+    received = [];
     handled = sym (append-nil h.handled);
     none = refl;
     more = [];
     queued = sym (append-nil h.queued);
-    held = held_same h.held h.phase;
+    pending = pending_same h.pending h.phase;
   }
 
   pub passes_then : (h k g : History) → Passes a h k → Passes a k g → Passes a h g
   passes_then h k g one two = record {
     limits = two.limits ∙ one.limits;
-    heard = one.heard ++ two.heard;
+    received = one.received ++ two.received;
     handled =
-        two.handled ∙ ap (λ (ms : List Message). ms ++ two.heard) one.handled
-        ∙ append_assoc h.handled one.heard two.heard;
-    none = filter-append (is_for_application a) one.heard two.heard ∙ rw (one.none, two.none) refl;
+        two.handled ∙ ap (λ (ms : List Message). ms ++ two.received) one.handled
+        ∙ append_assoc h.handled one.received two.received;
+    none = filter-append (is_for_application a) one.received two.received ∙ rw (one.none, two.none) refl;
     more = one.more ++ two.more;
     queued =
         two.queued ∙ ap (λ (ms : List Message). ms ++ two.more) one.queued ∙ append_assoc h.queued one.more two.more;
-    held = held_then h.held k.held g.held h.phase k.phase g.phase one.held two.held;
+    pending = pending_then h.pending k.pending g.pending h.phase k.phase g.phase one.pending two.pending;
   }
 
   pub passes_keep : (h k : History) (rs : List ApplicationRequest) → Passes a h k → Accounted a h rs → Accounted a k rs
   passes_keep h k rs passes is = record {
     requests = is.requests
         ∙ sym
-        (ap (filter (is_for_application a)) passes.handled ∙ filter-append (is_for_application a) h.handled passes.heard
-        ∙ ap (λ ms. filter (is_for_application a) h.handled ++ ms) passes.none
+        (ap (filter (is_for_application a)) passes.handled ∙ filter-append (is_for_application a) h.handled
+        passes.received ∙ ap (λ ms. filter (is_for_application a) h.handled ++ ms) passes.none
         ∙ append-nil (filter (is_for_application a) h.handled));
-    pending = λ on. let before = passes.held.running on in is.pending before.0 ∙ sym before.1;
-    quiet = passes.held.quiet is.quiet;
-    handed = λ on. is.handed (passes.held.running on).0;
+    pending = λ on. let before = passes.pending.running on in is.pending before.0 ∙ sym before.1;
+    quiet = passes.pending.quiet is.quiet;
+    handed = λ on. is.handed (passes.pending.running on).0;
     answered = still_answered h k (record {
       limits = passes.limits;
-      heard = passes.heard;
+      received = passes.received;
       handled = passes.handled;
       more = passes.more;
       queued = passes.queued;
     }) rs is.answered;
     own = is.own;
     counted = grown h k passes.more rs passes.queued is.counted;
-    since = later h k passes.heard rs passes.handled is.since;
+    since = later h k passes.received rs passes.handled is.since;
   }
 
   -- ---- parts of effects
 
   -- No message is handled.
   passes_so : (h k : History) (more : List Message) → k.limits ≡ h.limits → k.handled ≡ h.handled
-      → k.queued ≡ h.queued ++ more → StillHeld h.held h.phase k.held k.phase → Passes a h k
-  passes_so h k more limits handled queued held =
+      → k.queued ≡ h.queued ++ more → StillPending h.pending h.phase k.pending k.phase → Passes a h k
+  passes_so h k more limits handled queued pending =
       record {
         limits = limits;
-        heard = [];
+        received = [];
         handled = handled ∙ sym (append-nil h.handled);
         none = refl;
         more = more;
         queued = queued;
-        held = held;
+        pending = pending;
       }
 
   sent_passes : (h : History) (m less : Message) → Passes a h (sent h m less)
   sent_passes h m less =
       passes_so h (sent h m less) _ refl refl refl
-      (sent_either (standing_now h) m less (fit (limit_now h) m less) (λ es now. StillHeld h.held h.phase es now)
-      (held_same h.held h.phase)
-      (held_over h.held h.phase reason.PeerTooSmall))
+      (sent_either (state_now h) m less (fit (limit_now h) m less) (λ es now. StillPending h.pending h.phase es now)
+      (pending_same h.pending h.phase)
+      (pending_over h.pending h.phase reason.PeerTooSmall))
 
   pub reply_passes : (h : History) (m : Message) → Passes a h (after h (call.Reply m))
   reply_passes h m =
       if_between (Passes a) (answers h.phase) h _ (passes_same h) (λ does. sent_passes h m (bare_response m))
 
   pub reject_passes : Rejects (Passes a)
-  reject_passes h fault takes room = passes_so h _ _ refl refl refl (held_over h.held h.phase (reject_reason fault))
+  reject_passes h fault takes room = passes_so h _ _ refl refl refl
+      (pending_over h.pending h.phase (reject_reason fault))
 
   pub end_passes : Ends (Passes a)
-  end_passes h cut takes = passes_so h _ [] refl refl refl (held_over h.held h.phase (end_reason cut))
+  end_passes h cut takes = passes_so h _ [] refl refl refl (pending_over h.pending h.phase (end_reason cut))
 
   pub release_passes : Releases (Passes a)
   release_passes h opened none =
-      passes_so h _ (release ∷ []) refl refl refl (held_over h.held h.phase reason.ReleasedHere)
+      passes_so h _ (release ∷ []) refl refl refl (pending_over h.pending h.phase reason.ReleasedHere)
 
   pub announce_passes : Announces (Passes a)
-  announce_passes h size opened room fits = passes_so h _ (own_csm size ∷ []) refl refl refl (held_same h.held h.phase)
+  announce_passes h size opened room fits = passes_so h _ (own_csm size ∷ []) refl refl refl
+      (pending_same h.pending h.phase)
 
   pub write_passes : Writes (Passes a)
-  write_passes h n within = passes_so h _ [] refl refl (sym (append-nil h.queued)) (held_same h.held h.phase)
+  write_passes h n within = passes_so h _ [] refl refl (sym (append-nil h.queued)) (pending_same h.pending h.phase)
 
   -- A pending entry that is no request for the application is sent.
   gone_passes : (h : History) (now : ℕ) (before : List PendingEntryValue) (e : PendingEntryValue)
-      (later : List PendingEntryValue) → is_of_application e ≡ false → h.held ≡ before ++ e ∷ later
-      → without_due now h.held ≡ before ++ later → Passes a h (without_first h now)
+      (later : List PendingEntryValue) → is_of_application e ≡ false → h.pending ≡ before ++ e ∷ later
+      → without_due now h.pending ≡ before ++ later → Passes a h (without_first h now)
   gone_passes h now before e later other there without =
       passes_so h (without_first h now) [] refl refl (sym (append-nil h.queued))
-      (subst (λ (es : List PendingEntryValue). StillHeld es h.phase (without_due now h.held) h.phase) (sym there)
-      (subst (λ (fs : List PendingEntryValue). StillHeld (before ++ e ∷ later) h.phase fs h.phase) (sym without)
-      (held_gone before e later h.phase other)))
+      (subst (λ (es : List PendingEntryValue). StillPending es h.phase (without_due now h.pending) h.phase) (sym there)
+      (subst (λ (fs : List PendingEntryValue). StillPending (before ++ e ∷ later) h.phase fs h.phase) (sym without)
+      (pending_gone before e later h.phase other)))
 
   pub engine_passes : (h : History) (now : ℕ) (token : List ℕ) (moment : ℕ)
-      → first_due now h.held ≡ Some (Answer Engine token moment)
+      → first_due now h.pending ≡ Some (Answer Engine token moment)
       → Passes a h (after_sent h now (Answer Engine token moment))
   engine_passes h now token moment is =
-      let first = due_answer now h.held Engine token moment is in
-      subst (λ (g : History). Passes a h (after g (call.Reply (held_message Engine token))))
+      let first = due_answer now h.pending Engine token moment is in
+      subst (λ (g : History). Passes a h (after g (call.Reply (late_message Engine token))))
       (sym (answer_goes h now Engine token moment is))
       (passes_then h (without_first h now) _
       (gone_passes h now first.before (Answer Engine token moment) first.after refl first.there first.without)
-      (reply_passes (without_first h now) (held_message Engine token)))
+      (reply_passes (without_first h now) (late_message Engine token)))
 
-  pub pong_passes : (h : History) (now : ℕ) (token : List ℕ) → first_due now h.held ≡ Some (Pong token)
+  pub pong_passes : (h : History) (now : ℕ) (token : List ℕ) → first_due now h.pending ≡ Some (Pong token)
       → Passes a h (after_sent h now (Pong token))
   pong_passes h now token is =
       let gone : Passes a h (without_first h now) =
-      gone_passes h now [] (Pong token) (without_due now h.held) refl (due_pong now h.held token is) refl in
+      gone_passes h now [] (Pong token) (without_due now h.pending) refl (due_pong now h.pending token is) refl in
       rw (due_is h now (Some (Pong token)) is)
       (passes_then h (without_first h now)
       (sent (without_first h now) (pong_with true token) (pong_with false token)) gone
@@ -299,7 +303,7 @@ module _ (a : Option ApplicationsValue) where
     pub same : (r : ApplicationRequest) → waits r ≡ true → test r ≡ entry (entry_of r)
     pub may : (r : ApplicationRequest) → test r ≡ true → r.handed ≡ true → MayAnswer r by response (length h.queued)
     pub of_application : (e : PendingEntryValue) → entry e ≡ true → is_of_application e ≡ true
-    pub left_is : lists.without_passing entry h.held ≡ left
+    pub left_is : lists.without_passing entry h.pending ≡ left
 
   all_waiting : (rs : List ApplicationRequest) → AllByRecursion (λ r. waits r ≡ true) (filter waits rs)
   all_waiting [] = tt
@@ -310,7 +314,7 @@ module _ (a : Option ApplicationsValue) where
       (entry : PendingEntryValue → Bool) (by : Responder) (response : Message) (left : List PendingEntryValue)
       (next : IsNext h test entry by response left) (is : Accounted a h rs) (on : answers h.phase ≡ true) where
     abbrev state : ConnectionState
-    state = record (standing_now h) { held = left }
+    state = record (state_now h) { pending = left }
 
     abbrev after_answer : Reply → History
     after_answer r = with_effect h (send_as state response (bare_response response) r)
@@ -329,15 +333,15 @@ module _ (a : Option ApplicationsValue) where
         ∙ map_without entry_of test entry (filter waits rs)
         (all_to (λ r. waits r ≡ true) (λ r. test r ≡ entry (entry_of r)) next.same (filter waits rs) (all_waiting rs))
         ∙ ap (lists.without_passing entry) (is.pending running)
-        ∙ sym (filter_without is_of_application entry next.of_application h.held)
+        ∙ sym (filter_without is_of_application entry next.of_application h.pending)
         ∙ ap (filter is_of_application) next.left_is
 
-    held_so : (r : Reply) → has_stopped (after_answer r).phase ≡ false → (after_answer r).held ≡ left
-    held_so Whole live = refl
-    held_so Bare live = refl
-    held_so Stopped live = absurd cc
+    pending_so : (r : Reply) → has_stopped (after_answer r).phase ≡ false → (after_answer r).pending ≡ left
+    pending_so Whole live = refl
+    pending_so Bare live = refl
+    pending_so Stopped live = absurd cc
 
-    quiet_so : (r : Reply) → answers (after_answer r).phase ≡ false → (after_answer r).held ≡ []
+    quiet_so : (r : Reply) → answers (after_answer r).phase ≡ false → (after_answer r).pending ≡ []
     quiet_so Whole off = absurd (both_ways (answers h.phase) off on)
     quiet_so Bare off = absurd (both_ways (answers h.phase) off on)
     quiet_so Stopped off = refl
@@ -368,7 +372,7 @@ module _ (a : Option ApplicationsValue) where
           requests = fate_requests test (its_fate r) rs ∙ is.requests;
           pending = λ live.
               pending_left (its_fate r) (sent_answered state by response r (length h.handled) (length h.queued) live)
-              ∙ ap (filter is_of_application) (sym (held_so r live));
+              ∙ ap (filter is_of_application) (sym (pending_so r live));
           quiet = quiet_so r;
           handed = λ live. fate_all (λ q. waits q ≡ true → q.handed ≡ true) (λ q. waits q ≡ true → q.handed ≡ true)
               test (its_fate r) (λ q so. so)
@@ -378,7 +382,7 @@ module _ (a : Option ApplicationsValue) where
           answered = fate_all IsReady (λ q. HasFate k q q.fate) test (its_fate r)
               (λ q ready. still_fate h k (record {
                 limits = refl;
-                heard = [];
+                received = [];
                 handled = sym (append-nil h.handled);
                 more = messages_of (its_fate r);
                 queued = queued;

@@ -140,8 +140,8 @@ next_at (z ∷ xs) x ys = next_at xs x ys
 -- A history has the limits and the messages of another one, and perhaps more messages.
 pub record Extends (h k : History) : Type 0 where
   pub limits : k.limits ≡ h.limits
-  pub heard : List Message
-  pub handled : k.handled ≡ h.handled ++ heard
+  pub received : List Message
+  pub handled : k.handled ≡ h.handled ++ received
   pub more : List Message
   pub queued : k.queued ≡ h.queued ++ more
 
@@ -150,7 +150,7 @@ limit_same : (h k : History) → Extends h k → (n : ℕ) → n ≤ length h.ha
     → limit_after k.limits (take n k.handled) ≡ limit_after h.limits (take n h.handled)
 limit_same h k e n within =
     ap (λ (l : LimitValues). limit_after l (take n k.handled)) e.limits
-    ∙ ap (limit_after h.limits) (ap (take n) e.handled ∙ take-append-le n h.handled e.heard within)
+    ∙ ap (limit_after h.limits) (ap (take n) e.handled ∙ take-append-le n h.handled e.received within)
 
 -- The fate of a request stays.
 pub still_fate : (h k : History) → Extends h k → (r : ApplicationRequest) (fate : Fate)
@@ -162,5 +162,10 @@ still_fate h k e r (Answered by response sent handled place) has = record {
   there = ap (λ (ms : List Message). slice_get ms place) e.queued ∙ still_at h.queued e.more place sent has.there;
   later = has.later;
   after_it = has.after_it;
-  within = omega (arith, has.within, ap (λ (ms : List Message). length ms) e.handled, length-append h.handled e.heard);
+  within = omega (
+    arith,
+    has.within,
+    ap (λ (ms : List Message). length ms) e.handled,
+    length-append h.handled e.received,
+  );
 }

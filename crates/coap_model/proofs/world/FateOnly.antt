@@ -11,13 +11,13 @@ use Rattle.coap_model.specs.Prelude.{AllByRecursion, list_any, Responder, Engine
 use Rattle.coap_model.specs.Prelude.{Bare, Stopped, Server, LimitValues}
 use Rattle.coap_model.specs.Prelude.{takes_messages, answers, is_open, fit, bare_response, same_bytes}
 use Rattle.coap_model.specs.Prelude.{PendingEntryValue, Answer, Pong, first_due}
-use Rattle.coap_model.specs.Prelude.{ConnectionState, react, send, History, limit_now, standing_now, with_effect, after}
-use Rattle.coap_model.specs.Prelude.{may_hold, response_refusal, link_of, standing_without, without_request}
+use Rattle.coap_model.specs.Prelude.{ConnectionState, react, send, History, limit_now, state_now, with_effect, after}
+use Rattle.coap_model.specs.Prelude.{may_hold, response_refusal, link_of, state_without, without_request}
 use Rattle.coap_model.specs.Prelude.{IsFirstRequest}
 use Rattle.coap_model.specs.Prelude.{ApplicationsValue, application_deadline, StoreValue, Connection, Observer, handles}
-use Rattle.coap_model.specs.Prelude.{held_message, after_sent, with_history, side_with, side_responded, settled_once}
-use Rattle.coap_model.specs.Prelude.{next_held, next_due, notified}
-use Rattle.coap_model.specs.Prelude.{Delay, delay_or, delay_of, hold_call, held_for, moment_after, asks_answer}
+use Rattle.coap_model.specs.Prelude.{late_message, after_sent, with_history, side_with, side_responded, settled_once}
+use Rattle.coap_model.specs.Prelude.{next_pending, next_due, notified}
+use Rattle.coap_model.specs.Prelude.{Delay, delay_or, delay_of, hold_call, delay_for, moment_after, asks_answer}
 use Rattle.coap_model.specs.Prelude.{side_handled, side_after, side_replied, side_answered, without_token, answer_of}
 use Rattle.coap_model.specs.Prelude.{responds, is_response, is_asking, awaits}
 use Rattle.coap_model.specs.Prelude.{Fate, Unanswered, ApplicationRequest, messages_of, entry_of, is_of_application}
@@ -33,21 +33,23 @@ use Rattle.coap_conn.proofs.PendingLaws.{due_answer}
 use Rattle.coap_conn.proofs.AskingLaws.{none_where}
 use Rattle.coap_conn.proofs.ReactionLaws.{IsNoResponse}
 use Rattle.coap_model.proofs.OptionLemmas.{same_there}
-use Rattle.coap_model.proofs.world.WalkLaws.{heard, sent, holding, without_first, held_is, answer_goes, kept_open_has}
-use Rattle.coap_model.proofs.world.SideLaws.{replied_cases, settled_cases, held_room, next_due_found, handles_parts}
+use Rattle.coap_model.proofs.world.WalkLaws.{received, sent, holding, without_first, pending_is, answer_goes}
+use Rattle.coap_model.proofs.world.WalkLaws.{kept_open_has}
+use Rattle.coap_model.proofs.world.SideLaws.{replied_cases, settled_cases, pending_room, next_due_found, handles_parts}
 use Rattle.coap_model.proofs.world.GoingOn.{IsSide}
 use Rattle.coap_model.proofs.world.EntryLemmas.{all_to, all_append}
 use Rattle.coap_model.proofs.world.RespondedLaws.{allowed, answered_request, plain_codes}
-use Rattle.coap_model.proofs.world.ToldLaws.{HaveOtherTokens, filter_others}
-use Rattle.coap_model.proofs.world.ToldMessages.{Queues, message_queues, sent_either, open_answers}
-use Rattle.coap_model.proofs.world.CustodyLaws.{asked_quiet, handled_hears, held_where}
-use Rattle.coap_model.proofs.world.AskedLaws.{asked_or_over}
+use Rattle.coap_model.proofs.world.LastNotificationLaws.{HaveOtherTokens, filter_others}
+use Rattle.coap_model.proofs.world.QueuedMessages.{Queues, message_queues, sent_either, open_answers}
+use Rattle.coap_model.proofs.world.CustodyLaws.{request_quiet, handled_hears, pending_where}
+use Rattle.coap_model.proofs.world.AnsweredRequests.{requested_or_over}
 use Rattle.coap_model.proofs.world.FateWalk.{KeepsRequests, requests_kept}
 use Rattle.coap_model.proofs.world.FateLists.{waits, next_at}
 use Rattle.coap_model.proofs.world.FateLaws.{Accounted, fate_at, sent_messages}
 use Rattle.coap_model.proofs.world.FateKept.{after_message, has_token, never_answered, response_next, deadline_next}
-use Rattle.coap_model.proofs.world.FateKept.{held_answers, responded_kept, told_kept, handled_kept, accounts_keep}
-use Rattle.coap_model.proofs.world.FateKept.{asked_queued, running_live, off_over, no_place, unanswered_over}
+use Rattle.coap_model.proofs.world.FateKept.{pending_answers, responded_kept, reported_kept, handled_kept}
+use Rattle.coap_model.proofs.world.FateKept.{accounts_keep}
+use Rattle.coap_model.proofs.world.FateKept.{request_queued, running_live, off_over, no_place, unanswered_over}
 use Rattle.coap_model.proofs.world.FateTokens.{NoEngine, NoneRespond, Calm, Moves, moves_same, message_engineless}
 use Rattle.coap_model.proofs.world.FateTokens.{reply_engineless, no_response, no_engine_without, due_engineless}
 use Rattle.coap_model.proofs.world.FateTokens.{engine_moves, pong_moves, notified_moves, handled_moves, faulted_moves}
@@ -75,7 +77,7 @@ fate_is a by h response on = rw on refl
 -- The connection is unchanged, but its observers may be removed.
 still_moves : (s : Connection) → Moves s (with_history s s.history)
 still_moves s = record {
-  heard = [];
+  received = [];
   handled = sym (append-nil s.history.handled);
   more = [];
   queued = sym (append-nil s.history.queued);
@@ -93,26 +95,26 @@ module _ (a : Option ApplicationsValue) where
   pub one_waits : (h : History) (rs : List ApplicationRequest) (test : ApplicationRequest → Bool)
       (entry : PendingEntryValue → Bool) → ((r : ApplicationRequest) → waits r ≡ true → test r ≡ entry (entry_of r))
       → ((e : PendingEntryValue) → entry e ≡ true → is_of_application e ≡ true) → answers h.phase ≡ true
-      → list_any entry h.held ≡ true → Accounted a h rs → list_any test rs ≡ true
+      → list_any entry h.pending ≡ true → Accounted a h rs → list_any test rs ≡ true
   one_waits h rs test entry same of_application on some is =
       let running : has_stopped h.phase ≡ false = grind arith in
       any_waiting test entry same rs
-      (ap (list_any entry) (is.pending running) ∙ any_filter entry is_of_application of_application h.held some)
+      (ap (list_any entry) (is.pending running) ∙ any_filter entry is_of_application of_application h.pending some)
 
   -- ---- a response of the application
 
   response_answers : (s : Connection) (m : Message) → response_refusal (link_of s.history) m ≡ None
       → answers s.history.phase ≡ true
       → Answers a m.token (fate_by Application s.history m) s (with_history s
-      (with_effect s.history (send (standing_without m.token (standing_now s.history)) m (bare_response m))))
+      (with_effect s.history (send (state_without m.token (state_now s.history)) m (bare_response m))))
   response_answers s m allows on =
       let h : History = s.history in
       let r : Reply = fit (limit_now h) m (bare_response m) in
-      let state : ConnectionState = standing_without m.token (standing_now h) in
+      let state : ConnectionState = state_without m.token (state_now h) in
       let k : History = with_effect h (send state m (bare_response m)) in
       let fate : Fate = fate_at a Application m r (length h.handled) (length h.queued) in
       let codes = plain_codes m (allowed (link_of h) m allows).plain in
-      let first : IsFirstRequest h.held m.token (without_request m.token h.held) =
+      let first : IsFirstRequest h.pending m.token (without_request m.token h.pending) =
       answered_request (link_of h) m allows in
       subst (λ (f : Fate). Answers a m.token f s (with_history s k)) (sym (fate_is a Application h m on)) (record {
         handled = refl;
@@ -133,7 +135,7 @@ module _ (a : Option ApplicationsValue) where
   responded_alone s m rs is =
       let h : History = s.history in
       let none : Bool = is_none (response_refusal (link_of h) m) in
-      let k : History = with_effect h (send (standing_without m.token (standing_now h)) m (bare_response m)) in
+      let k : History = with_effect h (send (state_without m.token (state_now h)) m (bare_response m)) in
       let test : ApplicationRequest → Bool = is_unanswered_with m.token in
       let qs : List ApplicationRequest = with_fate test (fate_by Application h m) rs in
       let account : Accounted a (cond (answers h.phase && none) k h) (cond none qs rs) =
@@ -151,7 +153,7 @@ module _ (a : Option ApplicationsValue) where
                   (response_answers s m allows on) test rs
                   (λ r passes. ((and_parts (waits r) _ passes).0, has_token m.token r.request.token (waits r) passes))
                   (one_waits h rs test (is_request_for m.token) next.same next.of_application on
-                  (allowed (link_of h) m allows).asked is.account) counts is)) account)
+                  (allowed (link_of h) m allows).requested is.account) counts is)) account)
               | inr off ↦ absurd (never_answered a h m off is.account.quiet allows)
             ])
         | inr refused ↦ (
@@ -164,13 +166,13 @@ module _ (a : Option ApplicationsValue) where
   -- ---- the deadline
 
   expired_answers : (s : Connection) (now : ℕ) (token : List ℕ) (moment : ℕ)
-      → first_due now s.history.held ≡ Some (Answer Application token moment) → answers s.history.phase ≡ true
-      → Answers a token (fate_by Engine s.history (held_message Application token)) s
-      (with_history s (sent (without_first s.history now) (held_message Application token)
-      (bare_response (held_message Application token))))
+      → first_due now s.history.pending ≡ Some (Answer Application token moment) → answers s.history.phase ≡ true
+      → Answers a token (fate_by Engine s.history (late_message Application token)) s
+      (with_history s (sent (without_first s.history now) (late_message Application token)
+      (bare_response (late_message Application token))))
   expired_answers s now token moment is on =
       let h : History = s.history in
-      let response : Message = held_message Application token in
+      let response : Message = late_message Application token in
       let r : Reply = fit (limit_now h) response (bare_response response) in
       let g : History = without_first h now in
       let k : History = sent g response (bare_response response) in
@@ -179,27 +181,27 @@ module _ (a : Option ApplicationsValue) where
         handled = refl;
         queued =
             ap (λ ms. h.queued ++ ms)
-            (sent_messages a (standing_now g) Engine response r (length h.handled) (length h.queued));
+            (sent_messages a (state_now g) Engine response r (length h.handled) (length h.queued));
         responses = fate_responses a Engine response r (length h.handled) (length h.queued) refl refl;
         calm = λ other calm. record {
           others = kept_open_has (HaveOtherTokens other) tt k s.observers calm.others;
-          engine = sent_either (standing_now g) response (bare_response response) r (λ es now. NoEngine other es)
+          engine = sent_either (state_now g) response (bare_response response) r (λ es now. NoEngine other es)
               (due_engineless other h now Application token moment is calm.engine).1 tt;
         };
       })
 
   expired_alone : (s : Connection) (now : ℕ) (token : List ℕ) (moment : ℕ) (rs : List ApplicationRequest)
-      → first_due now s.history.held ≡ Some (Answer Application token moment)
+      → first_due now s.history.pending ≡ Some (Answer Application token moment)
       → Accounted a (after_sent s.history now (Answer Application token moment))
       (requests_due s (Some (Answer Application token moment)) rs) → AreAlone a s rs
       → AreAlone a (with_history s (after_sent s.history now (Answer Application token moment)))
       (requests_due s (Some (Answer Application token moment)) rs)
   expired_alone s now token moment rs is account alone =
       let h : History = s.history in
-      let first = due_answer now h.held Application token moment is in
+      let first = due_answer now h.pending Application token moment is in
       let on : answers h.phase ≡ true =
-      held_answers a h first.before (Answer Application token moment) first.after alone.account.quiet first.there in
-      let response : Message = held_message Application token in
+      pending_answers a h first.before (Answer Application token moment) first.after alone.account.quiet first.there in
+      let response : Message = late_message Application token in
       let test : ApplicationRequest → Bool = λ r. is_unanswered_with token r && r.deadline == moment in
       let entry : PendingEntryValue → Bool = λ e. is_request_for token e && is_answer_at moment e in
       let qs : List ApplicationRequest = with_fate test (fate_by Engine h response) rs in
@@ -211,7 +213,7 @@ module _ (a : Option ApplicationsValue) where
       ∙ ap (λ (b : Bool). cond b k g) on in
       let passes : entry (Answer Application token moment) ≡ true =
       and_from _ _ ((bytes_decides token token).1 refl) (eq-eqb moment moment refl) in
-      let some : list_any entry h.held ≡ true = grind (arith, first.there, list_any-append) in
+      let some : list_any entry h.pending ≡ true = grind (arith, first.there, list_any-append) in
       subst (λ (f : History). AreAlone a (with_history s f) qs) (sym same)
       (alone_answered a token (fate_by Engine h response) s (with_history s k)
       (expired_answers s now token moment is on) test rs
@@ -225,7 +227,7 @@ module _ (a : Option ApplicationsValue) where
   -- ---- settling
 
   due_alone : (s : Connection) (now : ℕ) (e : PendingEntryValue) (rs : List ApplicationRequest)
-      → first_due now s.history.held ≡ Some e → Accounted a (after_sent s.history now e) (requests_due s (Some e) rs)
+      → first_due now s.history.pending ≡ Some e → Accounted a (after_sent s.history now e) (requests_due s (Some e) rs)
       → AreAlone a s rs
       → AreAlone a (with_history s (after_sent s.history now e)) (requests_due s (Some e) rs)
   due_alone s now (Answer Engine token moment) rs is account alone =
@@ -234,22 +236,22 @@ module _ (a : Option ApplicationsValue) where
       expired_alone s now token moment rs is account alone
   due_alone s now (Pong token) rs is account alone = alone_moves a s _ rs (pong_moves s now token is) account alone
 
-  told_alone : (store : StoreValue) (now : ℕ) (s : Connection) (rs : List ApplicationRequest) → AreAlone a s rs
+  reported_alone : (store : StoreValue) (now : ℕ) (s : Connection) (rs : List ApplicationRequest) → AreAlone a s rs
       → AreAlone a (settled_once store now s) (requests_once now s rs)
   unfolding requests_once
-  told_alone store now s rs is =
-      settled_cases store now s (λ t. Accounted a t.history (requests_due s (next_held now s) rs)
-      → AreAlone a t (requests_due s (next_held now s) rs))
+  reported_alone store now s rs is =
+      settled_cases store now s (λ t. Accounted a t.history (requests_due s (next_pending now s) rs)
+      → AreAlone a t (requests_due s (next_pending now s) rs))
       (λ e found.
       subst (λ (o : Option PendingEntryValue). Accounted a (after_sent s.history now e) (requests_due s o rs)
       → AreAlone a (with_history s (after_sent s.history now e)) (requests_due s o rs)) (sym found)
-      (λ account. due_alone s now e rs (held_room now s e found).1 account is))
+      (λ account. due_alone s now e rs (pending_room now s e found).1 account is))
       (λ none. subst (λ (o : Option PendingEntryValue).
       Accounted a (notified store now s (next_due store now s)).history (requests_due s o rs)
       → AreAlone a (notified store now s (next_due store now s)) (requests_due s o rs)) (sym none)
       (λ account. alone_moves a s _ rs
       (notified_moves store now s (next_due store now s) (next_due_found store now s)) account is))
-      (told_kept a store now s rs is.account)
+      (reported_kept a store now s rs is.account)
 
   -- ---- a request for the application
 
@@ -262,7 +264,7 @@ module _ (a : Option ApplicationsValue) where
 
   -- After the request, only its own answer has its token, if no response with the token was pending.
   record IsFirst (s t : Connection) (token : List ℕ) (fate : Fate) : Type 0 where
-    calm : list_any (awaits token) s.history.held ≡ false → Calm token t
+    calm : list_any (awaits token) s.history.pending ≡ false → Calm token t
     more : List Message
     queued : t.history.queued ≡ s.history.queued ++ more
     only : filter (responds token) more ≡ messages_of fate
@@ -276,19 +278,19 @@ module _ (a : Option ApplicationsValue) where
     abbrev IsIt : Connection → Type 0
     IsIt t = IsFirst s t m.token (first_fate (after_message s m) m)
 
-    engine_none : list_any (awaits m.token) s.history.held ≡ false → NoEngine m.token (after_message s m).held
-    engine_none none = message_engineless m.token s.history m (no_engine_awaits m.token s.history.held none)
+    engine_none : list_any (awaits m.token) s.history.pending ≡ false → NoEngine m.token (after_message s m).pending
+    engine_none none = message_engineless m.token s.history m (no_engine_awaits m.token s.history.pending none)
 
     others_none : HaveOtherTokens m.token others
     unfolding without_token
     others_none = filter_others m.token s.observers
 
     -- The connection stops.
-    over_first : has_stopped (react (standing_now s.history) m).effect.phase ≡ true
+    over_first : has_stopped (react (state_now s.history) m).effect.phase ≡ true
         → IsIt (with_history s (after_message s m))
     over_first over =
-        let same : (after_message s m) ≡ heard s.history m =
-        cond-true (takes_messages s.history.phase) (heard s.history m) s.history live in
+        let same : (after_message s m) ≡ received s.history m =
+        cond-true (takes_messages s.history.phase) (received s.history m) s.history live in
         let stopped : has_stopped (after_message s m).phase ≡ true =
         ap (λ (k : History). has_stopped k.phase) same ∙ over in
         let closed : is_open (after_message s m).phase ≡ false = grind arith in
@@ -308,10 +310,10 @@ module _ (a : Option ApplicationsValue) where
     module _ (asks : asks_answer s m ≡ true) where
       -- The request is pending.
       pending_first : may_hold (after_message s m) ≡ true → IsIt (side_with (holding (after_message s m)
-          ((after_message s m).held ++ Answer Application m.token (moment_after now seconds) ∷ [])) others)
+          ((after_message s m).pending ++ Answer Application m.token (moment_after now seconds) ∷ [])) others)
       pending_first may =
           let entry : PendingEntryValue = Answer Application m.token (moment_after now seconds) in
-          let k : History = holding (after_message s m) ((after_message s m).held ++ entry ∷ []) in
+          let k : History = holding (after_message s m) ((after_message s m).pending ++ entry ∷ []) in
           let none : (first_fate (after_message s m) m) ≡ Unanswered =
           ap (λ b. cond b Unanswered (fate_by Engine (after_message s m) (refusal_of m))) may in
           subst (IsFirst s (side_with k others) m.token) (sym none) (record {
@@ -319,10 +321,10 @@ module _ (a : Option ApplicationsValue) where
               others = kept_open_has (HaveOtherTokens m.token) tt k others others_none;
               engine =
                   all_append (λ e. Rattle.coap_model.proofs.world.FateTokens.is_engine_for m.token e ≡ false)
-                  (after_message s m).held (entry ∷ []) (engine_none apart) (refl, tt);
+                  (after_message s m).pending (entry ∷ []) (engine_none apart) (refl, tt);
             };
             more = [];
-            queued = asked_queued a s.history m asks ∙ sym (append-nil s.history.queued);
+            queued = request_queued a s.history m asks ∙ sym (append-nil s.history.queued);
             only = refl;
           })
 
@@ -331,7 +333,7 @@ module _ (a : Option ApplicationsValue) where
           → IsIt (side_with (after (after_message s m) (call.Reply (refusal_of m))) others)
       refused_first full =
           let on : answers (after_message s m).phase ≡ true =
-          open_answers (after_message s m).phase (asked_quiet s m asks).1 in
+          open_answers (after_message s m).phase (request_quiet s m asks).1 in
           let r : Reply = fit (limit_now (after_message s m)) (refusal_of m) (bare_response (refusal_of m)) in
           let fate : Fate =
           fate_at a Engine (refusal_of m) r (length (after_message s m).handled) (length (after_message s m).queued) in
@@ -343,7 +345,7 @@ module _ (a : Option ApplicationsValue) where
           ap (λ (b : Bool).
           (cond b (sent (after_message s m) (refusal_of m) (bare_response (refusal_of m))) (after_message s m)).queued)
           on
-          ∙ ap (λ ms. (after_message s m).queued ++ ms) (sent_messages a (standing_now (after_message s m)) Engine
+          ∙ ap (λ ms. (after_message s m).queued ++ ms) (sent_messages a (state_now (after_message s m)) Engine
           (refusal_of m) r (length (after_message s m).handled) (length (after_message s m).queued)) in
           subst (IsFirst s (side_with k others) m.token) (sym is_fate) (record {
             calm = λ apart. record {
@@ -351,7 +353,7 @@ module _ (a : Option ApplicationsValue) where
               engine = reply_engineless m.token (after_message s m) (refusal_of m) (engine_none apart);
             };
             more = messages_of fate;
-            queued = queued ∙ ap (λ ms. ms ++ messages_of fate) (asked_queued a s.history m asks);
+            queued = queued ∙ ap (λ ms. ms ++ messages_of fate) (request_queued a s.history m asks);
             only = filter_whole (responds m.token) (messages_of fate)
                 (all_to (λ n. (is_response n ≡ true) × (n.token ≡ m.token)) (λ n. responds m.token n ≡ true)
                 (λ n is. and_from (is_response n) (same_bytes n.token m.token) is.0
@@ -361,30 +363,30 @@ module _ (a : Option ApplicationsValue) where
           })
 
       replied_first : IsIt
-          (side_replied store now (after_message s m) others m (held_for (after_message s m) (delay_of store now m)))
+          (side_replied store now (after_message s m) others m (delay_for (after_message s m) (delay_of store now m)))
       replied_first =
           let hold : Option ℕ = (answer_of store now m).hold in
           let d : Delay = record { by = Application; seconds = seconds } in
           let delay : delay_of store now m ≡ Some d = ap (λ (o : Option ℕ). delay_or o hold) deadline in
           replied_cases store now (after_message s m) others m (delay_of store now m) IsIt
           (λ e found. (
-          let both = held_where (after_message s m) (delay_of store now m) e found in
+          let both = pending_where (after_message s m) (delay_of store now m) e found in
           subst (λ (f : Delay).
           IsIt (side_with (after (after_message s m) (hold_call f.by m.token (moment_after now f.seconds))) others))
           (same_there d e (sym delay ∙ both.1))
           (subst (λ (k : History). IsIt (side_with k others))
-          (sym (held_is (after_message s m) Application m.token (moment_after now seconds)
-          ∙ cond-true _ _ (after_message s m) (and_from _ _ (asked_quiet s m asks).1 both.0)))
+          (sym (pending_is (after_message s m) Application m.token (moment_after now seconds)
+          ∙ cond-true _ _ (after_message s m) (and_from _ _ (request_quiet s m asks).1 both.0)))
           (pending_first both.0))
           ))
           (λ none. subst (λ (r : answer.Answer). IsIt (side_answered store now (after_message s m) others m r))
           (sym (prompt_handed store now m seconds deadline))
-          (refused_first (no_place a (after_message s m) d (ap (held_for (after_message s m)) (sym delay) ∙ none))))
+          (refused_first (no_place a (after_message s m) d (ap (delay_for (after_message s m)) (sym delay) ∙ none))))
 
     handed_first : is_asking m ≡ true → IsIt (side_handled store now s m)
     handed_first asking =
         cond_both (asks_answer s m) _ _ IsIt replied_first
-        (λ other. elim (asked_or_over (standing_now s.history) m server live asking) [
+        (λ other. elim (requested_or_over (state_now s.history) m server live asking) [
           | inl asks ↦ absurd (both_ways (asks_answer s m) other asks)
           | inr over ↦ over_first over
         ])
@@ -405,15 +407,16 @@ module _ (a : Option ApplicationsValue) where
   added_alone : (s t : Connection) (r : ApplicationRequest) (rs : List ApplicationRequest) → Moves s t
       → t.history.handled ≡ s.history.handled ++ r.request ∷ [] → is_asking r.request ≡ true
       → r.handled ≡ length s.history.handled → r.queued ≡ length s.history.queued
-      → r.alone ≡ not (list_any (awaits r.request.token) s.history.held)
+      → r.alone ≡ not (list_any (awaits r.request.token) s.history.pending)
       → has_stopped s.history.phase ≡ false → IsFirst s t r.request.token r.fate → Accounted a t.history (rs ++ r ∷ [])
       → AreAlone a s rs → AreAlone a t (rs ++ r ∷ [])
   added_alone s t r rs moves handled asking at_handled at_queued at_alone on first account is =
       let token : List ℕ = r.request.token in
-      let apart : r.alone ≡ true → list_any (awaits token) s.history.held ≡ false = λ alone. grind (arith, at_alone) in
+      let apart : r.alone ≡ true → list_any (awaits token) s.history.pending
+      ≡ false = λ alone. grind (arith, at_alone) in
       let none : r.alone ≡ true → AllByRecursion (λ f. f.request.token ≡ token → waits f ≡ false) rs = λ alone.
       none_waiting token rs (ap (list_any (awaits token)) (is.account.pending on)
-      ∙ none_filter (awaits token) is_of_application s.history.held (apart alone)) in
+      ∙ none_filter (awaits token) is_of_application s.history.pending (apart alone)) in
       record {
         account = account;
         there =
@@ -480,7 +483,7 @@ module _ (a : Option ApplicationsValue) where
             deadline = moment_after now seconds;
             handled = length s.history.handled;
             queued = length s.history.queued;
-            alone = not (list_any (awaits m.token) s.history.held);
+            alone = not (list_any (awaits m.token) s.history.pending);
             handed = asks_answer s m && may_hold (after_message s m);
             fate = first_fate (after_message s m) m;
           }) rs moves ((handled_hears store now s m).handled_more live) asking refl refl refl
@@ -500,7 +503,7 @@ module _ (a : Option ApplicationsValue) where
     announced =
         λ s size rs is. alone_moves a s _ rs (announced_moves s size) (accounts.announced s size rs is.account) is;
     responded = responded_alone;
-    told = told_alone;
+    reported = reported_alone;
   }
 
 -- After any events, the answer to each request is the only response with its token.

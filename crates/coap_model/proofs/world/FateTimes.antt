@@ -7,7 +7,8 @@ use Rattle.coap_model.specs.Prelude.{AllByRecursion, Engine, Application, Messag
 use Rattle.coap_model.specs.Prelude.{LimitValues, ConfigValues}
 use Rattle.coap_model.specs.Prelude.{answers, fit, bare_response, History, limit_now, may_hold, PendingEntryValue}
 use Rattle.coap_model.specs.Prelude.{Answer, Pong, due_moment, StoreValue, put_refusal}
-use Rattle.coap_model.specs.Prelude.{Connection, has_room, handles, moment_after, held_message, next_held, settled_once}
+use Rattle.coap_model.specs.Prelude.{Connection, has_room, handles, moment_after, late_message, next_pending}
+use Rattle.coap_model.specs.Prelude.{settled_once}
 use Rattle.coap_model.specs.Prelude.{is_asking, application_deadline, IsUpToDate}
 use Rattle.coap_model.specs.Prelude.{World, Step, new_world, side_of, acted, after_steps, ticks, AcceptedCall, steps_of}
 use Rattle.coap_model.specs.Prelude.{world_after}
@@ -22,8 +23,8 @@ use Rattle.coap_model.specs.world.World as world
 use Rattle.coap_model.proofs.world.WalkLaws.{there_or_not}
 use Rattle.coap_model.proofs.world.EntryLemmas.{all_to, all_append, all_filter}
 use Rattle.coap_model.proofs.world.PlaceLaws.{of_number}
-use Rattle.coap_model.proofs.world.SideLaws.{held_room}
-use Rattle.coap_model.proofs.world.HearingLaws.{world_hears}
+use Rattle.coap_model.proofs.world.SideLaws.{pending_room}
+use Rattle.coap_model.proofs.world.EndOfInputLaws.{world_hears}
 use Rattle.coap_model.proofs.world.FateLists.{waits, fate_all}
 use Rattle.coap_model.proofs.world.FateLaws.{fate_at}
 use Rattle.coap_model.proofs.world.FateKept.{after_message, requests_accounted}
@@ -42,7 +43,7 @@ timely_later now later h token deadline (Answered Application response sent hand
 
 -- A fate of the engine, if its response is no 5.04 or the deadline has come, and one of the application.
 engine_timely : (now : ℕ) (token : List ℕ) (deadline : ℕ) (h : History) (m : Message)
-    → (m ≡ held_message Application token → deadline ≤ now) → IsTimely now token deadline (fate_by Engine h m)
+    → (m ≡ late_message Application token → deadline ≤ now) → IsTimely now token deadline (fate_by Engine h m)
 engine_timely now token deadline h m come =
     cond_both (answers h.phase) _ Unanswered (λ (f : Fate). IsTimely now token deadline f)
     (λ on. by (fit (limit_now h) m (bare_response m))) (λ off. tt)
@@ -66,7 +67,7 @@ application_timely now token deadline h m =
     by Stopped = tt
 
 -- 5.03 is not 5.04.
-never_late : (m : Message) (token : List ℕ) → refusal_of m ≡ held_message Application token → ⊥
+never_late : (m : Message) (token : List ℕ) → refusal_of m ≡ late_message Application token → ⊥
 never_late m token same =
     let codes : ◌≡◌ {A = ℕ} 163 164 = ap (λ (n : Message). n.code) same in
     absurd (omega (arith, codes))
@@ -100,16 +101,17 @@ responded_timely now s m rs are =
     (λ r is. is) (λ r passes is. application_timely now r.request.token r.deadline s.history m) rs are) (λ off. are)
 
 due_timely : (now : ℕ) (s : Connection) (found : Option PendingEntryValue) (rs : List ApplicationRequest)
-    → next_held now s ≡ found → AreTimely now rs → AreTimely now (requests_due s found rs)
+    → next_pending now s ≡ found → AreTimely now rs → AreTimely now (requests_due s found rs)
 due_timely now s None rs is are = are
 due_timely now s (Some (Answer Engine token moment)) rs is are = are
 due_timely now s (Some (Answer Application token moment)) rs is are =
     let first =
-    due_answer now s.history.held Application token moment (held_room now s (Answer Application token moment) is).1 in
+    due_answer now s.history.pending Application token moment
+    (pending_room now s (Answer Application token moment) is).1 in
     fate_all (λ r. IsTimely now r.request.token r.deadline r.fate) (λ r. IsTimely now r.request.token r.deadline r.fate)
     (λ r. is_unanswered_with token r && r.deadline == moment)
-    (fate_by Engine s.history (held_message Application token)) (λ r so. so)
-    (λ r passes so. engine_timely now r.request.token r.deadline s.history (held_message Application token)
+    (fate_by Engine s.history (late_message Application token)) (λ r so. so)
+    (λ r passes so. engine_timely now r.request.token r.deadline s.history (late_message Application token)
     (λ same. omega (
       arith,
       first.has_come,
@@ -122,8 +124,8 @@ within_timely : (turns : ℕ) (store : StoreValue) (now : ℕ) (s : Connection) 
 unfolding requests_within requests_once
 within_timely zero store now s rs are = are
 within_timely (suc turns) store now s rs are =
-    within_timely turns store now (settled_once store now s) (requests_due s (next_held now s) rs)
-    (due_timely now s (next_held now s) rs refl are)
+    within_timely turns store now (settled_once store now s) (requests_due s (next_pending now s) rs)
+    (due_timely now s (next_pending now s) rs refl are)
 
 then_timely : (id : ℕ) (w : World) (rs : List ApplicationRequest) → AreTimely w.now rs
     → AreTimely w.now (requests_then id w rs)
@@ -131,7 +133,7 @@ unfolding requests_then requests_settled
 then_timely id w rs are =
     there_or_not (side_of id w.sides)
     (λ found. AreTimely w.now (if_there found (requests_settled w.store w.now) rs)) (λ none. are)
-    (λ s found. within_timely (length s.history.held + length s.observers) w.store w.now s rs are)
+    (λ s found. within_timely (length s.history.pending + length s.observers) w.store w.now s rs are)
 
 acted_timely : (limits : LimitValues) (id : ℕ) (w : World) (st : Step) (rs : List ApplicationRequest)
     → AreTimely w.now rs → AreTimely (acted limits w st).now (requests_acted id w st rs)
@@ -207,4 +209,4 @@ deadlines_later c es id s there live room =
     of_number (λ n t. IsUpToDate w.store w.now t) id s w.sides (world_hears c es) there in
     deadlines_come w.now (requests_on c id es)
     (subst (AllByRecursion (λ e. due_moment w.now e ≡ None)) (sym ((requests_accounted c es id s there).pending live))
-    (all_filter (λ e. due_moment w.now e ≡ None) is_of_application s.history.held (up.sent room).0))
+    (all_filter (λ e. due_moment w.now e ≡ None) is_of_application s.history.pending (up.sent room).0))

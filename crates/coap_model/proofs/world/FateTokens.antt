@@ -7,29 +7,29 @@ use Rattle.std.proofs.lemmas.List.{append-nil}
 use lib.Pointwise.{bytes_decides}
 use Rattle.coap_model.specs.Prelude.{AllByRecursion, Responder, Engine, Application, Message, StreamFault, Server}
 use Rattle.coap_model.specs.Prelude.{takes_messages, answers, is_open, fit, bare_response, same_bytes}
-use Rattle.coap_model.specs.Prelude.{PendingEntryValue, Answer, Pong, first_due, without_due, History, standing_now}
+use Rattle.coap_model.specs.Prelude.{PendingEntryValue, Answer, Pong, first_due, without_due, History, state_now}
 use Rattle.coap_model.specs.Prelude.{react, limit_now, after, with_effect, send}
 use Rattle.coap_model.specs.Prelude.{StoreValue, prompt_answer, Connection, Observer, asks_answer, side_handled}
 use Rattle.coap_model.specs.Prelude.{side_with, side_answered, with_history, kept_open, without_token, handles}
 use Rattle.coap_model.specs.Prelude.{side_faulted, side_written, side_ended, side_released, side_announced, notified}
-use Rattle.coap_model.specs.Prelude.{next_due, held_message, after_sent, is_due, first_becomes, left_of, notification}
+use Rattle.coap_model.specs.Prelude.{next_due, late_message, after_sent, is_due, first_becomes, left_of, notification}
 use Rattle.coap_model.specs.Prelude.{with_entry, has_place, entry_for, is_whole, response_with_observe}
 use Rattle.coap_model.specs.Prelude.{responds, is_response, is_asking, asks_with, ApplicationsValue}
 use Rattle.coap_store.specs.Answer as answer
 use Rattle.coap_conn.specs.Calls as call
 use Rattle.coap_conn.proofs.PendingLaws.{due_answer, due_pong}
 use Rattle.coap_conn.proofs.ReactionLaws.{IsNoResponse, IsPlain, react_so}
-use Rattle.coap_model.proofs.world.WalkLaws.{heard, holding, without_first, answer_goes, if_between, kept_open_has}
+use Rattle.coap_model.proofs.world.WalkLaws.{received, holding, without_first, answer_goes, if_between, kept_open_has}
 use Rattle.coap_model.proofs.world.WalkLaws.{observers_kept, faulted_between, written_between, ended_between}
 use Rattle.coap_model.proofs.world.WalkLaws.{released_between, announced_between}
 use Rattle.coap_model.proofs.world.EntryLemmas.{all_to, all_append, all_filter, all_entered, all_become, found_all}
-use Rattle.coap_model.proofs.world.ToldMessages.{Queues, queues_none, message_queues, reject_queues, end_queues}
-use Rattle.coap_model.proofs.world.ToldMessages.{release_queues, announcing_queues, written_queues, due_queues}
-use Rattle.coap_model.proofs.world.ToldMessages.{reply_queues, reply_either}
-use Rattle.coap_model.proofs.world.ToldLaws.{HaveOtherTokens}
+use Rattle.coap_model.proofs.world.QueuedMessages.{Queues, queues_none, message_queues, reject_queues, end_queues}
+use Rattle.coap_model.proofs.world.QueuedMessages.{release_queues, announcing_queues, written_queues, due_queues}
+use Rattle.coap_model.proofs.world.QueuedMessages.{reply_queues, reply_either}
+use Rattle.coap_model.proofs.world.LastNotificationLaws.{HaveOtherTokens}
 use Rattle.coap_model.proofs.world.CustodyLaws.{handled_cases}
-use Rattle.coap_model.proofs.world.AskedLaws.{answered_is_request}
-use Rattle.coap_model.proofs.world.FateKept.{after_message, asked_queued}
+use Rattle.coap_model.proofs.world.AnsweredRequests.{answered_is_request}
+use Rattle.coap_model.proofs.world.FateKept.{after_message, request_queued}
 
 -- ---- a token without responses to come
 
@@ -51,20 +51,20 @@ NoneAsk token ms = AllByRecursion (λ m. asks_with token m ≡ false) ms
 -- No observer has the token, and the engine delays no response with it.
 pub record Calm (token : List ℕ) (s : Connection) : Type 0 where
   pub others : HaveOtherTokens token s.observers
-  pub engine : NoEngine token s.history.held
+  pub engine : NoEngine token s.history.pending
 
 -- From one state of a connection to the next, messages are handled and queued. A token stays calm, and no response with
 -- it is queued, if no request with it is handled.
 pub record Moves (s t : Connection) : Type 0 where
-  pub heard : List Message
-  pub handled : t.history.handled ≡ s.history.handled ++ heard
+  pub received : List Message
+  pub handled : t.history.handled ≡ s.history.handled ++ received
   pub more : List Message
   pub queued : t.history.queued ≡ s.history.queued ++ more
-  pub spares : (token : List ℕ) → NoneAsk token heard → Calm token s → Calm token t × NoneRespond token more
+  pub spares : (token : List ℕ) → NoneAsk token received → Calm token s → Calm token t × NoneRespond token more
 
 pub moves_same : (s : Connection) → Moves s s
 moves_same s = record {
-  heard = [];
+  received = [];
   handled = sym (append-nil s.history.handled);
   more = [];
   queued = sym (append-nil s.history.queued);
@@ -92,17 +92,17 @@ no_response token ms none =
 
 -- Entries of the engine after a part of an effect.
 abbrev pub Engineless : List ℕ → History → History → Type 0
-Engineless token h k = NoEngine token h.held → NoEngine token k.held
+Engineless token h k = NoEngine token h.pending → NoEngine token k.pending
 
 pub message_engineless : (token : List ℕ) (h : History) (m : Message) → Engineless token h (after h (call.Handle m))
 message_engineless token h m =
-    if_between (Engineless token) (takes_messages h.phase) h (heard h m) (λ none. none)
-    (λ takes none. react_so (standing_now h) m (λ e. NoEngine token e.held) (record {
+    if_between (Engineless token) (takes_messages h.phase) h (received h m) (λ none. none)
+    (λ takes none. react_so (state_now h) m (λ e. NoEngine token e.pending) (record {
       stays = none;
-      stands = λ now outstanding may. none;
+      silent = λ now outstanding may. none;
       stops = λ why farewell plain one is. tt;
       queues = λ n may. none;
-      keeps = λ ping custody some. all_append (λ e. is_engine_for token e ≡ false) h.held
+      keeps = λ ping custody some. all_append (λ e. is_engine_for token e ≡ false) h.pending
           (Pong m.token ∷ []) none (refl, tt);
     }))
 
@@ -125,7 +125,7 @@ message_moves s m server =
     let h : History = after s.history (call.Handle m) in
     let queues : Queues IsNoResponse s.history h = message_queues s.history m server in
     record {
-      heard = queues.heard;
+      received = queues.received;
       handled = queues.handled;
       more = queues.more;
       queued = queues.same;
@@ -149,24 +149,24 @@ module _ (store : StoreValue) (now : ℕ) (s : Connection) (m : Message) (takes 
   -- The token of the request is another one.
   other_token : (token : List ℕ) → NoneAsk token (m ∷ []) → same_bytes m.token token ≡ false
   other_token token none =
-      ap (λ b. b && same_bytes m.token token) (sym (answered_is_request (standing_now s.history) m asks)) ∙ none.0
+      ap (λ b. b && same_bytes m.token token) (sym (answered_is_request (state_now s.history) m asks)) ∙ none.0
 
   late_moves : (by : Responder) (moment : ℕ)
-      → Moves s (side_with (holding (after_message s m) ((after_message s m).held ++ Answer by m.token moment ∷ []))
+      → Moves s (side_with (holding (after_message s m) ((after_message s m).pending ++ Answer by m.token moment ∷ []))
       (without_token m.token s.observers))
   late_moves by moment = record {
-    heard = m ∷ [];
+    received = m ∷ [];
     handled = message_handled s.history m takes;
     more = [];
-    queued = asked_queued None s.history m asks ∙ sym (append-nil s.history.queued);
+    queued = request_queued None s.history m asks ∙ sym (append-nil s.history.queued);
     spares = λ token none calm. (
       record {
         others =
             kept_open_has (HaveOtherTokens token) tt
-            (holding (after_message s m) ((after_message s m).held ++ Answer by m.token moment ∷ []))
+            (holding (after_message s m) ((after_message s m).pending ++ Answer by m.token moment ∷ []))
             (without_token m.token s.observers) (others_left token m.token s.observers calm.others);
         engine =
-            all_append (λ e. is_engine_for token e ≡ false) (after_message s m).held (Answer by m.token moment ∷ [])
+            all_append (λ e. is_engine_for token e ≡ false) (after_message s m).pending (Answer by m.token moment ∷ [])
             (message_engineless token s.history m calm.engine) (new by token (other_token token none), tt);
       },
       tt,
@@ -187,10 +187,10 @@ module _ (store : StoreValue) (now : ℕ) (s : Connection) (m : Message) (takes 
       let k : History = after (after_message s m) (call.Reply response) in
       let queues : Queues (λ n. n.token ≡ m.token) (after_message s m) k = reply_queues (after_message s m) response in
       record {
-        heard = m ∷ [];
+        received = m ∷ [];
         handled = reply_handled (after_message s m) response ∙ message_handled s.history m takes;
         more = queues.more;
-        queued = queues.same ∙ ap (λ ms. ms ++ queues.more) (asked_queued None s.history m asks);
+        queued = queues.same ∙ ap (λ ms. ms ++ queues.more) (request_queued None s.history m asks);
         spares = λ token none calm. (
           record {
             others = kept_open_has (HaveOtherTokens token) tt k _
@@ -211,7 +211,7 @@ pub handled_moves : (store : StoreValue) (now : ℕ) (s : Connection) (m : Messa
     → takes_messages s.history.phase ≡ true → Moves s (side_handled store now s m)
 handled_moves store now s m server takes =
     handled_cases store now s m (Moves s) (λ other. message_moves s m server)
-    (λ asks by moment asked. late_moves store now s m takes asks by moment)
+    (λ asks by moment requested. late_moves store now s m takes asks by moment)
     (λ asks. prompt_moves store now s m takes asks (prompt_answer store now m))
 
 -- ---- other effects
@@ -221,7 +221,7 @@ plain_moves : (s t : Connection) → Queues IsPlain s.history t.history
     → ((token : List ℕ) → Engineless token s.history t.history)
     → ((token : List ℕ) → HaveOtherTokens token s.observers → HaveOtherTokens token t.observers) → Moves s t
 plain_moves s t queues engine others = record {
-  heard = queues.heard;
+  received = queues.received;
   handled = queues.handled;
   more = queues.more;
   queued = queues.same;
@@ -274,45 +274,45 @@ no_engine_without token (b ∷ before) e later none =
 
 -- The entry that is due first is removed.
 pub due_engineless : (token : List ℕ) (h : History) (now : ℕ) (by : Responder) (own : List ℕ) (moment : ℕ)
-    → first_due now h.held ≡ Some (Answer by own moment) → NoEngine token h.held
-    → (is_engine_for token (Answer by own moment) ≡ false) × NoEngine token (without_due now h.held)
+    → first_due now h.pending ≡ Some (Answer by own moment) → NoEngine token h.pending
+    → (is_engine_for token (Answer by own moment) ≡ false) × NoEngine token (without_due now h.pending)
 due_engineless token h now by own moment is none =
-    let first = due_answer now h.held by own moment is in
+    let first = due_answer now h.pending by own moment is in
     let parts =
     no_engine_without token first.before (Answer by own moment) first.after (subst (NoEngine token) first.there none) in
     (parts.0, subst (NoEngine token) (sym first.without) parts.1)
 
 pub engine_moves : (s : Connection) (now : ℕ) (own : List ℕ) (moment : ℕ)
-    → first_due now s.history.held ≡ Some (Answer Engine own moment)
+    → first_due now s.history.pending ≡ Some (Answer Engine own moment)
     → Moves s (with_history s (after_sent s.history now (Answer Engine own moment)))
 engine_moves s now own moment is =
     let g : History = without_first s.history now in
-    let k : History = after g (call.Reply (held_message Engine own)) in
-    let queues : Queues (λ n. n.token ≡ own) g k = reply_queues g (held_message Engine own) in
-    subst (λ (f : History). Moves s (with_history s (after f (call.Reply (held_message Engine own)))))
+    let k : History = after g (call.Reply (late_message Engine own)) in
+    let queues : Queues (λ n. n.token ≡ own) g k = reply_queues g (late_message Engine own) in
+    subst (λ (f : History). Moves s (with_history s (after f (call.Reply (late_message Engine own)))))
     (sym (answer_goes s.history now Engine own moment is)) (record {
-      heard = [];
-      handled = reply_handled g (held_message Engine own) ∙ sym (append-nil s.history.handled);
+      received = [];
+      handled = reply_handled g (late_message Engine own) ∙ sym (append-nil s.history.handled);
       more = queues.more;
       queued = queues.same;
       spares = λ token none calm. (
           let due = due_engineless token s.history now Engine own moment is calm.engine in (
             record {
               others = kept_open_has (HaveOtherTokens token) tt k s.observers calm.others;
-              engine = reply_engineless token g (held_message Engine own) due.1;
+              engine = reply_engineless token g (late_message Engine own) due.1;
             },
             all_to (λ n. n.token ≡ own) (λ n. responds token n ≡ false)
                 (λ n same. other_response token own n due.0 same) queues.more queues.such,
           ));
     })
 
-pub pong_moves : (s : Connection) (now : ℕ) (own : List ℕ) → first_due now s.history.held ≡ Some (Pong own)
+pub pong_moves : (s : Connection) (now : ℕ) (own : List ℕ) → first_due now s.history.pending ≡ Some (Pong own)
     → Moves s (with_history s (after s.history (call.Due now)))
 pong_moves s now own is =
     let k : History = after s.history (call.Due now) in
     let queues : Queues IsNoResponse s.history k = due_queues s.history now in
     record {
-      heard = queues.heard;
+      received = queues.received;
       handled = queues.handled;
       more = queues.more;
       queued = queues.same;
@@ -325,10 +325,10 @@ pong_moves s now own is =
       );
     }
   where
-    pong_engineless : (token : List ℕ) → NoEngine token s.history.held
-        → NoEngine token (after s.history (call.Due now)).held
+    pong_engineless : (token : List ℕ) → NoEngine token s.history.pending
+        → NoEngine token (after s.history (call.Due now)).pending
     pong_engineless token none =
-        let there = due_pong now s.history.held own is in
+        let there = due_pong now s.history.pending own is in
         let rest = (subst (NoEngine token) there none).1 in
         grind arith
 
@@ -346,7 +346,7 @@ notified_moves store now s (Some o) there =
     let k : History = after s.history (call.Reply m) in
     let queues : Queues (λ n. n.token ≡ o.token) s.history k = reply_queues s.history m in
     record {
-      heard = [];
+      received = [];
       handled = reply_handled s.history m ∙ sym (append-nil s.history.handled);
       more = queues.more;
       queued = queues.same;

@@ -38,7 +38,7 @@ pub record KeepsRequests (limits : LimitValues) (a : Option ApplicationsValue)
   pub announced : (s : Connection) (size : ℕ) (rs : List ApplicationRequest) → P s rs → P (side_announced s size) rs
   pub responded : (s : Connection) (m : Message) (rs : List ApplicationRequest) → P s rs
       → P (side_responded s m) (requests_responded s m rs)
-  pub told : (store : StoreValue) (now : ℕ) (s : Connection) (rs : List ApplicationRequest) → P s rs
+  pub reported : (store : StoreValue) (now : ℕ) (s : Connection) (rs : List ApplicationRequest) → P s rs
       → P (settled_once store now s) (requests_once now s rs)
 
 module _ (limits : LimitValues) (a : Option ApplicationsValue) (P : Connection → List ApplicationRequest → Type 0)
@@ -104,13 +104,13 @@ module _ (limits : LimitValues) (a : Option ApplicationsValue) (P : Connection �
         follower_is limits s (settled_once store now s)
             (once_between GoesOn GoesOn as_before further all_go_on.replies all_go_on.lets_go
             all_go_on.pongs store now s) is.0,
-        keeps.told store now s rs is.1,
+        keeps.reported store now s rs is.1,
       )
 
   settled_good : (store : StoreValue) (now : ℕ) (s : Connection) (rs : List ApplicationRequest) → Good s rs
       → Good (settled store now s) (requests_settled store now s rs)
   unfolding settled requests_settled
-  settled_good store now s rs = within_good (length s.history.held + length s.observers) store now s rs
+  settled_good store now s rs = within_good (length s.history.pending + length s.observers) store now s rs
 
   module _ (id : ℕ) where
     -- The connection with this id, if it exists, has the property with these requests.

@@ -7,17 +7,17 @@ use Rattle.std.proofs.lemmas.List.{length-drop}
 use Rattle.coap_model.specs.Prelude.{Message, StreamFault, Reply, Server, LimitValues, takes_messages, answers}
 use Rattle.coap_model.specs.Prelude.{is_open, fit, bare_response, PendingEntryValue, first_due, ConnectionState}
 use Rattle.coap_model.specs.Prelude.{ReactionResult, send, send_as}
-use Rattle.coap_model.specs.Prelude.{pong_with, due_effect, History, IsHistory, standing_now, with_effect, after}
-use Rattle.coap_model.specs.Prelude.{link_of, may_hold, bytes_of, own_csm, Call, call_effect, standing_due}
-use Rattle.coap_model.specs.Prelude.{standing_without, limit_now}
+use Rattle.coap_model.specs.Prelude.{pong_with, due_effect, History, IsHistory, state_now, with_effect, after}
+use Rattle.coap_model.specs.Prelude.{link_of, may_hold, bytes_of, own_csm, Call, call_effect, state_due}
+use Rattle.coap_model.specs.Prelude.{state_without, limit_now}
 use Rattle.coap_model.specs.Prelude.{StoreValue, ApplicationsValue, ConfigValues, Connection, new_side, handles}
 use Rattle.coap_model.specs.Prelude.{has_room}
 use Rattle.coap_model.specs.Prelude.{side_after, side_faulted, side_written, side_ended, side_released}
-use Rattle.coap_model.specs.Prelude.{side_announced, side_responded, held_message, after_sent, settled_once, settled}
+use Rattle.coap_model.specs.Prelude.{side_announced, side_responded, late_message, after_sent, settled_once, settled}
 use Rattle.coap_model.specs.Prelude.{World, Step}
 use Rattle.coap_model.specs.Prelude.{side_of, AcceptedCall, world_after}
 use Rattle.coap_conn.specs.declared.phase.Reply.TheVariants as reply
-use Rattle.coap_conn.specs.PendingEntries as held
+use Rattle.coap_conn.specs.PendingEntries as pending
 use Rattle.coap_conn.specs.Calls.{IsWithin}
 use Rattle.coap_conn.specs.Calls as call
 use Rattle.coap_conn.proofs.LinkLemmas.{new_shown, history_more}
@@ -62,10 +62,10 @@ sent_over s m less reply.Stopped e = refl
 sent_over s m less other e = e
 
 pub sent_goes_so : (h : History) (m less : Message) → GoesOn h (sent h m less)
-sent_goes_so h m less = effect_goes_on h _ (sent_over (standing_now h) m less (fit (standing_now h).limit m less))
+sent_goes_so h m less = effect_goes_on h _ (sent_over (state_now h) m less (fit (state_now h).limit m less))
 
-pub holding_so : (h : History) (held : List PendingEntryValue) → GoesOn h (holding h held)
-holding_so h held = record { role = refl; limits = refl; history = λ is. is; over = λ e. e }
+pub holding_so : (h : History) (pending : List PendingEntryValue) → GoesOn h (holding h pending)
+holding_so h pending = record { role = refl; limits = refl; history = λ is. is; over = λ e. e }
 
 pub written_goes_on : (h : History) (n : ℕ) → n ≤ length (link_of h).waiting → GoesOn h (after h (call.Written n))
 written_goes_on h n within = record {
@@ -89,7 +89,7 @@ all_go_on = record {
   ends = λ h cut takes. effect_goes_on h _ (λ none. refl);
   releases = λ h opened none. effect_goes_on h _ (λ none. refl);
   responds = λ h m answering none.
-      effect_goes_on h _ (sent_over (standing_without m.token (standing_now h)) m (bare_response m)
+      effect_goes_on h _ (sent_over (state_without m.token (state_now h)) m (bare_response m)
       (fit (limit_now h) m (bare_response m)));
   announces = λ h size opened room fits. record {
     role = refl;
@@ -104,7 +104,7 @@ all_go_on = record {
 
 due_over : (s : ConnectionState) (first : Option PendingEntryValue) → takes_messages s.phase ≡ false
     → takes_messages (due_effect s first).phase ≡ false
-due_over s (Some (held.Pong token)) e =
+due_over s (Some (pending.Pong token)) e =
     sent_over s (pong_with true token) (pong_with false token)
     (fit s.limit (pong_with true token) (pong_with false token)) e
 due_over s other e = e
@@ -119,12 +119,12 @@ call_goes_on h (call.Hold token moment) within =
 call_goes_on h (call.HoldRequest token moment) within =
     if_between GoesOn (is_open h.phase && may_hold h) h _ (as_before h) (λ may. holding_so h _)
 call_goes_on h (call.Respond m) within =
-    let e : ReactionResult = send (standing_without m.token (standing_now h)) m (bare_response m) in
+    let e : ReactionResult = send (state_without m.token (state_now h)) m (bare_response m) in
     if_between GoesOn (call_effect (link_of h) (call.Respond m)).so h (with_effect h e) (as_before h)
     (λ so. effect_goes_on h e
-    (sent_over (standing_without m.token (standing_now h)) m (bare_response m) (fit (limit_now h) m (bare_response m))))
+    (sent_over (state_without m.token (state_now h)) m (bare_response m) (fit (limit_now h) m (bare_response m))))
 call_goes_on h (call.Due now) within =
-    effect_goes_on h _ (due_over (standing_due now (standing_now h)) (first_due now h.held))
+    effect_goes_on h _ (due_over (state_due now (state_now h)) (first_due now h.pending))
 call_goes_on h (call.Written n) within = written_goes_on h n within
 call_goes_on h other within =
     if_between GoesOn _ h _ (as_before h)
@@ -132,10 +132,10 @@ call_goes_on h other within =
 
 -- The first due entry is removed, and its message is sent.
 pub sent_goes_on : (h : History) (now : ℕ) (e : PendingEntryValue) → GoesOn h (after_sent h now e)
-sent_goes_on h now (held.Answer by token moment) =
+sent_goes_on h now (pending.Answer by token moment) =
     let k : History = after h (call.Due now) in
-    further h k _ (call_goes_on h (call.Due now) tt) (call_goes_on k (call.Reply (held_message by token)) tt)
-sent_goes_on h now (held.Pong token) = call_goes_on h (call.Due now) tt
+    further h k _ (call_goes_on h (call.Due now) tt) (call_goes_on k (call.Reply (late_message by token)) tt)
+sent_goes_on h now (pending.Pong token) = call_goes_on h (call.Due now) tt
 
 pub settled_goes_on : (store : StoreValue) (now : ℕ) (s : Connection) → Between GoesOn s (settled store now s)
 settled_goes_on = settled_between GoesOn all_go_on.composes all_go_on.replies all_go_on.lets_go all_go_on.pongs
@@ -187,7 +187,7 @@ pub record Keeps (limits : LimitValues) (a : Option ApplicationsValue) (P : Conn
   pub released : (s : Connection) → P s → P (side_released s)
   pub announced : (s : Connection) (size : ℕ) → P s → P (side_announced s size)
   pub responded : (s : Connection) (m : Message) → P s → P (side_responded s m)
-  pub told : (store : StoreValue) (now : ℕ) (s : Connection) → P s → P (settled_once store now s)
+  pub reported : (store : StoreValue) (now : ℕ) (s : Connection) → P s → P (settled_once store now s)
 
 -- Each connection continues the earlier one, and has the property afterwards.
 abbrev GoesOnKeeping : LimitValues → (Connection → Type 0) → Connection → Connection → Type 0
@@ -206,10 +206,10 @@ keeps_hold limits a P keeps w st id same =
       released = λ s. (goes.released s, λ side. keeps.released s);
       announced = λ size at s. (goes.announced size at s, λ side. keeps.announced s size);
       responded = λ s m. (goes.responded s m, λ side. keeps.responded s m);
-      told =
+      reported =
           λ store now s t before. (
-            goes.told store now s t before.0,
-            λ side is. keeps.told store now t (before.1 side is),
+            goes.reported store now s t before.0,
+            λ side is. keeps.reported store now t (before.1 side is),
           );
     }
 

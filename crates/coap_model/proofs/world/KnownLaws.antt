@@ -7,7 +7,7 @@ use Rattle.coap_model.specs.Prelude.{built, text_plain, is_observable, is_dynami
 use Rattle.coap_model.specs.Prelude.{Change, Nothing, Put, Delete, changed, immediate_answer, prompt_answer, only}
 use Rattle.coap_model.specs.Prelude.{content, Response}
 use Rattle.coap_model.specs.Prelude.{etag_at, is_among, valid, answer_at, removes_watch, with_observe_rule, answer_of}
-use Rattle.coap_model.specs.Prelude.{unheld_by, AreDistinct, notification_at, Time, Dynamic}
+use Rattle.coap_model.specs.Prelude.{without_hold_if, AreDistinct, notification_at, Time, Dynamic}
 use Rattle.coap_model.specs.Prelude.{Observer, same_state, is_due, entry_for, format_of}
 use Rattle.coap_model.specs.Prelude.{goes_on, notification, notification_message}
 use Rattle.coap_model.specs.Prelude.{response_with_observe, responds, etag_of_state, ReportsState}
@@ -32,7 +32,7 @@ use Rattle.coap_model.specs.world.Observers as world
 -- The state sent last was stored: it has a version, and no other representation has this version at the path.
 pub record KnowsStored (store : StoreValue) (o : Observer) : Type 0 where
   pub state : Representation
-  pub was : o.told ≡ Some state
+  pub was : o.reported ≡ Some state
   pub numbered : 1 ≤ state.version
   pub given : state.version ≤ store.versions
   pub same : (r : Representation) → found_in store.resources o.path ≡ Some r → r.version ≡ state.version → r ≡ state
@@ -40,7 +40,7 @@ pub record KnowsStored (store : StoreValue) (o : Observer) : Type 0 where
 -- The state sent last was a time.
 pub record KnowsMoment (o : Observer) : Type 0 where
   pub moment : ℕ
-  pub was : o.told ≡ built text_plain (decimal moment)
+  pub was : o.reported ≡ built text_plain (decimal moment)
   pub small : moment ≤ 18446744073709551615
 
 -- Created resources and `/time` can be observed, and no others.
@@ -76,7 +76,7 @@ format_is (Some m) (Some n) e = ap Some (eqb-true m n e)
 format_is f g e = absurd cc
 
 -- States that compare as the same are equal.
-pub state_is : (told state : Option Representation) → same_state told state ≡ true → told ≡ state
+pub state_is : (reported state : Option Representation) → same_state reported state ≡ true → reported ≡ state
 state_is None None e = refl
 state_is (Some r) (Some q) e =
     let first =
@@ -86,35 +86,36 @@ state_is (Some r) (Some q) e =
     let format : r.format ≡ q.format = format_is r.format q.format second.1 in
     let bytes : r.bytes ≡ q.bytes = (bytes_decides r.bytes q.bytes).0 first.1 in
     λ i. Some (record { version = version i; format = format i; bytes = bytes i })
-state_is told state e = absurd cc
+state_is reported state e = absurd cc
 
 -- An observer that is not due was last sent the current state.
-pub told_now : (store : StoreValue) (now : ℕ) (o : Observer) → is_due store now o ≡ false
-    → o.told ≡ state_of store now o.path
+pub sent_now : (store : StoreValue) (now : ℕ) (o : Observer) → is_due store now o ≡ false
+    → o.reported ≡ state_of store now o.path
 unfolding is_due
-told_now store now o e =
-    state_is o.told (state_of store now o.path) (not-false (same_state o.told (state_of store now o.path)) e)
+sent_now store now o e =
+    state_is o.reported (state_of store now o.path) (not-false (same_state o.reported (state_of store now o.path)) e)
 
 -- An observer that was last sent the current state is not due.
-pub not_due : (store : StoreValue) (now : ℕ) (o : Observer) → o.told ≡ state_of store now o.path
+pub not_due : (store : StoreValue) (now : ℕ) (o : Observer) → o.reported ≡ state_of store now o.path
     → is_due store now o ≡ false
 unfolding is_due
 not_due store now o e =
-    ap (λ told. not (same_state told (state_of store now o.path))) e ∙ ap not (state_itself (state_of store now o.path))
+    ap (λ reported. not (same_state reported (state_of store now o.path))) e
+    ∙ ap not (state_itself (state_of store now o.path))
 
 -- ---- changes of the store
 
 -- A representation found after a change has the version that the change assigned, or was in the store before.
-found_behind : (store : StoreValue) (change : Change) (path : Path) (r : Representation) → AreDistinct store.resources
+found_later : (store : StoreValue) (change : Change) (path : Path) (r : Representation) → AreDistinct store.resources
     → found_in (changed store change).resources path ≡ Some r
     → ((store.versions < r.version) × (r.version ≤ (changed store change).versions))
     ⊎ (found_in store.resources path ≡ Some r)
-found_behind store Nothing path r distinct found = inr found
-found_behind store (Put at format bytes) path r distinct found = by_path path at
+found_later store Nothing path r distinct found = inr found
+found_later store (Put at format bytes) path r distinct found = by_path path at
     (λ here. (let version : store.versions + 1 ≡ r.version = cc (put_is_stored store at format bytes) in
     inl (omega arith, omega arith)))
     (λ apart. inr (sym (other_is_kept_on_put store at path format bytes apart) ∙ found))
-found_behind store (Delete at) path r distinct found =
+found_later store (Delete at) path r distinct found =
     by_path path at (λ here. absurd (cc (deleted_is_gone store at distinct)))
     (λ apart. inr (sym (other_is_kept_on_delete store at path apart) ∙ found))
 
@@ -125,11 +126,11 @@ versions_grow store other = omega arith
 pub still_versioned : (store : StoreValue) (change : Change) → IsVersioned store → IsVersioned (changed store change)
 still_versioned store change is = record {
   distinct = distinct_stays store change is.distinct;
-  numbered = λ path r found. elim (found_behind store change path r is.distinct found) [
+  numbered = λ path r found. elim (found_later store change path r is.distinct found) [
     | inl new ↦ omega arith
     | inr old ↦ is.numbered path r old
   ];
-  given = λ path r found. elim (found_behind store change path r is.distinct found) [
+  given = λ path r found. elim (found_later store change path r is.distinct found) [
     | inl new ↦ new.1
     | inr old ↦ omega (arith, is.given path r old, versions_grow store change)
   ];
@@ -142,7 +143,7 @@ known_at_still Dynamic store change o is known = record {
   was = known.was;
   numbered = known.numbered;
   given = omega (arith, known.given, versions_grow store change);
-  same = λ r found version. elim (found_behind store change o.path r is.distinct found) [
+  same = λ r found version. elim (found_later store change o.path r is.distinct found) [
     | inl new ↦ absurd (omega (arith, known.given))
     | inr old ↦ known.same r old version
   ];
@@ -164,30 +165,30 @@ pub record IsWatchable (store : StoreValue) (now : ℕ) (path : Path) : Type 0 w
   pub representation : Representation
   pub there : state_of store now path ≡ Some representation
 
-told_at : (place : ResourceKind) (store : StoreValue) (now : ℕ) (token : List ℕ) (path : Path) (r : Representation)
+sent_at : (place : ResourceKind) (store : StoreValue) (now : ℕ) (token : List ℕ) (path : Path) (r : Representation)
     → now ≤ 18446744073709551615 → IsVersioned store → is_observable place ≡ true
     → state_at store now (Some path) place ≡ Some r
-    → IsKnownAt place store (record { token = token; path = path; told = Some r })
+    → IsKnownAt place store (record { token = token; path = path; reported = Some r })
 unfolding state_at
-told_at Time store now token path r small is e there = record { moment = now; was = sym there; small = small }
-told_at Dynamic store now token path r small is e there = record {
+sent_at Time store now token path r small is e there = record { moment = now; was = sym there; small = small }
+sent_at Dynamic store now token path r small is e there = record {
   state = r;
   was = refl;
   numbered = is.numbered path r there;
   given = is.given path r there;
   same = λ q found version. (let one : Some q ≡ Some r = sym found ∙ there in cc);
 }
-told_at other store now token path r small is e there = absurd cc
+sent_at other store now token path r small is e there = absurd cc
 
 -- An observer that is sent the current state has the facts.
-pub told_known : (store : StoreValue) (now : ℕ) (token : List ℕ) (path : Path) → now ≤ 18446744073709551615
+pub sent_known : (store : StoreValue) (now : ℕ) (token : List ℕ) (path : Path) → now ≤ 18446744073709551615
     → IsVersioned store → IsWatchable store now path
-    → IsKnown store (record { token = token; path = path; told = state_of store now path })
-told_known store now token path small is can =
+    → IsKnown store (record { token = token; path = path; reported = state_of store now path })
+sent_known store now token path small is can =
     rw can.there (record {
       key = can.key;
       state =
-          told_at (kind_of_path path) store now token path can.representation small is can.observable
+          sent_at (kind_of_path path) store now token path can.representation small is can.observable
           (rw can.key at can.there);
     })
 
@@ -208,21 +209,21 @@ known_observable Dynamic store o known = refl
 known_observable other store o known = absurd known
 
 -- A notification with Observe is the 2.05 of the state, in the format sent last.
-pub record TellsOn (place : ResourceKind) (state : Option Representation) (format : Option ℕ)
+pub record ReportsOn (place : ResourceKind) (state : Option Representation) (format : Option ℕ)
     (a : Response) : Type 0 where
   pub representation : Representation
   pub there : state ≡ Some representation
   pub same : representation.format ≡ format
   pub says : a ≡ content place representation
 
-tells_on_at : (place : ResourceKind) (state : Option Representation) (format : Option ℕ)
+reports_on_at : (place : ResourceKind) (state : Option Representation) (format : Option ℕ)
     → goes_on (notification_at place state format) ≡ true
-    → TellsOn place state format (notification_at place state format)
+    → ReportsOn place state format (notification_at place state format)
 unfolding notification_at
-tells_on_at place None format e = absurd cc
-tells_on_at place (Some r) format e =
+reports_on_at place None format e = absurd cc
+reports_on_at place (Some r) format e =
     cond_both (option_eq nat_eq r.format format) (content place r) (only code.not_acceptable)
-    (λ a. goes_on a ≡ true → TellsOn place (Some r) format a)
+    (λ a. goes_on a ≡ true → ReportsOn place (Some r) format a)
     (λ same on. record {
       representation = r;
       there = refl;
@@ -230,19 +231,20 @@ tells_on_at place (Some r) format e =
       says = refl;
     }) (λ other on. absurd cc) e
 
-pub tells_on_to_observer : (store : StoreValue) (now : ℕ) (o : Observer) → goes_on (notification store now o) ≡ true
-    → TellsOn (kind_of_path o.path) (state_of store now o.path) (format_of o.told) (notification store now o)
-tells_on_to_observer store now o e = tells_on_at (kind_of_path o.path) (state_of store now o.path) (format_of o.told) e
+pub reports_on_to_observer : (store : StoreValue) (now : ℕ) (o : Observer) → goes_on (notification store now o) ≡ true
+    → ReportsOn (kind_of_path o.path) (state_of store now o.path) (format_of o.reported) (notification store now o)
+reports_on_to_observer store now o e = reports_on_at (kind_of_path o.path) (state_of store now o.path)
+    (format_of o.reported) e
 
 pub left_watchable : (store : StoreValue) (now : ℕ) (o : Observer) → IsKnown store o
     → goes_on (notification store now o) ≡ true → IsWatchable store now o.path
 left_watchable store now o known e =
-    let tells = tells_on_to_observer store now o e in
+    let reports = reports_on_to_observer store now o e in
     record {
       key = known.key;
       observable = known_observable (kind_of_path o.path) store o known.state;
-      representation = tells.representation;
-      there = tells.there;
+      representation = reports.representation;
+      there = reports.there;
     }
 
 -- ---- responses that report a state
@@ -252,23 +254,23 @@ abbrev pub SaysState : ResourceKind → Representation → Response → Type 0
 SaysState place r a = (a ≡ content place r) ⊎ ((a ≡ etag_of_state r) × (is_dynamic place ≡ true))
 
 -- Such a response with Observe reports the state.
-pub says_tells : (o : Observer) (state : Option Representation) (r : Representation) (a : Response) → state ≡ Some r
+pub says_reports : (o : Observer) (state : Option Representation) (r : Representation) (a : Response) → state ≡ Some r
     → SaysState (kind_of_path o.path) r a → ReportsState o state (response_with_observe o.token true a)
-says_tells o state r a there (inl e) = rw there (inl (ap (response_with_observe o.token true) e))
-says_tells o state r a there (inr e) = rw there (inr (ap (response_with_observe o.token true) e.0, e.1))
+says_reports o state r a there (inl e) = rw there (inl (ap (response_with_observe o.token true) e))
+says_reports o state r a there (inr e) = rw there (inr (ap (response_with_observe o.token true) e.0, e.1))
 
 -- A message that reports a state is a response with the observer's token.
-pub tells_responds : (o : Observer) (state : Option Representation) (m : Message) → ReportsState o state m
+pub reports_responds : (o : Observer) (state : Option Representation) (m : Message) → ReportsState o state m
     → responds o.token m ≡ true
-tells_responds o None m tells = absurd tells
-tells_responds o (Some r) m (inl e) = ap (responds o.token) e ∙ bytes_itself o.token
-tells_responds o (Some r) m (inr e) = ap (responds o.token) e.0 ∙ bytes_itself o.token
+reports_responds o None m reports = absurd reports
+reports_responds o (Some r) m (inl e) = ap (responds o.token) e ∙ bytes_itself o.token
+reports_responds o (Some r) m (inr e) = ap (responds o.token) e.0 ∙ bytes_itself o.token
 
 -- ---- answers
 
 -- An answer that adds an observer reports the state of the path.
-abbrev TellsWell : ResourceKind → Option Representation → Answer → Type 0
-TellsWell place state a = a.watch ≡ watch.Add → (r : Representation) × (state ≡ Some r) × SaysState place r a.response
+abbrev ReportsWell : ResourceKind → Option Representation → Answer → Type 0
+ReportsWell place state a = a.watch ≡ watch.Add → (r : Representation) × (state ≡ Some r) × SaysState place r a.response
 
 -- An ETag matches only if the state is stored.
 valid_says : (place : ResourceKind) (r : Representation) (etags : List (List ℕ))
@@ -276,9 +278,9 @@ valid_says : (place : ResourceKind) (r : Representation) (etags : List (List ℕ
 valid_says Dynamic r etags e = inr (refl, refl)
 valid_says other r etags e = absurd cc
 
-telling_at : (s : StoreValue) (t : RequestTarget) (m : Message) → TellsWell t.place t.state (answer_at s t m)
+telling_at : (s : StoreValue) (t : RequestTarget) (m : Message) → ReportsWell t.place t.state (answer_at s t m)
 telling_at s t m =
-    let P : Answer → Type 0 = TellsWell t.place t.state in
+    let P : Answer → Type 0 = ReportsWell t.place t.state in
     answer_cases P s t m (λ c error e. absurd cc) (record {
       read = λ r is. get_cases P t.place r m (λ c error e. absurd cc) (record {
         valid = λ among e. (r, is, valid_says t.place r _ among);
@@ -291,39 +293,40 @@ telling_at s t m =
     })
 
 -- The answer that adds an observer is not delayed, and reports the state that the entry records.
-immediately_tells : (store : StoreValue) (now : ℕ) (m : Message) → (immediate_answer store now m).watch ≡ watch.Add
+immediately_reports : (store : StoreValue) (now : ℕ) (m : Message) → (immediate_answer store now m).watch ≡ watch.Add
     → ReportsState (entry_for store now m) (state_of store now (path_of m))
     (response_with_observe m.token true (immediate_answer store now m).response)
 unfolding answer_of immediate_answer
-immediately_tells store now m e =
+immediately_reports store now m e =
     let t : RequestTarget = target_of store now (path_of m) in
-    let tells : TellsWell t.place t.state (immediate_answer store now m) =
+    let reports : ReportsWell t.place t.state (immediate_answer store now m) =
     there_or_not (answer_of store now m).hold
-    (λ hold. TellsWell t.place t.state (unheld_by hold (answer_of store now m)))
-    (λ none. elim (removes_watch m) as (λ b. TellsWell t.place t.state (with_observe_rule b (answer_at store t m))) [
+    (λ hold. ReportsWell t.place t.state (without_hold_if hold (answer_of store now m)))
+    (λ none. elim (removes_watch m) as (λ b. ReportsWell t.place t.state (with_observe_rule b (answer_at store t m))) [
       | true ↦ λ e. absurd cc
       | false ↦ telling_at store t m
     ])
-    (λ seconds held e. (let at_once = watched_at_once store now m e in absurd cc)) in
-    let is = tells e in
-    says_tells (entry_for store now m) (state_of store now (path_of m)) is.0
+    (λ seconds pending e. (let at_once = watched_at_once store now m e in absurd cc)) in
+    let is = reports e in
+    says_reports (entry_for store now m) (state_of store now (path_of m)) is.0
     (immediate_answer store now m).response is.1 is.2
 
 -- A request that the application answers adds none.
-pub entry_tells : (store : StoreValue) (now : ℕ) (m : Message) → (prompt_answer store now m).watch ≡ watch.Add
+pub entry_reports : (store : StoreValue) (now : ℕ) (m : Message) → (prompt_answer store now m).watch ≡ watch.Add
     → ReportsState (entry_for store now m) (state_of store now (path_of m))
     (response_with_observe m.token true (prompt_answer store now m).response)
-entry_tells store now m =
+entry_reports store now m =
     prompt_cases store now m (λ a. a.watch ≡ watch.Add → ReportsState (entry_for store now m)
     (state_of store now (path_of m)) (response_with_observe m.token true a.response))
-    (λ e. absurd cc) (immediately_tells store now m)
+    (λ e. absurd cc) (immediately_reports store now m)
 
 -- ---- notifications
 
 -- A notification with Observe reports the state that the entry records from then on.
-pub notification_tells_observer : (store : StoreValue) (now : ℕ) (o : Observer)
+pub notification_reports_observer : (store : StoreValue) (now : ℕ) (o : Observer)
     → goes_on (notification store now o) ≡ true
     → ReportsState o (state_of store now o.path) (notification_message o.token (notification store now o))
-notification_tells_observer store now o on =
-    let is = tells_on_to_observer store now o on in
-    rw on (says_tells o (state_of store now o.path) is.representation (notification store now o) is.there (inl is.says))
+notification_reports_observer store now o on =
+    let is = reports_on_to_observer store now o on in
+    rw on (says_reports o (state_of store now o.path) is.representation (notification store now o) is.there
+    (inl is.says))

@@ -11,17 +11,17 @@ use Rattle.coap_model.specs.Prelude.{takes_messages, stop_of, announced, bad_csm
 use Rattle.coap_model.specs.Prelude.{announcement, size_limit, AllFit, fit, bare_response, PendingEntryValue, Answer}
 use Rattle.coap_model.specs.Prelude.{first_due, ConnectionState, send_as, send, react, pong_with, ReactionResult, stop}
 use Rattle.coap_model.specs.Prelude.{reaction_unless, live_reaction, reject_reason, History, IsHistory, limit_now}
-use Rattle.coap_model.specs.Prelude.{standing_now, after, link_of, with_effect, bytes_of, own_csm, free_in, release}
+use Rattle.coap_model.specs.Prelude.{state_now, after, link_of, with_effect, bytes_of, own_csm, free_in, release}
 use Rattle.coap_model.specs.Prelude.{end_reason, StoreValue, response_with_observe, ConfigValues, Observer, is_due}
 use Rattle.coap_model.specs.Prelude.{without_token, entry_for, left_of, first_becomes, Connection, new_side, waiting_on}
 use Rattle.coap_model.specs.Prelude.{settled_once, settled, side_of, World, Step, AcceptedCall, stream_on, world_after}
 use Rattle.coap_model.specs.Prelude.{AreAccepted, size_on, kept_on, unwrap_or, Server}
-use Rattle.coap_model.proofs.world.SideLaws.{send_held, observers_after, observers_settled}
+use Rattle.coap_model.proofs.world.SideLaws.{send_pending, observers_after, observers_settled}
 use Rattle.coap_wire.proofs.StreamSteps.{unfinished_below}
 use Rattle.coap_conn.proofs.LinkLemmas.{announced_more}
 use Rattle.coap_conn.proofs.WaitingLaws.{wait, one_small, limit_within, queued_waits, kept_small_by}
 use Rattle.coap_conn.proofs.SmallLemmas.{first_csm_bytes_small, release_bytes_small}
-use Rattle.coap_conn.proofs.PendingLaws.{due_nothing, due_fewer, held_few}
+use Rattle.coap_conn.proofs.PendingLaws.{due_nothing, due_fewer, pending_few}
 use Rattle.coap_conn.proofs.HistoryLaws.{reaction_fits, sent_fits, stopped_fits, new_fits, released_fits}
 use Rattle.coap_model.proofs.world.WalkLaws.{there_or_not, there_where, settled_keeps, observers_kept, release_fits}
 use Rattle.coap_model.proofs.world.WalkLaws.{room_in, sent, without_first, Hears, Replies, Between, once_between}
@@ -36,7 +36,7 @@ use Rattle.coap_model.proofs.world.StepLaws.{rest_unfinished, size_grows}
 use Rattle.coap_model.proofs.world.EntryLemmas.{all_append}
 use Rattle.coap_model.proofs.world.RespondedLaws.{request_fewer, responded_small, sent_is}
 use Rattle.coap_conn.proofs.ApplicationLaws.{responded_fits}
-use Rattle.coap_model.specs.Prelude.{standing_without}
+use Rattle.coap_model.specs.Prelude.{state_without}
 use Rattle.coap_model.proofs.OptionLemmas.{same_there}
 use Rattle.coap_wire.proofs.NumberLaws.{none_or_some}
 use Rattle.coap_conn.specs.Calls as call
@@ -73,7 +73,7 @@ few_keeps limits a =
       first = omega arith;
       -- An entry is added only if there is a place for it.
       handled = λ store now s m same is few. observers_after Few store now s m (omega arith) few
-          (omega (arith, few, token_fewer m.token s.observers)) (λ asked place. (
+          (omega (arith, few, token_fewer m.token s.observers)) (λ requested place. (
           let same : (after s.history (call.Handle m)).limits.observers ≡ limits.observers =
           ap (λ (l : LimitValues). l.observers) ((call_goes_on s.history (call.Handle m) tt).limits ∙ is.same_limits) in
           omega (arith, place, same, length-append (without_token m.token s.observers) (entry_for store now m ∷ []))));
@@ -83,7 +83,7 @@ few_keeps limits a =
       released = kept.released;
       announced = kept.announced;
       responded = kept.responded;
-      told = λ store now s few. observers_settled Few store now s (omega arith) few
+      reported = λ store now s few. observers_settled Few store now s (omega arith) few
           (λ o stays due on. omega (
             arith,
             few,
@@ -99,27 +99,31 @@ observers_within c = kept_after c (λ t. length t.observers ≤ c.limits.observe
 -- ---- pending entries
 
 abbrev HoldsFew : History → Type 0
-HoldsFew h = length h.held ≤ h.limits.pending
+HoldsFew h = length h.pending ≤ h.limits.pending
 
 -- Sending a message adds no entry.
 sent_few : (h : History) (m less : Message) → HoldsFew h → HoldsFew (sent h m less)
-sent_few h m less few = omega (arith, few, send_held (standing_now h) m less (fit (limit_now h) m less))
+sent_few h m less few = omega (arith, few, send_pending (state_now h) m less (fit (limit_now h) m less))
 
 -- The due entry is removed.
 taken_few : (h : History) (now : ℕ) → HoldsFew h → HoldsFew (without_first h now)
-taken_few h now few = there_or_not (first_due now h.held) (λ due. HoldsFew (without_first h now))
-    (λ none. omega (arith, few, ap (λ (es : List PendingEntryValue). length es) (due_nothing now h.held none).1))
-    (λ e is. omega (arith, few, due_fewer now h.held e is))
+taken_few h now few = there_or_not (first_due now h.pending) (λ due. HoldsFew (without_first h now))
+    (λ none. omega (arith, few, ap (λ (es : List PendingEntryValue). length es) (due_nothing now h.pending none).1))
+    (λ e is. omega (arith, few, due_fewer now h.pending e is))
 
 -- An entry is added only if the list has room, and a stop removes all.
 all_hold_few : KeepsAll (λ h k. HoldsFew h → HoldsFew k)
 all_hold_few = record {
   composes = keeping_composes HoldsFew;
-  takes_input = λ h m takes room few. held_few (standing_now h) m few;
+  takes_input = λ h m takes room few. pending_few (state_now h) m few;
   replies =
       λ h token observe r does room. (let m = response_with_observe token observe r in sent_few h m (bare_response m));
   holds = λ h by token moment opened may few.
-      omega (arith, ltb-true (length h.held) h.limits.pending may, length-append h.held (Answer by token moment ∷ []));
+      omega (
+        arith,
+        ltb-true (length h.pending) h.limits.pending may,
+        length-append h.pending (Answer by token moment ∷ []),
+      );
   lets_go = taken_few;
   pongs = λ h now token due room few. sent_few (without_first h now) (pong_with true token)
       (pong_with false token) (taken_few h now few);
@@ -128,20 +132,20 @@ all_hold_few = record {
   releases = λ h opened none few. omega arith;
   announces = λ h size opened room fit few. few;
   responds = λ h m answering none few.
-      (let s : ConnectionState = standing_without m.token (standing_now h) in
+      (let s : ConnectionState = state_without m.token (state_now h) in
       omega (
         arith,
         few,
-        send_held s m (bare_response m) (fit (limit_now h) m (bare_response m)),
+        send_pending s m (bare_response m) (fit (limit_now h) m (bare_response m)),
         request_fewer (link_of h) m none,
       ));
   writes = λ h n within few. few;
 }
 
 -- The pending entries do not exceed their limit.
-pub held_within : (c : ConfigValues) (es : List AcceptedCall) (id : ℕ) (s : Connection)
-    → side_of id (world_after c es).sides ≡ Some s → length s.history.held ≤ c.limits.pending
-held_within c es id s there =
+pub pending_within : (c : ConfigValues) (es : List AcceptedCall) (id : ℕ) (s : Connection)
+    → side_of id (world_after c es).sides ≡ Some s → length s.history.pending ≤ c.limits.pending
+pending_within c es id s there =
     let few : HoldsFew s.history = kept_history c HoldsFew (omega arith) all_hold_few es id s there in
     omega (arith, few, ap (λ (l : LimitValues). l.pending) (side_is c es id s there).same_limits)
 
@@ -155,7 +159,7 @@ sent_one s m less other = omega arith
 message_one : (s : ConnectionState) (m : Message) → length (react s m).effect.queued ≤ 1
 message_one s m = react_so s m (λ e. length e.queued ≤ 1) (record {
   stays = omega arith;
-  stands = λ now outstanding stands. omega arith;
+  silent = λ now outstanding silent. omega arith;
   stops = λ why farewell plain one may. one;
   queues = λ n no. omega arith;
   keeps = λ ping custody some. omega arith;
@@ -188,11 +192,11 @@ all_wait : KeepsAll (λ h k. Waits h → Waits k)
 all_wait = record {
   composes = keeping_composes Waits;
   takes_input = λ h m takes room. added_waits h _ _ (all_go_on.takes_input h m takes room) refl room
-      (message_one (standing_now h) m) (reaction_fits h m);
+      (message_one (state_now h) m) (reaction_fits h m);
   replies = λ h token observe r does room.
       (let m = response_with_observe token observe r in
       added_waits h _ _ (all_go_on.replies h token observe r does room) refl room
-      (sent_one (standing_now h) m (bare_response m) _) (sent_fits h m (bare_response m)));
+      (sent_one (state_now h) m (bare_response m) _) (sent_fits h m (bare_response m)));
   holds = λ h by token moment opened may. waits_by h _ (all_go_on.holds h by token moment opened may) (λ w. w.few);
   lets_go = λ h now. waits_by h _ (all_go_on.lets_go h now) (λ w. w.few);
   pongs = λ h now token due room.
@@ -200,7 +204,7 @@ all_wait = record {
       let m = pong_with true token in
       let less = pong_with false token in
       added_waits h _ _ (all_go_on.pongs h now token due room) refl room
-      (sent_one (standing_now k) m less _) (sent_fits k m less));
+      (sent_one (state_now k) m less _) (sent_fits k m less));
   rejects = λ h fault takes room.
       added_waits h _ _ (all_go_on.rejects h fault takes room) refl room (abort_one (limit_now h) _)
       (stopped_fits h (reject_reason fault));
@@ -214,7 +218,7 @@ all_wait = record {
         (release_fits (link_of h) none).0,
       ));
   responds = λ h m answering none. waits_by h _ (all_go_on.responds h m answering none) (λ w. (
-      let s : ConnectionState = standing_without m.token (standing_now h) in
+      let s : ConnectionState = state_without m.token (state_now h) in
       let ms : List Message = (send s m (bare_response m)).queued in
       let small = responded_small (link_of h) m none in
       omega (
@@ -319,18 +323,18 @@ effect_evenly h e fit = record { grows = record { more = e.queued; queued = refl
 reply_evenly : Replies GrowsEvenly
 reply_evenly h token observe r does room =
     let m : Message = response_with_observe token observe r in
-    effect_evenly h (send (standing_now h) m (bare_response m)) (sent_fits h m (bare_response m))
+    effect_evenly h (send (state_now h) m (bare_response m)) (sent_fits h m (bare_response m))
 
 -- A message that changes the limit queues nothing.
 message_grows : Hears GrowsFitting
 message_grows h m takes room =
-    let more : List Message = (react (standing_now h) m).effect.queued in record {
+    let more : List Message = (react (state_now h) m).effect.queued in record {
       more = more;
       queued = refl;
       fit =
           rw (announced_more h.handled m) (there_or_not (announcement m)
           (λ said. AllFit (size_limit h.limits.max_sent (unwrap_or said (announced h.handled))) more)
-          (λ none. reaction_fits h m) (λ n is. rw (announcing_quiet (standing_now h) m n is) tt));
+          (λ none. reaction_fits h m) (λ n is. rw (announcing_quiet (state_now h) m n is) tt));
     }
 
 -- ---- a step
@@ -352,9 +356,9 @@ grows_of w st id = let same : (h : History) → GrowsFitting h h = λ h. (evenly
   written = written_between GrowsFitting same (λ h n within. (same_evenly h _ refl refl).grows);
   ended =
       ended_between GrowsFitting same
-      (λ h cut takes. (effect_evenly h (stop (standing_now h) (end_reason cut) []) tt).grows);
+      (λ h cut takes. (effect_evenly h (stop (state_now h) (end_reason cut) []) tt).grows);
   released = released_between GrowsFitting same (λ h opened none.
-      (effect_evenly h (stop (standing_now h) reason.ReleasedHere (release ∷ []))
+      (effect_evenly h (stop (state_now h) reason.ReleasedHere (release ∷ []))
       (released_fits h (release_fits (link_of h) none).1)).grows);
   responded =
       responded_between GrowsFitting same (λ h m answering none. (effect_evenly h _ (responded_fits h m)).grows);
@@ -364,7 +368,7 @@ grows_of w st id = let same : (h : History) → GrowsFitting h h = λ h. (evenly
         queued = refl;
         fit = (leb-true (length (spelling (own_csm n))) (limit_now h) fit, tt);
       }) s size;
-  told = λ store now s t is. grows_fitting_then s.history t.history _ is (once_evenly store now t);
+  reported = λ store now s t is. grows_fitting_then s.history t.history _ is (once_evenly store now t);
 }
 
 -- A step only appends to the queued messages of a connection, and the appended ones fit.

@@ -47,7 +47,7 @@ pub record KeptByStep (P : World → Type 0) (limits : LimitValues) (w : World) 
   pub opened : (id : ℕ) → st ≡ world.Opened id → side_of id w.sides ≡ None → P (opened_world limits w id)
   pub changed : (v : World) (g : ConnectionEntry → ConnectionEntry) → ((p : ConnectionEntry) → (g p).id ≡ p.id) → P v
       → P (record v { sides = map g v.sides })
-  pub told : (v : World) (store : StoreValue) (now : ℕ) → P v → P (record v { store = store; now = now })
+  pub reported : (v : World) (store : StoreValue) (now : ℕ) → P v → P (record v { store = store; now = now })
   pub dropped : (id : ℕ) → P (record w { sides = but id w.sides })
 
 module _ (P : World → Type 0) (limits : LimitValues) (w : World) (holds : P w) where
@@ -60,16 +60,17 @@ module _ (P : World → Type 0) (limits : LimitValues) (w : World) (holds : P w)
       cond_both (is_none (side_of id w.sides)) (opened_world limits w id) w P
       (λ free. keeps.opened id refl (none_where (side_of id w.sides) free)) (λ given. holds)
   acted_keeps (world.Handled id m) keeps =
-      keeps.told _ _ w.now (one_changed _ id (λ s. side_after w.store w.now s m) keeps)
+      keeps.reported _ _ w.now (one_changed _ id (λ s. side_after w.store w.now s m) keeps)
   acted_keeps (world.Faulted id fault) keeps = one_changed _ id (λ s. side_faulted s fault) keeps
   acted_keeps (world.Written id n) keeps = one_changed _ id (λ s. side_written s n) keeps
   acted_keeps (world.Ticked now) keeps =
-      cond_both (ticks w.now now) (record w { now = now }) w P (λ later. keeps.told w w.store now holds) (λ past. holds)
+      cond_both (ticks w.now now) (record w { now = now }) w P (λ later. keeps.reported w w.store now holds)
+      (λ past. holds)
   acted_keeps (world.Stored path format bytes) keeps =
       let store : StoreValue = put_in w.store path format bytes in
       cond_both (is_none (put_refusal w.store path bytes)) (record w { store = store }) w P
-      (λ free. keeps.told w store w.now holds) (λ refused. holds)
-  acted_keeps (world.Removed path) keeps = keeps.told w (removed_in w.store path) w.now holds
+      (λ free. keeps.reported w store w.now holds) (λ refused. holds)
+  acted_keeps (world.Removed path) keeps = keeps.reported w (removed_in w.store path) w.now holds
   acted_keeps (world.Ended id cut) keeps = one_changed _ id (λ s. side_ended s cut) keeps
   acted_keeps (world.Released id) keeps = one_changed _ id side_released keeps
   acted_keeps (world.Announced id size) keeps = one_changed _ id (λ s. side_announced s size) keeps
@@ -88,7 +89,7 @@ pub step_distinct : (limits : LimitValues) (w : World) (s : Step) → AreDistinc
 step_distinct limits w s distinct = step_keeps (λ v. AreDistinct v.sides) limits w distinct s (record {
   opened = λ id is free. distinct_more w.sides (record { id = id; side = new_side limits }) distinct free;
   changed = λ v g keeps still. distinct_mapped g keeps v.sides still;
-  told = λ v store now still. still;
+  reported = λ v store now still. still;
   dropped = λ id. distinct_but id w.sides distinct;
 })
 
@@ -155,7 +156,7 @@ step_numbered c w s is next = step_keeps (IsNumbered c) c.limits w is s (record 
         (λ p given. rw (keeps p) given) v.sides still.each;
     few = omega (arith, still.few, length-map v.sides g);
   };
-  told = λ v store now still. record { low = still.low; each = still.each; few = still.few };
+  reported = λ v store now still. record { low = still.low; each = still.each; few = still.few };
   dropped = λ id. let others : ConnectionEntry → Bool = λ (p : ConnectionEntry). not (p.id == id) in record {
     low = is.low;
     each = all_filter (λ p. IsGivenNumber c w.ids p.id) others w.sides is.each;
@@ -169,7 +170,7 @@ ids_grow c w s next = step_keeps (λ v. w.ids ≤ v.ids) c.limits w (omega arith
   opened = λ id opened free. let given : (id ≡ w.ids + 1) × (length w.sides < c.connections) =
       subst (OpensNext c w) opened next in omega (arith, given.0);
   changed = λ v g keeps grown. grown;
-  told = λ v store now grown. grown;
+  reported = λ v store now grown. grown;
   dropped = λ id. omega arith;
 })
 
@@ -262,7 +263,7 @@ size_kept w st id none = record {
   released = released_between SameSize (λ h. refl) (λ h opened may. refl);
   announced = λ size is. absurd (none size is);
   responded = responded_between SameSize (λ h. refl) (λ h m answering none. refl);
-  told = λ store now s t is. (once_between SameSize SameSize (λ h. refl) (λ h k g one two. two ∙ one)
+  reported = λ store now s t is. (once_between SameSize SameSize (λ h. refl) (λ h k g one two. two ∙ one)
       (λ h token observe r does room. refl) (λ h now. refl) (λ h now token due room. refl)) store now t ∙ is;
 }
 
@@ -448,8 +449,8 @@ announcing_has_sizes c es id size s there before may k t at =
           let now : settled w.store w.now (side_announced s size) ≡ t = same_there _ t
           (sym (settles_there id w.store w.now (λ u. side_announced u size) w.sides s there) ∙ there_now) in
           let lower : s.history.own_max ≤ size = grind (arith, nat_tests, may) in
-          let told : may_announce (link_of s.history) size ≡ true = grind (arith, nat_tests, may) in
-          let raised : (side_announced s size).history.own_max ≡ size = rw (may, told) refl in
+          let reported : may_announce (link_of s.history) size ≡ true = grind (arith, nat_tests, may) in
+          let raised : (side_announced s size).history.own_max ≡ size = rw (may, reported) refl in
           let own : t.history.own_max ≡ size = ap (λ (u : Connection). u.history.own_max) (sym now)
           ∙ settled_size w.store w.now (side_announced s size) ∙ raised in
           let N : ℕ = size_on M id es in

@@ -19,33 +19,33 @@ use Rattle.coap_wire.specs.Codes as code
 
 -- A request with its token is pending, it is a response without Observe, and there is room for it.
 pub record IsAllowed (v : LinkValue) (m : Message) : Type 0 where
-  pub asked : has_request m.token v.held ≡ true
+  pub requested : has_request m.token v.pending ≡ true
   pub plain : is_plain_response m ≡ true
   pub room : nat_lt (free_in v) (sent_length (limit_in v) m) ≡ false
 
-allowed_by : (v : LinkValue) (m : Message) (asked plain short : Bool) → has_request m.token v.held ≡ asked
+allowed_by : (v : LinkValue) (m : Message) (requested plain short : Bool) → has_request m.token v.pending ≡ requested
     → is_plain_response m ≡ plain → nat_lt (free_in v) (sent_length (limit_in v) m) ≡ short
-    → (if asked then (if plain then (if short then Some fault.NoRoom else None) else Some fault.NotAResponse)
+    → (if requested then (if plain then (if short then Some fault.NoRoom else None) else Some fault.NotAResponse)
     else Some fault.NoSuchRequest) ≡ None → IsAllowed v m
-allowed_by v m true true false asked plain room none = record { asked = asked; plain = plain; room = room }
-allowed_by v m true true true asked plain room none = absurd cc
-allowed_by v m true false short asked plain room none = absurd cc
-allowed_by v m false plain short asked is room none = absurd cc
+allowed_by v m true true false requested plain room none = record { requested = requested; plain = plain; room = room }
+allowed_by v m true true true requested plain room none = absurd cc
+allowed_by v m true false short requested plain room none = absurd cc
+allowed_by v m false plain short requested is room none = absurd cc
 
 pub allowed : (v : LinkValue) (m : Message) → response_refusal v m ≡ None → IsAllowed v m
 unfolding response_refusal
 allowed v m =
-    allowed_by v m (has_request m.token v.held) (is_plain_response m)
+    allowed_by v m (has_request m.token v.pending) (is_plain_response m)
     (nat_lt (free_in v) (sent_length (limit_in v) m)) refl refl refl
 
 -- The request is the first with the token that waits for the application.
 pub answered_request : (v : LinkValue) (m : Message) → response_refusal v m ≡ None
-    → IsFirstRequest v.held m.token (without_request m.token v.held)
-answered_request v m none = first_request v.held m.token (allowed v m none).asked
+    → IsFirstRequest v.pending m.token (without_request m.token v.pending)
+answered_request v m none = first_request v.pending m.token (allowed v m none).requested
 
 -- One entry fewer is pending.
 pub request_fewer : (v : LinkValue) (m : Message) → response_refusal v m ≡ None
-    → length (without_request m.token v.held) + 1 ≡ length v.held
+    → length (without_request m.token v.pending) + 1 ≡ length v.pending
 request_fewer v m none =
     let first = answered_request v m none in
     let e : PendingEntryValue = Answer Application m.token first.moment in

@@ -4,16 +4,16 @@ use Rattle.std.proofs.Common.{refl, sym, ap, ◌∙◌, arith, ◌&&◌, nat_lt,
 use Rattle.std.proofs.Common.{find, min}
 use Rattle.coap_model.specs.Prelude.{AllByRecursion, filter_map, reduce, Message, takes_messages}
 use Rattle.coap_model.specs.Prelude.{answers, is_open, fit, bare_response, PendingEntryValue}
-use Rattle.coap_model.specs.Prelude.{first_due, without_due, due_moment, answer_index, pong_index, else_index, held_at}
-use Rattle.coap_model.specs.Prelude.{due_index, NothingIsDue, History, IsHistory, limit_now, standing_now}
-use Rattle.coap_model.specs.Prelude.{after, standing_due}
+use Rattle.coap_model.specs.Prelude.{first_due, without_due, due_moment, answer_index, pong_index, else_index, entry_at}
+use Rattle.coap_model.specs.Prelude.{due_index, NothingIsDue, History, IsHistory, limit_now, state_now}
+use Rattle.coap_model.specs.Prelude.{after, state_due}
 use Rattle.coap_model.specs.Prelude.{StoreValue, path_of, prompt_answer}
 use Rattle.coap_model.specs.Prelude.{Change, changed, response_with_observe}
 use Rattle.coap_model.specs.Prelude.{Connection, handles, has_room, side_with, with_history, side_answered}
-use Rattle.coap_model.specs.Prelude.{moment_after, Delay, delay_of, hold_call, held_for, side_replied, asks_answer}
+use Rattle.coap_model.specs.Prelude.{moment_after, Delay, delay_of, hold_call, delay_for, side_replied, asks_answer}
 use Rattle.coap_model.specs.Prelude.{side_handled, side_after}
 use Rattle.coap_model.specs.Prelude.{next_due}
-use Rattle.coap_model.specs.Prelude.{notified, next_held, held_message, after_sent, settled_so, settled_once}
+use Rattle.coap_model.specs.Prelude.{notified, next_pending, late_message, after_sent, settled_so, settled_once}
 use Rattle.coap_model.specs.Prelude.{settled_within, settled, IsUpToDate}
 use Rattle.coap_model.specs.Prelude.{Observer, without_token, asks_entry, has_place, entry_for}
 use Rattle.coap_model.specs.Prelude.{is_whole, with_entry, is_due, goes_on, notification, notification_message}
@@ -22,7 +22,7 @@ use Rattle.coap_model.specs.Prelude.{same_bytes, state_of, Watch}
 use Rattle.std.proofs.lemmas.Bool.{and_parts, cond_both, ltb-true}
 use Rattle.coap_conn.proofs.PendingLaws.{due_fewer, due_nothing}
 use Rattle.coap_model.specs.Prelude.{Reply, Whole, ConnectionState, send_as, due_effect, pong_with}
-use Rattle.coap_model.proofs.world.KnownLaws.{entry_watchable, IsKnown, IsVersioned, still_known, told_known, told_now}
+use Rattle.coap_model.proofs.world.KnownLaws.{entry_watchable, IsKnown, IsVersioned, still_known, sent_known, sent_now}
 use Rattle.coap_model.proofs.world.KnownLaws.{not_due, left_watchable}
 use Rattle.coap_model.proofs.world.EntryLemmas.{asks_to_enter, all_to, all_append, all_filter, all_become, found_all}
 use Rattle.coap_model.proofs.world.EntryLemmas.{none_due, count_due, count_within, count_less}
@@ -32,7 +32,7 @@ use Rattle.coap_model.proofs.world.WalkLaws.{there_or_not, there_where, kept_ope
 use Rattle.coap_model.proofs.world.WalkLaws.{observers_kept, settled_keeps, written_between, ended_between}
 use Rattle.coap_model.proofs.world.WalkLaws.{released_between, announced_between, responded_between}
 use Rattle.coap_model.proofs.world.AcrossLaws.{faulted_all, after_all}
-use Rattle.coap_conn.specs.PendingEntries as held
+use Rattle.coap_conn.specs.PendingEntries as pending
 use Rattle.coap_conn.specs.Calls as call
 use Rattle.coap_store.specs.declared.plan.Watch.TheVariants as watch
 
@@ -43,7 +43,7 @@ AreKnown store observers = AllByRecursion (IsKnown store) observers
 -- The facts on a connection.
 pub record IsKnownSide (store : StoreValue) (s : Connection) : Type 0 where
   pub is_history : IsHistory s.history
-  pub told : AreKnown store s.observers
+  pub reported : AreKnown store s.observers
 
 -- ---- its parts
 
@@ -53,56 +53,58 @@ handles_parts s e = and_parts (takes_messages s.history.phase) (has_room s) e
 -- A request whose response is delayed, and one whose response is sent at once.
 pub replied_cases : (store : StoreValue) (now : ℕ) (h : History) (others : List Observer) (m : Message)
     (delay : Option Delay) (P : Connection → Type 0)
-    → ((d : Delay) → held_for h delay ≡ Some d
+    → ((d : Delay) → delay_for h delay ≡ Some d
     → P (side_with (after h (hold_call d.by m.token (moment_after now d.seconds))) others))
-    → (held_for h delay ≡ None → P (side_answered store now h others m (prompt_answer store now m)))
-    → P (side_replied store now h others m (held_for h delay))
-replied_cases store now h others m delay P held prompt =
-    there_or_not (held_for h delay) (λ found. P (side_replied store now h others m found)) prompt held
+    → (delay_for h delay ≡ None → P (side_answered store now h others m (prompt_answer store now m)))
+    → P (side_replied store now h others m (delay_for h delay))
+replied_cases store now h others m delay P pending prompt =
+    there_or_not (delay_for h delay) (λ found. P (side_replied store now h others m found)) prompt pending
 
 -- ---- one round of settling
 
 -- A due pending entry is sent first; if there is none, an observer is notified.
 pub settled_cases : (store : StoreValue) (now : ℕ) (s : Connection) (P : Connection → Type 0)
-    → ((e : PendingEntryValue) → next_held now s ≡ Some e → P (with_history s (after_sent s.history now e)))
-    → (next_held now s ≡ None → P (notified store now s (next_due store now s)))
+    → ((e : PendingEntryValue) → next_pending now s ≡ Some e → P (with_history s (after_sent s.history now e)))
+    → (next_pending now s ≡ None → P (notified store now s (next_due store now s)))
     → P (settled_once store now s)
 unfolding settled_once
-settled_cases store now s P sends tells =
-    there_or_not (next_held now s) (λ found. P (settled_so store now s found)) tells sends
+settled_cases store now s P sends reports =
+    there_or_not (next_pending now s) (λ found. P (settled_so store now s found)) reports sends
 
-pub held_room : (now : ℕ) (s : Connection) (e : PendingEntryValue) → next_held now s ≡ Some e
-    → (has_room s ≡ true) × (first_due now s.history.held ≡ Some e)
-held_room now s e is = there_where (has_room s) (first_due now s.history.held) e is
+pub pending_room : (now : ℕ) (s : Connection) (e : PendingEntryValue) → next_pending now s ≡ Some e
+    → (has_room s ≡ true) × (first_due now s.history.pending ≡ Some e)
+pending_room now s e is = there_where (has_room s) (first_due now s.history.pending) e is
 
 -- Sending a message adds no pending entry.
-pub send_held : (s : ConnectionState) (m less : Message) (r : Reply) → length (send_as s m less r).held ≤ length s.held
-send_held s m less Whole = omega arith
-send_held s m less other = omega arith
+pub send_pending : (s : ConnectionState) (m less : Message) (r : Reply)
+    → length (send_as s m less r).pending ≤ length s.pending
+send_pending s m less Whole = omega arith
+send_pending s m less other = omega arith
 
 -- Sending the entry that was due first adds none either.
-pub due_held : (s : ConnectionState) (e : Option PendingEntryValue) → length (due_effect s e).held ≤ length s.held
-due_held s None = omega arith
-due_held s (Some (held.Answer by token moment)) = omega arith
-due_held s (Some (held.Pong token)) =
-    send_held s (pong_with true token) (pong_with false token)
+pub due_pending : (s : ConnectionState) (e : Option PendingEntryValue)
+    → length (due_effect s e).pending ≤ length s.pending
+due_pending s None = omega arith
+due_pending s (Some (pending.Answer by token moment)) = omega arith
+due_pending s (Some (pending.Pong token)) =
+    send_pending s (pong_with true token) (pong_with false token)
     (fit s.limit (pong_with true token) (pong_with false token))
 
-reply_leaves : (h : History) (m : Message) → length (after h (call.Reply m)).held ≤ length h.held
+reply_leaves : (h : History) (m : Message) → length (after h (call.Reply m)).pending ≤ length h.pending
 reply_leaves h m =
-    cond_both (answers h.phase) _ h (λ (k : History). length k.held ≤ length h.held)
-    (λ does. send_held (standing_now h) m (bare_response m) (fit (limit_now h) m (bare_response m)))
+    cond_both (answers h.phase) _ h (λ (k : History). length k.pending ≤ length h.pending)
+    (λ does. send_pending (state_now h) m (bare_response m) (fit (limit_now h) m (bare_response m)))
     (λ none. omega arith)
 
 sent_leaves : (h : History) (now : ℕ) (e : PendingEntryValue)
-    → length (after_sent h now e).held ≤ length (without_due now h.held)
-sent_leaves h now (held.Answer by token moment) =
+    → length (after_sent h now e).pending ≤ length (without_due now h.pending)
+sent_leaves h now (pending.Answer by token moment) =
     omega (
       arith,
-      reply_leaves (after h (call.Due now)) (held_message by token),
-      due_held (standing_due now (standing_now h)) (first_due now h.held),
+      reply_leaves (after h (call.Due now)) (late_message by token),
+      due_pending (state_due now (state_now h)) (first_due now h.pending),
     )
-sent_leaves h now (held.Pong token) = due_held (standing_due now (standing_now h)) (first_due now h.held)
+sent_leaves h now (pending.Pong token) = due_pending (state_due now (state_now h)) (first_due now h.pending)
 
 -- ---- the facts are kept
 
@@ -111,39 +113,39 @@ pub still_known_side : (store : StoreValue) (change : Change) (s : Connection) �
     → IsKnownSide (changed store change) s
 still_known_side store change s is known = record {
   is_history = known.is_history;
-  told =
+  reported =
       all_to (IsKnown store) (IsKnown (changed store change)) (λ o. still_known store change o is)
-      s.observers known.told;
+      s.observers known.reported;
 }
 
 -- All effects other than messages keep them.
 pub calls_known : (store : StoreValue) → HoldsOfCalls (λ s t. IsKnownSide store s → IsKnownSide store t)
-calls_known store = let told = observers_kept (AreKnown store) tt in record {
+calls_known store = let reported = observers_kept (AreKnown store) tt in record {
   faulted = λ s fault known. record {
     is_history = (faulted_all GoesOn all_go_on s fault).history known.is_history;
-    told = told.faulted s fault known.told;
+    reported = reported.faulted s fault known.reported;
   };
   written = λ s n known. record {
     is_history = (written_between GoesOn as_before written_goes_on s n).history known.is_history;
-    told = told.written s n known.told;
+    reported = reported.written s n known.reported;
   };
   ended = λ s cut known. record {
     is_history = (ended_between GoesOn as_before all_go_on.ends s cut).history known.is_history;
-    told = told.ended s cut known.told;
+    reported = reported.ended s cut known.reported;
   };
   released = λ s known. record {
     is_history = (released_between GoesOn as_before all_go_on.releases s).history known.is_history;
-    told = told.released s known.told;
+    reported = reported.released s known.reported;
   };
   announced = λ s size known.
       record {
         is_history = (announced_between GoesOn as_before all_go_on.announces s size).history known.is_history;
-        told = told.announced s size known.told;
+        reported = reported.announced s size known.reported;
       };
   responded = λ s m known.
       record {
         is_history = (responded_between GoesOn as_before all_go_on.responds s m).history known.is_history;
-        told = told.responded s m known.told;
+        reported = reported.responded s m known.reported;
       };
 }
 
@@ -159,22 +161,22 @@ unfolding side_after
 observers_after P store now s m none same others entered =
     let h : History = after s.history (call.Handle m) in
     let os : List Observer = without_token m.token s.observers in
-    let asked : Watch = (prompt_answer store now m).watch in
-    let observes : Bool = has_place h.limits.observers os asked in
+    let requested : Watch = (prompt_answer store now m).watch in
+    let observes : Bool = has_place h.limits.observers os requested in
     let response : Message = response_with_observe m.token observes (prompt_answer store now m).response in
     let enters : Bool = observes && is_whole (fit (limit_now h) response (bare_response response)) in
     let HasThem : Connection → Type 0 = λ t. P t.observers in
     let with_it : P (with_entry enters os (entry_for store now m)) =
     elim enters as (λ so. enters ≡ so → P (with_entry so os (entry_for store now m))) [
       | true ↦ λ so. (let place =
-          and_parts (asks_entry asked) (nat_lt (length os) h.limits.observers) (and_parts observes _ so).0 in
-          entered (asks_to_enter asked place.0) (ltb-true (length os) h.limits.observers place.1))
+          and_parts (asks_entry requested) (nat_lt (length os) h.limits.observers) (and_parts observes _ so).0 in
+          entered (asks_to_enter requested place.0) (ltb-true (length os) h.limits.observers place.1))
       | false ↦ λ so. others
     ] refl in
     cond_both (handles s) (side_handled store now s m) s HasThem
     (λ does. cond_both (asks_answer s m) _ (with_history s h) HasThem
     (λ asks. replied_cases store now h os m (delay_of store now m) HasThem
-    (λ d held. kept_open_has P none (after h (hold_call d.by m.token (moment_after now d.seconds))) os others)
+    (λ d pending. kept_open_has P none (after h (hold_call d.by m.token (moment_after now d.seconds))) os others)
     (λ prompt. kept_open_has P none (after h (call.Reply response)) _ with_it))
     (λ other. kept_open_has P none h s.observers same)) (λ idle. same)
 
@@ -184,19 +186,19 @@ pub after_known : (store : StoreValue) (now : ℕ) → now ≤ 18446744073709551
 unfolding without_token
 after_known store now small is s m known =
     let others : AreKnown store (without_token m.token s.observers) =
-    all_filter (IsKnown store) (λ o. not (same_bytes o.token m.token)) s.observers known.told in
+    all_filter (IsKnown store) (λ o. not (same_bytes o.token m.token)) s.observers known.reported in
     record {
       is_history = (after_all GoesOn all_go_on store now s m).history known.is_history;
-      told = observers_after (AreKnown store) store now s m tt known.told others
-          (λ asked place. all_append (IsKnown store) _ _ others
-          (told_known store now m.token (path_of m) small is (entry_watchable store now m asked), tt));
+      reported = observers_after (AreKnown store) store now s m tt known.reported others
+          (λ requested place. all_append (IsKnown store) _ _ others
+          (sent_known store now m.token (path_of m) small is (entry_watchable store now m requested), tt));
     }
 
 -- ---- settling of a connection: the facts are kept, and no change is lost
 
 -- Nothing is left to settle: no pending entry and no observer is due, or there is no room.
 abbrev pub IsAtRest : StoreValue → ℕ → Connection → Type 0
-IsAtRest store now s = (next_held now s ≡ None) × (next_due store now s ≡ None)
+IsAtRest store now s = (next_pending now s ≡ None) × (next_due store now s ≡ None)
 
 -- ---- one round
 
@@ -212,14 +214,14 @@ pub observers_settled : (P : List Observer → Type 0) (store : StoreValue) (now
     → (stays ≡ true → goes_on (notification store now o) ≡ true)
     → P (first_becomes (is_due store now) (left_of store now o stays) s.observers))
     → P (settled_once store now s).observers
-observers_settled P store now s none same told =
+observers_settled P store now s none same reported =
     settled_cases store now s (λ t. P t.observers)
     (λ e is. kept_open_has P none (after_sent s.history now e) s.observers same) (λ rests.
     there_or_not (next_due store now s) (λ o. P (notified store now s o).observers) (λ none_due. same) (λ o is. (
     let m = notification_message o.token (notification store now o) in
     let stays = goes_on (notification store now o) && is_whole (fit (limit_now s.history) m (bare_response m)) in
     kept_open_has P none (after s.history (call.Reply m)) _
-    (told o stays is (λ e. (and_parts (goes_on (notification store now o)) _ e).0)))))
+    (reported o stays is (λ e. (and_parts (goes_on (notification store now o)) _ e).0)))))
 
 -- ---- facts
 
@@ -227,22 +229,22 @@ module _ (store : StoreValue) (now : ℕ) (small : now ≤ 18446744073709551615)
   left_all : (o : Observer) (stays : Bool) → IsKnown store o
       → (stays ≡ true → goes_on (notification store now o) ≡ true) → AreKnown store (left_of store now o stays)
   left_all o true known on =
-      (told_known store now o.token o.path small is (left_watchable store now o known (on refl)), tt)
+      (sent_known store now o.token o.path small is (left_watchable store now o known (on refl)), tt)
   left_all o false known on = tt
 
   -- The first due observer is one of the observers.
   pub next_known : (s : Connection) → IsKnownSide store s → (o : Observer)
       → next_due store now s ≡ Some o → IsKnown store o
   next_known s known o e =
-      found_all (IsKnown store) (is_due store now) s.observers o known.told (next_due_found store now s o e)
+      found_all (IsKnown store) (is_due store now) s.observers o known.reported (next_due_found store now s o e)
 
   pub once_known : (s : Connection) → IsKnownSide store s → IsKnownSide store (settled_once store now s)
   once_known s known = record {
     is_history =
         (once_between GoesOn GoesOn as_before further all_go_on.replies all_go_on.lets_go all_go_on.pongs store now
         s).history known.is_history;
-    told = observers_settled (AreKnown store) store now s tt known.told (λ o stays due on.
-        all_become (IsKnown store) (is_due store now) (left_of store now o stays) s.observers known.told
+    reported = observers_settled (AreKnown store) store now s tt known.reported (λ o stays due on.
+        all_become (IsKnown store) (is_due store now) (left_of store now o stays) s.observers known.reported
         (left_all o stays (next_known s known o due) on));
   }
 
@@ -259,7 +261,7 @@ count_if due b os = cond_both b os [] (λ ps. count_due due ps ≤ count_due due
 left_quiet : (store : StoreValue) (now : ℕ) (o : Observer) (stays : Bool)
     → count_due (is_due store now) (left_of store now o stays) ≡ 0
 unfolding count_due
-left_quiet store now o true = rw (not_due store now (record o { told = state_of store now o.path }) refl) refl
+left_quiet store now o true = rw (not_due store now (record o { reported = state_of store now o.path }) refl) refl
 left_quiet store now o false = refl
 
 -- If nothing is left to settle, further rounds change nothing.
@@ -271,7 +273,7 @@ at_rest (suc turns) store now s rests = rw (rests.0, rests.1) (at_rest turns sto
 
 -- The number of pending entries and due observers of a connection.
 abbrev pub left_on : StoreValue → ℕ → Connection → ℕ
-left_on store now s = length s.history.held + count_due (is_due store now) s.observers
+left_on store now s = length s.history.pending + count_due (is_due store now) s.observers
 
 -- A round sends nothing, or the number decreases.
 pub once_less : (store : StoreValue) (now : ℕ) (s : Connection)
@@ -280,9 +282,9 @@ unfolding settled_once
 once_less store now s =
     let Less : Connection → Type 0 = λ t. IsAtRest store now s ⊎ (left_on store now t + 1 ≤ left_on store now s) in
     let due : Observer → Bool = is_due store now in
-    there_or_not (next_held now s) (λ found. Less (settled_so store now s found))
-    (λ held. there_or_not (next_due store now s) (λ found. Less (notified store now s found))
-    (λ is. inl (held, is)) (λ o is. (
+    there_or_not (next_pending now s) (λ found. Less (settled_so store now s found))
+    (λ pending. there_or_not (next_due store now s) (λ found. Less (notified store now s found))
+    (λ is. inl (pending, is)) (λ o is. (
     let m = notification_message o.token (notification store now o) in
     let stays = goes_on (notification store now o) && is_whole (fit (limit_now s.history) m (bare_response m)) in
     let left : List Observer = left_of store now o stays in
@@ -293,7 +295,7 @@ once_less store now s =
       count_if due (is_open (after s.history (call.Reply m)).phase) (first_becomes due left s.observers),
       less,
     )))))
-    (λ e is. (let fewer = due_fewer now s.history.held e (held_room now s e is).1 in
+    (λ e is. (let fewer = due_fewer now s.history.pending e (pending_room now s e is).1 in
     inr (omega (
       arith,
       count_if due (is_open (after_sent s.history now e).phase) s.observers,
@@ -316,43 +318,44 @@ rests_by (suc turns) store now s few =
 pub settled_rests : (store : StoreValue) (now : ℕ) (s : Connection) → IsAtRest store now (settled store now s)
 unfolding settled
 settled_rests store now s =
-    rests_by (length s.history.held + length s.observers) store now s
+    rests_by (length s.history.pending + length s.observers) store now s
     (omega (arith, count_within (is_due store now) s.observers))
 
 -- No change is lost: if there is room, each observer was last sent the current state, and no pending entry is due.
 pub hears_at_rest : (store : StoreValue) (now : ℕ) (s : Connection) → IsAtRest store now s → IsUpToDate store now s
 hears_at_rest store now s rests = record {
-  told = λ room. all_to (λ o. is_due store now o ≡ false) (λ o. o.told ≡ state_of store now o.path)
-      (told_now store now) s.observers
+  reported = λ room. all_to (λ o. is_due store now o ≡ false) (λ o. o.reported ≡ state_of store now o.path)
+      (sent_now store now) s.observers
       (none_due (is_due store now) s.observers (rw room at rests.1));
-  sent = λ room. (due_nothing now s.history.held (rw room at rests.0)).0;
+  sent = λ room. (due_nothing now s.history.pending (rw room at rests.0)).0;
 }
 
 -- If no entry of a list is due, the list of due times is empty.
-none_come_listed : (now : ℕ) (held : List PendingEntryValue) → AllByRecursion (λ e. due_moment now e ≡ None) held
-    → filter_map (due_moment now) held ≡ []
+none_come_listed : (now : ℕ) (pending : List PendingEntryValue) → AllByRecursion (λ e. due_moment now e ≡ None) pending
+    → filter_map (due_moment now) pending ≡ []
 none_come_listed now [] none = refl
-none_come_listed now (e ∷ held) none = rw none.0 (none_come_listed now held none.1)
+none_come_listed now (e ∷ pending) none = rw none.0 (none_come_listed now pending none.1)
 
-pub nothing_due_first : (now : ℕ) (held : List PendingEntryValue) → NothingIsDue now held → first_due now held ≡ None
+pub nothing_due_first : (now : ℕ) (pending : List PendingEntryValue) → NothingIsDue now pending
+    → first_due now pending ≡ None
 unfolding first_due due_index
-nothing_due_first now held none =
-    ap (λ moments. held_at held (else_index (answer_index (reduce min moments) held) (pong_index held)))
-    (none_come_listed now held none.0) ∙ ap (held_at held) none.1
+nothing_due_first now pending none =
+    ap (λ moments. entry_at pending (else_index (answer_index (reduce min moments) pending) (pong_index pending)))
+    (none_come_listed now pending none.0) ∙ ap (entry_at pending) none.1
 
-pub hears_sent : (store : StoreValue) (now : ℕ) (s : Connection) → IsUpToDate store now s → next_held now s ≡ None
+pub hears_sent : (store : StoreValue) (now : ℕ) (s : Connection) → IsUpToDate store now s → next_pending now s ≡ None
 hears_sent store now s takes_input =
-    cond_both (has_room s) (first_due now s.history.held) None (λ found. found ≡ None)
-    (λ room. nothing_due_first now s.history.held (takes_input.sent room)) (λ room. refl)
+    cond_both (has_room s) (first_due now s.history.pending) None (λ found. found ≡ None)
+    (λ room. nothing_due_first now s.history.pending (takes_input.sent room)) (λ room. refl)
 
 -- A connection on which no change is lost has nothing to settle.
 pub side_at_rest_stays : (store : StoreValue) (now : ℕ) (s : Connection) → IsUpToDate store now s
     → settled store now s ≡ s
 unfolding settled
 side_at_rest_stays store now s takes_input =
-    let quiet = all_to (λ o. o.told ≡ state_of store now o.path) (λ o. is_due store now o ≡ false)
+    let quiet = all_to (λ o. o.reported ≡ state_of store now o.path) (λ o. is_due store now o ≡ false)
     (not_due store now) s.observers in
     let rests : next_due store now s ≡ None =
     cond_both (has_room s) (find (is_due store now) s.observers) None (λ due. due ≡ None)
-    (λ room. none_found (is_due store now) s.observers (quiet (takes_input.told room))) (λ full. refl) in
-    at_rest (length s.history.held + length s.observers) store now s (hears_sent store now s takes_input, rests)
+    (λ room. none_found (is_due store now) s.observers (quiet (takes_input.reported room))) (λ full. refl) in
+    at_rest (length s.history.pending + length s.observers) store now s (hears_sent store now s takes_input, rests)

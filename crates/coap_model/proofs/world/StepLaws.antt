@@ -5,7 +5,7 @@ use Rattle.coap_model.specs.Prelude.{AllByRecursion, Message, Unfinished, prefix
 use Rattle.coap_model.specs.Prelude.{StreamFault, Stream, sized_split, split_on, LimitValues, ConfigValues, World}
 use Rattle.coap_model.specs.Prelude.{Step, new_world, after_steps, AcceptedCall, Took, Announced, taken_in, taken_on}
 use Rattle.coap_model.specs.Prelude.{size_by, size_on, sizes_on, stream_on, spelled_on, new_fault, beyond, steps_by}
-use Rattle.coap_model.specs.Prelude.{steps_behind, steps_of, world_after, IsAccepted, AreAcceptedBehind, AreAccepted}
+use Rattle.coap_model.specs.Prelude.{later_steps, steps_of, world_after, IsAccepted, AreAcceptedAfter, AreAccepted}
 use Rattle.std.proofs.lemmas.Bool.Decides.{nat_tests}
 use Rattle.std.proofs.lemmas.Bool.{eq-eqb, ne_eqb}
 use Rattle.std.proofs.lemmas.List.{append-nil, length-append}
@@ -37,22 +37,22 @@ steps_keep P l go w [] holds = holds
 steps_keep P l go w (s ∷ ss) holds = steps_keep P l go (world.step l w s) ss (go w s holds)
 
 -- The steps of events in sequence.
-pub steps_behind_more : (M : ℕ) (a es fs : List AcceptedCall)
-    → steps_behind M a (es ++ fs) ≡ steps_behind M a es ++ steps_behind M (a ++ es) fs
-unfolding steps_behind
-steps_behind_more M a [] fs = ap (λ (b : List AcceptedCall). steps_behind M b fs) (sym (append-nil a))
-steps_behind_more M a (e ∷ es) fs =
-    rw (steps_behind_more M (a ++ e ∷ []) es fs, append_assoc a (e ∷ []) es)
-    (sym (append_assoc (steps_by M a e) (steps_behind M (a ++ e ∷ []) es) (steps_behind M (a ++ e ∷ es) fs)))
+pub later_steps_more : (M : ℕ) (a es fs : List AcceptedCall)
+    → later_steps M a (es ++ fs) ≡ later_steps M a es ++ later_steps M (a ++ es) fs
+unfolding later_steps
+later_steps_more M a [] fs = ap (λ (b : List AcceptedCall). later_steps M b fs) (sym (append-nil a))
+later_steps_more M a (e ∷ es) fs =
+    rw (later_steps_more M (a ++ e ∷ []) es fs, append_assoc a (e ∷ []) es)
+    (sym (append_assoc (steps_by M a e) (later_steps M (a ++ e ∷ []) es) (later_steps M (a ++ e ∷ es) fs)))
 
 pub steps_of_more : (M : ℕ) (es : List AcceptedCall) (e : AcceptedCall)
     → steps_of M (es ++ e ∷ []) ≡ steps_of M es ++ steps_by M es e
-unfolding steps_of steps_behind
-steps_of_more M es e = rw (steps_behind_more M [] es (e ∷ []), append-nil (steps_by M es e)) refl
+unfolding steps_of later_steps
+steps_of_more M es e = rw (later_steps_more M [] es (e ∷ []), append-nil (steps_by M es e)) refl
 
 -- The world at first, and after one more event.
 pub world_first : (c : ConfigValues) → world_after c [] ≡ new_world c
-unfolding world_after steps_of steps_behind after_steps
+unfolding world_after steps_of later_steps after_steps
 world_first c = refl
 
 pub world_more : (c : ConfigValues) (es : List AcceptedCall) (e : AcceptedCall)
@@ -76,33 +76,33 @@ world_step c es e s one = world_more c es e ∙ ap (after_steps c.limits (world_
 
 -- ---- accepted events
 
-behind_accepted : (c : ConfigValues) (a es : List AcceptedCall) (e : AcceptedCall) → AreAcceptedBehind c a es
-    → IsAccepted c (a ++ es) e → AreAcceptedBehind c a (es ++ e ∷ [])
-unfolding AreAcceptedBehind
-behind_accepted c a [] e before last = (rw append-nil at last, tt)
-behind_accepted c a (d ∷ es) e before last =
-    (before.0, behind_accepted c (a ++ d ∷ []) es e before.1 (rw (append_assoc a (d ∷ []) es) last))
+after_accepted : (c : ConfigValues) (a es : List AcceptedCall) (e : AcceptedCall) → AreAcceptedAfter c a es
+    → IsAccepted c (a ++ es) e → AreAcceptedAfter c a (es ++ e ∷ [])
+unfolding AreAcceptedAfter
+after_accepted c a [] e before last = (rw append-nil at last, tt)
+after_accepted c a (d ∷ es) e before last =
+    (before.0, after_accepted c (a ++ d ∷ []) es e before.1 (rw (append_assoc a (d ∷ []) es) last))
 
 -- One more event.
 pub accepted_more : (c : ConfigValues) (es : List AcceptedCall) (e : AcceptedCall) → AreAccepted c es
     → IsAccepted c es e → AreAccepted c (es ++ e ∷ [])
-accepted_more c es e before last = behind_accepted c [] es e before last
+accepted_more c es e before last = after_accepted c [] es e before last
 
 -- A property that holds at first, and after each further accepted event, holds of all lists of accepted events.
-by_events_behind : (c : ConfigValues) (P : List AcceptedCall → Type 0)
+by_later_events : (c : ConfigValues) (P : List AcceptedCall → Type 0)
     → ((es : List AcceptedCall) (e : AcceptedCall) → AreAccepted c es → IsAccepted c es e → P es → P (es ++ e ∷ []))
-    → (a es : List AcceptedCall) → AreAccepted c a → P a → AreAcceptedBehind c a es → P (a ++ es)
-unfolding AreAcceptedBehind
-by_events_behind c P go a [] before holds all = subst P (sym (append-nil a)) holds
-by_events_behind c P go a (e ∷ es) before holds all =
+    → (a es : List AcceptedCall) → AreAccepted c a → P a → AreAcceptedAfter c a es → P (a ++ es)
+unfolding AreAcceptedAfter
+by_later_events c P go a [] before holds all = subst P (sym (append-nil a)) holds
+by_later_events c P go a (e ∷ es) before holds all =
     subst P (append_assoc a (e ∷ []) es)
-    (by_events_behind c P go (a ++ e ∷ []) es (accepted_more c a e before all.0) (go a e before all.0 holds) all.1)
+    (by_later_events c P go (a ++ e ∷ []) es (accepted_more c a e before all.0) (go a e before all.0 holds) all.1)
 
 pub by_events : (c : ConfigValues) (P : List AcceptedCall → Type 0) → P []
     → ((es : List AcceptedCall) (e : AcceptedCall) → AreAccepted c es → IsAccepted c es e → P es → P (es ++ e ∷ []))
     → (es : List AcceptedCall) → AreAccepted c es → P es
-unfolding AreAcceptedBehind
-by_events c P first go es all = by_events_behind c P go [] es tt first all
+unfolding AreAcceptedAfter
+by_events c P first go es all = by_later_events c P go [] es tt first all
 
 -- ---- sizes
 

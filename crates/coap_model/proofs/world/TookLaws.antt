@@ -5,7 +5,7 @@ use Rattle.std.proofs.lemmas.Grind.{take_at_read}
 use Rattle.std.proofs.lemmas.List.{length-append, take_at}
 use Rattle.std.proofs.Math.Seq.{drop-length, drop-append_seam}
 use Rattle.coap_model.specs.Prelude.{Message, message_of, FormatFault, FrameFault, Unfinished, prefix_kind}
-use Rattle.coap_model.specs.Prelude.{fault_bytes, OfFrame, Format, Stream, split, behind, AFrame, AFault, Framing}
+use Rattle.coap_model.specs.Prelude.{fault_bytes, OfFrame, Format, Stream, split, stream_after, AFrame, AFault, Framing}
 use Rattle.coap_model.specs.Prelude.{framing_at, framing, without_last, AcceptedCall, Took, size_on, stream_on}
 use Rattle.coap_model.specs.Prelude.{new_fault}
 use Rattle.coap_model.specs.Prelude.{beyond, steps_by}
@@ -22,7 +22,7 @@ use Rattle.coap_model.proofs.world.StepLaws.{stream_same, taken_here, stream_mor
 
 -- After a stream without error.
 pub beyond_added : (id : ℕ) (before added : Stream) → before.fault ≡ None
-    → beyond id before (behind before.messages added)
+    → beyond id before (stream_after before.messages added)
     ≡ map (step.Handled id) added.messages ++ new_fault id None added.fault
 beyond_added id before added none = rw (none, drop-append_seam before.messages added.messages) refl
 
@@ -35,7 +35,7 @@ nothing_beyond id s = grind (arith, drop-length s.messages)
 -- The steps of a take and the stream after it are those of what it adds to the stream before it.
 pub record Adds (M id : ℕ) (es : List AcceptedCall) (bytes : List ℕ) (added : Stream) : Type 0 where
   pub steps : steps_by M es (Took id bytes) ≡ map (step.Handled id) added.messages ++ new_fault id None added.fault
-  pub stream : stream_on M id (es ++ Took id bytes ∷ []) ≡ behind (stream_on M id es).messages added
+  pub stream : stream_on M id (es ++ Took id bytes ∷ []) ≡ stream_after (stream_on M id es).messages added
 
 module _ (M id : ℕ) (es : List AcceptedCall) (bytes : List ℕ) (none : (stream_on M id es).fault ≡ None) where
   -- The current size.
@@ -46,7 +46,7 @@ module _ (M id : ℕ) (es : List AcceptedCall) (bytes : List ℕ) (none : (strea
   adds : (added : Stream) → split N ((stream_on M id es).rest ++ bytes) ≡ added → Adds M id es bytes added
   unfolding steps_by
   adds added is =
-      let after : stream_on M id (es ++ Took id bytes ∷ []) ≡ behind (stream_on M id es).messages added =
+      let after : stream_on M id (es ++ Took id bytes ∷ []) ≡ stream_after (stream_on M id es).messages added =
       stream_more M id es bytes ∙ rw (none, is) refl in
       record {
         steps = ap (beyond id (stream_on M id es)) after ∙ beyond_added id (stream_on M id es) added none;

@@ -10,9 +10,9 @@ use Rattle.coap_model.specs.Prelude.{Took, Wrote, Ticked, Stored, Removed, Ended
 use Rattle.coap_model.specs.Prelude.{Dropped}
 use Rattle.coap_model.specs.Prelude.{response_refusal}
 use Rattle.coap_model.specs.Prelude.{taken_in, size_by, size_on, stream_on, spelled_on, new_fault, beyond, steps_by}
-use Rattle.coap_model.specs.Prelude.{world_after, takes_of, takes, IfSide, OnSide, IsAccepted, AreAcceptedBehind}
+use Rattle.coap_model.specs.Prelude.{world_after, takes_of, takes, IfSide, OnSide, IsAccepted, AreAcceptedAfter}
 use Rattle.coap_model.specs.Prelude.{AreAccepted, concerns, first_number, change_events, changes_of, view_event}
-use Rattle.coap_model.specs.Prelude.{view_behind, view_events}
+use Rattle.coap_model.specs.Prelude.{later_view, view_events}
 use Rattle.std.proofs.lemmas.Bool.{eq-eqb, ne_eqb, cases_eq}
 use Rattle.std.proofs.lemmas.List.{append-nil}
 use Rattle.coap_model.specs.world.World as world
@@ -30,13 +30,13 @@ use Rattle.coap_model.proofs.world.ViewLaws.{change_alike, new_rests}
 -- ---- lists
 
 view_more : (c : ConfigValues) (id : ℕ) (a es : List AcceptedCall) (e : AcceptedCall)
-    → view_behind c id a (es ++ e ∷ []) ≡ view_behind c id a es ++ view_event c id (a ++ es) e
-unfolding view_behind
+    → later_view c id a (es ++ e ∷ []) ≡ later_view c id a es ++ view_event c id (a ++ es) e
+unfolding later_view
 view_more c id a [] e =
     append-nil (view_event c id a e) ∙ ap (λ (b : List AcceptedCall). view_event c id b e) (sym (append-nil a))
 view_more c id a (d ∷ es) e =
     rw (view_more c id (a ++ d ∷ []) es e, append_assoc a (d ∷ []) es)
-    (sym (append_assoc (view_event c id a d) (view_behind c id (a ++ d ∷ []) es) (view_event c id (a ++ d ∷ es) e)))
+    (sym (append_assoc (view_event c id a d) (later_view c id (a ++ d ∷ []) es) (view_event c id (a ++ d ∷ es) e)))
 
 -- ---- steps with another id
 
@@ -72,7 +72,7 @@ fresh_step : (c : ConfigValues) (w : World) (s : Step) → OpensNone s → IsFre
 fresh_step c w s none is = step_keeps (IsFresh c) c.limits w is s (record {
   opened = λ id opens free. absurd (none id opens);
   changed = λ v g keeps still. record { empty = rw still.empty refl; ids = still.ids };
-  told = λ v store now still. record { empty = still.empty; ids = still.ids };
+  reported = λ v store now still. record { empty = still.empty; ids = still.ids };
   dropped = λ id. record { empty = rw is.empty refl; ids = is.ids };
 })
 
@@ -144,11 +144,12 @@ module _ (c : ConfigValues) (id : ℕ) where
   view_others (s ∷ ss) w spelled ids vs each is =
       let next : World = world.step c.limits w s in
       let changes : List AcceptedCall = change_events (change_by w s) in
-      let seen : share_of id next ≡ settled_share (share (changed w.store (change_by w s)) w.now (side_of id w.sides)) =
+      let viewed : share_of id next ≡ settled_share (share (changed w.store (change_by w s)) w.now
+      (side_of id w.sides)) =
       step_share c.limits id w s ∙ ap settled_share (other_did c.limits id w s each.0) in
       subst (IsView (after_steps c.limits next ss) spelled ids) (append_assoc vs changes (changes_of c.limits next ss))
       (view_others ss next spelled ids (vs ++ changes) each.1
-      (view_change w spelled ids vs is next (change_by w s) (by_passes w s) (step_rests c.limits id w s) seen))
+      (view_change w spelled ids vs is next (change_by w s) (by_passes w s) (step_rests c.limits id w s) viewed))
 
   -- ---- one more event
 
@@ -172,9 +173,10 @@ module _ (c : ConfigValues) (id : ℕ) where
     steps_made = steps_by M es e
 
     -- An event of another connection.
-    unseen : AllByRecursion (λ s. concerns id s ≡ false) steps_made → w.ids ≤ (after_steps c.limits w steps_made).ids
+    unaffected : AllByRecursion (λ s. concerns id s ≡ false) steps_made
+        → w.ids ≤ (after_steps c.limits w steps_made).ids
         → taken_in id e ≡ [] → size_stays id e → Sees (es ++ e ∷ []) (vs ++ changes_of c.limits w steps_made)
-    unseen each grow quiet stays =
+    unaffected each grow quiet stays =
         let is = view_others steps_made w (spelled_on M id es) w.ids vs each sees in
         record {
           alike = ap (share_of id) (world_more c es e) ∙ is.alike;
@@ -194,11 +196,11 @@ module _ (c : ConfigValues) (id : ℕ) where
         ∙ rw (same.0, same.1 (size_on M n vs)) (sym (spelled_then M n vs e'))
 
     -- An event of the connection itself.
-    seen : (e' : AcceptedCall) → steps_by M vs e' ≡ map (renamed n) steps_made
+    viewed : (e' : AcceptedCall) → steps_by M vs e' ≡ map (renamed n) steps_made
         → AllByRecursion (λ s. concerns id s ≡ true) steps_made → SpellSame e' → IsAccepted c vs e'
         → ((after_steps c.limits w steps_made).ids < id → IsFresh c (world_after c (vs ++ e' ∷ [])))
         → Sees (es ++ e ∷ []) (vs ++ e' ∷ [])
-    seen e' makes each bytes ok fresh = record {
+    viewed e' makes each bytes ok fresh = record {
       alike =
           ap (share_of id) (world_more c es e) ∙ own_steps c.limits id n steps_made w (world_after c vs) each sees.alike
           ∙ ap (λ (ss : List Step). share_of n (after_steps c.limits (world_after c vs) ss)) (sym makes)
@@ -217,7 +219,7 @@ module _ (c : ConfigValues) (id : ℕ) where
     sees_own e' P makes each opening bytes ok holds =
         let at = on_one P (side_of id w.sides) holds in
         let given = (number_given c w id at.0 (accepted_is c es all).numbered at.1).within in
-        seen e' makes each bytes ok (λ low. absurd (omega (arith, low, given, ids_more steps_made w opening)))
+        viewed e' makes each bytes ok (λ low. absurd (omega (arith, low, given, ids_more steps_made w opening)))
 
   -- ---- each event
 
@@ -258,17 +260,18 @@ module _ (c : ConfigValues) (id : ℕ) where
     blind e s one apart still opening quiet stays =
         let none : changes_of c.limits (world_after c es) (steps_by M es e) ≡ [] = rw (one, still) refl in
         rw none
-        at (unseen es vs all sees e (rw one (apart, tt)) (rw one (ids_grow c (world_after c es) s opening)) quiet stays)
+        at (unaffected es vs all sees e (rw one (apart, tt)) (rw one (ids_grow c (world_after c es) s opening)) quiet
+        stays)
 
     -- The connection is opened.
-    opening_seen : IsAccepted c es (Opened id) → Sees (es ++ Opened id ∷ []) (vs ++ Opened n ∷ [])
+    opening_concerns : IsAccepted c es (Opened id) → Sees (es ++ Opened id ∷ []) (vs ++ Opened n ∷ [])
     unfolding IsAccepted steps_by concerns after_steps world.step
-    opening_seen ok =
+    opening_concerns ok =
         let fresh : IsFresh c v = sees.fresh (omega (arith, ok.0)) in
         let numbered : IsNumbered c (world_after c es) = (accepted_is c es all).numbered in
         let given : (world.step c.limits (world_after c es) (world.Opened id)).ids ≡ id =
         ap (λ (u : World). u.ids) (opens c (world_after c es) id numbered ok.0) in
-        seen es vs all sees (Opened id) (Opened n) refl (eq-eqb id id refl, tt) (refl, λ N. refl) (
+        viewed es vs all sees (Opened id) (Opened n) refl (eq-eqb id id refl, tt) (refl, λ N. refl) (
           omega (arith, fresh.ids),
           omega (arith, numbered.low, ok.0, ok.1),
           omega (arith, ok.2, ap (λ (ps : List world.ConnectionEntry). length ps) fresh.empty),
@@ -276,10 +279,10 @@ module _ (c : ConfigValues) (id : ℕ) where
         (λ low. absurd (omega (arith, low, given)))
 
     -- An event of its own with one step and no bytes.
-    own_seen : (e e' : AcceptedCall) (s : Step) (P : Connection → Type 0) → steps_by M es e ≡ s ∷ []
+    own_concerns : (e e' : AcceptedCall) (s : Step) (P : Connection → Type 0) → steps_by M es e ≡ s ∷ []
         → steps_by M vs e' ≡ renamed n s ∷ [] → concerns id s ≡ true → OpensSo s → SpellSame es vs all sees e e'
         → (OnSide n v P → IsAccepted c vs e') → OnSide id (world_after c es) P → Sees (es ++ e ∷ []) (vs ++ e' ∷ [])
-    own_seen e e' s P one too own opening bytes accepts here =
+    own_concerns e e' s P one too own opening bytes accepts here =
         sees_own es vs all sees e e' P (rw one too) (rw one (own, tt)) (rw one (opening, tt)) bytes
         (accepts (rw same_side at here)) here
 
@@ -308,7 +311,7 @@ module _ (c : ConfigValues) (id : ℕ) where
     took_away other bytes apart =
         let before : Stream = stream_on M other es in
         let after : Stream = stream_on M other (es ++ Took other bytes ∷ []) in
-        unseen es vs all sees (Took other bytes)
+        unaffected es vs all sees (Took other bytes)
         (each_beyond (λ s. concerns id s ≡ false) other before after (λ m. ne_eqb other id apart)
         (λ fault. ne_eqb other id apart))
         (ids_more (beyond other before after) (world_after c es)
@@ -323,63 +326,64 @@ module _ (c : ConfigValues) (id : ℕ) where
     common e s one too same of_all none opening bytes ok =
         let grow : (world_after c es).ids ≤ (after_steps c.limits (world_after c es) (steps_by M es e)).ids =
         rw one (ids_grow c (world_after c es) s (opening (world_after c es))) in
-        seen es vs all sees e e (rw (one, too) (ap (λ (t : Step). t ∷ []) (sym same))) (rw one (of_all, tt)) bytes ok
+        viewed es vs all sees e e (rw (one, too) (ap (λ (t : Step). t ∷ []) (sym same))) (rw one (of_all, tt)) bytes ok
         (λ low. rw (world_step c vs e s too) (fresh_step c v s none (sees.fresh (omega (arith, low, grow)))))
 
-    event_seen : (e : AcceptedCall) → IsAccepted c es e → Sees (es ++ e ∷ []) (vs ++ view_event c id es e)
+    event_concerns : (e : AcceptedCall) → IsAccepted c es e → Sees (es ++ e ∷ []) (vs ++ view_event c id es e)
     unfolding IsAccepted steps_by concerns view_event
-    event_seen (Opened other) ok =
-        of_one other Opened [] ok opening_seen
+    event_concerns (Opened other) ok =
+        of_one other Opened [] ok opening_concerns
         (λ apart. blind (Opened other) _ refl (ne_eqb other id apart) refl (ok.0, ok.2) refl (λ N. refl))
-    event_seen (Took other bytes) ok = of_one other (λ i. Took i bytes) _ ok (took_here bytes) (took_away other bytes)
-    event_seen (Wrote other k) ok =
+    event_concerns (Took other bytes) ok = of_one other (λ i. Took i bytes) _ ok (took_here bytes)
+        (took_away other bytes)
+    event_concerns (Wrote other k) ok =
         of_one other (λ i. Wrote i k) [] ok
-        (own_seen (Wrote id k) (Wrote n k) _ (λ s. k ≤ length (waiting_on s)) refl refl (eq-eqb id id refl) (λ w. tt)
-        (refl, λ N. refl) (λ here. here))
+        (own_concerns (Wrote id k) (Wrote n k) _ (λ s. k ≤ length (waiting_on s)) refl refl (eq-eqb id id refl)
+        (λ w. tt) (refl, λ N. refl) (λ here. here))
         (λ apart. blind (Wrote other k) _ refl (ne_eqb other id apart) refl tt refl (λ N. refl))
-    event_seen (Ticked now) ok =
+    event_concerns (Ticked now) ok =
         common (Ticked now) _ refl refl refl refl (λ k opens. cc) (λ w. tt) (refl, λ N. refl)
         (rw (ap (λ (x : Share). x.now) sees.alike) at ok)
-    event_seen (Stored path format bytes) ok =
+    event_concerns (Stored path format bytes) ok =
         common (Stored path format bytes) _ refl refl refl refl (λ k opens. cc) (λ w. tt)
         (refl, λ N. refl) (rw same_stored at ok)
-    event_seen (Removed path) ok =
+    event_concerns (Removed path) ok =
         common (Removed path) _ refl refl refl refl (λ k opens. cc) (λ w. tt) (refl, λ N. refl) (rw same_stored at ok)
-    event_seen (Ended other) ok =
+    event_concerns (Ended other) ok =
         let same_cut = ap (λ (s : Stream × ℕ). world.Ended n (is_cut s.0.rest) ∷ []) (sym sees.spells) in
         of_one other Ended [] ok
-        (own_seen (Ended id) (Ended n) _ (λ s. Unit {0}) refl same_cut (eq-eqb id id refl) (λ w. tt)
+        (own_concerns (Ended id) (Ended n) _ (λ s. Unit {0}) refl same_cut (eq-eqb id id refl) (λ w. tt)
         (refl, λ N. refl) (λ here. here))
         (λ apart. blind (Ended other) _ refl (ne_eqb other id apart) refl tt refl (λ N. refl))
-    event_seen (Released other) ok =
+    event_concerns (Released other) ok =
         of_one other Released [] ok
-        (own_seen (Released id) (Released n) _ (λ s. release_refusal (link_of s.history) ≡ None)
+        (own_concerns (Released id) (Released n) _ (λ s. release_refusal (link_of s.history) ≡ None)
         refl refl (eq-eqb id id refl)
         (λ w. tt) (refl, λ N. refl) (λ here. here))
         (λ apart. blind (Released other) _ refl (ne_eqb other id apart) refl tt refl (λ N. refl))
-    event_seen (Announced other size) ok =
+    event_concerns (Announced other size) ok =
         let same_size = λ (N : ℕ). announced_here id size N ∙ sym (announced_here n size N) in
         of_one other (λ i. Announced i size) [] ok
-        (own_seen (Announced id size) (Announced n size) _ (λ s. may_raise s size ≡ true) refl refl (eq-eqb id id refl)
-        (λ w. tt) (refl, same_size) (λ here. here))
+        (own_concerns (Announced id size) (Announced n size) _ (λ s. may_raise s size ≡ true) refl refl
+        (eq-eqb id id refl) (λ w. tt) (refl, same_size) (λ here. here))
         (λ apart. blind (Announced other size) _ refl (ne_eqb other id apart) refl tt refl
         (announced_elsewhere id other size apart))
-    event_seen (Responded other m) ok =
+    event_concerns (Responded other m) ok =
         of_one other (λ i. Responded i m) [] ok
-        (own_seen (Responded id m) (Responded n m) _ (λ s. response_refusal (link_of s.history) m ≡ None)
+        (own_concerns (Responded id m) (Responded n m) _ (λ s. response_refusal (link_of s.history) m ≡ None)
         refl refl (eq-eqb id id refl)
         (λ w. tt) (refl, λ N. refl) (λ here. here))
         (λ apart. blind (Responded other m) _ refl (ne_eqb other id apart) refl tt refl (λ N. refl))
-    event_seen (Dropped other) ok =
+    event_concerns (Dropped other) ok =
         of_one other Dropped [] ok
-        (own_seen (Dropped id) (Dropped n) _ (λ s. Unit {0}) refl refl (eq-eqb id id refl) (λ w. tt)
+        (own_concerns (Dropped id) (Dropped n) _ (λ s. Unit {0}) refl refl (eq-eqb id id refl) (λ w. tt)
         (refl, λ N. refl) (λ here. here))
         (λ apart. blind (Dropped other) _ refl (ne_eqb other id apart) refl tt refl (λ N. refl))
 
   -- ---- all events
 
   sees_nothing : Sees [] (view_events c id [])
-  unfolding view_events view_behind AreAcceptedBehind
+  unfolding view_events later_view AreAcceptedAfter
   sees_nothing = record {
     alike = rw (world_first c, nobody id, nobody n) refl;
     spells = first_spelled M id ∙ sym (first_spelled M n);
@@ -388,25 +392,26 @@ module _ (c : ConfigValues) (id : ℕ) where
     rests = rw (world_first c) (new_rests c id);
   }
 
-  events_seen : (es : List AcceptedCall) → AreAccepted c es → Sees es (view_events c id es)
+  events_concern : (es : List AcceptedCall) → AreAccepted c es → Sees es (view_events c id es)
   unfolding view_events
-  events_seen es all =
+  events_concern es all =
       by_events c (λ fs. Sees fs (view_events c id fs)) sees_nothing
-      (λ fs e before ok sees. rw (view_more c id [] fs e) (event_seen fs (view_events c id fs) before sees e ok)) es all
+      (λ fs e before ok sees. rw (view_more c id [] fs e) (event_concerns fs (view_events c id fs) before sees e ok)) es
+      all
 
   -- The connection is the same after its view.
   pub same_in_view : (es : List AcceptedCall) → AreAccepted c es
       → side_of id (world_after c es).sides ≡ side_of n (world_after c (view_events c id es)).sides
-  same_in_view es all = ap (λ (x : Share). x.side) (events_seen es all).alike
+  same_in_view es all = ap (λ (x : Share). x.side) (events_concern es all).alike
 
   pub same_store_in_view : (es : List AcceptedCall) → AreAccepted c es
       → (world_after c es).store ≡ (world_after c (view_events c id es)).store
-  same_store_in_view es all = ap (λ (x : Share). x.store) (events_seen es all).alike
+  same_store_in_view es all = ap (λ (x : Share). x.store) (events_concern es all).alike
 
   pub same_now_in_view : (es : List AcceptedCall) → AreAccepted c es
       → (world_after c es).now ≡ (world_after c (view_events c id es)).now
-  same_now_in_view es all = ap (λ (x : Share). x.now) (events_seen es all).alike
+  same_now_in_view es all = ap (λ (x : Share). x.now) (events_concern es all).alike
 
   -- The view is accepted.
   pub view_accepted : (es : List AcceptedCall) → AreAccepted c es → AreAccepted c (view_events c id es)
-  view_accepted es all = (events_seen es all).accepted
+  view_accepted es all = (events_concern es all).accepted

@@ -14,10 +14,10 @@ use Rattle.coap_model.specs.Prelude.{side_written, side_ended, side_released, si
 use Rattle.coap_model.specs.Prelude.{World, Step}
 use Rattle.coap_model.specs.Prelude.{new_world, side_of, stored_after, acted, after_steps, AcceptedCall, steps_of}
 use Rattle.coap_model.specs.Prelude.{world_after, change_steps, change_on, concerns, view_step, view_of, after_view}
-use Rattle.coap_model.specs.Prelude.{AreSeen}
+use Rattle.coap_model.specs.Prelude.{AllConcern}
 use Rattle.coap_store.specs.Answer.{Answer}
 use Rattle.coap_store.proofs.AnswerLaws.{answer_cases, get_cases, store_cases, CanStore, key_is, state_dynamic}
-use Rattle.coap_store.proofs.AnswerLaws.{change_finally, change_unheld}
+use Rattle.coap_store.proofs.AnswerLaws.{change_finally, change_without_hold}
 use Rattle.coap_model.specs.world.World.{changed_at}
 use Rattle.coap_model.specs.world.World as world
 use Rattle.coap_model.specs.world.View.{change_by}
@@ -85,7 +85,7 @@ unfolding immediate_answer answer_of
 immediate_passes s now m =
     let at = answer_at s (target_of s now (path_of m)) m in
     let a = answer_of s now m in
-    subst (IsNotRefused s) (sym (change_unheld a.hold a ∙ change_finally (removes_watch m) at))
+    subst (IsNotRefused s) (sym (change_without_hold a.hold a ∙ change_finally (removes_watch m) at))
     (answer_passes s now (path_of m) m)
 
 prompt_passes : (s : StoreValue) (now : ℕ) (m : Message) → IsNotRefused s (prompt_answer s now m).change
@@ -127,7 +127,7 @@ unfolding settled
 settled_again store now None = refl
 settled_again store now (Some s) =
     ap (λ (t : Connection). Some t)
-    (at_rest (length (settled store now s).history.held + length (settled store now s).observers) store now
+    (at_rest (length (settled store now s).history.pending + length (settled store now s).observers) store now
     (settled store now s) (settled_rests store now s))
 
 -- Settling does not change this part.
@@ -289,24 +289,25 @@ views_alike limits id (s ∷ ss) w v rests alike =
 
 -- ---- each viewed step is one of the connection, or of none
 
-changes_seen : (id : ℕ) (change : Change) → AreSeen id (change_steps change)
+changes_concern : (id : ℕ) (change : Change) → AllConcern id (change_steps change)
 unfolding concerns
-changes_seen id Nothing = tt
-changes_seen id (Put path format bytes) = (refl, tt)
-changes_seen id (Delete path) = (refl, tt)
+changes_concern id Nothing = tt
+changes_concern id (Put path format bytes) = (refl, tt)
+changes_concern id (Delete path) = (refl, tt)
 
-step_seen : (id : ℕ) (w : World) (s : Step) → AreSeen id (view_step id w s)
+step_concerns : (id : ℕ) (w : World) (s : Step) → AllConcern id (view_step id w s)
 unfolding view_step
-step_seen id w s =
-    cond_both (concerns id s) (s ∷ []) (change_steps (change_by w s)) (AreSeen id) (λ own. (own, tt))
-    (λ apart. changes_seen id (change_by w s))
+step_concerns id w s =
+    cond_both (concerns id s) (s ∷ []) (change_steps (change_by w s)) (AllConcern id) (λ own. (own, tt))
+    (λ apart. changes_concern id (change_by w s))
 
-pub view_seen : (limits : LimitValues) (id : ℕ) (w : World) (ss : List Step) → AreSeen id (view_of limits id w ss)
+pub view_concerns : (limits : LimitValues) (id : ℕ) (w : World) (ss : List Step)
+    → AllConcern id (view_of limits id w ss)
 unfolding view_of
-view_seen limits id w [] = tt
-view_seen limits id w (s ∷ ss) =
+view_concerns limits id w [] = tt
+view_concerns limits id w (s ∷ ss) =
     all_append (λ t. concerns id t ≡ true) (view_step id w s) (view_of limits id (world.step limits w s) ss)
-    (step_seen id w s) (view_seen limits id (world.step limits w s) ss)
+    (step_concerns id w s) (view_concerns limits id (world.step limits w s) ss)
 
 -- ---- from the first world on
 

@@ -10,20 +10,20 @@ use Rattle.coap_model.specs.Prelude.{Responder, Engine, Application, late_respon
 use Rattle.coap_model.specs.Prelude.{Message, StreamFault, LARGEST_MESSAGE, Reject, ReleasedHere, takes_messages}
 use Rattle.coap_model.specs.Prelude.{answers, is_open, fits, bare_response, VerdictValue, is_request, PendingEntryValue}
 use Rattle.coap_model.specs.Prelude.{Answer, Pong, first_due, without_due, stop, abort, send, react, pong_with}
-use Rattle.coap_model.specs.Prelude.{due_effect, reject_of, reject_reason, release_refusal, History, standing_now}
-use Rattle.coap_model.specs.Prelude.{limit_now, with_effect, after, may_hold, link_of, standing_due, end_reason}
+use Rattle.coap_model.specs.Prelude.{due_effect, reject_of, reject_reason, release_refusal, History, state_now}
+use Rattle.coap_model.specs.Prelude.{limit_now, with_effect, after, may_hold, link_of, state_due, end_reason}
 use Rattle.coap_model.specs.Prelude.{release, may_announce, LinkValue, own_csm, free_in, limit_in, StoreValue}
 use Rattle.coap_model.specs.Prelude.{Response, prompt_answer, response_with_observe}
 use Rattle.coap_model.specs.Prelude.{Observer, without_token, has_place, goes_on, notification, Connection, waiting_on}
-use Rattle.coap_model.specs.Prelude.{has_room, handles, kept_open, with_history, moment_after, held_for}
+use Rattle.coap_model.specs.Prelude.{has_room, handles, kept_open, with_history, moment_after, delay_for}
 use Rattle.coap_model.specs.Prelude.{side_replied, asks_answer, side_handled, side_after, side_faulted, side_written}
 use Rattle.coap_model.specs.Prelude.{side_ended, side_released, may_raise, side_announced, next_due, notified}
-use Rattle.coap_model.specs.Prelude.{held_message, after_sent, settled_so, settled_once, settled_within, settled}
+use Rattle.coap_model.specs.Prelude.{late_message, after_sent, settled_so, settled_once, settled_within, settled}
 use Rattle.coap_conn.specs.Verdicts as verdict
 use Rattle.coap_conn.specs.Calls as call
 use Rattle.coap_conn.proofs.RequestLemmas.{react_asks}
 use Rattle.coap_conn.proofs.AskingLaws.{none_where}
-use Rattle.coap_model.specs.Prelude.{side_responded, response_refusal, standing_without}
+use Rattle.coap_model.specs.Prelude.{side_responded, response_refusal, state_without}
 
 -- ---- the parts
 
@@ -32,20 +32,20 @@ abbrev pub room_in : History → Bool
 room_in h = nat_le h.limits.max_sent (free_in (link_of h))
 
 -- A message was handled.
-abbrev pub heard : History → Message → History
-heard h m = record (with_effect h (react (standing_now h) m).effect) { handled = h.handled ++ m ∷ [] }
+abbrev pub received : History → Message → History
+received h m = record (with_effect h (react (state_now h) m).effect) { handled = h.handled ++ m ∷ [] }
 
 -- A message was sent, whole or in its reduced form.
 abbrev pub sent : History → Message → Message → History
-sent h m less = with_effect h (send (standing_now h) m less)
+sent h m less = with_effect h (send (state_now h) m less)
 
 -- The pending entries are these.
 abbrev pub holding : History → List PendingEntryValue → History
-holding h held = record h { held = held }
+holding h pending = record h { pending = pending }
 
 -- The first due entry is removed.
 abbrev pub without_first : History → ℕ → History
-without_first h now = holding h (without_due now h.held)
+without_first h now = holding h (without_due now h.pending)
 
 -- A size was announced.
 abbrev pub announcing : History → ℕ → History
@@ -53,7 +53,7 @@ announcing h size = record h { queued = h.queued ++ own_csm size ∷ []; own_max
 
 -- The relation holds across a part.
 abbrev pub Hears : (History → History → Type 0) → Type 0
-Hears R = (h : History) (m : Message) → takes_messages h.phase ≡ true → room_in h ≡ true → R h (heard h m)
+Hears R = (h : History) (m : Message) → takes_messages h.phase ≡ true → room_in h ≡ true → R h (received h m)
 
 abbrev pub Replies : (History → History → Type 0) → Type 0
 Replies R =
@@ -63,30 +63,30 @@ Replies R =
 abbrev pub Holds : (History → History → Type 0) → Type 0
 Holds R =
     (h : History) (by : Responder) (token : List ℕ) (moment : ℕ) → is_open h.phase ≡ true → may_hold h ≡ true
-    → R h (holding h (h.held ++ Answer by token moment ∷ []))
+    → R h (holding h (h.pending ++ Answer by token moment ∷ []))
 
 abbrev pub LetsGo : (History → History → Type 0) → Type 0
 LetsGo R = (h : History) (now : ℕ) → R h (without_first h now)
 
 abbrev pub Pongs : (History → History → Type 0) → Type 0
 Pongs R =
-    (h : History) (now : ℕ) (token : List ℕ) → first_due now h.held ≡ Some (Pong token) → room_in h ≡ true
+    (h : History) (now : ℕ) (token : List ℕ) → first_due now h.pending ≡ Some (Pong token) → room_in h ≡ true
     → R h (sent (without_first h now) (pong_with true token) (pong_with false token))
 
 abbrev pub Rejects : (History → History → Type 0) → Type 0
 Rejects R =
     (h : History) (fault : Reject) → takes_messages h.phase ≡ true → room_in h ≡ true
-    → R h (with_effect h (abort (standing_now h) (reject_reason fault)))
+    → R h (with_effect h (abort (state_now h) (reject_reason fault)))
 
 abbrev pub Ends : (History → History → Type 0) → Type 0
 Ends R =
     (h : History) (cut : Bool) → takes_messages h.phase ≡ true
-    → R h (with_effect h (stop (standing_now h) (end_reason cut) []))
+    → R h (with_effect h (stop (state_now h) (end_reason cut) []))
 
 abbrev pub Releases : (History → History → Type 0) → Type 0
 Releases R =
     (h : History) → is_open h.phase ≡ true → is_none (release_refusal (link_of h)) ≡ true
-    → R h (with_effect h (stop (standing_now h) ReleasedHere (release ∷ [])))
+    → R h (with_effect h (stop (state_now h) ReleasedHere (release ∷ [])))
 
 abbrev pub Writes : (History → History → Type 0) → Type 0
 Writes R = (h : History) (n : ℕ) → n ≤ length (link_of h).waiting → R h (after h (call.Written n))
@@ -99,7 +99,7 @@ Announces R =
 abbrev pub Responds : (History → History → Type 0) → Type 0
 Responds R =
     (h : History) (m : Message) → answers h.phase ≡ true → response_refusal (link_of h) m ≡ None
-    → R h (with_effect h (send (standing_without m.token (standing_now h)) m (bare_response m)))
+    → R h (with_effect h (send (state_without m.token (state_now h)) m (bare_response m)))
 
 -- A relation that composes.
 pub record Composes (R : History → History → Type 0) : Type 0 where
@@ -130,29 +130,29 @@ said_request verdict.Request e = refl
 said_request other e = absurd cc
 
 -- A request queues nothing, so the room is the same afterwards.
-asked_room : (h : History) (m : Message) → is_request (react (standing_now h) m).verdict ≡ true → room_in h ≡ true
+request_room : (h : History) (m : Message) → is_request (react (state_now h) m).verdict ≡ true → room_in h ≡ true
     → room_in (after h (call.Handle m)) ≡ true
-asked_room h m asks room =
-    let none = (react_asks (standing_now h) m (said_request (react (standing_now h) m).verdict asks)).nothing in
-    cond_both (takes_messages h.phase) (heard h m) h (λ (k : History). room_in k ≡ true)
+request_room h m asks room =
+    let none = (react_asks (state_now h) m (said_request (react (state_now h) m).verdict asks)).nothing in
+    cond_both (takes_messages h.phase) (received h m) h (λ (k : History). room_in k ≡ true)
     (λ takes. rw (none, append-nil) room) (λ over. room)
 
 -- The effect of the entry that was found to be due first.
-pub due_is : (h : History) (now : ℕ) (found : Option PendingEntryValue) → first_due now h.held ≡ found
-    → after h (call.Due now) ≡ with_effect h (due_effect (standing_due now (standing_now h)) found)
+pub due_is : (h : History) (now : ℕ) (found : Option PendingEntryValue) → first_due now h.pending ≡ found
+    → after h (call.Due now) ≡ with_effect h (due_effect (state_due now (state_now h)) found)
 due_is h now found is =
-    ap (λ (o : Option PendingEntryValue). with_effect h (due_effect (standing_due now (standing_now h)) o)) is
+    ap (λ (o : Option PendingEntryValue). with_effect h (due_effect (state_due now (state_now h)) o)) is
 
 -- The first due entry is removed, and nothing else changes if it is no Pong.
 pub answer_goes : (h : History) (now : ℕ) (by : Responder) (token : List ℕ) (moment : ℕ)
-    → first_due now h.held ≡ Some (Answer by token moment) → after h (call.Due now) ≡ without_first h now
+    → first_due now h.pending ≡ Some (Answer by token moment) → after h (call.Due now) ≡ without_first h now
 answer_goes h now by token moment is = cc (due_is h now (Some (Answer by token moment)) is, append-nil h.queued)
 
 -- An entry is appended to the pending list, whoever responds.
-pub held_is : (h : History) (by : Responder) (token : List ℕ) (moment : ℕ) → after h (hold_call by token moment)
-    ≡ cond (is_open h.phase && may_hold h) (holding h (h.held ++ Answer by token moment ∷ [])) h
-held_is h Engine token moment = refl
-held_is h Application token moment = refl
+pub pending_is : (h : History) (by : Responder) (token : List ℕ) (moment : ℕ) → after h (hold_call by token moment)
+    ≡ cond (is_open h.phase && may_hold h) (holding h (h.pending ++ Answer by token moment ∷ [])) h
+pending_is h Engine token moment = refl
+pending_is h Application token moment = refl
 
 -- ---- settling
 
@@ -166,7 +166,7 @@ module _ (P : Connection → Type 0) (store : StoreValue) (now : ℕ)
 
   pub settled_keeps : (s : Connection) → P s → P (settled store now s)
   unfolding settled
-  settled_keeps s = within_keeps (length s.history.held + length s.observers) s
+  settled_keeps s = within_keeps (length s.history.pending + length s.observers) s
 
 pub if_between : (R : History → History → Type 0) (does : Bool) (h k : History) → R h h
     → (does ≡ true → R h k) → R h (cond does k h)
@@ -183,10 +183,10 @@ module _ (R E : History → History → Type 0) (same : (h : History) → R h h)
       cond_both (answers k.phase) _ k (R h)
       (λ does. then h k _ before (replies k token observe r does room)) (λ none. before)
 
-  sent_between : (h : History) (now : ℕ) (e : PendingEntryValue) → first_due now h.held ≡ Some e → room_in h ≡ true
+  sent_between : (h : History) (now : ℕ) (e : PendingEntryValue) → first_due now h.pending ≡ Some e → room_in h ≡ true
       → R h (after_sent h now e)
   sent_between h now (Answer by token moment) is room =
-      subst (λ (g : History). R h (after g (call.Reply (held_message by token))))
+      subst (λ (g : History). R h (after g (call.Reply (late_message by token))))
       (sym (answer_goes h now by token moment is))
       (reply_between h (without_first h now) token false (late_response by) (lets_go h now) room)
   sent_between h now (Pong token) is room = rw (due_is h now (Some (Pong token)) is) (pongs h now token is room)
@@ -198,8 +198,8 @@ module _ (R E : History → History → Type 0) (same : (h : History) → R h h)
         reply_between s.history s.history o.token (goes_on (notification store now o))
         (notification store now o) (same s.history) room
 
-    told_between : R s.history (notified store now s (next_due store now s)).history
-    told_between =
+    reported_between : R s.history (notified store now s (next_due store now s)).history
+    reported_between =
         cond_both (has_room s) _ None (λ o. R s.history (notified store now s o).history)
         (notified_between _) (λ none. same s.history)
 
@@ -207,9 +207,9 @@ module _ (R E : History → History → Type 0) (same : (h : History) → R h h)
     unfolding settled_once
     once_between =
         let So : Option PendingEntryValue → Type 0 = λ found. R s.history (settled_so store now s found).history in
-        cond_both (has_room s) (first_due now s.history.held) None So
-        (λ room. there_or_not (first_due now s.history.held) So (λ none. told_between)
-        (λ e is. sent_between s.history now e is room)) (λ none. told_between)
+        cond_both (has_room s) (first_due now s.history.pending) None So
+        (λ room. there_or_not (first_due now s.history.pending) So (λ none. reported_between)
+        (λ e is. sent_between s.history now e is room)) (λ none. reported_between)
 
 pub settled_between : (R : History → History → Type 0) → Composes R → Replies R → LetsGo R → Pongs R
     → (store : StoreValue) (now : ℕ) (s : Connection) → R s.history (settled store now s).history
@@ -232,7 +232,7 @@ module _ (R E : History → History → Type 0) (same : (h : History) → R h h)
       if_between E (answers h.phase) h _ (stays h)
       (λ does. replies h m.token (has_place h.limits.observers others a.watch) a.response does room)
   replied_between store now h others m (Some delay) room =
-      subst (E h) (sym (held_is h delay.by m.token (moment_after now delay.seconds)))
+      subst (E h) (sym (pending_is h delay.by m.token (moment_after now delay.seconds)))
       (if_between E (is_open h.phase && may_hold h) h _ (stays h)
       (λ does. (let both = and_parts (is_open h.phase) (may_hold h) does in
       holds h delay.by m.token (moment_after now delay.seconds) both.0 both.1)))
@@ -248,8 +248,8 @@ module _ (R E : History → History → Type 0) (same : (h : History) → R h h)
       (λ takes. takes_input s.history m takes room) in
       cond_both (asks_answer s m) _ (with_history s h) (Between R s)
       (λ asks. then s.history h _ message
-      (replied_between store now h (without_token m.token s.observers) m (held_for h (delay_of store now m))
-      (asked_room s.history m asks room)))
+      (replied_between store now h (without_token m.token s.observers) m (delay_for h (delay_of store now m))
+      (request_room s.history m asks room)))
       (λ other. message))) (λ none. same s.history)
 
 -- ---- other effects

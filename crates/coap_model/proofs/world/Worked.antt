@@ -2,7 +2,7 @@
 -- pending entries, and the fates of requests for the application.
 use Rattle.std.proofs.Common.{◌≡◌, ℕ, Bool, true, false, List, [], ◌∷◌, ◌++◌, map, Some, None, refl, sym, codes, inl}
 use Rattle.std.proofs.Common.{inr, true≢false}
-use Rattle.coap_model.specs.Prelude.{digits, kind_of, is_recognised, known_behind, first_critical_behind}
+use Rattle.coap_model.specs.Prelude.{digits, kind_of, is_recognised, known_given, first_critical_given}
 use Rattle.coap_model.specs.Prelude.{announced, due_index, first_due, without_due, react, live_reaction, is_path}
 use Rattle.coap_model.specs.Prelude.{found_in, put_at}
 use Rattle.coap_model.specs.Prelude.{removed_at, encoded_byte, path_bytes, entry_bytes, listing, kind_of_path, key_for}
@@ -16,7 +16,7 @@ use Rattle.coap_model.specs.Prelude.{side_faulted, side_written, side_ended, sid
 use Rattle.coap_model.specs.Prelude.{settled_within, settled}
 use Rattle.coap_model.specs.Prelude.{side_announced, side_of, acted, step, after_steps, taken_on, size_on, sizes_on}
 use Rattle.coap_model.specs.Prelude.{stream_on}
-use Rattle.coap_model.specs.Prelude.{steps_by, steps_behind, steps_of, world_after, takes, concerns, view_step, view_of}
+use Rattle.coap_model.specs.Prelude.{steps_by, later_steps, steps_of, world_after, takes, concerns, view_step, view_of}
 use Rattle.coap_model.specs.Prelude.{is_answered, response_refusal, without_request, side_responded, with_fate}
 use Rattle.coap_model.specs.Prelude.{requests_after}
 use Rattle.coap_model.specs.Prelude.{requests_responded, requests_once, requests_within, requests_settled}
@@ -26,7 +26,7 @@ use Rattle.coap_model.specs.Prelude.{ConfigValues, Message, new_world, PendingEn
 use Rattle.coap_model.specs.Prelude.{Application, CorrespondTo}
 use Rattle.coap_model.specs.Prelude.{AcceptedCall, Opened, Took, Wrote, Ticked, Ended, Responded, Dropped, Announced}
 use Rattle.coap_model.specs.Prelude.{Stored}
-use Rattle.coap_model.specs.Prelude.{Fate, Unanswered, Answered, ApplicationRequest, held_message, refusal_of}
+use Rattle.coap_model.specs.Prelude.{Fate, Unanswered, Answered, ApplicationRequest, late_message, refusal_of}
 use Rattle.coap_store.specs.Requests.{values_of}
 use Rattle.coap_wire.specs.StreamPrefix.{prefix_kind}
 use Rattle.coap_wire.specs.Frames.{frames_within, sized_frames}
@@ -46,12 +46,12 @@ computed : Unit {0}
 unfolding split sized_split sized_frames frames_within framing prefix_kind declared_of length_at one_byte_at
     two_bytes_at four_bytes_at message_of head_at option_number_at option_head_at option_at body_at body_within spelling
     bytes_of_uint prompt_answer application_deadline immediate_answer answer_of answer_at resource_answer method_answer
-    get_answer store_answer kind_of is_recognised known_behind first_critical_behind values_of has_option value_of
+    get_answer store_answer kind_of is_recognised known_given first_critical_given values_of has_option value_of
     number_of match_holds is_seconds is_path kind_of_path key_for state_at found_in put_at removed_at listing
     entry_bytes path_bytes encoded_byte digits notification_at put_refusal announced react live_reaction due_index
     first_due without_due is_due without_token first_becomes side_after change_after side_faulted side_written
     side_ended side_released side_announced settled_once settled_within settled side_of acted step after_steps taken_on
-    size_on sizes_on steps_by steps_behind steps_of world_after takes concerns view_step view_of with_fate
+    size_on sizes_on steps_by later_steps steps_of world_after takes concerns view_step view_of with_fate
     requests_after requests_responded requests_once requests_within requests_settled requests_acted requests_then
     requests_by requests_on response_refusal without_request is_answered side_responded CorrespondTo
 computed = tt
@@ -95,12 +95,12 @@ both =
     ∷ Took 2 (0x20 ∷ 0x04 ∷ 0xb1 ∷ 0x61 ∷ []) ∷ Dropped 2 ∷ []
 
 -- In the view of the first one, x is stored at `/a` and removed. The view does not say who did it.
-seen_by_first : view_of (config 16).limits 1 (new_world (config 16)) (steps_of 65536 both)
+view_of_first : view_of (config 16).limits 1 (new_world (config 16)) (steps_of 65536 both)
     ≡ step.Opened 1 ∷ step.Written 1 8
     ∷ step.Handled 1 (record { code = code.csm; token = []; options = []; payload = [] })
     ∷ step.Stored (codes "a" ∷ []) None (codes "x") ∷ step.Ticked 5 ∷ step.Removed (codes "a" ∷ []) ∷ []
 unfolding computed both
-seen_by_first = refl
+view_of_first = refl
 
 -- ---- sizes
 
@@ -167,7 +167,7 @@ abbrev created : ℕ → Message
 created token = record { code = code.created; token = token ∷ []; options = []; payload = [] }
 
 abbrev expired : ℕ → Message
-expired token = held_message Application (token ∷ [])
+expired token = late_message Application (token ∷ [])
 
 -- The requests of connection 1 after these calls: whether each is the only one with its token, whether the application
 -- got it, and its fate.

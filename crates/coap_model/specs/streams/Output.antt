@@ -22,7 +22,7 @@ waiting_of (Some s) = waiting_on s
 -- The number of pending entries and observers of a connection; 0 if it does not exist.
 abbrev pub more_of : Option Connection → ℕ
 more_of None = 0
-more_of (Some s) = length s.history.held + length s.observers
+more_of (Some s) = length s.history.pending + length s.observers
 
 -- The world after all queued bytes of a connection were written. Settling may then have queued further bytes.
 abbrev pub written_once : LimitValues → ℕ → World → World

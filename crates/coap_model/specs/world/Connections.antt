@@ -13,10 +13,10 @@ use Rattle.coap_conn.specs.Reaction.{react}
 use Rattle.coap_conn.specs.Fit.{fit, bare_response}
 use Rattle.coap_conn.specs.Rejects.{reject_of}
 use Rattle.coap_conn.specs.Release.{release_refusal}
-use Rattle.coap_conn.specs.History.{History, link_of, new_history, limit_now, standing_now, after, may_hold}
+use Rattle.coap_conn.specs.History.{History, link_of, new_history, limit_now, state_now, after, may_hold}
 use Rattle.coap_conn.specs.LinkValue.{free_in}
 use Rattle.coap_conn.specs.PendingEntries.{PendingEntryValue, NothingIsDue, first_due}
-use Rattle.coap_conn.specs.PendingEntries as held
+use Rattle.coap_conn.specs.PendingEntries as pending
 use Rattle.coap_conn.specs.declared.pending.Responder.{Responder}
 use Rattle.coap_conn.specs.declared.pending.Responder.TheVariants.{Engine, Application}
 use Rattle.coap_conn.specs.Calls.{may_announce}
@@ -121,9 +121,9 @@ abbrev pub delay_of : StoreValue → ℕ → Message → Option Delay
 delay_of store now m = delay_or (application_deadline store.applications m) (answer_of store now m).hold
 
 -- The delay, or `None` if the pending list is full.
-abbrev pub held_for : History → Option Delay → Option Delay
-held_for h None = None
-held_for h (Some delay) = if may_hold h then Some delay else None
+abbrev pub delay_for : History → Option Delay → Option Delay
+delay_for h None = None
+delay_for h (Some delay) = if may_hold h then Some delay else None
 
 -- The call that appends a pending entry, by its responder.
 abbrev pub hold_call : Responder → List ℕ → ℕ → call.Call
@@ -139,14 +139,14 @@ side_replied store now h others m (Some delay) =
 
 -- The message is a request that the server must answer, by the reaction of the connection.
 abbrev pub asks_answer : Connection → Message → Bool
-asks_answer s m = is_request (react (standing_now s.history) m).verdict
+asks_answer s m = is_request (react (state_now s.history) m).verdict
 
 -- The connection after a message that it handles. A request first removes the observer with its token, and is then
 -- answered from the store, or pending until the application responds.
 abbrev pub side_handled : StoreValue → ℕ → Connection → Message → Connection
 side_handled store now s m =
     if asks_answer s m then side_replied store now (after s.history (call.Handle m)) (without_token m.token s.observers)
-    m (held_for (after s.history (call.Handle m)) (delay_of store now m))
+    m (delay_for (after s.history (call.Handle m)) (delay_of store now m))
     else with_history s (after s.history (call.Handle m))
 
 -- The connection after it received a message; unchanged if it does not handle messages now.
@@ -225,8 +225,8 @@ notified store now s (Some o) =
     (goes_on (notification store now o))
 
 -- The pending entry that is due first, if the connection has room.
-abbrev pub next_held : ℕ → Connection → Option PendingEntryValue
-next_held now s = if has_room s then first_due now s.history.held else None
+abbrev pub next_pending : ℕ → Connection → Option PendingEntryValue
+next_pending now s = if has_room s then first_due now s.history.pending else None
 
 -- The response that is sent at the time of a pending entry. It is the delayed one of the engine, or 5.04 to a request
 -- that the application has not answered.
@@ -235,13 +235,13 @@ late_response Engine = delayed_response
 late_response Application = expired_response
 
 -- That response, with the token of the request.
-abbrev pub held_message : Responder → List ℕ → Message
-held_message by token = response_message token (late_response by)
+abbrev pub late_message : Responder → List ℕ → Message
+late_message by token = response_message token (late_response by)
 
 -- The history after the first due entry was removed and its message queued: a response, or a Pong with Custody.
 abbrev pub after_sent : History → ℕ → PendingEntryValue → History
-after_sent h now (held.Answer by token moment) = after (after h (call.Due now)) (call.Reply (held_message by token))
-after_sent h now (held.Pong token) = after h (call.Due now)
+after_sent h now (pending.Answer by token moment) = after (after h (call.Due now)) (call.Reply (late_message by token))
+after_sent h now (pending.Pong token) = after h (call.Due now)
 
 -- The connection after one round of settling with this due entry. An observer is notified only if no entry is due.
 abbrev pub settled_so : StoreValue → ℕ → Connection → Option PendingEntryValue → Connection
@@ -251,7 +251,7 @@ settled_so store now s (Some e) = with_history s (after_sent s.history now e)
 -- The connection after one round of settling. The pending entry that is due first is sent. If none is due, the first
 -- due observer is notified.
 unfoldable pub settled_once : StoreValue → ℕ → Connection → Connection
-settled_once store now s = settled_so store now s (next_held now s)
+settled_once store now s = settled_so store now s (next_pending now s)
 
 -- The connection after this number of rounds of settling.
 unfoldable pub settled_within : ℕ → StoreValue → ℕ → Connection → Connection
@@ -262,11 +262,11 @@ settled_within (suc turns) store now s = settled_within turns store now (settled
 -- Each round with an effect leaves fewer pending entries or fewer due observers. So as many rounds as there are entries
 -- and observers are enough.
 unfoldable pub settled : StoreValue → ℕ → Connection → Connection
-settled store now s = settled_within (length s.history.held + length s.observers) store now s
+settled store now s = settled_within (length s.history.pending + length s.observers) store now s
 
 -- No change is lost, if the connection has room.
--- - `told`: each observer was last sent the current state of its path.
+-- - `reported`: each observer was last sent the current state of its path.
 -- - `sent`: no pending entry is due. Each response is due at a later time, and no Pong is first in the list.
 pub record IsUpToDate (store : StoreValue) (now : ℕ) (s : Connection) : Type 0 where
-  pub told : has_room s ≡ true → AllByRecursion (λ o. o.told ≡ state_of store now o.path) s.observers
-  pub sent : has_room s ≡ true → NothingIsDue now s.history.held
+  pub reported : has_room s ≡ true → AllByRecursion (λ o. o.reported ≡ state_of store now o.path) s.observers
+  pub sent : has_room s ≡ true → NothingIsDue now s.history.pending

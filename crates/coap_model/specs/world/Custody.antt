@@ -44,28 +44,29 @@ pub record QueuesCustody (before after : Connection) : Type 0 where
   pub pong : list_any is_custody_pong more ≡ true
 
 -- The Pong with this token is the first pending entry.
-pub record IsFirstHeld (s : Connection) (token : List ℕ) : Type 0 where
+pub record IsFirstPending (s : Connection) (token : List ℕ) : Type 0 where
   pub rest : List PendingEntryValue
-  pub first : s.history.held ≡ Pong token ∷ rest
+  pub first : s.history.pending ≡ Pong token ∷ rest
 
 -- All pending entries keep their places, perhaps with further ones after them; or the connection has stopped.
 abbrev pub KeepsPending : Connection → Connection → Type 0
 KeepsPending before after =
-    ((more : List PendingEntryValue) × (after.history.held ≡ before.history.held ++ more))
+    ((more : List PendingEntryValue) × (after.history.pending ≡ before.history.pending ++ more))
     ⊎ ((why : Reason) × (after.history.phase ≡ Stopped why))
 
 -- These entries are pending, or the connection has stopped.
 abbrev pub KeepsBut : List PendingEntryValue → Connection → Type 0
-KeepsBut held after = (after.history.held ≡ held) ⊎ ((why : Reason) × (after.history.phase ≡ Stopped why))
+KeepsBut pending after = (after.history.pending ≡ pending) ⊎ ((why : Reason) × (after.history.phase ≡ Stopped why))
 
 -- At most one entry is added, and the message asks for it.
-pub record AddsAsked (a : Option ApplicationsValue) (m : Message) (more : List PendingEntryValue) : Type 0 where
+pub record AddsRequested (a : Option ApplicationsValue) (m : Message) (more : List PendingEntryValue) : Type 0 where
   pub few : length more ≤ 1
-  pub asked : AllByRecursion (λ e. asks_pending a m e ≡ true) more
+  pub requested : AllByRecursion (λ e. asks_pending a m e ≡ true) more
 
 -- All pending entries keep their places over this message, followed by at most one for which it asks; or the connection
 -- has stopped.
 abbrev pub KeepsPendingOver : Option ApplicationsValue → Message → Connection → Connection → Type 0
 KeepsPendingOver a m before after =
-    ((more : List PendingEntryValue) × (after.history.held ≡ before.history.held ++ more) × AddsAsked a m more)
+    ((more : List PendingEntryValue) × (after.history.pending ≡ before.history.pending ++ more)
+    × AddsRequested a m more)
     ⊎ ((why : Reason) × (after.history.phase ≡ Stopped why))

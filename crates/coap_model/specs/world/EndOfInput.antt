@@ -30,13 +30,13 @@ normalised_step w (Responded id m) = Responded id m
 normalised_step w (Dropped id) = Dropped id
 
 -- A list of steps as they are received, each in the world before it.
-unfoldable pub heard_steps : LimitValues → World → List Step → List Step
-heard_steps limits w [] = []
-heard_steps limits w (s ∷ ss) = normalised_step w s ∷ heard_steps limits (step limits w s) ss
+unfoldable pub received_steps : LimitValues → World → List Step → List Step
+received_steps limits w [] = []
+received_steps limits w (s ∷ ss) = normalised_step w s ∷ received_steps limits (step limits w s) ss
 
 -- The steps of events as they are received, from the start of the server.
 unfoldable pub normalised_steps : ConfigValues → List AcceptedCall → List Step
-normalised_steps c events = heard_steps c.limits (new_world c) (steps_of c.limits.max_message events)
+normalised_steps c events = received_steps c.limits (new_world c) (steps_of c.limits.max_message events)
 
 -- The bytes of `rest` that are kept as an unfinished message: all, or none if the connection does not exist or no
 -- longer accepts messages.

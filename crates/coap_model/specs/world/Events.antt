@@ -115,13 +115,13 @@ steps_by M earlier (Responded id m) = step.Responded id m ∷ []
 steps_by M earlier (Dropped id) = step.Dropped id ∷ []
 
 -- The steps of a list of events that follows earlier events.
-unfoldable pub steps_behind : ℕ → List AcceptedCall → List AcceptedCall → List Step
-steps_behind M earlier [] = []
-steps_behind M earlier (e ∷ es) = steps_by M earlier e ++ steps_behind M (earlier ++ e ∷ []) es
+unfoldable pub later_steps : ℕ → List AcceptedCall → List AcceptedCall → List Step
+later_steps M earlier [] = []
+later_steps M earlier (e ∷ es) = steps_by M earlier e ++ later_steps M (earlier ++ e ∷ []) es
 
 -- The steps of a list of events, from the start of the server.
 unfoldable pub steps_of : ℕ → List AcceptedCall → List Step
-steps_of M events = steps_behind M [] events
+steps_of M events = later_steps M [] events
 
 -- The world after a list of events, from the start of a server with this configuration.
 unfoldable pub world_after : ConfigValues → List AcceptedCall → World
@@ -186,10 +186,10 @@ IsAccepted c earlier (Responded id m) =
 IsAccepted c earlier (Dropped id) = OnSide id (world_after c earlier) (λ s. Unit {0})
 
 -- Each of these events is accepted after the earlier events and those before it.
-unfoldable pub AreAcceptedBehind : ConfigValues → List AcceptedCall → List AcceptedCall → Type 0
-AreAcceptedBehind c earlier [] = Unit {0}
-AreAcceptedBehind c earlier (e ∷ es) = IsAccepted c earlier e × AreAcceptedBehind c (earlier ++ e ∷ []) es
+unfoldable pub AreAcceptedAfter : ConfigValues → List AcceptedCall → List AcceptedCall → Type 0
+AreAcceptedAfter c earlier [] = Unit {0}
+AreAcceptedAfter c earlier (e ∷ es) = IsAccepted c earlier e × AreAcceptedAfter c (earlier ++ e ∷ []) es
 
 -- Each of these events is accepted after those before it, from the start of the server.
 abbrev pub AreAccepted : ConfigValues → List AcceptedCall → Type 0
-AreAccepted c events = AreAcceptedBehind c [] events
+AreAccepted c events = AreAcceptedAfter c [] events

@@ -17,7 +17,7 @@ use Rattle.coap_conn.specs.Phases.{answers}
 use Rattle.coap_conn.specs.History.{History, link_of, limit_now, after, may_hold}
 use Rattle.coap_conn.specs.Announced.{announced, size_limit}
 use Rattle.coap_conn.specs.PendingEntries.{PendingEntryValue}
-use Rattle.coap_conn.specs.PendingEntries as held
+use Rattle.coap_conn.specs.PendingEntries as pending
 use Rattle.coap_conn.specs.Calls as call
 use Rattle.coap_conn.specs.Reaction.{is_asking}
 use Rattle.coap_conn.specs.Responses.{response_refusal, is_plain_response}
@@ -28,8 +28,8 @@ use Rattle.coap_store.specs.Answer.{only}
 use Rattle.coap_store.specs.ApplicationRequests.{application_deadline}
 use Rattle.coap_store.specs.Messages.{response_message}
 use Rattle.coap_model.specs.Configs.{ConfigValues}
-use Rattle.coap_model.specs.world.Connections.{Connection, Delay, delay_of, held_for, handles, asks_answer}
-use Rattle.coap_model.specs.world.Connections.{held_message, moment_after, next_held, settled_once}
+use Rattle.coap_model.specs.world.Connections.{Connection, Delay, delay_of, delay_for, handles, asks_answer}
+use Rattle.coap_model.specs.world.Connections.{late_message, moment_after, next_pending, settled_once}
 use Rattle.coap_model.specs.world.World.{World, Step, new_world, side_of, Opened, Handled, Responded, acted, step}
 use Rattle.coap_model.specs.world.Events.{AcceptedCall, AreAccepted, steps_of, world_after}
 use Rattle.coap_model.specs.world.Events as event
@@ -69,8 +69,8 @@ asks_with token m = is_asking m && same_bytes m.token token
 
 -- The entry is a delayed response with this token.
 abbrev pub awaits : List ℕ → PendingEntryValue → Bool
-awaits token (held.Answer by own moment) = same_bytes own token
-awaits token (held.Pong own) = false
+awaits token (pending.Answer by own moment) = same_bytes own token
+awaits token (pending.Pong own) = false
 
 -- No response is queued.
 abbrev pub is_unanswered : Fate → Bool
@@ -84,13 +84,13 @@ messages_of (Answered by response sent handled place) = sent ∷ []
 
 -- The pending entry of a request.
 abbrev pub entry_of : ApplicationRequest → PendingEntryValue
-entry_of r = held.Answer Application r.request.token r.deadline
+entry_of r = pending.Answer Application r.request.token r.deadline
 
 -- The entry is a request that waits for the application.
 abbrev pub is_of_application : PendingEntryValue → Bool
-is_of_application (held.Answer Engine token moment) = false
-is_of_application (held.Answer Application token moment) = true
-is_of_application (held.Pong token) = false
+is_of_application (pending.Answer Engine token moment) = false
+is_of_application (pending.Answer Application token moment) = true
+is_of_application (pending.Pong token) = false
 
 -- The connection has stopped.
 abbrev pub has_stopped : Phase → Bool
@@ -141,7 +141,7 @@ new_request now s m (Some seconds) = record {
   deadline = moment_after now seconds;
   handled = length s.history.handled;
   queued = length s.history.queued;
-  alone = not (list_any (awaits m.token) s.history.held);
+  alone = not (list_any (awaits m.token) s.history.pending);
   handed = asks_answer s m && may_hold (after s.history (call.Handle m));
   fate = first_fate (after s.history (call.Handle m)) m;
 } ∷ []
@@ -162,15 +162,15 @@ requests_responded s m rs =
 -- The requests after this entry was due: if it is a request, the answer is 5.04.
 abbrev pub requests_due : Connection → Option PendingEntryValue → List ApplicationRequest → List ApplicationRequest
 requests_due s None rs = rs
-requests_due s (Some (held.Answer Engine token moment)) rs = rs
-requests_due s (Some (held.Answer Application token moment)) rs =
+requests_due s (Some (pending.Answer Engine token moment)) rs = rs
+requests_due s (Some (pending.Answer Application token moment)) rs =
     with_fate (λ r. is_unanswered_with token r && r.deadline == moment)
-    (fate_by Engine s.history (held_message Application token)) rs
-requests_due s (Some (held.Pong token)) rs = rs
+    (fate_by Engine s.history (late_message Application token)) rs
+requests_due s (Some (pending.Pong token)) rs = rs
 
 -- The requests after one round of settling.
 unfoldable pub requests_once : ℕ → Connection → List ApplicationRequest → List ApplicationRequest
-requests_once now s rs = requests_due s (next_held now s) rs
+requests_once now s rs = requests_due s (next_pending now s) rs
 
 -- The requests after this number of rounds of settling.
 unfoldable pub requests_within : ℕ → StoreValue → ℕ → Connection → List ApplicationRequest → List ApplicationRequest
@@ -180,7 +180,7 @@ requests_within (suc turns) store now s rs =
 
 -- The requests after the connection has settled.
 unfoldable pub requests_settled : StoreValue → ℕ → Connection → List ApplicationRequest → List ApplicationRequest
-requests_settled store now s rs = requests_within (length s.history.held + length s.observers) store now s rs
+requests_settled store now s rs = requests_within (length s.history.pending + length s.observers) store now s rs
 
 -- ---- the requests after a step of the server
 
@@ -254,7 +254,7 @@ is_by_application (Some d) = is_responder d.by
 -- becomes a pending entry of the application.
 abbrev pub handed_in : StoreValue → ℕ → Connection → Message → List Message
 handed_in store now s m =
-    if asks_answer s m && is_by_application (held_for (after s.history (call.Handle m)) (delay_of store now m))
+    if asks_answer s m && is_by_application (delay_for (after s.history (call.Handle m)) (delay_of store now m))
     then m ∷ [] else []
 
 -- The messages that a connection handled between two states and handed to the application. The first state is that in
@@ -297,7 +297,7 @@ abbrev pub MayAnswer : ApplicationRequest → Responder → Message → ℕ → 
 MayAnswer r Application response place =
     (r.handed ≡ true) × (response.token ≡ r.request.token) × (is_plain_response response ≡ true)
 MayAnswer r Engine response place =
-    (r.handed ≡ true → response ≡ held_message Application r.request.token)
+    (r.handed ≡ true → response ≡ late_message Application r.request.token)
     × (r.handed ≡ false → (response ≡ refusal_of r.request) × (place ≡ r.queued))
 
 -- The answer to a request is queued at its place, after the request was handled. It is reduced to the limit at that
@@ -332,7 +332,7 @@ HaveOwnAnswers (r ∷ rs) = AllByRecursion (λ other. HaveOtherPlaces r.fate oth
 abbrev pub IsTimely : ℕ → List ℕ → ℕ → Fate → Type 0
 IsTimely now token deadline Unanswered = Unit {0}
 IsTimely now token deadline (Answered Engine response sent handled place) =
-    response ≡ held_message Application token → deadline ≤ now
+    response ≡ late_message Application token → deadline ≤ now
 IsTimely now token deadline (Answered Application response sent handled place) = Unit {0}
 
 -- Of the responses with the token of a request that were queued after it, its answer is the only one. There are two

@@ -53,12 +53,12 @@ abbrev pub asks_late : Option ApplicationsValue → Message → Bool
 asks_late a m = is_delayed m || is_some (application_deadline a m)
 
 -- One of these messages is such a request with this token.
-abbrev pub asked_late : Option ApplicationsValue → List ℕ → List Message → Bool
-asked_late a token messages = list_any (λ m. asks_late a m && same_bytes m.token token) messages
+abbrev pub requested_late : Option ApplicationsValue → List ℕ → List Message → Bool
+requested_late a token messages = list_any (λ m. asks_late a m && same_bytes m.token token) messages
 
 -- The last response with the observer's token reports the state that the observer's entry records.
 abbrev pub IsLastNotification : List Message → Observer → Type 0
-IsLastNotification queued o = (m : Message) × (last_response o.token queued ≡ Some m) × ReportsState o o.told m
+IsLastNotification queued o = (m : Message) × (last_response o.token queued ≡ Some m) × ReportsState o o.reported m
 
 -- No two observers have the same token.
 abbrev pub TokensAreDistinct : List Observer → Type 0

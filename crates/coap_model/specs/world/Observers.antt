@@ -20,7 +20,7 @@ use Rattle.coap_store.specs.declared.plan.Watch.TheVariants as watch
 pub record Observer : Type 0 where
   pub token : List ℕ
   pub path : Path
-  pub told : Option Representation
+  pub reported : Option Representation
 
 -- ---- states
 
@@ -40,13 +40,13 @@ same_state (Some r) (Some q) = r.version == q.version && same_format r.format q.
 
 -- The number that distinguishes a state from the others of its path: its version or, for a built-in resource, the
 -- decimal number in its bytes. It is 0 for an absent path.
-abbrev pub mark_told : Option Representation → ℕ
-mark_told None = 0
-mark_told (Some r) = if r.version == 0 then digits_value 10 r.bytes else r.version
+abbrev pub mark_sent : Option Representation → ℕ
+mark_sent None = 0
+mark_sent (Some r) = if r.version == 0 then digits_value 10 r.bytes else r.version
 
 -- The observer is due: the state that was sent last is not the current state of its path.
 unfoldable pub is_due : StoreValue → ℕ → Observer → Bool
-is_due store now o = not (same_state o.told (state_of store now o.path))
+is_due store now o = not (same_state o.reported (state_of store now o.path))
 
 -- ---- entries
 
@@ -62,11 +62,11 @@ asks_entry watch.Drop = false
 
 -- A request is answered as that of an observer: it asks for an entry, and there are fewer than `most` others.
 abbrev pub has_place : {O : Type 0} → ℕ → List O → Watch → Bool
-has_place most others asked = asks_entry asked && nat_lt (length others) most
+has_place most others requested = asks_entry requested && nat_lt (length others) most
 
 -- The entry for a request: its token, its path, and the current state of this path.
 abbrev pub entry_for : StoreValue → ℕ → Message → Observer
-entry_for store now m = record { token = m.token; path = path_of m; told = state_of store now (path_of m) }
+entry_for store now m = record { token = m.token; path = path_of m; reported = state_of store now (path_of m) }
 
 -- The message was sent whole: neither reduced to its bare form nor left out.
 abbrev pub is_whole : Reply → Bool
@@ -89,7 +89,7 @@ format_of (Some r) = r.format
 -- The notification of an observer. It is 4.04 if the path is absent. It is 4.06 if the format is not that of the state
 -- sent last. Otherwise it is 2.05 with the current state.
 abbrev pub notification : StoreValue → ℕ → Observer → Response
-notification store now o = notification_of store now o.path (format_of o.told)
+notification store now o = notification_of store now o.path (format_of o.reported)
 
 -- The observation continues after this notification: it is a 2.05.
 abbrev pub goes_on : Response → Bool
@@ -101,7 +101,7 @@ notification_message token r = response_with_observe token (goes_on r) r
 
 -- The entries that replace a notified one: the same entry with the current state if the flag is true, otherwise none.
 abbrev pub left_of : StoreValue → ℕ → Observer → Bool → List Observer
-left_of store now o true = record o { told = state_of store now o.path } ∷ []
+left_of store now o true = record o { reported = state_of store now o.path } ∷ []
 left_of store now o false = []
 
 -- The list in which these entries replace the first one that is due.

@@ -6,12 +6,12 @@ use Rattle.coap_conn.specs.Reaction.{is_asking}
 use Rattle.coap_model.specs.world.LastNotification.{responds}
 use Rattle.coap_model.specs.world.Custody.{asks_pong}
 
--- The messages have a response with this token. `before` and `behind` are the messages before and after it.
+-- The messages have a response with this token. `before` and `rest` are the messages before and after it.
 pub record HasResponse (token : List ℕ) (messages : List Message) : Type 0 where
   pub before : List Message
   pub response : Message
-  pub behind : List Message
-  pub there : messages ≡ before ++ response ∷ behind
+  pub rest : List Message
+  pub there : messages ≡ before ++ response ∷ rest
   pub responds_to : responds token response ≡ true
 
 -- The first condition if the flag is true, otherwise the second.
@@ -25,7 +25,7 @@ unfoldable pub HaveDistinctAnswers : List Message → List Message → Type 0
 HaveDistinctAnswers [] messages = Unit {0}
 HaveDistinctAnswers (m ∷ ms) messages =
     IfAsking (is_asking m)
-    ((place : HasResponse m.token messages) × HaveDistinctAnswers ms (place.before ++ place.behind))
+    ((place : HasResponse m.token messages) × HaveDistinctAnswers ms (place.before ++ place.rest))
     (HaveDistinctAnswers ms messages)
 
 -- A Ping that was handled asked for this Pong with Custody. All requests handled before that Ping have their own

@@ -76,5 +76,5 @@ abbrev pub after_view : ConfigValues → ℕ → List Step → World
 after_view c id ss = after_steps c.limits (new_world c) (view_of c.limits id (new_world c) ss)
 
 -- Each of these steps concerns the connection.
-abbrev pub AreSeen : ℕ → List Step → Type 0
-AreSeen id ss = AllByRecursion (λ s. concerns id s ≡ true) ss
+abbrev pub AllConcern : ℕ → List Step → Type 0
+AllConcern id ss = AllByRecursion (λ s. concerns id s ≡ true) ss

@@ -47,10 +47,10 @@ view_event c id earlier (Responded other m) = if_own id other (Responded (first_
 view_event c id earlier (Dropped other) = if_own id other (Dropped (first_number c))
 
 -- The view of a list of events after earlier events.
-unfoldable pub view_behind : ConfigValues → ℕ → List AcceptedCall → List AcceptedCall → List AcceptedCall
-view_behind c id earlier [] = []
-view_behind c id earlier (e ∷ es) = view_event c id earlier e ++ view_behind c id (earlier ++ e ∷ []) es
+unfoldable pub later_view : ConfigValues → ℕ → List AcceptedCall → List AcceptedCall → List AcceptedCall
+later_view c id earlier [] = []
+later_view c id earlier (e ∷ es) = view_event c id earlier e ++ later_view c id (earlier ++ e ∷ []) es
 
 -- The view of a list of events, from the start of the server.
 unfoldable pub view_events : ConfigValues → ℕ → List AcceptedCall → List AcceptedCall
-view_events c id events = view_behind c id [] events
+view_events c id events = later_view c id [] events

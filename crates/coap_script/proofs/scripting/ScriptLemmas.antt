@@ -4,7 +4,7 @@ use Rattle.std.proofs.Common.{Result, Ok, Err, refl, arith, append_assoc, nat_lt
 use Rattle.std.proofs.Common.{add-one}
 use Rattle.coap_script.specs.Prelude.{list_all, onto_first, newline, parts, words_of, ScriptEventValue, event_of}
 use Rattle.coap_script.specs.Prelude.{event_in}
-use Rattle.coap_script.specs.Prelude.{events_in, said_behind, said_by_line, said_by_parts, said_on, script_of}
+use Rattle.coap_script.specs.Prelude.{events_in, said_after, said_by_line, said_by_parts, said_on, script_of}
 use Rattle.coap_script.specs.Prelude.{TakesLine}
 use Rattle.std.proofs.lemmas.Bool.{ne_eqb}
 use Rattle.std.proofs.lemmas.List.{append-nil}
@@ -36,27 +36,27 @@ line_and_rest line rest =
 
 -- The text that was left consists of a line and a rest.
 pub line_taken : (lines : ℕ) (old new : List ScriptEventValue) (left line rest : List ℕ)
-    (all : Result (List ScriptEventValue) ℕ) → all ≡ said_behind lines old (said_by_parts (parts newline left))
+    (all : Result (List ScriptEventValue) ℕ) → all ≡ said_after lines old (said_by_parts (parts newline left))
     → parts newline left ≡ line ∷ parts newline rest → TakesLine true old new (events_in line)
-    → all ≡ said_behind (lines + 1) new (said_by_parts (parts newline rest))
+    → all ≡ said_after (lines + 1) new (said_by_parts (parts newline rest))
 line_taken lines old new left line rest all said cut takes =
     rw (said, cut, line_and_rest line rest) (grind (arith, append_assoc))
 
 pub line_refused : (lines : ℕ) (old new : List ScriptEventValue) (left line rest : List ℕ)
-    (all : Result (List ScriptEventValue) ℕ) → all ≡ said_behind lines old (said_by_parts (parts newline left))
+    (all : Result (List ScriptEventValue) ℕ) → all ≡ said_after lines old (said_by_parts (parts newline left))
     → parts newline left ≡ line ∷ parts newline rest → TakesLine false old new (events_in line) → all ≡ Err (lines + 1)
 line_refused lines old new left line rest all said cut takes = rw (said, cut, line_and_rest line rest) (grind arith)
 
 -- ---- after the last newline
 
 pub all_taken : (lines : ℕ) (old : List ScriptEventValue) (left : List ℕ) (all : Result (List ScriptEventValue) ℕ)
-    → all ≡ said_behind lines old (said_by_parts (parts newline left)) → parts newline left ≡ left ∷ []
+    → all ≡ said_after lines old (said_by_parts (parts newline left)) → parts newline left ≡ left ∷ []
     → length left ≡ 0 → all ≡ Ok old
 unfolding said_by_parts
 all_taken lines old left all said cut none = rw (said, cut, none, append-nil)
 
 pub rest_refused : (lines : ℕ) (old : List ScriptEventValue) (left : List ℕ) (all : Result (List ScriptEventValue) ℕ)
-    → all ≡ said_behind lines old (said_by_parts (parts newline left)) → parts newline left ≡ left ∷ []
+    → all ≡ said_after lines old (said_by_parts (parts newline left)) → parts newline left ≡ left ∷ []
     → (length left ≡ 0 → ⊥) → all ≡ Err (lines + 1)
 unfolding said_by_parts
 rest_refused lines old left all said cut some = rw (said, cut, ne_eqb (length left) 0 some)

@@ -25,15 +25,15 @@ unfoldable pub events_in : List ℕ → Option (List ScriptEventValue)
 events_in line = if says_nothing line then Some [] else option_map (λ event. event ∷ []) (event_in line)
 
 -- The meaning of a text after this number of lines with these events.
-abbrev pub said_behind : ℕ → List ScriptEventValue → Result (List ScriptEventValue) ℕ → Result (List ScriptEventValue) ℕ
-said_behind lines before (Ok events) = Ok (before ++ events)
-said_behind lines before (Err line) = Err (lines + line)
+abbrev pub said_after : ℕ → List ScriptEventValue → Result (List ScriptEventValue) ℕ → Result (List ScriptEventValue) ℕ
+said_after lines before (Ok events) = Ok (before ++ events)
+said_after lines before (Err line) = Err (lines + line)
 
 -- The meaning of a line and of the text after it.
 abbrev pub said_by_line : Option (List ScriptEventValue) → Result (List ScriptEventValue) ℕ
     → Result (List ScriptEventValue) ℕ
-said_by_line None behind = Err 1
-said_by_line (Some events) behind = said_behind 1 events behind
+said_by_line None later = Err 1
+said_by_line (Some events) later = said_after 1 events later
 
 -- The meaning of the parts of a text between its newlines. Each part is a line, except for the last. The last part
 -- follows the last newline and must be empty.
@@ -49,5 +49,5 @@ script_of text = said_by_parts (parts newline text)
 -- The meaning of this number of whole lines and of the text after them.
 abbrev pub said_on : ℕ → Result (List ScriptEventValue) ℕ → Result (List ScriptEventValue) ℕ
     → Result (List ScriptEventValue) ℕ
-said_on lines (Ok events) behind = said_behind lines events behind
-said_on lines (Err line) behind = Err line
+said_on lines (Ok events) later = said_after lines events later
+said_on lines (Err line) later = Err line

@@ -7,7 +7,7 @@ ghost use Rattle.coap_script.specs.Prelude.{newline, script_of, said_on};
 ///
 /// The meaning of whole lines does not depend on the text after them. That text is read as a script of its own, whose
 /// line numbers continue those before.
-pub fn scripts_go_on_behind_whole_lines()
+pub fn scripts_continue_after_whole_lines()
     ensures { (lines more : List ℕ) →
         script_of (lines ++ newline ∷ more)
         ≡ said_on (count_by (λ b. b == newline) lines + 1) (script_of (lines ++ newline ∷ [])) (script_of more) }

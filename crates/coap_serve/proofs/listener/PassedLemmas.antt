@@ -9,9 +9,10 @@ use Rattle.std.proofs.lemmas.List.{append-nil, nil_from_length}
 use Rattle.coap_serve.specs.Prelude.{values_of, stop_of, is_over, Later, SessionValue, session_takes, ServerValue}
 use Rattle.coap_serve.specs.Prelude.{LiesAt, AreSettled, session_of, server_taken, count_taken, count_on, stop_on}
 use Rattle.coap_serve.specs.Prelude.{InResult, fed_turns, in_result, fed_more, IsTakenAndWritten, IsTakenAlone, IsNoOp}
-use Rattle.coap_serve.specs.Prelude.{Readiness, VisitState, is_heard, visit_state, waiting_once, server_wrote}
-use Rattle.coap_serve.specs.Prelude.{is_over_in, left_behind, rest_behind, interest_of, can_go_on, work_of}
-use Rattle.coap_serve.specs.Prelude.{PeerInterest, PeerOutcome, calls_only, course_of, AcceptedCall, Took, heard_events}
+use Rattle.coap_serve.specs.Prelude.{Readiness, VisitState, is_read_due, visit_state, waiting_once, server_wrote}
+use Rattle.coap_serve.specs.Prelude.{is_over_in, kept_unless, kept_rest, interest_of, can_go_on, work_of}
+use Rattle.coap_serve.specs.Prelude.{PeerInterest, PeerOutcome, calls_only, peer_outcome, AcceptedCall, Took}
+use Rattle.coap_serve.specs.Prelude.{read_events}
 use Rattle.coap_serve.specs.Prelude.{refused_events, took, took_turns, wrote_events}
 use Rattle.coap_server_engine.specs.values.InResults.{goes_on, unfed}
 use Rattle.coap_serve.specs.declared.door.peer.PeerOutcome.TheVariants.{Open}
@@ -24,7 +25,7 @@ use Rattle.coap_server_engine.proofs.world.ShowLaws.{taking_stopped}
 
 -- The bytes that are kept after the connection accepted all that it accepts of these.
 abbrev rest_left : ServerValue → ℕ → List ℕ → List ℕ
-rest_left v id rest = rest_behind (in_result v id rest).server id (in_result v id rest).count rest
+rest_left v id rest = kept_rest (in_result v id rest).server id (in_result v id rest).count rest
 
 untouched : (v : ServerValue) (id i : ℕ) (s : SessionValue) (piece : List ℕ) → LiesAt id i v.sessions
     → session_of id v.sessions ≡ Some s → AreSettled v.shared v.sessions → session_takes s ≡ false
@@ -106,17 +107,17 @@ still_refused v id i s (b ∷ rest) lies here settled idle =
     (refused_once v id i s b rest (length rest) lies here settled (takes_nothing v id s b rest here idle).0).0
 
 left_as_it_is : (v : ServerValue) (id : ℕ) (s : SessionValue) (rest : List ℕ) → session_of id v.sessions ≡ Some s
-    → (interest_of v id rest).visit ≡ false → left_behind (stop_on (session_of id v.sessions)) rest ≡ rest
+    → (interest_of v id rest).visit ≡ false → kept_unless (stop_on (session_of id v.sessions)) rest ≡ rest
 left_as_it_is v id s [] here idle =
-    elim (stop_on (session_of id v.sessions)) as (λ why. left_behind why [] ≡ []) [ None ↦ refl | Some why ↦ refl ]
+    elim (stop_on (session_of id v.sessions)) as (λ why. kept_unless why [] ≡ []) [ None ↦ refl | Some why ↦ refl ]
 left_as_it_is v id s (b ∷ rest) here idle =
     rw (here, there_is_none (stop_of s.link.phase) (takes_nothing v id s b rest here idle).1) refl
 
 -- ---- serving the connection
 
-not_heard : (may_read is_empty takes : Bool) → ((is_empty && takes) && may_read) ≡ false
+not_read : (may_read is_empty takes : Bool) → ((is_empty && takes) && may_read) ≡ false
     → ((may_read && is_empty) && takes) ≡ false
-not_heard may_read is_empty takes e = grind arith
+not_read may_read is_empty takes e = grind arith
 
 not_written : (may_write : Bool) (waiting : List ℕ) → (nat_lt 0 (length waiting) && may_write) ≡ false
     → (if may_write then waiting else []) ≡ []
@@ -142,15 +143,15 @@ nothing_carried may_write id before after outcome events same refused left_so un
     let taken_so : carried.taken.server ≡ v = carried.took.0 ∙ same.server in
     let wrote = carried.offered.idle (ap (λ w. waiting_once may_write id w) taken_so ∙ unwritten) in
     let server : after.server ≡ v = carried.server ∙ ap (server_wrote carried.taken.server id) wrote.0 ∙ taken_so in
-    let kept : rest_behind carried.taken.server id carried.taken.count before.rest ≡ rest_left v id before.rest =
-    ap (λ w. rest_behind w id carried.taken.count before.rest) carried.took.0
-    ∙ ap (λ n. rest_behind (in_result v id before.rest).server id n before.rest) carried.took.1 in
+    let kept : kept_rest carried.taken.server id carried.taken.count before.rest ≡ rest_left v id before.rest =
+    ap (λ w. kept_rest w id carried.taken.count before.rest) carried.took.0
+    ∙ ap (λ n. kept_rest (in_result v id before.rest).server id n before.rest) carried.took.1 in
     let none_written : wrote_events id carried.wrote ≡ [] = ap (wrote_events id) wrote.0 in
     let events_so : events ≡ carried.taken.history.events ++ wrote_events id carried.wrote =
     ap (λ h. h.events) carried.history in (
       same_state after before server (carried.rest ∙ kept ∙ left_so) wrote.1,
-      carried.outcome ∙ ap (λ w. course_of w (is_over_in (work_of after.server id))) wrote.0
-          ∙ ap (λ u. course_of Later (is_over_in (work_of u id))) server ∙ ap (course_of Later) on,
+      carried.outcome ∙ ap (λ w. peer_outcome w (is_over_in (work_of after.server id))) wrote.0
+          ∙ ap (λ u. peer_outcome Later (is_over_in (work_of u id))) server ∙ ap (peer_outcome Later) on,
       events_so ∙ ap (λ es. carried.taken.history.events ++ es) none_written ∙ append-nil carried.taken.history.events
           ∙ ap (λ h. h.events) carried.took.2 ∙ refused,
     )
@@ -164,8 +165,8 @@ nothing_done v id i s rest ready lies here settled idle =
     let read = or_parts w.visit (w.read && ready.read) write.0 in
     let on : is_over_in (work_of v id) ≡ false =
     rw here (or_parts (not (length rest == 0) && (session_takes s || is_over s.link.phase)) _ (rw here at read.0)).1 in
-    let unread : is_heard ready.read v id rest ≡ false =
-    rw here (not_heard ready.read (length rest == 0) (session_takes s) (rw here at read.1)) in
+    let unread : is_read_due ready.read v id rest ≡ false =
+    rw here (not_read ready.read (length rest == 0) (session_takes s) (rw here at read.1)) in
     let unwritten : waiting_once ready.write id v ≡ [] =
     rw here (not_written ready.write s.link.waiting (rw here at write.1)) in
     let same = still_fed v id i s rest lies here settled read.0 in
@@ -175,7 +176,7 @@ nothing_done v id i s rest ready lies here settled idle =
       unread = unread;
       unwritten = unwritten;
       there_is_one = λ wire. record {
-        heard = Later;
+        received = Later;
         bytes = rest;
         between = wire;
         laid = rw unread (refl, refl, refl);
@@ -197,11 +198,11 @@ nothing_done v id i s rest ready lies here settled idle =
         history = refl;
       };
       always = λ wire after outcome events part.
-          let laid : (part.heard ≡ Later) × (part.bytes ≡ rest) × (part.between ≡ wire) = rw unread at part.laid in
+          let laid : (part.received ≡ Later) × (part.bytes ≡ rest) × (part.between ≡ wire) = rw unread at part.laid in
           let carried : IsTakenAndWritten IsTakenAlone ready.write id (visit_state v rest wire) after
           (record { outcome = outcome; history = part.later }) = rw (laid.0, laid.1, laid.2) at part.carried in
           let all : calls_only events ≡ part.later =
-          part.history ∙ ap (λ got. record (part.later) { events = heard_events id got ++ part.later.events }) laid.0 in
+          part.history ∙ ap (λ got. record (part.later) { events = read_events id got ++ part.later.events }) laid.0 in
           nothing_carried ready.write id (visit_state v rest wire) after outcome events same refused left_so unwritten
           on (rw (← all) at carried);
     }

@@ -6,12 +6,12 @@ use Rattle.std.proofs.lemmas.Bool.{and_parts}
 use Rattle.coap_server_engine.specs.Prelude.{Reason, stop_of, takes_messages, can_take_on}
 use Rattle.coap_serve.specs.declared.door.peer.PeerOutcome.TheVariants.{Open}
 use Rattle.coap_server_session.specs.values.Sessions.{session_ready}
-use Rattle.coap_serve.specs.Prelude.{ConnectionWork, IsCourseFor, IsReasonFor, SessionValue, session_of}
+use Rattle.coap_serve.specs.Prelude.{ConnectionWork, IsOutcomeFor, IsReasonFor, SessionValue, session_of}
 use Rattle.coap_serve.specs.Prelude.{session_work, waiting_at, waiting_in, AcceptedCall, ServerValue, WireTrace, Got}
-use Rattle.coap_serve.specs.Prelude.{Bytes, End, Failed, Later, PeerOutcome, Taking, is_heard, server_heard}
-use Rattle.coap_serve.specs.Prelude.{server_wrote, has_failed, course_of, is_over_in, work_of, waiting_once}
+use Rattle.coap_serve.specs.Prelude.{Bytes, End, Failed, Later, PeerOutcome, Taking, is_read_due, server_read}
+use Rattle.coap_serve.specs.Prelude.{server_wrote, has_failed, peer_outcome, is_over_in, work_of, waiting_once}
 use Rattle.coap_serve.specs.Prelude.{IsLaidOut, IsOffered, IsServedOnceBy, Readiness, VisitState, Answering}
-use Rattle.coap_serve.specs.Prelude.{AreCallsBetween, Continues, Following, HasAccepted, Over, calls_only, heard_events}
+use Rattle.coap_serve.specs.Prelude.{AreCallsBetween, Continues, Following, HasAccepted, Over, calls_only, read_events}
 use Rattle.coap_serve.specs.Prelude.{journal, no_history, wrote_events, AreTimesAfter, History, IsServedBy, IsVisited}
 use Rattle.coap_serve.specs.Prelude.{Peer, Way, visit}
 use Rattle.coap_io.specs.streams.Wires.{MatchesTrace}
@@ -24,11 +24,11 @@ use Rattle.std.proofs.Math.Bool.{or-false}
 
 -- ---- transfers
 
-none_heard : (id : ℕ) (heard : Got) → have_moved (heard_events id heard) ≡ false
-none_heard id (Bytes n) = refl
-none_heard id Later = refl
-none_heard id End = refl
-none_heard id Failed = refl
+no_read_moves : (id : ℕ) (received : Got) → have_moved (read_events id received) ≡ false
+no_read_moves id (Bytes n) = refl
+no_read_moves id Later = refl
+no_read_moves id End = refl
+no_read_moves id Failed = refl
 
 some_written : (id : ℕ) (wrote : Got) → have_moved (wrote_events id wrote) ≡ has_written wrote
 some_written id (Bytes n) = or-false (nat_lt 0 n)
@@ -37,12 +37,12 @@ some_written id End = refl
 some_written id Failed = refl
 
 -- The calls of a read, of takes that accepted this number of bytes, and of a write.
-all_moved : (id : ℕ) (heard wrote : Got) (takes : List AcceptedCall) (n : ℕ) → have_moved takes ≡ nat_lt 0 n
-    → have_moved (heard_events id heard ++ (takes ++ wrote_events id wrote)) ≡ (nat_lt 0 n || has_written wrote)
-all_moved id heard wrote takes n moved =
+all_moved : (id : ℕ) (received wrote : Got) (takes : List AcceptedCall) (n : ℕ) → have_moved takes ≡ nat_lt 0 n
+    → have_moved (read_events id received ++ (takes ++ wrote_events id wrote)) ≡ (nat_lt 0 n || has_written wrote)
+all_moved id received wrote takes n moved =
     rw (
-      moved_then (heard_events id heard) (takes ++ wrote_events id wrote),
-      none_heard id heard,
+      moved_then (read_events id received) (takes ++ wrote_events id wrote),
+      no_read_moves id received,
       moved_then takes (wrote_events id wrote),
       moved,
       some_written id wrote,
@@ -52,38 +52,38 @@ all_moved id heard wrote takes n moved =
 
 -- A read that did not fail, then the processing of its bytes, then a write.
 pub steps_are_a_part : (takes : Taking) (ready : Readiness) (id : ℕ) (before after : VisitState)
-    {heard_by taken : ServerValue} (bytes : List ℕ) (between : WireTrace) (heard wrote : Got) (outcome : PeerOutcome)
-    {a b c d : Following} (p q : Answering) (second n : ℕ) (times : Activity) {later : Activity}
-    → heard_by ≡ server_heard before.server id heard
-    → IsLaidOut (is_heard ready.read before.server id before.rest) before.rest before.wire heard bytes between
-    → has_failed heard ≡ false
+    {agrees_after taken : ServerValue} (bytes : List ℕ) (between : WireTrace) (received wrote : Got)
+    (outcome : PeerOutcome) {a b c d : Following} (p q : Answering) (second n : ℕ) (times : Activity) {later : Activity}
+    → agrees_after ≡ server_read before.server id received
+    → IsLaidOut (is_read_due ready.read before.server id before.rest) before.rest before.wire received bytes between
+    → has_failed received ≡ false
     → HasAccepted
-    (λ h. IsTakenInPart takes heard_by id bytes after.rest (record { server = taken; count = n; history = h }))
-    (Continues (journal b p) (journal c q)) heard_by taken
+    (λ h. IsTakenInPart takes agrees_after id bytes after.rest (record { server = taken; count = n; history = h }))
+    (Continues (journal b p) (journal c q)) agrees_after taken
     → IsOffered (waiting_once ready.write id taken) between wrote after.wire
-    → after.server ≡ server_wrote taken id wrote → outcome ≡ course_of wrote (is_over_in (work_of after.server id))
-    → AreCallsBetween a b before.server heard_by (heard_events id heard)
+    → after.server ≡ server_wrote taken id wrote → outcome ≡ peer_outcome wrote (is_over_in (work_of after.server id))
+    → AreCallsBetween a b before.server agrees_after (read_events id received)
     → AreCallsBetween c d taken after.server (wrote_events id wrote)
     → later ≡ activity_after second (nat_lt 0 n || has_written wrote) times
     → HasAccepted (λ h. IsServedOnceBy takes ready id before after (record { outcome = outcome; history = h })
     × (later ≡ activity_after second (have_moved h.events) times)) (Continues (journal a p) (journal d q))
     before.server after.server
-steps_are_a_part takes ready id before after {taken = taken} bytes between heard wrote outcome p q second n times
-    {later = later} heard_so laid works part offered wrote_so outcome_so heard_made wrote_made after_so = record {
+steps_are_a_part takes ready id before after {taken = taken} bytes between received wrote outcome p q second n times
+    {later = later} received_so laid works part offered wrote_so outcome_so read_made wrote_made after_so = record {
       history = record {
-        events = heard_events id heard ++ (part.history.events ++ wrote_events id wrote);
+        events = read_events id received ++ (part.history.events ++ wrote_events id wrote);
         exchanges = part.history.exchanges;
       };
       made = (
         record {
-          heard = heard;
+          received = received;
           bytes = bytes;
           between = between;
           laid = laid;
           later = record { events = part.history.events ++ wrote_events id wrote; exchanges = part.history.exchanges };
           carried = rw works (record {
             taken = record { server = taken; count = n; history = part.history };
-            took = rw (← heard_so) part.made.took;
+            took = rw (← received_so) part.made.took;
             rest = part.made.rest;
             wrote = wrote;
             offered = offered;
@@ -94,36 +94,37 @@ steps_are_a_part takes ready id before after {taken = taken} bytes between heard
           history = refl;
         },
         after_so ∙ ap (λ moved. activity_after second moved times)
-            (sym (all_moved id heard wrote part.history.events n part.made.moved)),
+            (sym (all_moved id received wrote part.history.events n part.made.moved)),
       );
       accepted =
-          accepted_then (calls_accepted p heard_made)
+          accepted_then (calls_accepted p read_made)
           (rw (append-nil part.history.exchanges) at (accepted_then part.accepted (calls_accepted q wrote_made)));
     }
 
 -- A read that failed.
 pub failed_read_is_a_part : (takes : Taking) (ready : Readiness) (id : ℕ) (before after : VisitState) (bytes : List ℕ)
-    (heard : Got) {a b : Following} (p : Answering) (second : ℕ) {times later : Activity}
-    → after.server ≡ server_heard before.server id heard
-    → IsLaidOut (is_heard ready.read before.server id before.rest) before.rest before.wire heard bytes after.wire
-    → has_failed heard ≡ true → AreCallsBetween a b before.server after.server (heard_events id heard) → later ≡ times
+    (received : Got) {a b : Following} (p : Answering) (second : ℕ) {times later : Activity}
+    → after.server ≡ server_read before.server id received
+    → IsLaidOut (is_read_due ready.read before.server id before.rest) before.rest before.wire received bytes after.wire
+    → has_failed received ≡ true → AreCallsBetween a b before.server after.server (read_events id received)
+    → later ≡ times
     → HasAccepted (λ h. IsServedOnceBy takes ready id before after (record { outcome = Over drop.Failed; history = h })
     × (later ≡ activity_after second (have_moved h.events) times)) (Continues (journal a p) (journal b p))
     before.server after.server
-failed_read_is_a_part takes ready id before after bytes heard p second
-    {times = times} {later = later} heard_so laid fails made same = record {
-      history = calls_only (heard_events id heard ++ []);
+failed_read_is_a_part takes ready id before after bytes received p second
+    {times = times} {later = later} received_so laid fails made same = record {
+      history = calls_only (read_events id received ++ []);
       made = (
         record {
-          heard = heard;
+          received = received;
           bytes = bytes;
           between = after.wire;
           laid = laid;
           later = no_history;
-          carried = rw fails (heard_so, refl, refl);
+          carried = rw fails (received_so, refl, refl);
           history = refl;
         },
-        same ∙ sym (ap (λ moved. activity_after second moved times) (all_moved id heard Later [] 0 refl)),
+        same ∙ sym (ap (λ moved. activity_after second moved times) (all_moved id received Later [] 0 refl)),
       );
       accepted = rw append-nil (calls_accepted p made);
     }
@@ -166,33 +167,34 @@ laid_failed false rest bytes wire between laid = let never : Failed ≡ Later = 
 
 -- A read that failed was due.
 pub read_failed : (may_read : Bool) (v : ServerValue) {after : ServerValue} (id : ℕ) (rest bytes : List ℕ)
-    (wire between : WireTrace) (heard : Got) → after ≡ server_heard v id heard
-    → IsLaidOut (is_heard may_read v id rest) rest wire heard bytes between → has_failed heard ≡ true
+    (wire between : WireTrace) (received : Got) → after ≡ server_read v id received
+    → IsLaidOut (is_read_due may_read v id rest) rest wire received bytes between → has_failed received ≡ true
     → IfSome (work_of after id) (IsReasonFor drop.Failed)
 read_failed may_read v id rest bytes wire between (Bytes n) is laid fails = absurd cc
 read_failed may_read v id rest bytes wire between Later is laid fails = absurd cc
 read_failed may_read v id rest bytes wire between End is laid fails = absurd cc
 read_failed may_read v id rest bytes wire between Failed is laid fails =
     rw is (takes_on v.shared.now (session_of id v.sessions)
-    (last_true may_read (length rest == 0) (laid_failed (is_heard may_read v id rest) rest bytes wire between laid)))
+    (last_true may_read (length rest == 0) (laid_failed (is_read_due may_read v id rest) rest bytes wire between laid)))
 
-some_queued : (over held : Bool) (waiting : List ℕ) → waiting ≢ [] → (over && (held && (length waiting == 0))) ≡ false
-some_queued over held [] some = absurd (some refl)
-some_queued over held (b ∷ bs) some = grind arith
+some_queued : (over pending : Bool) (waiting : List ℕ) → waiting ≢ []
+    → (over && (pending && (length waiting == 0))) ≡ false
+some_queued over pending [] some = absurd (some refl)
+some_queued over pending (b ∷ bs) some = grind arith
 
 -- A connection with queued bytes has not finished.
 queue_left : (now : ℕ) (o : Option SessionValue) → waiting_in o ≢ []
     → IfSome (option_map (session_work now) o) (IsReasonFor drop.Failed)
 queue_left now None some = tt
 queue_left now (Some s) some =
-    some_queued (is_some (stop_of s.link.phase)) (length s.link.held == 0) s.link.waiting some
+    some_queued (is_some (stop_of s.link.phase)) (length s.link.pending == 0) s.link.waiting some
 
 over_so : (b : Bool) (work : ConnectionWork) → work.finished ≡ b
-    → IsCourseFor (if b then Over drop.Finished else Open) (Some work)
+    → IsOutcomeFor (if b then Over drop.Finished else Open) (Some work)
 over_so true work is = is
 over_so false work is = tt
 
-over_reason : (o : Option ConnectionWork) → IsCourseFor (if is_over_in o then Over drop.Finished else Open) o
+over_reason : (o : Option ConnectionWork) → IsOutcomeFor (if is_over_in o then Over drop.Finished else Open) o
 over_reason None = tt
 over_reason (Some work) = over_so work.finished work refl
 
@@ -203,7 +205,7 @@ none_offered false waiting none = refl
 -- A write that failed leaves bytes queued. After another result, the connection may have finished.
 pub write_reason : (may_write : Bool) (taken : ServerValue) {after : ServerValue} (id : ℕ) (wrote : Got)
     → after ≡ server_wrote taken id wrote → (waiting_once may_write id taken ≡ [] → wrote ≡ Later)
-    → IsCourseFor (course_of wrote (is_over_in (work_of after id))) (work_of after id)
+    → IsOutcomeFor (peer_outcome wrote (is_over_in (work_of after id))) (work_of after id)
 write_reason may_write taken {after = after} id (Bytes n) is idle = over_reason (work_of after id)
 write_reason may_write taken {after = after} id Later is idle = over_reason (work_of after id)
 write_reason may_write taken {after = after} id End is idle = over_reason (work_of after id)

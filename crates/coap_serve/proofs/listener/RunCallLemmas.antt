@@ -29,10 +29,10 @@ offered_made v id bytes =
       | false ↦ All-nil IsRunCall
     ]
 
-asked_made : (v : ServerValue) (id limit : ℕ) (response : List ℕ) (m : Option Message)
+request_made : (v : ServerValue) (id limit : ℕ) (response : List ℕ) (m : Option Message)
     → All IsRunCall (asking v id limit response m).events
-asked_made v id limit response None = All-nil IsRunCall
-asked_made v id limit response (Some m) = offered_made v id _
+request_made v id limit response None = All-nil IsRunCall
+request_made v id limit response (Some m) = offered_made v id _
 
 later_made : {v w : ServerValue} {n : ℕ} {events : List AcceptedCall} {exchanges : List Exchange}
     → AreGivenLater v n w events exchanges → All IsRunCall events
@@ -48,13 +48,13 @@ unfolding served
 served_made v id bytes [] = All-nil IsRunCall
 served_made v id bytes (response ∷ responses) =
     All-append IsRunCall (served v id bytes responses).events _ (served_made v id bytes responses)
-    (All-cons IsRunCall (Took id _) _ tt (asked_made _ id _ response _))
+    (All-cons IsRunCall (Took id _) _ tt (request_made _ id _ response _))
 
 taken_made : {v after : ServerValue} {h : History} → AreTakenWith v after h → All IsRunCall h.events
 taken_made {v} step = elim step.how [
-  | inl whole ↦ rw whole.1.tells (served_made v step.id step.bytes whole.1.responses)
+  | inl whole ↦ rw whole.1.reports (served_made v step.id step.bytes whole.1.responses)
   | inr part ↦
-      rw part.tells (All-push IsRunCall (served v step.id step.bytes part.responses).events _
+      rw part.reports (All-push IsRunCall (served v step.id step.bytes part.responses).events _
       (served_made v step.id step.bytes part.responses) tt)
 ]
 
@@ -99,7 +99,7 @@ step_made : {v w : ServerValue} {h : History} → IsRunStep v w h → All IsRunC
 step_made (SilentReleased id) = All-cons IsRunCall (Released id) [] tt (All-nil IsRunCall)
 step_made (SilentDropped id) = All-cons IsRunCall (Dropped id) [] tt (All-nil IsRunCall)
 step_made {v} (TimeSet moment) = moved_made v moment
-step_made (LaterGiven after h is_full asked) = rw asked.tells (later_made asked.given)
+step_made (LaterGiven after h is_full requested) = rw requested.reports (later_made requested.given)
 step_made {v} (TurnMade after h turn) =
     rw turn.all (All-append IsRunCall (opening v turn.opens) turn.visits.events (opening_made v turn.opens)
     (all_made (λ v w h step. visit_made step) turn.steps))

@@ -5,23 +5,23 @@ use Rattle.std.proofs.Common.{if◌then◌else◌}
 use Rattle.std.specs.Prelude.{nat_le}
 use Rattle.std.proofs.lemmas.List.{append-nil, map-append}
 use Rattle.std.proofs.lemmas.Bool.Decides.{nat_tests}
-use Rattle.coap_io.proofs.streams.DeviceLemmas.{told_none, told_then}
+use Rattle.coap_io.proofs.streams.DeviceLemmas.{no_calls, calls_then}
 use Rattle.coap_server_engine.specs.Prelude.{ReleaseFault}
 use Rattle.coap_model.specs.declared.config.Config.{Config}
 use Rattle.coap_server_engine.specs.declared.io_fault.IoFault.TheVariants.{Read, Write, Turns}
 use Rattle.coap_server_engine.proofs.values.ServerLemmas.{all_settled_stay}
 use Rattle.coap_server_engine.proofs.scripting.ShownLemmas.{shows_same}
 use Rattle.coap_server_engine.proofs.scripting.FollowLemmas.{followed_none, followed_then}
-use Rattle.coap_serve.specs.Prelude.{Answering, AnswersMore, AreAskedLater, AreCallsBetween, AreSteps, Continues}
+use Rattle.coap_serve.specs.Prelude.{Answering, AnswersMore, AreRequestedLater, AreCallsBetween, AreSteps, Continues}
 use Rattle.coap_serve.specs.Prelude.{Following, FollowsMore, HasTurned, History, Journal, calls_only, history_then}
 use Rattle.coap_serve.specs.Prelude.{journal, opening_then, AreSettled, DoorCall, IoFault, IsMemory, IsMemoryOrTurns}
-use Rattle.coap_serve.specs.Prelude.{Memory, Peer, ServerValue, SessionValue, ShowsMore, TellsMore, Views, Wait}
-use Rattle.coap_serve.specs.Prelude.{asked_by, open_refusal, server_ticked, EndsRun, Environment, HasRun, HasSwept}
+use Rattle.coap_serve.specs.Prelude.{Memory, Peer, ServerValue, SessionValue, ShowsMore, AddsCalls, Views, Wait}
+use Rattle.coap_serve.specs.Prelude.{door_calls, open_refusal, server_ticked, EndsRun, Environment, HasRun, HasSwept}
 use Rattle.coap_serve.specs.Prelude.{IsBegun, IsCutRun, IsCutTurn, IsRun, IsRunStep, IsTurnFor, KnownOfRun, KnownOfTurn}
 use Rattle.coap_serve.specs.Prelude.{Matches, RunTrace, ServiceConfig, ServiceValue, Sweep, Times, acted, due_sweep}
 use Rattle.coap_serve.specs.Prelude.{environment, exactly, known_of_run, moved_calls, moved_to, no_trace, plain_config}
 use Rattle.coap_serve.specs.Prelude.{released_refusal, silence_action, some_waits, status_of, swept, swept_one}
-use Rattle.coap_serve.specs.Prelude.{ticked_calls, trace_then, turn_trace, unswept, waited_behind}
+use Rattle.coap_serve.specs.Prelude.{ticked_calls, trace_then, turn_trace, unswept, waited_after}
 use Rattle.coap_serve.specs.listener.Histories.{NoStep}
 use Rattle.coap_serve.specs.listener.Run.{SilentReleased, SilentDropped, TimeSet, LaterGiven, TurnMade}
 use Rattle.coap_serve.specs.declared.door.silence.SilenceAction.{SilenceAction}
@@ -99,7 +99,7 @@ sweep_ran idle last second {v = v} es swept = record {
 
 -- Later responses were given.
 pub later_ran : (a b : Following) (p q : Answering) {v w : ServerValue} {is_full : Bool}
-    → AreAskedLater v 256 is_full w (FollowsMore a b) (AnswersMore p q)
+    → AreRequestedLater v 256 is_full w (FollowsMore a b) (AnswersMore p q)
     → HasRun (Continues (journal a p) (journal b q)) v w
 later_ran a b p q {w = w} {is_full = is_full} given = record {
   history = record { events = given.events; exchanges = given.exchanges };
@@ -111,10 +111,10 @@ later_ran a b p q {w = w} {is_full = is_full} given = record {
     within = given.within;
     over = given.over;
     shows = given.shows;
-    tells = refl;
+    reports = refl;
     exchanged = refl;
   }));
-  accepted = record { shows = given.shows; known = record { calls = given.tells; exchanged = given.exchanged } };
+  accepted = record { shows = given.shows; known = record { calls = given.reports; exchanged = given.exchanged } };
 }
 
 -- A turn was made, in full or in part.
@@ -144,30 +144,30 @@ ran_to_end one ends = record {
 -- ---- traces one after the other
 
 pub nothing_matches : {W : Type 0} (c u : Option (List ℕ)) (d : Option (List (DoorCall W))) (a : Journal)
-    → Matches (known_of_run (TellsMore c c) (TellsMore u u) (TellsMore d d) (Continues a a)) no_trace
-nothing_matches c u d a = (told_none c, told_none u, told_none d, continued_none a)
+    → Matches (known_of_run (AddsCalls c c) (AddsCalls u u) (AddsCalls d d) (Continues a a)) no_trace
+nothing_matches c u d a = (no_calls c, no_calls u, no_calls d, continued_none a)
 
 -- One more turn.
 module _ {C U D W : Type 0} (moments : C → Option (List ℕ)) (c0 c1 c2 : C) (seconds : U → Option (List ℕ))
     (u0 u1 u2 : U) (calls : D → Option (List (DoorCall W))) (d0 d1 d2 d3 : D) where
   pub turn_matches : {a b c : Journal} (t : RunTrace W) {turns : ℕ} (wait : Wait) (s : ServiceValue W) (times : Times)
-      (asked : List (DoorCall W)) (h : History) {opens : Bool}
-      → Matches (known_of_run (TellsMore (moments c0) (moments c1)) (TellsMore (seconds u0) (seconds u1))
-      (TellsMore (calls d0) (calls d1)) (Continues a b)) t → length t.times ≡ turns
+      (requested : List (DoorCall W)) (h : History) {opens : Bool}
+      → Matches (known_of_run (AddsCalls (moments c0) (moments c1)) (AddsCalls (seconds u0) (seconds u1))
+      (AddsCalls (calls d0) (calls d1)) (Continues a b)) t → length t.times ≡ turns
       → opens ≡ is_none (open_refusal s.state.server)
-      → TellsMore (moments c1) (moments c2) (times.now ∷ []) → TellsMore (seconds u1) (seconds u2) (times.second ∷ [])
-      → TellsMore (calls d1) (calls d2) (waited_behind turns wait opens)
-      → TellsMore (calls d2) (calls d3) asked → Continues b c h
-      → Matches (known_of_run (TellsMore (moments c0) (moments c2)) (TellsMore (seconds u0) (seconds u2))
-      (TellsMore (calls d0) (calls d3)) (Continues a c))
-      (trace_then t (turn_trace (length t.times) wait s times asked h))
-  turn_matches t wait s times asked h so_far counted is clock uptime waited door known = (
+      → AddsCalls (moments c1) (moments c2) (times.now ∷ []) → AddsCalls (seconds u1) (seconds u2) (times.second ∷ [])
+      → AddsCalls (calls d1) (calls d2) (waited_after turns wait opens)
+      → AddsCalls (calls d2) (calls d3) requested → Continues b c h
+      → Matches (known_of_run (AddsCalls (moments c0) (moments c2)) (AddsCalls (seconds u0) (seconds u2))
+      (AddsCalls (calls d0) (calls d3)) (Continues a c))
+      (trace_then t (turn_trace (length t.times) wait s times requested h))
+  turn_matches t wait s times requested h so_far counted is clock uptime waited door known = (
     rw (map-append (λ (x : Times). x.now) t.times (times ∷ []))
-        (told_then (moments c0) (moments c1) (moments c2) _ _ so_far.0 clock),
+        (calls_then (moments c0) (moments c1) (moments c2) _ _ so_far.0 clock),
     rw (map-append (λ (x : Times). x.second) t.times (times ∷ []))
-        (told_then (seconds u0) (seconds u1) (seconds u2) _ _ so_far.1 uptime),
-    told_then (calls d0) (calls d1) (calls d3) t.calls _ so_far.2
-        (told_then (calls d1) (calls d2) (calls d3) _ asked (rw (← counted, is) at waited) door),
+        (calls_then (seconds u0) (seconds u1) (seconds u2) _ _ so_far.1 uptime),
+    calls_then (calls d0) (calls d1) (calls d3) t.calls _ so_far.2
+        (calls_then (calls d1) (calls d2) (calls d3) _ requested (rw (← counted, is) at waited) door),
     continued_then t.history h so_far.3 known,
   )
 
@@ -185,7 +185,7 @@ pub parts_begin : {A W : Type 0} {follows : A → Answering} {rests : A → Type
     → HasSwept (Continues (journal m0 x) (journal m1 (follows one)))
     (due_sweep s.idle s.second times.second s.state.server s.state.entries) s.state.server v1
     → v2 ≡ moved_to v1 times.now → FollowsMore m1 m2 (moved_calls v1 times.now)
-    → AreAskedLater v2 256 is_full v3 (FollowsMore m2 m3) (AnswersMore (follows one) (follows other))
+    → AreRequestedLater v2 256 is_full v3 (FollowsMore m2 m3) (AnswersMore (follows one) (follows other))
     → (is_full ≡ false → rests other)
     → HasBegun follows rests times s (Continues (journal m0 x) (journal m3 (follows other))) v3 is_full
 parts_begin {follows = follows} {times = times} {s = s} m0 m1 m2 m3 x one other swept moved received given idle =
@@ -195,7 +195,7 @@ parts_begin {follows = follows} {times = times} {s = s} m0 m1 m2 m3 x one other 
     record { calls = rw swept.server at received; exchanged = answered_none (follows one) } in
     let later : History = record { events = given.events; exchanges = given.exchanges } in
     let answers : Continues (journal m2 (follows one)) (journal m3 (follows other)) later =
-    record { calls = given.tells; exchanged = given.exchanged } in
+    record { calls = given.reports; exchanged = given.exchanged } in
     record {
       history = history_then sweep.history (history_then (calls_only (moved_calls sweep.server times.now)) later);
       begun = record {
@@ -210,7 +210,7 @@ parts_begin {follows = follows} {times = times} {s = s} m0 m1 m2 m3 x one other 
           within = given.within;
           over = given.over;
           shows = given.shows;
-          tells = refl;
+          reports = refl;
           exchanged = (refl, one, other, idle, given.exchanged);
         });
         all = refl;
@@ -228,9 +228,9 @@ pub turn_named : {A W : Type 0} (follows : A → Answering) (rests : A → Type 
     × IsTurnFor (environment follows rests (some_waits waits) views) times (exactly calls h) s after wait
 turn_named follows rests waits views one turn =
     let t = turn.turn in (
-      asked_by turn.start.server t.opened.handed,
+      door_calls turn.start.server t.opened.handed,
       history_then turn.start.history (opening_then turn.start.server t.opens t.visits),
-      t.opened.asked,
+      t.opened.requested,
       t.accepted.known,
       record {
         start = turn.start;
@@ -241,7 +241,7 @@ turn_named follows rests waits views one turn =
         turn = record {
           opens = t.opens;
           between = t.between;
-          opened = record { handed = t.opened.handed; asked = refl; opened = t.opened.opened; is = t.opened.is };
+          opened = record { handed = t.opened.handed; requested = refl; opened = t.opened.opened; is = t.opened.is };
           visits = t.visits;
           served = t.served;
           waits = t.waits;
@@ -259,14 +259,14 @@ pub cut_named : {A W : Type 0} {follows : A → Answering} {rests : A → Type 0
     → (calls : List (DoorCall W)) × (h : History) × K.door calls × K.history h
     × IsCutTurn follows rests times (exactly calls h) s last
 cut_named turn = (
-  asked_by turn.start.server turn.asked.0,
+  door_calls turn.start.server turn.requested.0,
   history_then turn.start.history turn.cut.history,
-  turn.asked.1,
+  turn.requested.1,
   turn.cut.accepted.known,
   record {
     start = turn.start;
     begun = turn.begun;
-    asked = (turn.asked.0, refl);
+    requested = (turn.requested.0, refl);
     cut = record {
       history = turn.cut.history;
       made = turn.cut.made;

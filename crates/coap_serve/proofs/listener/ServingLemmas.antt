@@ -12,14 +12,14 @@ use Rattle.coap_serve.specs.Prelude.{ConnectionWork, IsReasonFor, SessionValue, 
 use Rattle.coap_serve.specs.Prelude.{Took, Dropped, server_dropped, server_opened, Answering, AnswersMore, Exchange}
 use Rattle.coap_serve.specs.Prelude.{Gone, HasServed, HasTurned, HasOpened, AreSteps, IsTakenWith, opening_then}
 use Rattle.coap_serve.specs.Prelude.{AreCallsBetween, Continues, HasAccepted, History, IsAccepted, Journal, calls_only}
-use Rattle.coap_serve.specs.Prelude.{history_then, journal, no_history, one_drop, Got, Bytes, End, heard_events}
-use Rattle.coap_serve.specs.Prelude.{is_there, server_heard, server_wrote, wrote_events}
+use Rattle.coap_serve.specs.Prelude.{history_then, journal, no_history, one_drop, Got, Bytes, End, read_events}
+use Rattle.coap_serve.specs.Prelude.{is_there, server_read, server_wrote, wrote_events}
 use Rattle.coap_serve.specs.listener.Histories.{NoStep, OneMore}
-use Rattle.coap_serve.specs.listener.Turns.{IsTakenInPart, have_moved, left_behind, moves, rest_behind}
+use Rattle.coap_serve.specs.listener.Turns.{IsTakenInPart, have_moved, kept_unless, moves, kept_rest}
 use Rattle.coap_serve.specs.listener.Serving.{BytesTaken, BytesWritten, ConnectionDropped, InputEnded}
 use Rattle.coap_server_engine.specs.Prelude.{Message}
 use Rattle.coap_server_engine.specs.declared.monitor.DropReason.{DropReason}
-use Rattle.coap_server_engine.specs.values.ApplicationCalls.{AreMade, asked_by, asking, message_limit, offered_events}
+use Rattle.coap_server_engine.specs.values.ApplicationCalls.{AreMade, ask_result, asking, message_limit, offered_events}
 use Rattle.coap_server_engine.specs.values.ApplicationCalls.{response_for, served, IsPartlyServed}
 use Rattle.coap_server_engine.specs.values.ApplicationCalls.{IsServed as IsServedWith}
 use Rattle.coap_server_engine.proofs.scripting.ShownLemmas.{shows_same, shows_then}
@@ -123,16 +123,16 @@ pub none_called : {a : Following} {v after : ServerValue} → after ≡ v → Ar
 none_called {a = a} {v = v} {after = after} is = record { shows = shows_same v after is; follows = followed_none a }
 
 -- A read that did not find the end.
-pub read_called : {a : Following} {v after : ServerValue} (id : ℕ) (heard : Got) → heard ≢ End → after ≡ v
-    → AreCallsBetween a a v after (heard_events id heard)
+pub read_called : {a : Following} {v after : ServerValue} (id : ℕ) (got : Got) → got ≢ End → after ≡ v
+    → AreCallsBetween a a v after (read_events id got)
 read_called id End apart is = absurd (apart refl)
-read_called {a = a} {v = v} {after = after} id heard apart is = none_called is
+read_called {a = a} {v = v} {after = after} id got apart is = none_called is
 
-pub heard_served : {a b : Following} {p : Answering} {v after : ServerValue} (id : ℕ) (heard : Got)
-    → after ≡ server_heard v id heard → AreCallsBetween a b v after (heard_events id heard)
+pub read_served : {a b : Following} {p : Answering} {v after : ServerValue} (id : ℕ) (got : Got)
+    → after ≡ server_read v id got → AreCallsBetween a b v after (read_events id got)
     → HasServed (Continues (journal a p) (journal b p)) v after
-heard_served id End is made = calls_made (rw is (one_step (InputEnded id))) made
-heard_served id heard is made = calls_made (rw is NoStep) made
+read_served id End is made = calls_made (rw is (one_step (InputEnded id))) made
+read_served id got is made = calls_made (rw is NoStep) made
 
 pub wrote_served : {a b : Following} {p : Answering} {v after : ServerValue} (id : ℕ) (wrote : Got)
     → after ≡ server_wrote v id wrote → AreCallsBetween a b v after (wrote_events id wrote)
@@ -165,10 +165,10 @@ moved_then (x ∷ xs) ys = rw (moved_then xs ys, or_assoc (moves x) (have_moved 
 none_offered : (v : ServerValue) (id : ℕ) (bytes : List ℕ) → have_moved (offered_events v id bytes) ≡ false
 none_offered v id bytes = grind arith
 
-none_asked : (v : ServerValue) (id limit : ℕ) (response : List ℕ) (o : Option Message)
+none_requested : (v : ServerValue) (id limit : ℕ) (response : List ℕ) (o : Option Message)
     → have_moved (asking v id limit response o).events ≡ false
-none_asked v id limit response None = refl
-none_asked v id limit response (Some m) = none_offered v id (response_for v id m.token response)
+none_requested v id limit response None = refl
+none_requested v id limit response (Some m) = none_offered v id (response_for v id m.token response)
 
 -- Some bytes are left, and a take accepted `k` of them.
 some_taken : (c k : ℕ) (left : List ℕ) → 0 < length left
@@ -186,10 +186,11 @@ served_moved v id bytes (response ∷ responses) made =
     let left : List ℕ = drop f.count bytes in
     let k : ℕ = count_taken f.server id left in
     moved_then (served v id bytes responses).events
-    (Took id (take k left) ∷ (asked_by f.server id left response).events)
+    (Took id (take k left) ∷ (ask_result f.server id left response).events)
     ∙ rw (
       served_moved v id bytes responses made.1,
-      none_asked (server_taken f.server id left) id (message_limit f.server id) response (handed_by f.server id left),
+      none_requested (server_taken f.server id left) id (message_limit f.server id) response
+          (handed_by f.server id left),
     )
     (some_taken f.count k left (omega (arith, more, length-drop f.count bytes)))
 
@@ -197,19 +198,19 @@ served_moved v id bytes (response ∷ responses) made =
 
 -- The bytes that are kept, if the connection processes further messages.
 pub rest_kept : (stop : Option Reason) {left rest : List ℕ} → is_some stop ≡ false → left ≡ rest
-    → left ≡ left_behind stop rest
+    → left ≡ kept_unless stop rest
 rest_kept None going is = is
 rest_kept (Some why) going is = absurd cc
 
 pub none_kept : (stop : Option Reason) {left : List ℕ} (rest : List ℕ) → is_some stop ≡ true → left ≡ []
-    → left ≡ left_behind stop rest
+    → left ≡ kept_unless stop rest
 none_kept None rest stopped is = absurd cc
 none_kept (Some why) rest stopped is = is
 
 pub taken_in_part : {A : Type 0} (follows : A → Answering) (one other : A) (a b : Following) {v after : ServerValue}
     (id count : ℕ) (bytes : List ℕ) {left : List ℕ}
     → IsServedWith v id bytes count after (FollowsMore a b) (AnswersMore (follows one) (follows other))
-    → left ≡ rest_behind after id count bytes
+    → left ≡ kept_rest after id count bytes
     → HasAccepted
     (λ h. IsTakenInPart (IsTakenWith follows) v id bytes left (record { server = after; count = count; history = h }))
     (Continues (journal a (follows one)) (journal b (follows other))) v after
@@ -227,13 +228,13 @@ taken_in_part follows one other a b {v = v} id count bytes part rest = record {
       counted = part.counted;
       server = part.server;
       shows = part.shows;
-      tells = refl;
+      reports = refl;
       exchanged = (refl, one, other, part.exchanged);
     };
     rest = rest;
     moved = served_moved v id bytes part.responses part.made ∙ ap (λ n. nat_lt 0 n) (sym part.counted);
   };
-  accepted = record { shows = part.shows; known = record { calls = part.tells; exchanged = part.exchanged } };
+  accepted = record { shows = part.shows; known = record { calls = part.reports; exchanged = part.exchanged } };
 }
 
 pub with_served : (a b : Following) (p q : Answering) (v after : ServerValue) (id count : ℕ) (bytes : List ℕ)
@@ -257,12 +258,12 @@ with_served a b p q v after id count bytes part = record {
         counted = part.counted;
         server = part.server;
         shows = part.shows;
-        tells = refl;
+        reports = refl;
         exchanged = refl;
       },
     );
   }));
-  accepted = record { shows = part.shows; known = record { calls = part.tells; exchanged = part.exchanged } };
+  accepted = record { shows = part.shows; known = record { calls = part.reports; exchanged = part.exchanged } };
 }
 
 pub with_part_served : (a b : Following) (p q : Answering) (v after : ServerValue) (id : ℕ) (bytes : List ℕ)
@@ -285,11 +286,11 @@ with_part_served a b p q v after id bytes part =
           count = part.count;
           refused = part.refused;
           shows = part.shows;
-          tells = refl;
+          reports = refl;
           exchanged = refl;
         });
       }));
-      accepted = record { shows = part.shows; known = record { calls = part.tells; exchanged = part.exchanged } };
+      accepted = record { shows = part.shows; known = record { calls = part.reports; exchanged = part.exchanged } };
     }
 
 -- ---- a turn

@@ -155,18 +155,18 @@ kept_or_not (Err e) words keeps ok err = rw err (record {
 })
 
 -- A read, then bytes that are passed, then a write.
-pub beside_served : {v heard taken after : ServerValue} {words : List ℕ} (id : ℕ) → KeepsOthers id v heard
-    → KeepsWork words heard taken → KeepsOthers id taken after → KeepsBeside id words v after
-beside_served {v = v} {heard = heard} id first took last = record {
+pub beside_served : {v received taken after : ServerValue} {words : List ℕ} (id : ℕ) → KeepsOthers id v received
+    → KeepsWork words received taken → KeepsOthers id taken after → KeepsBeside id words v after
+beside_served {v = v} {received = received} id first took last = record {
   keys = last.keys ∙ took.keys ∙ first.keys;
   work = λ i other lies apart outside. last.work other apart ∙ took.work i other (lies_still other i v.sessions
-      heard.sessions first.keys lies) outside ∙ first.work other apart;
+      received.sessions first.keys lies) outside ∙ first.work other apart;
 }
 
 -- A read that failed.
-pub beside_heard : {v heard : ServerValue} {words : List ℕ} (id : ℕ) → KeepsOthers id v heard → KeepsBeside id words v
-    heard
-beside_heard id first = record { keys = first.keys; work = λ i other lies apart outside. first.work other apart }
+pub beside_read : {v received : ServerValue} {words : List ℕ} (id : ℕ) → KeepsOthers id v received
+    → KeepsBeside id words v received
+beside_read id first = record { keys = first.keys; work = λ i other lies apart outside. first.work other apart }
 
 -- ---- connections that sleep
 

@@ -64,7 +64,7 @@ transfers_written c id n es so_far = record {
 pub all_transferred : (c : ConfigValues) (bytes : List ℕ) {es : List AcceptedCall}
     → AreTransfers c (only_id c) bytes (length (stdio_output c bytes)) es → AreTransfersOf c bytes es
 all_transferred c bytes all =
-    record { taken = bytes; behind = []; all = sym (append-nil bytes); whole = λ _. refl; same = refl; transfers = all }
+    record { taken = bytes; later = []; all = sym (append-nil bytes); whole = λ _. refl; same = refl; transfers = all }
 
 -- Nothing stops the connection, so it accepted all bytes.
 pub whole_transfers : (c : ConfigValues) {bytes : List ℕ} {es : List AcceptedCall} → AreTransfersOf c bytes es
@@ -75,29 +75,29 @@ whole_transfers c {bytes = bytes} {es = es} of none =
     subst (λ (b : List ℕ). AreTransfers c (only_id c) b (length (stdio_output c bytes)) es) is of.transfers
 
 module _ (c : ConfigValues) (v : ServerValue) (bytes : List ℕ) (monitor : List AcceptedCall → Type 0)
-    (stands : IsAtBytes c v bytes monitor) where
+    (is_at : IsAtBytes c v bytes monitor) where
   pub running_reported : (outcome c bytes).stop ≡ None → HasReported c monitor bytes (length (stdio_output c bytes))
   running_reported none = record {
     server = v;
-    config = stands.config;
-    events = stands.events;
-    shows = stands.shows;
-    transfers = whole_transfers c stands.transfers none;
-    monitor_tells = stands.tells;
+    config = is_at.config;
+    events = is_at.events;
+    shows = is_at.shows;
+    transfers = whole_transfers c is_at.transfers none;
+    monitor_reports = is_at.reports;
   }
 
   pub stopped_reported : HasReportedStop c monitor bytes (length (stdio_output c bytes))
   stopped_reported = record {
-    taken = stands.transfers.taken;
-    behind = stands.transfers.behind;
-    all = stands.transfers.all;
-    same = stands.transfers.same;
+    taken = is_at.transfers.taken;
+    later = is_at.transfers.later;
+    all = is_at.transfers.all;
+    same = is_at.transfers.same;
     reported = record {
       server = v;
-      config = stands.config;
-      events = stands.events;
-      shows = stands.shows;
-      transfers = stands.transfers.transfers;
-      monitor_tells = stands.tells;
+      config = is_at.config;
+      events = is_at.events;
+      shows = is_at.shows;
+      transfers = is_at.transfers.transfers;
+      monitor_reports = is_at.reports;
     };
   }

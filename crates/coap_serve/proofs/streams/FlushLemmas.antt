@@ -20,11 +20,11 @@ pub record ReportsFlush (id : ℕ) (v : ServerValue) (turns : ℕ) (now : Server
     (a m : Following) : Type 0 where
   pub server : now ≡ (flush_turns turns id v).server
   pub written : AddsBytes x y (flush_turns turns id v).text
-  pub tells : FollowsMore a m (calls_of_flush turns id v)
+  pub reports : FollowsMore a m (calls_of_flush turns id v)
 
 pub report_begins : (id : ℕ) (v : ServerValue) (x : Option (List ℕ)) {a : Following} → ReportsFlush id v 0 v x x a a
 unfolding flush_turns calls_of_flush
-report_begins id v x {a = a} = record { server = refl; written = bytes_none x; tells = followed_none a }
+report_begins id v x {a = a} = record { server = refl; written = bytes_none x; reports = followed_none a }
 
 -- The state after an iteration of the code: as above if it wrote something, otherwise the flush is complete.
 abbrev pub AfterFlush : ℕ → ServerValue → ℕ → ServerValue → (x y : Option (List ℕ)) (a m : Following)
@@ -37,15 +37,17 @@ pub report_more : {id : ℕ} {v : ServerValue} (turns : ℕ) {now : ServerValue}
     → turns ≤ suc (more_at id v) → more ≡ suc turns → IsFlushedOnce id now next (AddsBytes y z) waited
     → FollowsMore m n (flush_calls id now waited) → AfterFlush id v more next x z a n waited
 unfolding flush_turns calls_of_flush
-report_more {id = id} {v = v} turns {now = now} x y z a m n next more true so_far within one did told = rw one (record {
-  server = cc (did.0, so_far.server);
-  written =
-      rw so_far.server at (bytes_then x y z (flush_turns turns id v).text (waiting_at id now) so_far.written did.1);
-  tells =
-      followed_then a m n (calls_of_flush turns id v)
-      (Wrote id (length (waiting_at id (flush_turns turns id v).server)) ∷ []) so_far.tells (rw so_far.server at told);
-})
-report_more {id = id} {v = v} turns x y z a m n next more false so_far within one did told = record {
+report_more {id = id} {v = v} turns {now = now} x y z a m n next more true so_far within one did reported = rw one
+    (record {
+      server = cc (did.0, so_far.server);
+      written =
+          rw so_far.server at (bytes_then x y z (flush_turns turns id v).text (waiting_at id now) so_far.written did.1);
+      reports =
+          followed_then a m n (calls_of_flush turns id v)
+          (Wrote id (length (waiting_at id (flush_turns turns id v).server)) ∷ []) so_far.reports
+          (rw so_far.server at reported);
+    })
+report_more {id = id} {v = v} turns x y z a m n next more false so_far within one did reported = record {
   flushed = record {
     turns = turns;
     within = within;
@@ -53,7 +55,7 @@ report_more {id = id} {v = v} turns x y z a m n next more false so_far within on
     server = did.1 ∙ so_far.server;
     written = rw append-nil at (bytes_then x y z (flush_turns turns id v).text [] so_far.written did.2);
   };
-  tells = rw append-nil at (followed_then a m n (calls_of_flush turns id v) [] so_far.tells told);
+  reports = rw append-nil at (followed_then a m n (calls_of_flush turns id v) [] so_far.reports reported);
 }
 
 pub report_goes_on : {id : ℕ} {v : ServerValue} {turns : ℕ} {now : ServerValue} {x y : Option (List ℕ)}
@@ -69,7 +71,7 @@ pub report_cut : {id : ℕ} {v : ServerValue} {turns : ℕ} {now : ServerValue} 
 report_cut {id = id} {v = v} {turns = turns} x y z a m so_far within wrote = record {
   turns = turns;
   within = within;
-  tells = so_far.tells;
+  reports = so_far.reports;
   part = wrote.0;
   missing = wrote.1;
   some = wrote.2;
@@ -96,7 +98,7 @@ report_ends turns x y a m true all so_far = record {
     server = so_far.server;
     written = so_far.written;
   };
-  tells = so_far.tells;
+  reports = so_far.reports;
 }
 report_ends turns x y a m false all so_far = so_far
 
@@ -129,5 +131,5 @@ none_flushed id {v = v} x a none = record {
     server = refl;
     written = bytes_none x;
   };
-  tells = followed_none a;
+  reports = followed_none a;
 }

@@ -15,7 +15,7 @@ use Rattle.coap_serve.specs.Prelude.{IsReportedFlush, FollowsMore, Following, ca
 use Rattle.coap_serve.proofs.streams.CallLemmas.{transfers_written, all_transferred}
 use Rattle.coap_model.specs.world.World as world
 use Rattle.coap_model.proofs.world.StepLaws.{world_step, spelled_same}
-use Rattle.coap_model.proofs.world.HearingLaws.{world_hears}
+use Rattle.coap_model.proofs.world.EndOfInputLaws.{world_hears}
 use Rattle.coap_model.proofs.streams.FlushLaws.{flushed_so, times_further, flush_leaves}
 use Rattle.coap_model.proofs.streams.OutputLaws.{world_for_written, outcome_there}
 use Rattle.coap_server_engine.proofs.world.ShowLaws.{side_there, shows_written, no_session}
@@ -60,12 +60,12 @@ pub record LeadsTo (c : ConfigValues) (v : ServerValue) (s : Connection) (bytes 
   pub flushes : flushed c.limits (only_id c) (world_after c events) ≡ world_for c bytes
   pub spelled : spelled_on c.limits.max_message (only_id c) events ≡ (stream_of c bytes, c.limits.max_message)
   pub transfers : AreTransfers c (only_id c) bytes (length (front_written s)) events
-  pub tells : monitor events
+  pub reports : monitor events
 
 -- The server has accepted these bytes. After the prefix `front` of their output, the whole rest of it was written.
-pub record StandsBehind (c : ConfigValues) (bytes front : List ℕ) (after : ServerValue) (wrote : List ℕ → Type 0)
+pub record FlushedRest (c : ConfigValues) (bytes front : List ℕ) (after : ServerValue) (wrote : List ℕ → Type 0)
     (monitor : List AcceptedCall → Type 0) : Type 0 where
-  pub stands : IsAtBytes c after bytes monitor
+  pub is_at : IsAtBytes c after bytes monitor
   pub text : List ℕ
   pub says : stdio_output c bytes ≡ front ++ text
   pub written : wrote text
@@ -145,7 +145,7 @@ module _ (c : ConfigValues) (v : ServerValue) (id : ℕ) (s : Connection) (from 
   more_there =
       ap more_in (side_there v es id s from.shows
       (ap (λ (k : ConfigValues). side_of id (world_after k es).sides) from.config ∙ from.there))
-      ∙ ap (λ (n : ℕ). length s.history.held + n) (length-map s.observers _)
+      ∙ ap (λ (n : ℕ). length s.history.pending + n) (length-map s.observers _)
 
   -- After all iterations, or those after which no byte is queued, the world is the flushed one.
   whole : (turns : ℕ) → turns ≤ suc (more_at id v)
@@ -229,7 +229,7 @@ module _ (c : ConfigValues) (v : ServerValue) (s : Connection) (bytes : List ℕ
 
   -- The calls of these iterations follow those before the flush.
   module _ (turns : ℕ) (later : List AcceptedCall → Type 0)
-      (tells : later (leads.events ++ calls_of_flush turns id v)) where
+      (reports : later (leads.events ++ calls_of_flush turns id v)) where
     -- After all iterations, or those after which no byte is queued, the world is that for the bytes.
     turns_stand : turns ≤ suc (more_at id v)
         → (waiting_at id (flush_turns turns id v).server ≡ []) ⊎ (turns ≡ suc (more_at id v))
@@ -258,7 +258,7 @@ module _ (c : ConfigValues) (v : ServerValue) (s : Connection) (bytes : List ℕ
             transfers =
                 all_transferred c bytes (subst (λ (n : ℕ). AreTransfers c id bytes n f.events) count
                 (f.transfers bytes (length (front_written s)) leads.transfers));
-            tells = rw f.made tells;
+            reports = rw f.made reports;
           },
           said,
         )
@@ -275,7 +275,7 @@ module _ (c : ConfigValues) (v : ServerValue) (s : Connection) (bytes : List ℕ
             events = f.events;
             shows = f.shows;
             transfers = f.transfers bytes (length (front_written s)) leads.transfers;
-            monitor_tells = rw f.made tells;
+            monitor_reports = rw f.made reports;
           },
           refl,
         )
@@ -284,17 +284,17 @@ module _ (c : ConfigValues) (v : ServerValue) (s : Connection) (bytes : List ℕ
   pub turns_said : (stdio_output c bytes ≡ front_written s ++ (flush_turns (suc (more_at id v)) id v).text)
   turns_said = (turns_stand (suc (more_at id v)) (λ _. Unit {0}) tt (omega arith) (inr refl)).1
 
-pub flush_stands : (c : ConfigValues) (v : ServerValue) {s : Connection} (bytes : List ℕ) (a m n : Following)
+pub flush_is_at : (c : ConfigValues) (v : ServerValue) {s : Connection} (bytes : List ℕ) (a m n : Following)
     → LeadsTo c v s bytes (FollowsMore a m) → (after : ServerValue) (wrote : List ℕ → Type 0)
     → IsReportedFlush (only_id c) v after wrote (FollowsMore m n)
-    → StandsBehind c bytes (front_written s) after wrote (FollowsMore a n)
-flush_stands c v {s = s} bytes a m n leads after wrote report =
+    → FlushedRest c bytes (front_written s) after wrote (FollowsMore a n)
+flush_is_at c v {s = s} bytes a m n leads after wrote report =
     let did = report.flushed in
     let calls : List AcceptedCall = calls_of_flush did.turns (only_id c) v in
     let both = turns_stand c v s bytes (FollowsMore a m) leads did.turns (FollowsMore a n)
-    (followed_then a m n leads.events calls leads.tells report.tells) did.within (rw did.server at did.done) in
+    (followed_then a m n leads.events calls leads.reports report.reports) did.within (rw did.server at did.done) in
     rw did.server (record {
-      stands = both.0;
+      is_at = both.0;
       text = (flush_turns did.turns (only_id c) v).text;
       says = both.1;
       written = did.written;

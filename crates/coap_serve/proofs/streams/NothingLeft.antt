@@ -31,13 +31,13 @@ module _ (c : ConfigValues) where
     | inr refused ↦
         inr (record {
           taken = concat refused.before ++ refused.front;
-          others = refused.last ∷ refused.behind;
+          others = refused.last ∷ refused.later;
           all =
               ap concat refused.all
-              ∙ concat-append refused.before ((refused.front ++ refused.last ∷ refused.behind) ∷ [])
+              ∙ concat-append refused.before ((refused.front ++ refused.last ∷ refused.later) ∷ [])
               ∙ ap (λ (xs : List ℕ). concat refused.before ++ xs)
-              (append-nil (refused.front ++ refused.last ∷ refused.behind))
-              ∙ sym (append_assoc (concat refused.before) refused.front (refused.last ∷ refused.behind));
+              (append-nil (refused.front ++ refused.last ∷ refused.later))
+              ∙ sym (append_assoc (concat refused.before) refused.front (refused.last ∷ refused.later));
           leaves = all_written refused.written;
         })
   ]

@@ -46,7 +46,7 @@ module _ (c : ConfigValues) (id : ℕ) (bytes piece : List ℕ) (v : ServerValue
   served_all none =
       rw (so_far.all, none, append-nil)
       (record {
-        stands = so_far.goes.stands;
+        is_at = so_far.goes.is_at;
         text = so_far.text;
         says = so_far.says;
         written = so_far.written;
@@ -77,7 +77,7 @@ module _ (c : ConfigValues) (id : ℕ) (bytes piece : List ℕ) (v : ServerValue
           goes = rw further_bytes (record {
             number = so_far.goes.number;
             ranges = so_far.goes.ranges;
-            stands = said.stands;
+            is_at = said.is_at;
             going = sym did.stop ∙ going;
           });
           text = so_far.text ++ said.text;
@@ -94,30 +94,30 @@ module _ (c : ConfigValues) (id : ℕ) (bytes piece : List ℕ) (v : ServerValue
         → IsWhole c bytes piece after (AddsBytes x z) monitor (messages + more)
     serves_last z more why did stopped =
         let said = did.whole in
-        let of = said.stands.transfers in
+        let of = said.is_at.transfers in
         let over : (outcome c (here ++ take n rest)).stop ≡ Some why = sym did.stop ∙ stopped in
         let same : outcome c (bytes ++ piece) ≡ outcome c (here ++ take n rest) =
         ap (outcome c) whole_bytes ∙ stopped_outcome c (here ++ take n rest) (drop n rest) why over in
         record {
-          stands = record {
-            config = said.stands.config;
-            events = said.stands.events;
-            shows = said.stands.shows;
+          is_at = record {
+            config = said.is_at.config;
+            events = said.is_at.events;
+            shows = said.is_at.shows;
             world =
-                said.stands.world ∙ sym (stopped_output c (here ++ take n rest) (drop n rest) why over)
+                said.is_at.world ∙ sym (stopped_output c (here ++ take n rest) (drop n rest) why over)
                 ∙ ap (world_for c) (sym whole_bytes);
             spelled = λ none. absurd (cc (ap (λ (o : Outcome). o.stop) same));
             transfers = record {
               taken = of.taken;
-              behind = of.behind ++ drop n rest;
+              later = of.later ++ drop n rest;
               all =
                   whole_bytes ∙ ap (λ (b : List ℕ). b ++ drop n rest) of.all
-                  ∙ append_assoc of.taken of.behind (drop n rest);
+                  ∙ append_assoc of.taken of.later (drop n rest);
               whole = λ none. absurd (cc (ap (λ (o : Outcome). o.stop) same));
               same = of.same ∙ sym same;
               transfers = rw (ap (λ (o : Outcome). o.output) same) of.transfers;
             };
-            tells = said.stands.tells;
+            reports = said.is_at.reports;
           };
           text = so_far.text ++ said.text;
           says = rw (ap (λ (o : Outcome). o.output) same, said.says, so_far.says, append_assoc) refl;
@@ -139,9 +139,9 @@ module _ (c : ConfigValues) (id : ℕ) (bytes piece : List ℕ) (v : ServerValue
           written = bytes_then x y z so_far.text did.part so_far.written did.written;
           reported = record {
             taken = r.taken;
-            behind = r.behind ++ drop n rest;
+            later = r.later ++ drop n rest;
             all =
-                whole_bytes ∙ ap (λ (b : List ℕ). b ++ drop n rest) r.all ∙ append_assoc r.taken r.behind (drop n rest);
+                whole_bytes ∙ ap (λ (b : List ℕ). b ++ drop n rest) r.all ∙ append_assoc r.taken r.later (drop n rest);
             before = r.before;
             reported = r.reported;
             part = r.part;
@@ -163,19 +163,19 @@ module _ (c : ConfigValues) (id : ℕ) (bytes piece : List ℕ) (v : ServerValue
       → ((events : List AcceptedCall) → Shows v events → ShowsRefused events id rest (taking.Memory n) after)
       → FollowsMore m k (Took id (take n rest) ∷ [])
       → IsRefused c bytes piece (AddsBytes x y) (FollowsMore a k)
-  piece_refused after n k not shows told =
+  piece_refused after n k not shows reported =
       let last = front_refused c v id here rest a m so_far.goes n not.0 in
       record {
         front = so_far.taken ++ take n rest;
         last = last.last;
-        behind = last.behind;
+        later = last.later;
         all = rw (append_assoc, ← last.all) so_far.all;
         refused = rw (further_bytes n) last.refused;
         text = so_far.text;
         says = rw (further_bytes n, last.says, append-nil, so_far.says) refl;
         written = so_far.written;
         reported =
-            rw (further_bytes n) (front_reported c v id here rest a m so_far.goes n after k last not.1 shows told);
+            rw (further_bytes n) (front_reported c v id here rest a m so_far.goes n after k last not.1 shows reported);
       }
 
 -- ---- results of tests

@@ -23,9 +23,9 @@ use Rattle.coap_model.proofs.world.StepLaws.{world_first, world_step}
 use Rattle.coap_io.proofs.streams.DeviceLemmas.{bytes_none, bytes_then, given_none, given_then}
 use Rattle.coap_model.proofs.streams.OutputLaws.{world_for_written, world_for_none, takes_unless_stopped}
 use Rattle.coap_model.proofs.streams.OutputLaws.{outcome_at_first, opened_alone, nothing_yet}
-use Rattle.coap_serve.proofs.streams.FlushShown.{LeadsTo, flush_stands}
+use Rattle.coap_serve.proofs.streams.FlushShown.{LeadsTo, flush_is_at}
 use Rattle.coap_serve.proofs.streams.CallLemmas.{transfers_opened, whole_transfers, running_reported, stopped_reported}
-use Rattle.coap_serve.proofs.streams.TakeLemmas.{cut_flush_leads, stop_told, session_going}
+use Rattle.coap_serve.proofs.streams.TakeLemmas.{cut_flush_leads, stop_reported, session_going}
 use Rattle.coap_server_engine.proofs.scripting.FollowLemmas.{followed_none, followed_then}
 
 -- ---- a turn
@@ -56,7 +56,7 @@ turn_piece c bytes piece after gave wrote monitor t number has did read_is stop_
       has = has;
       served = did;
       read = read_is;
-      reason = rw number at stop_is ∙ stop_told c after did.stands;
+      reason = rw number at stop_is ∙ stop_reported c after did.is_at;
     })
 
 -- An error of a chunk is no failed read.
@@ -78,7 +78,7 @@ pub record RunsOn (c : ConfigValues) (id turns read messages : ℕ) (v : ServerV
     (x y : Option (List ℕ)) (monitor : List AcceptedCall → Type 0) : Type 0 where
   pub pieces : List (List ℕ)
   pub output : List ℕ
-  pub told : HasGiven a b pieces
+  pub reported : HasGiven a b pieces
   pub few : AllByRecursion (λ p. length p ≤ 4096) pieces
   pub written : AddsBytes x y output
   pub counted : length pieces ≡ turns
@@ -101,7 +101,7 @@ pub run_begins : {c : ConfigValues} {id : ℕ} {v : ServerValue} (a : DeviceTrac
 run_begins {c = c} a x goes = record {
   pieces = [];
   output = [];
-  told = given_none a;
+  reported = given_none a;
   few = tt;
   written = bytes_none x;
   counted = refl;
@@ -119,14 +119,14 @@ pub out_of_turns : {c : ConfigValues} {id turns read messages : ℕ} {v : Server
 out_of_turns {c = c} {v = v} a b x y monitor so_far all = (
   so_far.pieces,
   so_far.output,
-  so_far.told,
+  so_far.reported,
   so_far.few,
   so_far.written,
   (
     so_far.counted ∙ all,
     record { goes_on = record { given = so_far.given; no_stop = so_far.goes.going }; written = so_far.text },
   ),
-  rw so_far.text (running_reported c v (concat so_far.pieces) monitor so_far.goes.stands so_far.goes.going),
+  rw so_far.text (running_reported c v (concat so_far.pieces) monitor so_far.goes.is_at so_far.goes.going),
 )
 
 -- One more turn. `b` and `y` are the records of the devices before it; `d` and `z` are those after it. `earlier` states
@@ -168,7 +168,7 @@ module _ (c : ConfigValues) (id turns read messages : ℕ) (v after : ServerValu
   ran piece text result gave few wrote did reported = (
     longer piece,
     so_far.output ++ text,
-    given_then a b d so_far.pieces (piece ∷ []) so_far.told gave,
+    given_then a b d so_far.pieces (piece ∷ []) so_far.reported gave,
     all_append (λ p. length p ≤ 4096) so_far.pieces (piece ∷ []) so_far.few (few, tt),
     bytes_then x y z so_far.output text so_far.written wrote,
     did,
@@ -186,7 +186,7 @@ module _ (c : ConfigValues) (id turns read messages : ℕ) (v after : ServerValu
             record {
               pieces = longer piece;
               output = so_far.output ++ whole.text;
-              told = given_then a b d so_far.pieces (piece ∷ []) so_far.told did.has.given;
+              reported = given_then a b d so_far.pieces (piece ∷ []) so_far.reported did.has.given;
               few = all_append (λ p. length p ≤ 4096) so_far.pieces (piece ∷ []) so_far.few (did.has.few, tt);
               written = bytes_then x y z so_far.output whole.text so_far.written whole.written;
               counted = counted_more piece;
@@ -194,7 +194,7 @@ module _ (c : ConfigValues) (id turns read messages : ℕ) (v after : ServerValu
               goes = rw (longer_bytes piece) (record {
                 number = so_far.goes.number;
                 ranges = so_far.goes.ranges;
-                stands = whole.stands;
+                is_at = whole.is_at;
                 going = sym did.reason ∙ none;
               });
               read_is = omega (
@@ -262,7 +262,7 @@ module _ (c : ConfigValues) (id turns read messages : ℕ) (v after : ServerValu
         | inr did ↦
             ran_whole t why did.piece did.served.text lt did.has.given did.has.few did.served.written did.read
             did.served.counted did.served.says (rw (sym did.reason ∙ stops) refl)
-            (rw (sym did.reason ∙ stops) (stopped_reported c after (bytes ++ did.piece) monitor did.served.stands))
+            (rw (sym did.reason ∙ stops) (stopped_reported c after (bytes ++ did.piece) monitor did.served.is_at))
       ]
 
   -- ---- an error ends the run in this turn
@@ -273,7 +273,7 @@ module _ (c : ConfigValues) (id turns read messages : ℕ) (v after : ServerValu
   faulted Read lt t = (
     so_far.pieces,
     so_far.output,
-    rw (append-nil so_far.pieces) at (given_then a b d so_far.pieces [] so_far.told t.0),
+    rw (append-nil so_far.pieces) at (given_then a b d so_far.pieces [] so_far.reported t.0),
     so_far.few,
     rw (append-nil so_far.output) at (bytes_then x y z so_far.output [] so_far.written t.1),
     (omega (arith, so_far.counted, lt), record { goes_on = pieces_go_on; written = so_far.text }),
@@ -297,7 +297,7 @@ module _ (c : ConfigValues) (id turns read messages : ℕ) (v after : ServerValu
         before = so_far.pieces;
         front = did.front;
         last = did.last;
-        behind = did.behind;
+        later = did.later;
         all = ap longer did.all;
         within = omega (arith, counted_more t.0, lt);
         goes_on = pieces_go_on;
@@ -307,10 +307,10 @@ module _ (c : ConfigValues) (id turns read messages : ℕ) (v after : ServerValu
       (inr (record {
         taken = bytes ++ did.front;
         last = did.last;
-        behind = did.behind;
+        later = did.later;
         all =
             longer_bytes t.0 ∙ ap (λ (b : List ℕ). bytes ++ b) did.all
-            ∙ sym (append_assoc bytes did.front (did.last ∷ did.behind));
+            ∙ sym (append_assoc bytes did.front (did.last ∷ did.later));
         refused = did.refused;
         reported = rw (more_text did.text did.says) did.reported;
       }))
@@ -347,7 +347,7 @@ pub record Opens (c : ConfigValues) (new v : ServerValue) (id : ℕ) : Type 0 wh
   pub shows : (events : List AcceptedCall) → Shows new events → Shows v (events ++ Opened id ∷ [])
 
 module _ (c : ConfigValues) (new v : ServerValue) (id : ℕ) (opens : Opens c new v id) (a m : Following)
-    (told : FollowsMore a m (Opened id ∷ [])) where
+    (reported : FollowsMore a m (Opened id ∷ [])) where
   number : id ≡ only_id c
   number = rw opens.new_is at opens.id_is
 
@@ -365,7 +365,7 @@ module _ (c : ConfigValues) (new v : ServerValue) (id : ℕ) (opens : Opens c ne
         flushes = rw world_is (sym (world_for_none c));
         spelled = nothing_yet c;
         transfers = transfers_opened c n;
-        tells = rw number at told;
+        reports = rw number at reported;
       }
 
   -- The state in which a run begins.
@@ -373,11 +373,11 @@ module _ (c : ConfigValues) (new v : ServerValue) (id : ℕ) (opens : Opens c ne
       → IsReportedFlush id v after wrote (FollowsMore m k)
       → IsRunningAt c after id [] (FollowsMore a k) × wrote (stdio_output c [])
   goes_at_first k {after = after} wrote did =
-      let now = flush_stands c v [] a m k opening_leads after wrote (rw number at did) in (
+      let now = flush_is_at c v [] a m k opening_leads after wrote (rw number at did) in (
         record {
           number = number;
           ranges = rw opens.new_is at opens.ranges;
-          stands = now.stands;
+          is_at = now.is_at;
           going = (outcome_at_first c).1;
         },
         rw now.says now.written,
@@ -407,36 +407,36 @@ pub end_stops : (c : ConfigValues) {v : ServerValue} (v1 : ServerValue) {id : �
 unfolding steps_by side_ended
 end_stops c v1 bytes goes config shows =
     let n : ℕ = only_id c in
-    let es : List AcceptedCall = goes.stands.events in
+    let es : List AcceptedCall = goes.is_at.events in
     let w : World = world_after c es in
     let all = world_for_written c bytes in
     let cut : Bool = is_cut (stream_on c.limits.max_message n es).rest in
     let t : Connection = settled w.store w.now (side_ended all.side cut) in
-    let there : side_of n w.sides ≡ Some all.side = rw goes.stands.world all.there in
+    let there : side_of n w.sides ≡ Some all.side = rw goes.is_at.world all.there in
     let then : side_of n (world_after c (es ++ Ended n ∷ [])).sides ≡ Some t =
     rw (world_step c es (Ended n) (world.Ended n cut) refl) (ended_there c.limits w n cut all.side there) in
     let stopped : HasStopped (side_ended all.side cut).history (end_reason cut) =
     rw (takes_unless_stopped c bytes, goes.going) (refl, refl) in
     rw goes.number
-    (ap stop_on (side_there v1 (es ++ Ended n ∷ []) n t (rw goes.number at (shows es goes.stands.shows))
-    (rw (config, goes.stands.config) then))
+    (ap stop_on (side_there v1 (es ++ Ended n ∷ []) n t (rw goes.number at (shows es goes.is_at.shows))
+    (rw (config, goes.is_at.config) then))
     ∙ ap stop_of ((settled_handles_none w.store w.now (side_ended all.side cut)).stopped (end_reason cut) stopped).0
-    ∙ ap (λ (s : Stream × ℕ). Some (end_reason (is_cut s.0.rest))) (goes.stands.spelled goes.going))
+    ∙ ap (λ (s : Stream × ℕ). Some (end_reason (is_cut s.0.rest))) (goes.is_at.spelled goes.going))
 
 -- The monitor received the end of input after all other calls.
 pub end_reported : (c : ConfigValues) {v : ServerValue} (v1 : ServerValue) {id : ℕ} (bytes : List ℕ) (a m k : Following)
     → IsRunningAt c v id bytes (FollowsMore a m) → v1.config ≡ v.config
     → ((events : List AcceptedCall) → Shows v events → Shows v1 (events ++ Ended id ∷ []))
     → FollowsMore m k (Ended id ∷ []) → HasReportedEnd c (FollowsMore a k) bytes (length (stdio_output c bytes))
-end_reported c v1 bytes a m k goes config shows told =
-    let es : List AcceptedCall = goes.stands.events in
+end_reported c v1 bytes a m k goes config shows reported =
+    let es : List AcceptedCall = goes.is_at.events in
     record {
       server = v1;
-      config = config ∙ goes.stands.config;
+      config = config ∙ goes.is_at.config;
       before = es;
-      transfers = whole_transfers c goes.stands.transfers goes.going;
-      shows = rw goes.number at (shows es goes.stands.shows);
-      monitor_tells = followed_then a m k es (Ended (only_id c) ∷ []) goes.stands.tells (rw goes.number at told);
+      transfers = whole_transfers c goes.is_at.transfers goes.going;
+      shows = rw goes.number at (shows es goes.is_at.shows);
+      monitor_reports = followed_then a m k es (Ended (only_id c) ∷ []) goes.is_at.reports (rw goes.number at reported);
     }
 
 -- The connection exists.
@@ -451,7 +451,7 @@ not_there {c = c} {v = v} {id = id} bytes a m goes none =
 -- A monitor received no further call.
 followed_stays : (a b d : Following) (xs : List AcceptedCall) → FollowsMore a b xs
     → FollowsMore b d [] → FollowsMore a d xs
-followed_stays a b d xs told more = rw append-nil at (followed_then a b d xs [] told more)
+followed_stays a b d xs reported more = rw append-nil at (followed_then a b d xs [] reported more)
 
 -- A monitor received the end of a turn.
 pub turn_passed : (c : ConfigValues) (bytes : List ℕ) (after : ServerValue) (gave : List (List ℕ) → Type 0)
@@ -470,21 +470,22 @@ turn_passed c front after gave wrote a b d t (inl e) more = inl (record {
     before = e.reported.before;
     transfers = e.reported.transfers;
     shows = e.reported.shows;
-    monitor_tells = followed_stays a b d (e.reported.before ++ Ended (only_id c) ∷ []) e.reported.monitor_tells more;
+    monitor_reports = followed_stays a b d (e.reported.before ++ Ended (only_id c) ∷ []) e.reported.monitor_reports
+        more;
   };
 })
 turn_passed c front after gave wrote a b d t (inr p) more = inr (record {
   piece = p.piece;
   has = p.has;
   served = record {
-    stands = record {
-      config = p.served.stands.config;
-      events = p.served.stands.events;
-      shows = p.served.stands.shows;
-      world = p.served.stands.world;
-      spelled = p.served.stands.spelled;
-      transfers = p.served.stands.transfers;
-      tells = followed_stays a b d p.served.stands.events p.served.stands.tells more;
+    is_at = record {
+      config = p.served.is_at.config;
+      events = p.served.is_at.events;
+      shows = p.served.is_at.shows;
+      world = p.served.is_at.world;
+      spelled = p.served.is_at.spelled;
+      transfers = p.served.is_at.transfers;
+      reports = followed_stays a b d p.served.is_at.events p.served.is_at.reports more;
     };
     text = p.served.text;
     says = p.served.says;

@@ -27,7 +27,7 @@ use Rattle.coap_model.proofs.streams.FlushLaws.{from_there_on, quiet_flush, flus
 use Rattle.coap_model.proofs.streams.OutputLaws.{world_for_written, world_goes_on, outcome_there, takes_unless_stopped}
 use Rattle.coap_model.proofs.streams.OutputLaws.{spelled_more, steps_taken}
 use Rattle.coap_serve.proofs.streams.CallLemmas.{whole_transfers, transfers_taken}
-use Rattle.coap_serve.proofs.streams.FlushShown.{LeadsTo, turns_said, turns_reported, flush_stands}
+use Rattle.coap_serve.proofs.streams.FlushShown.{LeadsTo, turns_said, turns_reported, flush_is_at}
 use Rattle.coap_server_engine.proofs.scripting.ShownLemmas.{config_stays}
 use Rattle.coap_server_engine.proofs.scripting.FollowLemmas.{followed_then}
 
@@ -75,7 +75,7 @@ cut_flush_leads c v {s = s} bytes a m n leads x y did =
     let more = text_grows id v (suc did.turns) all (omega (arith, did.within)) in
     let calls : List AcceptedCall = calls_of_flush did.turns id v in
     let reported = turns_reported c v s bytes (FollowsMore a m) leads did.turns (FollowsMore a n)
-    (followed_then a m n leads.events calls leads.tells did.tells) in
+    (followed_then a m n leads.events calls leads.reports did.reports) in
     record {
       part = text ++ did.part;
       missing = did.missing ++ more.0;
@@ -91,7 +91,7 @@ cut_flush_leads c v {s = s} bytes a m n leads x y did =
       written = did.written;
       reported = record {
         taken = bytes;
-        behind = [];
+        later = [];
         all = sym (append-nil bytes);
         before = length (front_written s) + length text;
         reported = reported.0;
@@ -113,13 +113,13 @@ flush_counts c v s bytes leads =
     ap (λ (o : Outcome). o.messages) (outcome_there c bytes left.0.side is_there) ∙ ap length left.0.handled
 
 -- The server returns the reason for which the bytes stop its connection.
-pub stop_told : (c : ConfigValues) (v : ServerValue) {bytes : List ℕ} {monitor : List AcceptedCall → Type 0}
+pub stop_reported : (c : ConfigValues) (v : ServerValue) {bytes : List ℕ} {monitor : List AcceptedCall → Type 0}
     → IsAtBytes c v bytes monitor → stop_on (session_of (only_id c) v.sessions) ≡ (outcome c bytes).stop
-stop_told c v {bytes = bytes} stands =
+stop_reported c v {bytes = bytes} is_at =
     let all = world_for_written c bytes in
-    let is_there : side_of (only_id c) (world_after v.config stands.events).sides ≡ Some all.side =
-    rw (stands.config, stands.world) all.there in
-    ap stop_on (side_there v stands.events (only_id c) all.side stands.shows is_there)
+    let is_there : side_of (only_id c) (world_after v.config is_at.events).sides ≡ Some all.side =
+    rw (is_at.config, is_at.world) all.there in
+    ap stop_on (side_there v is_at.events (only_id c) all.side is_at.shows is_there)
     ∙ ap (λ (o : Outcome). o.stop) (sym (outcome_there c bytes all.side all.there))
 
 -- ---- some bytes are accepted
@@ -128,8 +128,8 @@ stop_told c v {bytes = bytes} stands =
 -- representation.
 pub record FrontRefused (c : ConfigValues) (bytes piece : List ℕ) (n : ℕ) : Type 0 where
   pub last : ℕ
-  pub behind : List ℕ
-  pub all : piece ≡ take n piece ++ last ∷ behind
+  pub later : List ℕ
+  pub all : piece ≡ take n piece ++ last ∷ later
   pub refused : IsLastByte c (bytes ++ take n piece) last
   pub says : Says c bytes (take n piece) []
 
@@ -159,16 +159,16 @@ module _ (v : ServerValue) (bytes : List ℕ) (a m : Following)
   id = only_id c
 
   abbrev es : List AcceptedCall
-  es = goes.stands.events
+  es = goes.is_at.events
 
   abbrev before : Connection
   before = (world_for_written c bytes).side
 
   was_there : side_of id (world_after c es).sides ≡ Some before
-  was_there = rw goes.stands.world (world_for_written c bytes).there
+  was_there = rw goes.is_at.world (world_for_written c bytes).there
 
   reached : IsReached c es
-  reached = accepted_is c es goes.stands.shows.accepted
+  reached = accepted_is c es goes.is_at.shows.accepted
 
   outcome_before : outcome c bytes ≡ outcome_on (Some before)
   outcome_before = outcome_there c bytes before (world_for_written c bytes).there
@@ -186,10 +186,10 @@ module _ (v : ServerValue) (bytes : List ℕ) (a m : Following)
       rw (takes_unless_stopped c bytes, goes.going, room) refl
 
   session_was : session_of id v.sessions ≡ Some (session_shown (stream_on M id es).rest before)
-  session_was = side_there v es id before goes.stands.shows was_there
+  session_was = side_there v es id before goes.is_at.shows was_there
 
   transfers_before : AreTransfers c id bytes (length (stdio_output c bytes)) es
-  transfers_before = whole_transfers c goes.stands.transfers goes.going
+  transfers_before = whole_transfers c goes.is_at.transfers goes.going
 
   waits_before : waiting_of (side_of id (world_after c es).sides) ≡ []
   waits_before = ap waiting_of was_there ∙ (world_for_written c bytes).waits
@@ -200,7 +200,7 @@ module _ (v : ServerValue) (bytes : List ℕ) (a m : Following)
   unfolding outcome flushed_after
   front_refused_by piece n last =
       let front : List ℕ = take n piece in
-      let spelled = goes.stands.spelled goes.going in
+      let spelled = goes.is_at.spelled goes.going in
       let stream_is = ap (λ (s : Stream × ℕ). s.0) spelled in
       let size_is = ap (λ (s : Stream × ℕ). s.1) spelled in
       let further : split_on M (stream_of c bytes) front ≡ stream_of c (bytes ++ front) =
@@ -211,14 +211,14 @@ module _ (v : ServerValue) (bytes : List ℕ) (a m : Following)
       world_goes_on c bytes front ∙ ap (flushed_after c.limits id (world_for c bytes)) quiet in
       record {
         last = last.last;
-        behind = last.behind;
+        later = last.later;
         all = last.all;
         refused = record {
           no_stop = ap (λ (w : World). (outcome_on (side_of id w.sides)).stop) same ∙ goes.going;
           message = last.message;
           one_more =
               split_goes_on M (bytes ++ front) (last.last ∷ []) ∙ rw (stream_is, size_is, further) at last.one_more;
-          stores = rw (same, ← goes.stands.world) last.stores;
+          stores = rw (same, ← goes.is_at.world) last.stores;
         };
         says =
             ap (λ (w : World). (outcome_on (side_of id w.sides)).output) same ∙ sym (append-nil (stdio_output c bytes));
@@ -229,7 +229,7 @@ module _ (v : ServerValue) (bytes : List ℕ) (a m : Following)
       → v1 ≡ server_taken v id (take n piece) → Shows v1 (es ++ Took id (take n piece) ∷ [])
       → FollowsMore m k (Took id (take n piece) ∷ [])
       → HasReported c (FollowsMore a k) (bytes ++ take n piece) (length (stdio_output c (bytes ++ take n piece)))
-  refused_reported piece n v1 k refused is shows told = record {
+  refused_reported piece n v1 k refused is shows reported = record {
     server = v1;
     config = ap (λ (u : ServerValue). u.config) is ∙ config_stays v id (take n piece);
     events = es ++ Took id (take n piece) ∷ [];
@@ -238,7 +238,7 @@ module _ (v : ServerValue) (bytes : List ℕ) (a m : Following)
       refused.says,
       append-nil (stdio_output c bytes),
     ) (transfers_taken c id (take n piece) es waits_before transfers_before);
-    monitor_tells = followed_then a m k es (Took id (take n piece) ∷ []) goes.stands.tells told;
+    monitor_reports = followed_then a m k es (Took id (take n piece) ∷ []) goes.is_at.reports reported;
   }
 
   -- ---- the call of take
@@ -250,15 +250,15 @@ module _ (v : ServerValue) (bytes : List ℕ) (a m : Following)
       let front = some_in_front (size_on M id es) (stream_on M id es).rest piece unfinished some in
       let count = takes_there c es id piece before was_there
       ∙ ap (λ (b : Bool). cond b (front_of (size_on M id es) (stream_on M id es).rest piece) 0) handling in
-      omega (arith, front, count, took.takes_so es goes.stands.shows)
+      omega (arith, front, count, took.takes_so es goes.is_at.shows)
 
   module _ (piece : List ℕ) (v1 : ServerValue) (t : Taken) (took : WasTaken v v1 id piece t) (k : Following)
-      (told : FollowsMore m k (Took id (take t.bytes piece) ∷ [])) where
+      (reported : FollowsMore m k (Took id (take t.bytes piece) ∷ [])) where
     abbrev T : List ℕ
     T = take t.bytes piece
 
     bytes_are : T ≡ take (takes c es id piece) piece
-    bytes_are = ap (λ (n : ℕ). take n piece) (took.takes_so es goes.stands.shows)
+    bytes_are = ap (λ (n : ℕ). take n piece) (took.takes_so es goes.is_at.shows)
 
     -- The world after the call, once it is flushed, is that for the bytes.
     flushed_world : flushed c.limits id (world_after c (es ++ Took id T ∷ [])) ≡ world_for c (bytes ++ T)
@@ -266,17 +266,17 @@ module _ (v : ServerValue) (bytes : List ℕ) (a m : Following)
     flushed_world =
         let all = world_for_written c bytes in
         let on = world_goes_on c bytes T ∙ ap (flushed_after c.limits id (world_for c bytes))
-        (sym (steps_taken c es bytes T (goes.stands.spelled goes.going))) in
+        (sym (steps_taken c es bytes T (goes.is_at.spelled goes.going))) in
         let steps : (steps_by M es (Took id T) ≡ []) ⊎ ((st : Step) × (steps_by M es (Took id T) ≡ st ∷ [])) =
         rw bytes_are (one_step_at_most c es id piece before reached was_there) in
         elim steps [
           | inl none ↦
-              ap (flushed c.limits id) (world_same c es (Took id T) none ∙ goes.stands.world)
+              ap (flushed c.limits id) (world_same c es (Took id T) none ∙ goes.is_at.world)
               ∙ quiet_flush c.limits id (world_for c bytes) before all.takes_input all.there all.waits
               ∙ sym (on ∙ ap (flushed_after c.limits id (world_for c bytes)) none)
           | inr one ↦
               ap (flushed c.limits id)
-              (world_step c es (Took id T) one.0 one.1 ∙ ap (λ (w : World). step c.limits w one.0) goes.stands.world)
+              (world_step c es (Took id T) one.0 one.1 ∙ ap (λ (w : World). step c.limits w one.0) goes.is_at.world)
               ∙ sym (on ∙ ap (flushed_after c.limits id (world_for c bytes)) one.1)
         ]
 
@@ -296,12 +296,12 @@ module _ (v : ServerValue) (bytes : List ℕ) (a m : Following)
     leads = record {
       config = ap (λ (u : ServerValue). u.config) took.after_is ∙ config_stays v id piece;
       events = es ++ Took id T ∷ [];
-      shows = took.shows es goes.stands.shows;
+      shows = took.shows es goes.is_at.shows;
       there = grown.1;
       flushes = flushed_world;
-      spelled = spelled_more c es bytes T (goes.stands.spelled goes.going);
+      spelled = spelled_more c es bytes T (goes.is_at.spelled goes.going);
       transfers = rw said_before (transfers_taken c id T es waits_before transfers_before);
-      tells = followed_then a m k es (Took id T ∷ []) goes.stands.tells told;
+      reports = followed_then a m k es (Took id T ∷ []) goes.is_at.reports reported;
     }
 
     -- The call and its flush did everything that is defined for the bytes accepted.
@@ -309,15 +309,15 @@ module _ (v : ServerValue) (bytes : List ℕ) (a m : Following)
         → messages ≡ count_of t.handled → IsReportedFlush id v1 after wrote (FollowsMore k n)
         → FrontServed c id bytes T after wrote (FollowsMore a n) messages
     front_served_by after wrote n counted did =
-        let now = flush_stands c v1 (bytes ++ T) a k n leads after wrote did in
+        let now = flush_is_at c v1 (bytes ++ T) a k n leads after wrote did in
         let there = subst (λ (b : List ℕ). side_of id (world_after c (es ++ Took id b ∷ [])).sides ≡ Some grown.0)
         bytes_are grown.1 in
-        let all = messages_counted c es id piece before grown.0 goes.stands.shows.accepted was_there there in
-        let told : t.handled ≡ handled_in c es (Took id (take (takes c es id piece) piece)) id =
-        rw bytes_are at (took.says es goes.stands.shows) in
+        let all = messages_counted c es id piece before grown.0 goes.is_at.shows.accepted was_there there in
+        let reported : t.handled ≡ handled_in c es (Took id (take (takes c es id piece) piece)) id =
+        rw bytes_are at (took.says es goes.is_at.shows) in
         record {
           whole = record {
-            stands = now.stands;
+            is_at = now.is_at;
             text = now.text;
             says = rw (← said_before) now.says;
             written = now.written;
@@ -325,12 +325,12 @@ module _ (v : ServerValue) (bytes : List ℕ) (a m : Following)
               arith,
               flush_counts c v1 grown.0 (bytes ++ T) leads,
               all,
-              ap count_of told,
+              ap count_of reported,
               ap (λ (o : Outcome). o.messages) outcome_before,
               counted,
             );
           };
-          stop = stop_told c after now.stands;
+          stop = stop_reported c after now.is_at;
         }
 
     -- A write failed: a part of the output defined for the bytes accepted was written.
@@ -356,7 +356,7 @@ module _ (c : ConfigValues) (v : ServerValue) (id : ℕ) (bytes : List ℕ) (mon
       → (IsRunningAt v.config v (only_id v.config) bytes monitor → P v.config (only_id v.config)) → P c id
   by_any_name P holds =
       subst (P c) (sym goes.number)
-      (subst (λ (k : ConfigValues). IsRunningAt k v (only_id k) bytes monitor → P k (only_id k)) goes.stands.config
+      (subst (λ (k : ConfigValues). IsRunningAt k v (only_id k) bytes monitor → P k (only_id k)) goes.is_at.config
       holds (subst (λ (n : ℕ). IsRunningAt c v n bytes monitor) goes.number goes))
 
 module _ (c : ConfigValues) (v : ServerValue) (id : ℕ) (bytes : List ℕ) (a m : Following)
@@ -377,7 +377,7 @@ module _ (c : ConfigValues) (v : ServerValue) (id : ℕ) (bytes piece : List ℕ
       by_any_name c v id bytes (FollowsMore a m) goes
       (λ k j. RefusesPieceOn v piece n (session_of j v.sessions) → FrontRefused k bytes piece n)
       (λ so refused. (let there = session_was v bytes a m so in front_refused_by v bytes a m so piece n
-      (refuses_last v so.stands.events _ piece n _ so.stands.shows there (rw there at refused))))
+      (refuses_last v so.is_at.events _ piece n _ so.is_at.shows there (rw there at refused))))
 
   -- The monitor received the call for which an allocation failed.
   pub front_reported : (n : ℕ) (v1 : ServerValue) (k : Following) → FrontRefused c bytes piece n
@@ -391,20 +391,21 @@ module _ (c : ConfigValues) (v : ServerValue) (id : ℕ) (bytes piece : List ℕ
       → ((events : List AcceptedCall) → Shows v events → Shows v1 (events ++ Took j (take n piece) ∷ []))
       → FollowsMore m k (Took j (take n piece) ∷ [])
       → HasReported d (FollowsMore a k) (bytes ++ take n piece) (length (stdio_output d (bytes ++ take n piece))))
-      (λ so refused is shows told. refused_reported v bytes a m so piece n v1 k refused is
-      (shows so.stands.events so.stands.shows) told)
+      (λ so refused is shows reported. refused_reported v bytes a m so piece n v1 k refused is
+      (shows so.is_at.events so.is_at.shows) reported)
 
   module _ (v1 : ServerValue) (t : Taken) (took : WasTaken v v1 id piece t) where
     pub front_served : (k n : Following) {after : ServerValue} (wrote : List ℕ → Type 0) {messages : ℕ}
         → FollowsMore m k (Took id (take t.bytes piece) ∷ []) → messages ≡ count_of t.handled
         → IsReportedFlush id v1 after wrote (FollowsMore k n)
         → FrontServed c id bytes (take t.bytes piece) after wrote (FollowsMore a n) messages
-    front_served k n {after = after} wrote {messages = messages} told counted did =
+    front_served k n {after = after} wrote {messages = messages} reported counted did =
         by_any_name c v id bytes (FollowsMore a m) goes
         (λ d j. WasTaken v v1 j piece t → FollowsMore m k (Took j (take t.bytes piece) ∷ [])
         → IsReportedFlush j v1 after wrote (FollowsMore k n)
         → FrontServed d j bytes (take t.bytes piece) after wrote (FollowsMore a n) messages)
-        (λ so taken tells. front_served_by v bytes a m so piece v1 t taken k tells after wrote n counted) took told did
+        (λ so taken reports. front_served_by v bytes a m so piece v1 t taken k reports after wrote n counted) took
+        reported did
 
     pub front_cut : (k n : Following) (x y : Option (List ℕ)) → FollowsMore m k (Took id (take t.bytes piece) ∷ [])
         → IsCutFlush id v1 (AddsBytes x y) (FollowsMore k n)
@@ -414,7 +415,7 @@ module _ (c : ConfigValues) (v : ServerValue) (id : ℕ) (bytes piece : List ℕ
         (λ d j. WasTaken v v1 j piece t → FollowsMore m k (Took j (take t.bytes piece) ∷ [])
         → IsCutFlush j v1 (AddsBytes x y) (FollowsMore k n)
         → IsCut d bytes (take t.bytes piece) (AddsBytes x y) (FollowsMore a n))
-        (λ so taken tells. front_cut_by v bytes a m so piece v1 t taken k tells x y n) took
+        (λ so taken reports. front_cut_by v bytes a m so piece v1 t taken k reports x y n) took
 
     pub front_some : 0 < length piece → 1 ≤ t.bytes
     front_some =

@@ -6,7 +6,7 @@ use Rattle.coap_io.specs.declared.wire.Wait.TheVariants.{No, Until, Forever}
 use Rattle.coap_io.specs.streams.DeviceTraces.{DoorCall, Waited}
 use Rattle.coap_io.specs.streams.Wires.{wait_at_most}
 use Rattle.coap_server_engine.specs.Prelude.{ConfigValues, AcceptedCall, Ticked, Stored, Removed, Released, Announced}
-use Rattle.coap_server_engine.specs.Prelude.{AreAskedLater, open_refusal, ServerValue, config_with, new_server}
+use Rattle.coap_server_engine.specs.Prelude.{AreRequestedLater, open_refusal, ServerValue, config_with, new_server}
 use Rattle.coap_server_engine.specs.Prelude.{server_dropped, server_released, server_ticked}
 use Rattle.coap_model.specs.declared.config.Config.{Config}
 use Rattle.coap_server_engine.specs.declared.io_fault.IoFault.{IoFault}
@@ -18,7 +18,8 @@ use Rattle.coap_serve.specs.declared.door.service.ServiceConfig.{ServiceConfig}
 use Rattle.coap_serve.specs.declared.door.service.Times.{Times}
 use Rattle.coap_serve.specs.listener.Histories.{AreSteps, HasAccepted, History, calls_only, history_then, no_history}
 use Rattle.coap_serve.specs.listener.Histories.{one_call, one_drop}
-use Rattle.coap_serve.specs.listener.Serving.{AreTurnSteps, HasTurned, IsAskedOnce, IsTurnBy, KnownOfTurn, LoopState}
+use Rattle.coap_serve.specs.listener.Serving.{AreTurnSteps, HasTurned, IsRequestedOnce, IsTurnBy, KnownOfTurn}
+use Rattle.coap_serve.specs.listener.Serving.{LoopState}
 use Rattle.coap_serve.specs.listener.Serving.{Views, loop_state, way}
 use Rattle.coap_serve.specs.listener.Silence.{Sweep, due_sweep}
 
@@ -45,7 +46,7 @@ pub data IsRunStep (v : ServerValue) : ServerValue → History → Type 0 where
   SilentDropped : (id : ℕ) → IsRunStep v (server_dropped v id) (one_drop id)
   TimeSet : (moment : ℕ) → IsRunStep v (moved_to v moment) (calls_only (moved_calls v moment))
   LaterGiven : (after : ServerValue) (h : History) (is_full : Bool)
-      → AreAskedLater v 256 is_full after (λ all. h.events ≡ all) (λ all. h.exchanges ≡ all) → IsRunStep v after h
+      → AreRequestedLater v 256 is_full after (λ all. h.events ≡ all) (λ all. h.exchanges ≡ all) → IsRunStep v after h
   TurnMade : (after : ServerValue) (h : History) → AreTurnSteps v after h → IsRunStep v after h
 
 -- A call that a run makes. It stores and removes no resource for the embedding program, and announces no message size.
@@ -121,7 +122,8 @@ pub record IsBegun {A W : Type 0} (follows : A → Answering) (rests : A → Typ
   pub sweep : Sweep W
   pub is_swept : sweep ≡ due_sweep s.idle s.second times.second s.state.server s.state.entries
   pub later : History
-  pub given : AreAskedLater (moved_to sweep.server times.now) 256 start.is_full start.server (λ all. later.events ≡ all)
+  pub given : AreRequestedLater (moved_to sweep.server times.now) 256 start.is_full start.server
+      (λ all. later.events ≡ all)
       (λ all. (later.exchanges ≡ all) × (one other : A) × (start.is_full ≡ false → rests other)
       × AnswersMore (follows one) (follows other) all)
   pub all : start.history
@@ -153,17 +155,17 @@ pub record IsCutTurn {A W : Type 0} (follows : A → Answering) (rests : A → T
     (s : ServiceValue W) (last : ServerValue) : Type 0 where
   pub start : TurnStart
   pub begun : IsBegun follows rests times s start
-  pub asked : IsAskedOnce K.door start.server
+  pub requested : IsRequestedOnce K.door start.server
   pub cut : HasTurned (known_after start.history K).history start.server last
 
 -- The call of a listener after a turn: it waits, and learns whether another connection may be opened. There is none
 -- before the first turn.
-abbrev pub waited_behind : {W : Type 0} → (turns : ℕ) → Wait → (opens : Bool) → List (DoorCall W)
-waited_behind turns wait opens = if nat_lt 0 turns then (Waited wait opens ∷ []) else []
+abbrev pub waited_after : {W : Type 0} → (turns : ℕ) → Wait → (opens : Bool) → List (DoorCall W)
+waited_after turns wait opens = if nat_lt 0 turns then (Waited wait opens ∷ []) else []
 
 -- The call of a listener before a turn of this server, of which this number of turns was made.
 abbrev pub waited_before : {W : Type 0} → (turns : ℕ) → Wait → ServerValue → List (DoorCall W)
-waited_before turns wait v = waited_behind turns wait (is_none (open_refusal v))
+waited_before turns wait v = waited_after turns wait (is_none (open_refusal v))
 
 -- ---- whole turns
 

@@ -3,7 +3,7 @@ use Rattle.std.specs.Prelude.{ℕ, ◌≡◌, ◌⊎◌, ◌+◌, Bool, true, fa
 use Rattle.std.specs.Prelude.{Option, Some, None, is_none, is_some, nat_eq, if◌then◌else◌}
 use Rattle.coap_server_engine.specs.Prelude.{insert_entry, AcceptedCall, Opened, Wrote, Ended, Answering, Following}
 use Rattle.coap_server_engine.specs.Prelude.{open_refusal}
-use Rattle.coap_io.specs.streams.DeviceTraces.{DoorCall, Asked}
+use Rattle.coap_io.specs.streams.DeviceTraces.{DoorCall, Requested}
 use Rattle.coap_io.specs.streams.Wires.{MatchesTrace, WireTrace, trace_by}
 use Rattle.coap_io.specs.declared.wire.Got.{Got}
 use Rattle.coap_io.specs.declared.wire.Wait.{Wait}
@@ -221,18 +221,18 @@ AreOpened second None s after = (after.server ≡ s.server) × (after.entries �
 
 -- The calls of a listener in a turn. If another connection may be opened, it is asked once for a wire and returns one
 -- or none. Otherwise it is not called.
-abbrev pub asked_by : {W : Type 0} → ServerValue → (handed : Option W) → List (DoorCall W)
-asked_by v handed = if is_none (open_refusal v) then (Asked handed ∷ []) else []
+abbrev pub door_calls : {W : Type 0} → ServerValue → (handed : Option W) → List (DoorCall W)
+door_calls v handed = if is_none (open_refusal v) then (Requested handed ∷ []) else []
 
-abbrev pub IsAskedOnce : {W : Type 0} → (door : List (DoorCall W) → Type 0) → ServerValue → Type 0
-IsAskedOnce {W} door v = (handed : Option W) × door (asked_by v handed)
+abbrev pub IsRequestedOnce : {W : Type 0} → (door : List (DoorCall W) → Type 0) → ServerValue → Type 0
+IsRequestedOnce {W} door v = (handed : Option W) × door (door_calls v handed)
 
 -- The listener was asked, and a connection was opened for the wire that it returned, or none was. `door` states which
 -- calls the listener had.
 pub record IsOpening {W : Type 0} (second : ℕ) (door : List (DoorCall W) → Type 0) (s after : LoopState W)
     (opens : Bool) : Type 0 where
   pub handed : Option W
-  pub asked : door (asked_by s.server handed)
+  pub requested : door (door_calls s.server handed)
   pub opened : AreOpened second handed s after
   pub is : opens ≡ is_some handed
 

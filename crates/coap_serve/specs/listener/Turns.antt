@@ -24,17 +24,17 @@ use Rattle.coap_io.specs.declared.wire.Got.TheVariants.{Bytes, Later, End, Faile
 use Rattle.coap_io.specs.declared.read_buffer.TheConstants.{READ_SIZE}
 
 -- A read is due: the wire may be read, no bytes are left from earlier reads, and the connection accepts bytes.
-abbrev pub is_heard : (may_read : Bool) → ServerValue → ℕ → List ℕ → Bool
-is_heard may_read v id rest = may_read && (length rest == 0) && can_take_on (session_of id v.sessions)
+abbrev pub is_read_due : (may_read : Bool) → ServerValue → ℕ → List ℕ → Bool
+is_read_due may_read v id rest = may_read && (length rest == 0) && can_take_on (session_of id v.sessions)
 
 -- The bytes that are offered to a write: all queued bytes if the wire may be written, otherwise none.
 abbrev pub waiting_once : (may_write : Bool) → ℕ → ServerValue → List ℕ
 waiting_once may_write id v = if may_write then waiting_at id v else []
 
 -- The server after a read with this result. If the read found the end, the input of the connection has ended.
-abbrev pub server_heard : ServerValue → ℕ → Got → ServerValue
-server_heard v id End = server_ended v id
-server_heard v id heard = v
+abbrev pub server_read : ServerValue → ℕ → Got → ServerValue
+server_read v id End = server_ended v id
+server_read v id received = v
 
 -- The server after a write with this result. The bytes that were written are removed from the queue.
 abbrev pub server_wrote : ServerValue → ℕ → Got → ServerValue
@@ -42,9 +42,9 @@ server_wrote v id (Bytes n) = server_written v id n
 server_wrote v id wrote = v
 
 -- The event of a read with this result: if the read found the end, the input has ended.
-abbrev pub heard_events : ℕ → Got → List AcceptedCall
-heard_events id End = Ended id ∷ []
-heard_events id heard = []
+abbrev pub read_events : ℕ → Got → List AcceptedCall
+read_events id End = Ended id ∷ []
+read_events id received = []
 
 -- The event of a write with this result, if it accepted bytes.
 abbrev pub wrote_events : ℕ → Got → List AcceptedCall
@@ -57,13 +57,13 @@ refused_events id [] = []
 refused_events id (b ∷ bytes) = Took id [] ∷ []
 
 -- The bytes that are kept of those left: none if the connection processes no further message, otherwise all.
-abbrev pub left_behind : Option Reason → List ℕ → List ℕ
-left_behind None rest = rest
-left_behind (Some why) rest = []
+abbrev pub kept_unless : Option Reason → List ℕ → List ℕ
+kept_unless None rest = rest
+kept_unless (Some why) rest = []
 
 -- The bytes that are kept after the connection accepted the first `count` of these, and the server is `taken`.
-abbrev pub rest_behind : (taken : ServerValue) → ℕ → (count : ℕ) → List ℕ → List ℕ
-rest_behind taken id count rest = left_behind (stop_on (session_of id taken.sessions)) (drop count rest)
+abbrev pub kept_rest : (taken : ServerValue) → ℕ → (count : ℕ) → List ℕ → List ℕ
+kept_rest taken id count rest = kept_unless (stop_on (session_of id taken.sessions)) (drop count rest)
 
 -- Nothing more will be written on a connection with this work left, or there is no connection.
 abbrev pub is_over_in : Option ConnectionWork → Bool
@@ -128,25 +128,26 @@ has_failed Failed = true
 has_failed got = false
 
 -- The outcome for a connection, by the result of its write and by whether nothing more will be written.
-abbrev pub course_of : (wrote : Got) (is_over : Bool) → PeerOutcome
-course_of wrote is_over = if has_failed wrote then Over drop.Failed else (if is_over then Over drop.Finished else Open)
+abbrev pub peer_outcome : (wrote : Got) (is_over : Bool) → PeerOutcome
+peer_outcome wrote is_over = if has_failed wrote then Over drop.Failed else
+    (if is_over then Over drop.Finished else Open)
 
 -- The outcome is right for a connection with this work left. If the connection is dropped, it may be for this reason.
-abbrev pub IsCourseFor : PeerOutcome → Option ConnectionWork → Type 0
-IsCourseFor Open work = Unit {0}
-IsCourseFor (Over why) work = IfSome work (IsReasonFor why)
+abbrev pub IsOutcomeFor : PeerOutcome → Option ConnectionWork → Type 0
+IsOutcomeFor Open work = Unit {0}
+IsOutcomeFor (Over why) work = IfSome work (IsReasonFor why)
 
 -- The bytes to be processed, and the trace of the wire. If a read is due, the wire was read once and gave these bytes.
 -- Otherwise they are left from earlier reads, and the wire was not touched.
 abbrev pub IsLaidOut : (is_due : Bool) → List ℕ → WireTrace → Got → List ℕ → WireTrace → Type 0
-IsLaidOut true rest wire heard bytes after = IsReadOnce READ_SIZE wire after heard bytes
-IsLaidOut false rest wire heard bytes after = (heard ≡ Later) × (bytes ≡ rest) × (after ≡ wire)
+IsLaidOut true rest wire received bytes after = IsReadOnce READ_SIZE wire after received bytes
+IsLaidOut false rest wire received bytes after = (received ≡ Later) × (bytes ≡ rest) × (after ≡ wire)
 
 -- The connection did with these bytes what `Takes` states, with this result, and these bytes are kept.
 pub record IsTakenInPart (Takes : Taking) (v : ServerValue) (id : ℕ) (bytes left : List ℕ)
     (r : TakeResult) : Type 0 where
   pub took : Takes v id bytes r
-  pub rest : left ≡ rest_behind r.server id r.count bytes
+  pub rest : left ≡ kept_rest r.server id r.count bytes
   pub moved : have_moved r.history.events ≡ nat_lt 0 r.count
 
 -- If the bytes offered to a wire are not empty, the wire was written once. Otherwise it was not touched.
@@ -182,11 +183,11 @@ pub record IsTakenAndWritten (Takes : Taking) (may_write : Bool) (id : ℕ) (bef
     (r : VisitResult) : Type 0 where
   pub taken : TakeResult
   pub took : Takes before.server id before.rest taken
-  pub rest : after.rest ≡ rest_behind taken.server id taken.count before.rest
+  pub rest : after.rest ≡ kept_rest taken.server id taken.count before.rest
   pub wrote : Got
   pub offered : IsOffered (waiting_once may_write id taken.server) before.wire wrote after.wire
   pub server : after.server ≡ server_wrote taken.server id wrote
-  pub outcome : r.outcome ≡ course_of wrote (is_over_in (work_of after.server id))
+  pub outcome : r.outcome ≡ peer_outcome wrote (is_over_in (work_of after.server id))
   pub history : r.history ≡ record (taken.history) { events = taken.history.events ++ wrote_events id wrote }
 
 -- The steps that follow a read. If the read failed, there is none, and the connection has failed.
@@ -202,14 +203,15 @@ IsCarriedOn false Steps before after r = Steps before after r
 -- write, in this order.
 pub record IsServedOnceBy (Takes : Taking) (ready : Readiness) (id : ℕ) (before after : VisitState)
     (r : VisitResult) : Type 0 where
-  pub heard : Got
+  pub received : Got
   pub bytes : List ℕ
   pub between : WireTrace
-  pub laid : IsLaidOut (is_heard ready.read before.server id before.rest) before.rest before.wire heard bytes between
+  pub laid : IsLaidOut (is_read_due ready.read before.server id before.rest) before.rest before.wire received bytes
+      between
   pub later : History
-  pub carried : IsCarriedOn (has_failed heard) (IsTakenAndWritten Takes ready.write id)
-      (visit_state (server_heard before.server id heard) bytes between) after (record r { history = later })
-  pub history : r.history ≡ record later { events = heard_events id heard ++ later.events }
+  pub carried : IsCarriedOn (has_failed received) (IsTakenAndWritten Takes ready.write id)
+      (visit_state (server_read before.server id received) bytes between) after (record r { history = later })
+  pub history : r.history ≡ record later { events = read_events id received ++ later.events }
 
 -- One connection was served, and no application responds.
 abbrev pub IsServedOnce : (ready : Readiness) (id : ℕ) (before after : VisitState) (outcome : PeerOutcome)
@@ -221,7 +223,7 @@ IsServedOnce ready id before after outcome events =
 -- outcome. Every outcome leaves the server, the bytes left from its reads and the trace of its wire unchanged, and the
 -- connection open. The only event is a take that accepts none of the bytes left, if there are some.
 pub record IsNoOp (ready : Readiness) (v : ServerValue) (id : ℕ) (rest : List ℕ) : Type 0 where
-  pub unread : is_heard ready.read v id rest ≡ false
+  pub unread : is_read_due ready.read v id rest ≡ false
   pub unwritten : waiting_once ready.write id v ≡ []
   pub there_is_one : (wire : WireTrace)
       → IsServedOnce ready id (visit_state v rest wire) (visit_state v rest wire) Open (refused_events id rest)
@@ -271,17 +273,17 @@ abbrev pub peer_status : {W : Type 0} (readable writable : W → Option Bool) �
 peer_status readable writable v e = status_with readable writable e.1.wire (interest_of v e.0 e.1.rest)
 
 -- `answer` is the readiness of a wire if that is wanted, and otherwise `false`.
-abbrev pub IsAsked : (wanted : Bool) (recorded : Option Bool) (answer : Bool) → Type 0
-IsAsked true recorded answer = MatchesTrace recorded answer
-IsAsked false recorded answer = answer ≡ false
+abbrev pub IsReadiness : (wanted : Bool) (recorded : Option Bool) (answer : Bool) → Type 0
+IsReadiness true recorded answer = MatchesTrace recorded answer
+IsReadiness false recorded answer = answer ≡ false
 
 -- `result` is `true` if something can be done at once. The connection must be visited, its wire must be read and may
 -- be, or it must be written and may be.
 pub record CanGoOn (e : PeerStatus) (result : Bool) : Type 0 where
   pub reads : Bool
   pub writes : Bool
-  pub read : IsAsked e.interest.read e.readable reads
-  pub write : IsAsked e.interest.write e.writable writes
+  pub read : IsReadiness e.interest.read e.readable reads
+  pub write : IsReadiness e.interest.write e.writable writes
   pub is : result ≡ e.interest.visit || reads || writes
 
 -- `result` is `true` if something can be done at once on any of these connections.

@@ -30,7 +30,7 @@ calls_of_flush (suc turns) id v =
 pub record IsReportedFlush (id : ℕ) (v after : ServerValue) (wrote : List ℕ → Type 0)
     (monitor : List AcceptedCall → Type 0) : Type 0 where
   pub flushed : IsFlushed id v after wrote
-  pub tells : monitor (calls_of_flush flushed.turns id v)
+  pub reports : monitor (calls_of_flush flushed.turns id v)
 
 -- A write failed after `turns` iterations, and passed on only a part of the queued bytes. The monitor received the
 -- calls of the iterations before it.
@@ -38,7 +38,7 @@ pub record IsCutFlush (id : ℕ) (v : ServerValue) (wrote : List ℕ → Type 0)
     (monitor : List AcceptedCall → Type 0) : Type 0 where
   pub turns : ℕ
   pub within : turns ≤ more_at id v
-  pub tells : monitor (calls_of_flush turns id v)
+  pub reports : monitor (calls_of_flush turns id v)
   pub part : List ℕ
   pub missing : List ℕ
   pub some : missing ≢ []
@@ -96,7 +96,7 @@ pub record HasReported (c : ConfigValues) (monitor : List AcceptedCall → Type 
   pub events : List AcceptedCall
   pub shows : Shows server events
   pub transfers : AreTransfers c (only_id c) taken written events
-  pub monitor_tells : monitor events
+  pub monitor_reports : monitor events
 
 -- The same for a run that the end of input ended, which is the last call.
 pub record HasReportedEnd (c : ConfigValues) (monitor : List AcceptedCall → Type 0) (taken : List ℕ)
@@ -106,14 +106,14 @@ pub record HasReportedEnd (c : ConfigValues) (monitor : List AcceptedCall → Ty
   pub before : List AcceptedCall
   pub transfers : AreTransfers c (only_id c) taken written before
   pub shows : Shows server (before ++ Ended (only_id c) ∷ [])
-  pub monitor_tells : monitor (before ++ Ended (only_id c) ∷ [])
+  pub monitor_reports : monitor (before ++ Ended (only_id c) ∷ [])
 
 -- The same for a run of whose bytes only the prefix `taken` was accepted. It stops the connection as all bytes do.
 pub record HasReportedStop (c : ConfigValues) (monitor : List AcceptedCall → Type 0) (bytes : List ℕ)
     (written : ℕ) : Type 0 where
   pub taken : List ℕ
-  pub behind : List ℕ
-  pub all : bytes ≡ taken ++ behind
+  pub later : List ℕ
+  pub all : bytes ≡ taken ++ later
   pub same : outcome c taken ≡ outcome c bytes
   pub reported : HasReported c monitor taken written
 
@@ -122,8 +122,8 @@ pub record HasReportedStop (c : ConfigValues) (monitor : List AcceptedCall → T
 pub record HasReportedCut (c : ConfigValues) (monitor : List AcceptedCall → Type 0) (bytes : List ℕ)
     (written : ℕ) : Type 0 where
   pub taken : List ℕ
-  pub behind : List ℕ
-  pub all : bytes ≡ taken ++ behind
+  pub later : List ℕ
+  pub all : bytes ≡ taken ++ later
   pub before : ℕ
   pub reported : HasReported c monitor taken before
   pub part : List ℕ
@@ -138,8 +138,8 @@ pub record HasReportedRefusal (c : ConfigValues) (monitor : List AcceptedCall �
     (written : ℕ) : Type 0 where
   pub taken : List ℕ
   pub last : ℕ
-  pub behind : List ℕ
-  pub all : bytes ≡ taken ++ last ∷ behind
+  pub later : List ℕ
+  pub all : bytes ≡ taken ++ last ∷ later
   pub refused : IsLastByte c taken last
   pub reported : HasReported c monitor taken written
 

@@ -15,9 +15,9 @@ use Rattle.coap_serve.specs.streams.StdioCalls.{AreTransfers, HasReported, HasRe
 -- only the prefix `taken`.
 pub record AreTransfersOf (c : ConfigValues) (bytes : List ℕ) (events : List AcceptedCall) : Type 0 where
   pub taken : List ℕ
-  pub behind : List ℕ
-  pub all : bytes ≡ taken ++ behind
-  pub whole : (outcome c bytes).stop ≡ None → behind ≡ []
+  pub later : List ℕ
+  pub all : bytes ≡ taken ++ later
+  pub whole : (outcome c bytes).stop ≡ None → later ≡ []
   pub same : outcome c taken ≡ outcome c bytes
   pub transfers : AreTransfers c (only_id c) taken (length (stdio_output c bytes)) events
 
@@ -33,14 +33,14 @@ pub record IsAtBytes (c : ConfigValues) (v : ServerValue) (bytes : List ℕ)
   pub spelled : (outcome c bytes).stop ≡ None
       → spelled_on c.limits.max_message (only_id c) events ≡ (stream_of c bytes, c.limits.max_message)
   pub transfers : AreTransfersOf c bytes events
-  pub tells : monitor events
+  pub reports : monitor events
 
 -- The server has accepted these bytes, and its only connection processes further messages.
 pub record IsRunningAt (c : ConfigValues) (v : ServerValue) (id : ℕ) (bytes : List ℕ)
     (monitor : List AcceptedCall → Type 0) : Type 0 where
   pub number : id ≡ only_id c
   pub ranges : AreInRange c.limits
-  pub stands : IsAtBytes c v bytes monitor
+  pub is_at : IsAtBytes c v bytes monitor
   pub going : (outcome c bytes).stop ≡ None
 
 -- ---- a chunk
@@ -52,7 +52,7 @@ Says c bytes more text = stdio_output c (bytes ++ more) ≡ stdio_output c bytes
 -- A chunk was processed, its output was written, and the number of its messages is `messages`.
 pub record IsWhole (c : ConfigValues) (bytes piece : List ℕ) (after : ServerValue) (wrote : List ℕ → Type 0)
     (monitor : List AcceptedCall → Type 0) (messages : ℕ) : Type 0 where
-  pub stands : IsAtBytes c after (bytes ++ piece) monitor
+  pub is_at : IsAtBytes c after (bytes ++ piece) monitor
   pub text : List ℕ
   pub says : Says c bytes piece text
   pub written : wrote text
@@ -74,8 +74,8 @@ pub record IsRefused (c : ConfigValues) (bytes piece : List ℕ) (wrote : List �
     (monitor : List AcceptedCall → Type 0) : Type 0 where
   pub front : List ℕ
   pub last : ℕ
-  pub behind : List ℕ
-  pub all : piece ≡ front ++ last ∷ behind
+  pub later : List ℕ
+  pub all : piece ≡ front ++ last ∷ later
   pub refused : IsLastByte c (bytes ++ front) last
   pub text : List ℕ
   pub says : Says c bytes front text

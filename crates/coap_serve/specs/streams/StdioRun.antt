@@ -75,8 +75,8 @@ pub record IsRefusedRun (c : ConfigValues) (pieces : List (List ℕ)) (output : 
   pub before : List (List ℕ)
   pub front : List ℕ
   pub last : ℕ
-  pub behind : List ℕ
-  pub all : pieces ≡ before ++ (front ++ last ∷ behind) ∷ []
+  pub later : List ℕ
+  pub all : pieces ≡ before ++ (front ++ last ∷ later) ∷ []
   pub within : length pieces ≤ c.turns
   pub goes_on : GoesOn c before
   pub refused : IsLastByte c (concat before ++ front) last

@@ -1,7 +1,7 @@
 //! The parts of a turn of a service before its visits, and the limit of its wait.
 
 ghost use Rattle.std.specs.Prelude.{ℕ, ◌≡◌, ◌≢◌, ◌==◌, false, Option, is_some};
-ghost use Rattle.coap_serve.specs.Prelude.{AnswersMore, AreAskedLater, FollowsMore, IsAskedLater, SleepOn};
+ghost use Rattle.coap_serve.specs.Prelude.{AnswersMore, AreRequestedLater, FollowsMore, IsRequestedLater, SleepOn};
 
 use super::awake::Awake;
 use super::service::Service;
@@ -64,7 +64,7 @@ impl<W: Wire + Ready + Drop> Service<W> {
         ensures moved { self.new.server ≡ moved_to self.old.server now }
         ensures shows { OnOk result ((events : List AcceptedCall) → Shows self.old.server events →
             Shows self.new.server (events ++ ticked_calls self.old.server now)) }
-        ensures told { OnOk result (FollowsMore (M.follows monitor.old) (M.follows monitor.new)
+        ensures reported { OnOk result (FollowsMore (M.follows monitor.old) (M.follows monitor.new)
             (ticked_calls self.old.server now)) }
         ensures err { OnErr result ((self.new.server ≡ self.old.server) × (monitor.new ≡ monitor.old)) }
         ensures peers { self.new.peers ≡ self.old.peers }
@@ -88,7 +88,7 @@ impl<W: Wire + Ready + Drop> Service<W> {
         monitor: &mut M,
     ) -> bool
         // The application received the result of each response. Those that the server accepted are its events.
-        ensures shows { AreAskedLater self.old.server 256 result self.new.server
+        ensures shows { AreRequestedLater self.old.server 256 result self.new.server
             (FollowsMore (M.follows monitor.old) (M.follows monitor.new))
             (AnswersMore (A.follows application.old) (A.follows application.new)) }
         ensures idle { result ≡ false → A.idle application.new }
@@ -131,7 +131,7 @@ fn answer_each<W, A: Application, M: Monitor<W>>(
     response: &mut Vec<u8>,
     monitor: &mut M,
 ) -> usize
-    ensures shows { AreAskedLater server.old 256 (result == 256) server.new
+    ensures shows { AreRequestedLater server.old 256 (result == 256) server.new
         (FollowsMore (M.follows monitor.old) (M.follows monitor.new))
         (AnswersMore (A.follows application.old) (A.follows application.new)) }
     ensures kept { SleepOn awake.old awake.new server.old server.new }
@@ -154,7 +154,7 @@ fn answer_once<W, A: Application, M: Monitor<W>>(
     response: &mut Vec<u8>,
     monitor: &mut M,
 ) -> bool
-    ensures asked { (id : Option ℕ) × (result ≡ is_some id) × IsAskedLater server.old id server.new
+    ensures requested { (id : Option ℕ) × (result ≡ is_some id) × IsRequestedLater server.old id server.new
         (FollowsMore (M.follows monitor.old) (M.follows monitor.new))
         (AnswersMore (A.follows application.old) (A.follows application.new)) }
     ensures kept { SleepOn awake.old awake.new server.old server.new }

@@ -3,11 +3,11 @@
 ghost use Rattle.std.specs.Prelude.{◌≡◌, ◌≢◌, ◌||◌, nat_lt, false, [], length, is_some, IfOk, IfErr};
 ghost use Rattle.coap_serve.specs.Prelude.{HasServed, IsTakenInPart, IsVisited, known_by, views_of, way};
 ghost use Rattle.coap_serve.specs.Prelude.{visit, AddsBytes, AreCallsBetween, KeepsBeside};
-ghost use Rattle.coap_serve.specs.Prelude.{HasAccepted, IsTakenWith, TellsMore, heard_events, wrote_events};
-ghost use Rattle.coap_serve.specs.Prelude.{has_written, trace_by, IsLaidOut, is_heard, server_heard};
-ghost use Rattle.coap_serve.specs.Prelude.{server_wrote, waiting_once, has_failed, course_of};
+ghost use Rattle.coap_serve.specs.Prelude.{HasAccepted, IsTakenWith, AddsCalls, read_events, wrote_events};
+ghost use Rattle.coap_serve.specs.Prelude.{has_written, trace_by, IsLaidOut, is_read_due, server_read};
+ghost use Rattle.coap_serve.specs.Prelude.{server_wrote, waiting_once, has_failed, peer_outcome};
 ghost use Rattle.coap_serve.specs.Prelude.{interest_of, IsWithin, IsMemory, IsOneWrite, bytes_passed, stop_on};
-ghost use Rattle.coap_serve.specs.Prelude.{session_of, IsAsked, CanGoOn, status_with, IsCourseFor};
+ghost use Rattle.coap_serve.specs.Prelude.{session_of, IsReadiness, CanGoOn, status_with, IsOutcomeFor};
 ghost use Rattle.coap_serve.specs.Prelude.{work_of, KeepsOthers, KeepsWork, LiesAt};
 ghost use Rattle.coap_io.specs.declared.wire.Got.TheVariants.{Later, End};
 
@@ -36,14 +36,14 @@ impl<W: Ready> Peer<W> {
     /// Returns `true` if the connection must be read and its wire may have input. (The wire is asked first, because
     /// most wires have no input.)
     fn can_read(&self, interest: PeerInterest) -> bool
-        ensures { IsAsked interest.read (W.readable self.now.wire) result }
+        ensures { IsReadiness interest.read (W.readable self.now.wire) result }
     {
         self.wire.may_read() && interest.read
     }
 
     /// Returns `true` if the connection must be written and its wire may have room.
     fn can_write(&self, interest: PeerInterest) -> bool
-        ensures { IsAsked interest.write (W.writable self.now.wire) result }
+        ensures { IsReadiness interest.write (W.writable self.now.wire) result }
     {
         interest.write && self.wire.may_write()
     }
@@ -117,15 +117,15 @@ pub(super) fn serve_peer<W: Wire + Ready, A: Application, M: Monitor<W>>(
     ensures interest { IfOk result (λ x. x.interest ≡ interest_of server.new turn.index.id peer.new.rest) }
     // Each other connection that is not affected has the same work left.
     ensures kept { IfOk result (λ x. KeepsBeside turn.index.id x.affected.words server.old server.new) }
-    ensures reason { IfOk result (λ x. IsCourseFor x.outcome (work_of server.new turn.index.id)) }
+    ensures reason { IfOk result (λ x. IsOutcomeFor x.outcome (work_of server.new turn.index.id)) }
     ensures fault { IfErr result IsMemory }
 {
     let PeerTurn { index, second } = turn;
     let id = index.id;
     let may_read = peer.wire.may_read();
     let may_write = peer.wire.may_write();
-    let heard = read_wire(server, id, peer, may_read, monitor);
-    if failed(heard) {
+    let received = read_wire(server, id, peer, may_read, monitor);
+    if failed(received) {
         return Ok(PeerVisit {
             outcome: PeerOutcome::Over(DropReason::Failed),
             interest: interest_by(server.work_at(index), peer.rest.is_empty()),
@@ -186,7 +186,7 @@ fn has_moved(taken: usize, wrote: Got) -> bool
 /// Returns the outcome from the result of the write. `is_over` is `true` if nothing more will be written on the
 /// connection.
 fn outcome(wrote: Got, is_over: bool) -> PeerOutcome
-    ensures { result ≡ course_of wrote is_over }
+    ensures { result ≡ peer_outcome wrote is_over }
 {
     if failed(wrote) {
         return PeerOutcome::Over(DropReason::Failed);
@@ -207,17 +207,17 @@ fn read_wire<W: Wire, M: Monitor<W>>(
     may_read: bool,
     monitor: &mut M,
 ) -> Got
-    ensures server { server.new ≡ server_heard server.old id result }
+    ensures server { server.new ≡ server_read server.old id result }
     ensures accepted { AreCallsBetween (M.follows monitor.old) (M.follows monitor.new) server.old server.new
-        (heard_events id result) }
+        (read_events id result) }
     // If a read is due, the wire is read once, into a buffer of 16,384 bytes, and `peer.rest` has the bytes of that
     // read.
-    ensures laid { IsLaidOut (is_heard may_read server.old id peer.old.rest) peer.old.rest
+    ensures laid { IsLaidOut (is_read_due may_read server.old id peer.old.rest) peer.old.rest
         (trace_by W.given W.written W.answers W.rooms peer.old.wire) result peer.new.rest
         (trace_by W.given W.written W.answers W.rooms peer.new.wire) }
     ensures activity { peer.new.activity ≡ peer.old.activity }
     // If no read is due, nothing changes.
-    ensures passed { is_heard may_read server.old id peer.old.rest ≡ false → peer.new ≡ peer.old }
+    ensures passed { is_read_due may_read server.old id peer.old.rest ≡ false → peer.new ≡ peer.old }
     ensures kept { KeepsOthers id server.old server.new }
 {
     if !may_read || !peer.rest.is_empty() || !server.can_take(id) {
@@ -287,7 +287,7 @@ fn write_once<W: Wire, M: Monitor<W>>(
         AddsBytes (W.written wire.old) (W.written wire.new)
         (bytes_passed (waiting_once may_write id server.old) result) }
     ensures gave { waiting_once may_write id server.old ≢ [] → AddsBytes (W.given wire.old) (W.given wire.new) [] }
-    ensures no_read { waiting_once may_write id server.old ≢ [] → TellsMore (W.rooms wire.old) (W.rooms wire.new) [] }
+    ensures no_read { waiting_once may_write id server.old ≢ [] → AddsCalls (W.rooms wire.old) (W.rooms wire.new) [] }
     // If bytes are queued and the wire may be written, it is written once.
     ensures answered { waiting_once may_write id server.old ≢ [] →
         IsOneWrite (W.answers wire.old) (W.answers wire.new) result }

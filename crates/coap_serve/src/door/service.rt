@@ -75,7 +75,7 @@ impl<W: Wire + Ready + Drop> Service<W> {
     ghost use Rattle.coap_serve.specs.Prelude.{environment, known_by, known_of_turn, RefusedBy};
     ghost use Rattle.coap_serve.specs.Prelude.{RefusedOrMemory, put_refusal, remove_refusal, HasRun};
     ghost use Rattle.coap_serve.specs.Prelude.{IsCutTurn, IsTurnFor, config_of, service_of, AnswersMore};
-    ghost use Rattle.coap_serve.specs.Prelude.{Gone, FollowsMore, TellsMore, views_of, IsMemory};
+    ghost use Rattle.coap_serve.specs.Prelude.{Gone, FollowsMore, AddsCalls, views_of, IsMemory};
     ghost use Rattle.coap_serve.specs.Prelude.{open_refusal, new_server, server_put, server_removed};
     ghost use Rattle.coap_serve.specs.Prelude.{AcceptedCall, Stored, Removed, Shows, Released, Dropped};
     ghost use Rattle.coap_serve.specs.Prelude.{released_refusal, server_released, server_dropped, is_there};
@@ -147,7 +147,7 @@ impl<W: Wire + Ready + Drop> Service<W> {
         ensures ok { OnOk result (self.new.server ≡ server_put self.old.server path.now format bytes.now) }
         ensures shows { OnOk result ((events : List AcceptedCall) → Shows self.old.server events →
             Shows self.new.server (events ++ Stored path.now format bytes.now ∷ [])) }
-        ensures told { OnOk result (FollowsMore (M.follows monitor.old) (M.follows monitor.new)
+        ensures reported { OnOk result (FollowsMore (M.follows monitor.old) (M.follows monitor.new)
             (Stored path.now format bytes.now ∷ [])) }
         ensures err { OnErr result ((self.new.server ≡ self.old.server) × (monitor.new ≡ monitor.old)) }
         ensures peers { self.new.peers ≡ self.old.peers }
@@ -175,7 +175,7 @@ impl<W: Wire + Ready + Drop> Service<W> {
         ensures ok { OnOk result (self.new.server ≡ server_removed self.old.server path.now) }
         ensures shows { OnOk result ((events : List AcceptedCall) → Shows self.old.server events →
             Shows self.new.server (events ++ Removed path.now ∷ [])) }
-        ensures told { OnOk result (FollowsMore (M.follows monitor.old) (M.follows monitor.new)
+        ensures reported { OnOk result (FollowsMore (M.follows monitor.old) (M.follows monitor.new)
             (Removed path.now ∷ [])) }
         ensures err { OnErr result ((self.new.server ≡ self.old.server) × (monitor.new ≡ monitor.old)) }
         ensures peers { self.new.peers ≡ self.old.peers }
@@ -211,7 +211,8 @@ impl<W: Wire + Ready + Drop> Service<W> {
         ensures ok { OnOk result (self.new.server ≡ server_released self.old.server id) }
         ensures shows { OnOk result ((events : List AcceptedCall) → Shows self.old.server events →
             Shows self.new.server (events ++ Released id ∷ [])) }
-        ensures told { OnOk result (FollowsMore (M.follows monitor.old) (M.follows monitor.new) (Released id ∷ [])) }
+        ensures reported { OnOk result (FollowsMore (M.follows monitor.old) (M.follows monitor.new)
+            (Released id ∷ [])) }
         // The release is recorded, and no wire is touched.
         ensures peers { OnOk result (self.new.peers.entries
             ≡ released_on self.old.second id self.old.peers.entries) }
@@ -243,7 +244,7 @@ impl<W: Wire + Ready + Drop> Service<W> {
         ensures ok { OnOk result (self.new.server ≡ server_dropped self.old.server id) }
         ensures shows { OnOk result ((events : List AcceptedCall) → Shows self.old.server events →
             Shows self.new.server (events ++ Dropped id ∷ [])) }
-        ensures told { OnOk result (FollowsMore (M.follows monitor.old) (M.follows monitor.new) (Dropped id ∷ [])) }
+        ensures reported { OnOk result (FollowsMore (M.follows monitor.old) (M.follows monitor.new) (Dropped id ∷ [])) }
         ensures gone { OnOk result
             (AnswersMore (A.follows application.old) (A.follows application.new) (Gone id ∷ [])) }
         ensures peers { OnOk result (self.new.peers.entries
@@ -298,14 +299,14 @@ impl<W: Wire + Ready + Drop> Service<W> {
         // gone, so only the existence of a fitting one is stated.
         ensures turn { IfOk result (λ wait. IsTurnFor (environment A.follows A.idle (A.waits application.new)
             (views_of W.readable W.writable W.given W.written W.answers W.rooms)) times (known_of_turn
-            (TellsMore (D.calls door.old) (D.calls door.new)) (known_by M.follows A.follows monitor.old monitor.new
+            (AddsCalls (D.calls door.old) (D.calls door.new)) (known_by M.follows A.follows monitor.old monitor.new
             application.old application.new)) (service_of self.old.server self.old.peers.entries self.old.second
             self.old.idle) (service_of self.new.server self.new.peers.entries self.new.second self.new.idle) wait) }
         // The monitor has passed on what it received.
         ensures passed { OnOk result (M.has_passed monitor.new) }
         // After a failed allocation, only the visits may lack parts.
         ensures cut { OnErr result (self.old.is_spent ≡ false → IsCutTurn A.follows A.idle times (known_of_turn
-            (TellsMore (D.calls door.old) (D.calls door.new))
+            (AddsCalls (D.calls door.old) (D.calls door.new))
             (known_by M.follows A.follows monitor.old monitor.new application.old application.new))
             (service_of self.old.server self.old.peers.entries self.old.second self.old.idle) self.new.server) }
         ensures fault { IfErr result IsMemory }

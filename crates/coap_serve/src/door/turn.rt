@@ -13,7 +13,7 @@ impl<W: Wire + Ready + Drop> Service<W> {
     ghost use Rattle.std.specs.Prelude.{slice_get, IfSome, IfOk, IfErr, OnOk, OnErr};
     ghost use Rattle.coap_serve.specs.Prelude.{CanGoOn, peer_status, ArePaired, AreAsleep, HasServed, HasTurned};
     ghost use Rattle.coap_serve.specs.Prelude.{known_by, known_of_turn, loop_state, way, AreServed, HasGoneOn};
-    ghost use Rattle.coap_serve.specs.Prelude.{IsOpening, IsAskedOnce, asked_by, TellsMore, AreCallsBetween};
+    ghost use Rattle.coap_serve.specs.Prelude.{IsOpening, IsRequestedOnce, door_calls, AddsCalls, AreCallsBetween};
     ghost use Rattle.coap_serve.specs.Prelude.{HasAccepted, HasOpened, opening, views_of, IsMemory, open_refusal};
     ghost use Rattle.coap_serve.specs.Prelude.{IsTurnBy};
 
@@ -33,11 +33,11 @@ impl<W: Wire + Ready + Drop> Service<W> {
         ensures shows { HasTurned (known_by M.follows A.follows monitor.old monitor.new application.old application.new)
             self.old.server self.new.server }
         // The listener is asked once if another connection may be opened, and not otherwise.
-        ensures asks { IsAskedOnce (TellsMore (D.calls door.old) (D.calls door.new)) self.old.server }
+        ensures asks { IsRequestedOnce (AddsCalls (D.calls door.old) (D.calls door.new)) self.old.server }
         // Each connection is served, and the result is the time that the listener may wait. The monitor receives the
         // calls of this turn, and no others.
         ensures turn { IfOk result (λ wait. IsTurnBy (way A.follows self.old.second (views_of W.readable W.writable
-            W.given W.written W.answers W.rooms)) (known_of_turn (TellsMore (D.calls door.old) (D.calls door.new))
+            W.given W.written W.answers W.rooms)) (known_of_turn (AddsCalls (D.calls door.old) (D.calls door.new))
             (known_by M.follows A.follows monitor.old monitor.new application.old application.new)) (loop_state
             self.old.server self.old.peers.entries) (loop_state self.new.server self.new.peers.entries) wait) }
         ensures fault { IfErr result IsMemory }
@@ -75,7 +75,7 @@ impl<W: Wire + Ready + Drop> Service<W> {
         ensures fault { IfErr result IsMemory }
         // The listener is asked once if another connection may be opened. Otherwise it is not asked, so it returns no
         // wire for which none could be opened.
-        ensures opened { IfOk result (λ opens. IsOpening self.old.second (TellsMore (D.calls door.old)
+        ensures opened { IfOk result (λ opens. IsOpening self.old.second (AddsCalls (D.calls door.old)
             (D.calls door.new)) (loop_state self.old.server self.old.peers.entries)
             (loop_state self.new.server self.new.peers.entries) opens) }
         ensures passes { is_none (open_refusal self.old.server) ≡ false →
@@ -84,7 +84,7 @@ impl<W: Wire + Ready + Drop> Service<W> {
             self.old.server self.new.server (opening self.old.server opens)) }
         // An allocation fails only for a wire that the listener returned.
         ensures refused { OnErr result ((wire : W) ×
-            TellsMore (D.calls door.old) (D.calls door.new) (asked_by self.old.server (Some wire))) }
+            AddsCalls (D.calls door.old) (D.calls door.new) (door_calls self.old.server (Some wire))) }
         ensures times { (self.new.second ≡ self.old.second) × (self.new.idle ≡ self.old.idle) }
         ensures spent { self.new.is_spent ≡ true }
     {

@@ -191,10 +191,10 @@ run_same : (v : ServerValue) (es : List ScriptEventValue) → RunAlike v es es
 run_same v es = record { server = refl; lines = refl }
 
 -- One event, followed by events that run alike.
-run_behind : (v : ServerValue) (e : ScriptEventValue) (es fs : List ScriptEventValue)
+run_after : (v : ServerValue) (e : ScriptEventValue) (es fs : List ScriptEventValue)
     → RunAlike (event_ran v e).server es fs → RunAlike v (e ∷ es) (e ∷ fs)
 unfolding replayed lines_of
-run_behind v e es fs alike = record { server = alike.server; lines = rw alike.lines }
+run_after v e es fs alike = record { server = alike.server; lines = rw alike.lines }
 
 run_joined : (v : ServerValue) (id : ℕ) (bytes more : List ℕ) (es : List ScriptEventValue) → IsShown v
     → RunAlike v (In id bytes ∷ In id more ∷ es) (In id (bytes ++ more) ∷ es)
@@ -219,12 +219,12 @@ unfolding joined
 joined_alike v [] shown in_time = run_same v []
 joined_alike v (In id bytes ∷ es) shown in_time =
     let then_shown = event_shown v (In id bytes) in_time.0 shown in
-    let behind = run_behind v (In id bytes) es (joined es)
+    let rest = run_after v (In id bytes) es (joined es)
     (joined_alike (event_ran v (In id bytes)).server es then_shown in_time.1) in
     let before = run_before v id bytes (joined es) shown in
-    record { server = behind.server ∙ before.server; lines = behind.lines ∙ before.lines }
+    record { server = rest.server ∙ before.server; lines = rest.lines ∙ before.lines }
 joined_alike v (e ∷ es) shown in_time =
-    run_behind v e es (joined es) (joined_alike (event_ran v e).server es (event_shown v e in_time.0 shown) in_time.1)
+    run_after v e es (joined es) (joined_alike (event_ran v e).server es (event_shown v e in_time.0 shown) in_time.1)
 
 -- ---- the written text
 

@@ -19,7 +19,7 @@ use Rattle.coap_server_engine.specs.Prelude.{InResult, ServerValue, server_taken
 use Rattle.coap_server_engine.specs.Prelude.{IsNotTaken, IsRun}
 use Rattle.coap_server_engine.specs.Prelude.{IsDrainable, Took, Drained, OutputLine, Shows, AcceptedCall}
 use Rattle.coap_script.specs.declared.event.Event.{Event}
-use Rattle.coap_server_engine.specs.script.Replay.{behind}
+use Rattle.coap_server_engine.specs.script.Replay.{result_after}
 use Rattle.coap_server_engine.specs.values.InResults.{goes_on}
 use Rattle.coap_io.proofs.streams.DeviceLemmas.{bytes_then}
 use Rattle.coap_server_engine.proofs.scripting.ShownLemmas.{shows_same, shows_then, shows_as, events_ran_on}
@@ -239,7 +239,7 @@ module _ (v : ServerValue) (id : ℕ) (none : session_of id v.sessions ≡ None)
 
 -- Events after others are replayed on the server after these.
 pub replayed_on : (v : ServerValue) (es fs : List ScriptEventValue)
-    → replayed v (es ++ fs) ≡ behind (replayed v es).text (replayed (replayed v es).server fs)
+    → replayed v (es ++ fs) ≡ result_after (replayed v es).text (replayed (replayed v es).server fs)
 unfolding replayed
 replayed_on v [] fs = refl
 replayed_on v (e ∷ es) fs = rw (replayed_on (event_ran v e).server es fs, append_assoc)
@@ -251,15 +251,15 @@ pub record Replays (v : ServerValue) (all : List ScriptEventValue) (index : ℕ)
   pub written : AddsBytes x y (replayed v (take index all)).text
 
 -- One event at its index in a list.
-pub record StandsAt (all : List ScriptEventValue) (index : ℕ) (e : ScriptEventValue) : Type 0 where
+pub record IsEventAt (all : List ScriptEventValue) (index : ℕ) (e : ScriptEventValue) : Type 0 where
   pub within : index < length all
   pub all_is : all ≡ take index all ++ e ∷ drop (index + 1) all
   pub more : take (index + 1) all ≡ take index all ++ e ∷ []
   pub counted : length (take index all) ≡ index
 
-pub stands : (events : List Event) (index : ℕ) (x : Event) → index < length events → x ≡ get_or events index x
-    → StandsAt (map event_value events) index (event_value x)
-stands events index x lt is =
+pub is_at : (events : List Event) (index : ℕ) (x : Event) → index < length events → x ≡ get_or events index x
+    → IsEventAt (map event_value events) index (event_value x)
+is_at events index x lt is =
     let all : List ScriptEventValue = map event_value events in
     let within : index < length all = omega (arith, lt, length-map events event_value) in
     let found : get_or all index (event_value x) ≡ event_value x =
@@ -273,7 +273,7 @@ stands events index x lt is =
     }
 
 module _ (v : ServerValue) (all : List ScriptEventValue) (index : ℕ) (now : ServerValue) (x y : Option (List ℕ))
-    (so_far : Replays v all index now x y) (e : ScriptEventValue) (stands : StandsAt all index e) where
+    (so_far : Replays v all index now x y) (e : ScriptEventValue) (is_at : IsEventAt all index e) where
   -- Allocation failed for the event.
   pub refused_at : (number : ℕ) (after : ServerValue) → number ≡ index + 1 → IsUnrun now e after
       → IsRefusedAt v all number after (AddsBytes x y)
@@ -281,8 +281,8 @@ module _ (v : ServerValue) (all : List ScriptEventValue) (index : ℕ) (now : Se
     before = take index all;
     event = e;
     others = drop (index + 1) all;
-    all = stands.all_is;
-    counted = cc (counted, stands.counted);
+    all = is_at.all_is;
+    counted = cc (counted, is_at.counted);
     written = so_far.written;
     unrun = rw so_far.server_is at unrun;
   }
@@ -295,7 +295,7 @@ module _ (v : ServerValue) (all : List ScriptEventValue) (index : ℕ) (now : Se
     before = take index all;
     event = e;
     others = drop (index + 1) all;
-    all = stands.all_is;
+    all = is_at.all_is;
     ran = cc (ran.0, so_far.server_is);
     part = wrote.0;
     missing = wrote.1;
@@ -310,8 +310,8 @@ module _ (v : ServerValue) (all : List ScriptEventValue) (index : ℕ) (now : Se
       → AddsBytes y z line → Replays v all (index + 1) after x z
   unfolding replayed
   one_replayed after line z ran wrote =
-      let next : replayed v (take (index + 1) all) ≡ behind (replayed v (take index all)).text (event_ran now e) =
-      rw (stands.more, replayed_on v (take index all) (e ∷ []), append-nil, so_far.server_is) in
+      let next : replayed v (take (index + 1) all) ≡ result_after (replayed v (take index all)).text (event_ran now e) =
+      rw (is_at.more, replayed_on v (take index all) (e ∷ []), append-nil, so_far.server_is) in
       record {
         server_is = cc (ran.0, next);
         written = rw (next, ← ran.1) (bytes_then x y z (replayed v (take index all)).text line so_far.written wrote);
@@ -325,10 +325,10 @@ ShowsFirst v all index now = ShowsMore v now (events_ran v (take index all))
 
 module _ (v : ServerValue) (all : List ScriptEventValue) (index : ℕ) (now : ServerValue) (x y : Option (List ℕ))
     (so_far : Replays v all index now x y) (shown : ShowsFirst v all index now) (e : ScriptEventValue)
-    (stands : StandsAt all index e) where
+    (is_at : IsEventAt all index e) where
   next_ran : events_ran v (take index all) ++ events_made now e ≡ events_ran v (take (index + 1) all)
   unfolding events_ran
-  next_ran = rw (stands.more, events_ran_on v (take index all) (e ∷ []), append-nil, so_far.server_is)
+  next_ran = rw (is_at.more, events_ran_on v (take index all) (e ∷ []), append-nil, so_far.server_is)
 
   -- The event ran.
   pub one_shown : (after : ServerValue) → ShowsMore now after (events_made now e) → ShowsFirst v all (index + 1) after
@@ -339,7 +339,7 @@ module _ (v : ServerValue) (all : List ScriptEventValue) (index : ℕ) (now : Se
   -- The event ran, and its line is incomplete.
   pub cut_shown : (after : ServerValue) → ShowsMore now after (events_made now e)
       → ShowsMore v after (events_ran v (take index all ++ e ∷ []))
-  cut_shown after more = shows_as v after _ _ (ap (events_ran v) stands.more) (one_shown after more)
+  cut_shown after more = shows_as v after _ _ (ap (events_ran v) is_at.more) (one_shown after more)
 
   -- Allocation failed for the event.
   pub refused_shown : (before : List world.AcceptedCall) → Shows v before → (number : ℕ) (after : ServerValue)
@@ -348,8 +348,8 @@ module _ (v : ServerValue) (all : List ScriptEventValue) (index : ℕ) (now : Se
     ran = take index all;
     event = e;
     others = drop (index + 1) all;
-    all = stands.all_is;
-    counted = cc (counted, stands.counted);
+    all = is_at.all_is;
+    counted = cc (counted, is_at.counted);
     more = refused.more;
     part = rw so_far.server_is at refused.part;
     shows = refused.shows (before ++ events_ran v (take index all)) (shown before shows);

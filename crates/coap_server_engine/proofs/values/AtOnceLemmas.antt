@@ -8,7 +8,8 @@ use Rattle.std.proofs.lemmas.List.{length-append, length-take-le}
 use Rattle.std.proofs.Math.Nat.{min-le_left}
 use lib.Pointwise.{bytes_decides}
 use Rattle.coap_wire.specs.Forms.{greatest_token}
-use Rattle.coap_wire.specs.Reading.{◌>>=◌, Head, head_at, head_with, head_behind, head_from, length_at, token_length_at}
+use Rattle.coap_wire.specs.Reading.{◌>>=◌, Head, head_at, head_with, head_at_code, head_from, length_at}
+use Rattle.coap_wire.specs.Reading.{token_length_at}
 use Rattle.coap_wire.specs.Reading.{body_at}
 use Rattle.coap_wire.specs.declared.fault.FormatFault.TheVariants.{TokenLength, NotOneFrame}
 use Rattle.coap_wire.proofs.BodySteps.{bind_ok, ok_is}
@@ -20,7 +21,7 @@ use Rattle.coap_conn.specs.Phases.{is_waiting, is_open}
 use Rattle.coap_conn.specs.Reaction.{react}
 use Rattle.coap_conn.specs.Verdicts.{VerdictValue, is_request}
 use Rattle.coap_conn.specs.Verdicts as verdict
-use Rattle.coap_conn.specs.LinkValue.{bytes_of, limit_in, free_in, standing_in, can_hold}
+use Rattle.coap_conn.specs.LinkValue.{bytes_of, limit_in, free_in, state_in, can_hold}
 use Rattle.coap_conn.specs.PendingEntries.{PendingEntryValue, Answer, Pong, due_moment, pong_index, first_due}
 use Rattle.coap_conn.specs.PendingEntries.{is_request_for, has_request}
 use Rattle.coap_conn.specs.Responses.{is_plain_response, sent_length, room_refusal}
@@ -41,7 +42,7 @@ use Rattle.coap_model.proofs.OptionLemmas.{same_there}
 use Rattle.coap_model.proofs.world.EntryLemmas.{all_append, all_filter, none_due, none_found}
 use Rattle.coap_model.proofs.world.SideLaws.{nothing_due_first}
 use Rattle.coap_server_session.specs.values.Sessions.{asks_this, session_ready, session_with, session_replied}
-use Rattle.coap_server_session.specs.values.Sessions.{without_entry, held_in, delay_on, is_stale, session_max}
+use Rattle.coap_server_session.specs.values.Sessions.{without_entry, delay_in, delay_on, is_stale, session_max}
 use Rattle.coap_server_session.specs.values.Sessions.{change_by, answer_on}
 use Rattle.coap_server_session.specs.values.HandedRequests.{is_application}
 use Rattle.coap_server_session.proofs.values.AnsweringLemmas.{late_quiet}
@@ -64,21 +65,21 @@ later_entry now moment token later =
     (λ come. absurd (omega (arith, later, leb-true moment now come))) (λ _. refl)
 
 -- If no Pong is first in the list, none is first after a request is appended.
-no_pong_first : (held : List PendingEntryValue) (token : List ℕ) (moment : ℕ) → pong_index held ≡ None
-    → pong_index (held ++ Answer Application token moment ∷ []) ≡ None
+no_pong_first : (pending : List PendingEntryValue) (token : List ℕ) (moment : ℕ) → pong_index pending ≡ None
+    → pong_index (pending ++ Answer Application token moment ∷ []) ≡ None
 no_pong_first [] token moment none = refl
-no_pong_first (Answer by other due ∷ held) token moment none = refl
-no_pong_first (Pong other ∷ held) token moment none = absurd cc
+no_pong_first (Answer by other due ∷ pending) token moment none = refl
+no_pong_first (Pong other ∷ pending) token moment none = absurd cc
 
 -- If no entry is due, none is due after a request is appended whose deadline is to come.
-none_due_more : (now moment : ℕ) (token : List ℕ) (held : List PendingEntryValue) → now < moment
-    → first_due now held ≡ None → first_due now (held ++ Answer Application token moment ∷ []) ≡ None
-none_due_more now moment token held later none =
-    let nothing = (due_nothing now held none).0 in
-    nothing_due_first now (held ++ Answer Application token moment ∷ []) (
-      all_append (λ e. due_moment now e ≡ None) held (Answer Application token moment ∷ []) nothing.0
+none_due_more : (now moment : ℕ) (token : List ℕ) (pending : List PendingEntryValue) → now < moment
+    → first_due now pending ≡ None → first_due now (pending ++ Answer Application token moment ∷ []) ≡ None
+none_due_more now moment token pending later none =
+    let nothing = (due_nothing now pending none).0 in
+    nothing_due_first now (pending ++ Answer Application token moment ∷ []) (
+      all_append (λ e. due_moment now e ≡ None) pending (Answer Application token moment ∷ []) nothing.0
           (later_entry now moment token later, tt),
-      no_pong_first held token moment nothing.1,
+      no_pong_first pending token moment nothing.1,
     )
 
 -- ---- room for a response
@@ -107,7 +108,7 @@ pub other_fault : (l : LinkValue) (read : Result Message FormatFault) (why : Res
 unfolding response_refusal
 other_fault l (Err e) why room is = inl (cc)
 other_fault l (Ok m) why room is =
-    elim (cases_Bool (has_request m.token l.held)) [
+    elim (cases_Bool (has_request m.token l.pending)) [
       | inr none ↦ (let same : Some fault.NoSuchRequest ≡ Some why = rw none at is in inr (cc))
       | inl has ↦ (elim (cases_Bool (is_plain_response m)) [
         | inr other ↦ (let same : Some fault.NotAResponse ≡ Some why = rw (has, other) at is in inl (cc))
@@ -118,16 +119,16 @@ other_fault l (Ok m) why room is =
     ]
 
 -- With room, a response with the token of a pending request is accepted.
-pub accepted_with : (l : LinkValue) (m : Message) → l.limits.max_sent ≤ free_in l → has_request m.token l.held ≡ true
+pub accepted_with : (l : LinkValue) (m : Message) → l.limits.max_sent ≤ free_in l → has_request m.token l.pending ≡ true
     → is_plain_response m ≡ true → response_refusal l m ≡ None
 unfolding response_refusal
 accepted_with l m room has plain = rw (has, plain) (room_for_any l m room)
 
 -- The last entry is pending.
-pub asked_last : (token : List ℕ) (held : List PendingEntryValue) (moment : ℕ)
-    → has_request token (held ++ Answer Application token moment ∷ []) ≡ true
-asked_last token [] moment = ap (λ (b : Bool). b || false) ((bytes_decides token token).1 refl)
-asked_last token (e ∷ held) moment = rw (asked_last token held moment) (or_true (is_request_for token e))
+pub requested_last : (token : List ℕ) (pending : List PendingEntryValue) (moment : ℕ)
+    → has_request token (pending ++ Answer Application token moment ∷ []) ≡ true
+requested_last token [] moment = ap (λ (b : Bool). b || false) ((bytes_decides token token).1 refl)
+requested_last token (e ∷ pending) moment = rw (requested_last token pending moment) (or_true (is_request_for token e))
   where
     or_true : (b : Bool) → (b || true) ≡ true
     or_true true = refl
@@ -168,13 +169,13 @@ head_token (b ∷ s) h is =
       | inr good ↦ from (length_at (b / 16) s) (rw good at is)
     ]
   where
-    behind : (n : ℕ) (rest : List ℕ) → head_behind (b % 16) n rest ≡ Ok h → length h.token ≤ greatest_token
-    behind n [] made = absurd cc
-    behind n (code ∷ rest) made = small_token code n (token_length_at (b % 16) rest) h made
+    small_rest : (n : ℕ) (rest : List ℕ) → head_at_code (b % 16) n rest ≡ Ok h → length h.token ≤ greatest_token
+    small_rest n [] made = absurd cc
+    small_rest n (code ∷ rest) made = small_token code n (token_length_at (b % 16) rest) h made
 
     from : (body : Option (ℕ × List ℕ)) → head_from (b % 16) body ≡ Ok h → length h.token ≤ greatest_token
     from None made = absurd cc
-    from (Some body) made = behind body.0 body.1 made
+    from (Some body) made = small_rest body.0 body.1 made
 
 -- The token of a message that was read has at most 64 bytes.
 token_small : (s : List ℕ) (m : Message) → message_of s ≡ Ok m → length m.token ≤ greatest_token
@@ -239,9 +240,9 @@ moment_later now seconds some early = omega (arith, some, early)
 
 -- ---- a message that is handed over
 
-request_told : (told : VerdictValue) → is_request told ≡ true → told ≡ verdict.Request
-request_told verdict.Request is = refl
-request_told other is = absurd cc
+request_verdict : (reported : VerdictValue) → is_request reported ≡ true → reported ≡ verdict.Request
+request_verdict verdict.Request is = refl
+request_verdict other is = absurd cc
 
 open_phase : (p : Phase) → takes_messages p ≡ true → is_waiting p ≡ false → is_open p ≡ true
 open_phase phase.Open live begun = refl
@@ -254,7 +255,7 @@ application_is Application is = refl
 application_is Engine is = absurd cc
 
 -- The delay of such a message is that of the application, and the pending list has room.
-handed_delay : (l : LinkValue) (o : Option Delay) → is_handed (held_in l o) ≡ true
+handed_delay : (l : LinkValue) (o : Option Delay) → is_handed (delay_in l o) ≡ true
     → (seconds : ℕ) × (o ≡ Some (record { by = Application; seconds = seconds })) × (can_hold l ≡ true)
 handed_delay l None is = absurd cc
 handed_delay l (Some d) is =
@@ -271,7 +272,7 @@ handed_delay l (Some d) is =
 abbrev pub with_request : SessionValue → Message → ℕ → SessionValue
 with_request s m moment = record {
   frame = [];
-  link = record s.link { held = s.link.held ++ Answer Application m.token moment ∷ [] };
+  link = record s.link { pending = s.link.pending ++ Answer Application m.token moment ∷ [] };
   observers = without_entry m.token s.observers;
 }
 
@@ -280,31 +281,31 @@ module _ (shared : ServerState) (s : SessionValue) (m : Message) (takes : sessio
   asks : asks_this s.link m ≡ true
   asks = (and_parts (asks_this s.link m) _ over).0
 
-  told : (react (standing_in s.link) m).verdict ≡ verdict.Request
-  told = request_told _ asks
+  reported : (react (state_in s.link) m).verdict ≡ verdict.Request
+  reported = request_verdict _ asks
 
   live : takes_messages s.link.phase ≡ true
   live = (and_parts (takes_messages s.link.phase) _ takes).0
 
   opened : is_open s.link.phase ≡ true
-  opened = open_phase s.link.phase live (react_asks (standing_in s.link) m told).not_waiting
+  opened = open_phase s.link.phase live (react_asks (state_in s.link) m reported).not_waiting
 
   same_link : link_after s.link (call.Handle m) ≡ s.link
-  same_link = request_stays s.link m told
+  same_link = request_stays s.link m reported
 
   pub delayed : (seconds : ℕ) × (delay_on shared m ≡ Some (record { by = Application; seconds = seconds }))
       × (can_hold s.link ≡ true)
   delayed =
-      handed_delay s.link (delay_on shared m) (subst (λ (l : LinkValue). is_handed (held_in l (delay_on shared m))
+      handed_delay s.link (delay_on shared m) (subst (λ (l : LinkValue). is_handed (delay_in l (delay_on shared m))
       ≡ true)
       same_link (and_parts (asks_this s.link m) _ over).1)
 
   abbrev moment : ℕ
   moment = moment_after shared.now delayed.0
 
-  held_is : held_in s.link (delay_on shared m) ≡ Some (record { by = Application; seconds = delayed.0 })
-  held_is =
-      ap (held_in s.link) delayed.1
+  pending_is : delay_in s.link (delay_on shared m) ≡ Some (record { by = Application; seconds = delayed.0 })
+  pending_is =
+      ap (delay_in s.link) delayed.1
       ∙ ap (λ (b : Bool). if b then Some (record { by = Application; seconds = delayed.0 }) else None) delayed.2
 
   appended : link_after s.link (call.HoldRequest m.token moment) ≡ (with_request s m moment).link
@@ -326,13 +327,13 @@ module _ (shared : ServerState) (s : SessionValue) (m : Message) (takes : sessio
   unfolding session_handled
   handled_is =
       ap (λ (b : Bool). if b then session_replied shared (link_after s.link (call.Handle m))
-      (without_entry m.token s.observers) m (held_in (link_after s.link (call.Handle m)) (delay_on shared m))
+      (without_entry m.token s.observers) m (delay_in (link_after s.link (call.Handle m)) (delay_on shared m))
       else session_with [] (link_after s.link (call.Handle m)) s.observers) asks
       ∙ ap
       (λ (l : LinkValue). session_replied shared l (without_entry m.token s.observers) m
-      (held_in l (delay_on shared m)))
+      (delay_in l (delay_on shared m)))
       same_link
-      ∙ ap (session_replied shared s.link (without_entry m.token s.observers) m) held_is
+      ∙ ap (session_replied shared s.link (without_entry m.token s.observers) m) pending_is
       ∙ ap (λ (l : LinkValue). session_with [] l (without_entry m.token s.observers)) appended
       ∙ whole
 
@@ -348,7 +349,7 @@ module _ (shared : ServerState) (s : SessionValue) (m : Message) (takes : sessio
       let ready : session_ready s ≡ true = (and_parts (takes_messages s.link.phase) _ takes).1 in
       let found = found_ready shared s ready in
       settled_quiet shared (with_request s m moment)
-      (none_due_more shared.now moment m.token s.link.held later (sym found.0 ∙ settled.0))
+      (none_due_more shared.now moment m.token s.link.pending later (sym found.0 ∙ settled.0))
       (none_found (is_stale shared) (without_entry m.token s.observers) (all_filter (λ o. is_stale shared o ≡ false) _
       s.observers (none_due (is_stale shared) s.observers (sym found.1 ∙ settled.1))))
 

@@ -26,7 +26,7 @@ use Rattle.coap_store.proofs.HoldLaws.{same_change}
 use Rattle.coap_store.proofs.ChangeLaws.{put_is_stored, other_is_kept_on_put, other_is_kept_on_delete, deleted_is_gone}
 use Rattle.coap_store.proofs.ChangeLaws.{unchanged}
 use Rattle.coap_model.proofs.world.KnownLaws.{IsVersioned}
-use Rattle.coap_model.proofs.world.HearingLaws.{world_known}
+use Rattle.coap_model.proofs.world.EndOfInputLaws.{world_known}
 use Rattle.coap_server_engine.proofs.world.ShowLaws.{shared_shown}
 
 -- ---- the change of an answer

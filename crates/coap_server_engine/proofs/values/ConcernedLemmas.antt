@@ -292,7 +292,7 @@ pub noted_none : (c : Concerned) (at : ℕ) (v : SessionValue) → last_hash v.o
 noted_none c at v last h set is = record { before = set; there = is; kept = λ i out. out; own = λ out same. absurd cc }
 
 -- The connection has no observer and no pending entry.
-pub quiet_covered : (c : Concerned) (at : ℕ) (v : SessionValue) → length v.link.held + length v.observers ≤ 0
+pub quiet_covered : (c : Concerned) (at : ℕ) (v : SessionValue) → length v.link.pending + length v.observers ≤ 0
     → (es : Entries) → slice_get (values_of es) at ≡ Some v → AreCoveredBut at c es → AreCovered c es
 quiet_covered c at v none es there old = record {
   many = old.many;
@@ -318,10 +318,11 @@ quiet_covered c at v none es there old = record {
     empty [] few = refl
     empty (x ∷ xs) few = absurd (omega (arith, few))
 
-    quiet : (w : SessionValue) → length w.link.held + length w.observers ≤ 0 → (why : Cause) → may_concern why w ≡ false
+    quiet : (w : SessionValue) → length w.link.pending + length w.observers ≤ 0 → (why : Cause)
+        → may_concern why w ≡ false
     quiet w few (cause.Path hash) = rw (empty w.observers (omega (arith, few))) refl
     quiet w few (cause.Moment before) =
-        rw (empty w.observers (omega (arith, few)), empty w.link.held (omega (arith, few))) refl
+        rw (empty w.observers (omega (arith, few)), empty w.link.pending (omega (arith, few))) refl
 
 -- ---- one set is replaced
 

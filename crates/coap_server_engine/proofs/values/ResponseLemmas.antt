@@ -124,8 +124,8 @@ no_bytes v id = elim (session_of id v.sessions) as (λ o. is_none (responded_ref
 pub nothing_offered : (v : ServerValue) (id : ℕ) → server_offered v id [] ≡ v
 nothing_offered v id = ap (λ b. if b then server_given v id [] else v) (no_bytes v id)
 
-pub nothing_told : (v : ServerValue) (id : ℕ) → offered_events v id [] ≡ []
-nothing_told v id = ap (λ b. if b then response_event id (message_of []) else []) (no_bytes v id)
+pub offers_nothing : (v : ServerValue) (id : ℕ) → offered_events v id [] ≡ []
+offers_nothing v id = ap (λ b. if b then response_event id (message_of []) else []) (no_bytes v id)
 
 module _ (v : ServerValue) (id : ℕ) (token bytes : List ℕ) where
   pub empty_response : bytes ≡ [] → response_for v id token bytes ≡ []

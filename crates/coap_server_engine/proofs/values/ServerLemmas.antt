@@ -18,7 +18,8 @@ use Rattle.std.proofs.lemmas.Map.Entries.{length-keys_of, length-values_of}
 use Rattle.std.proofs.lemmas.Map.Keys.{IsDistinct-head, IsDistinct-tail}
 use Rattle.std.proofs.lemmas.Map.Made.{keys_of-map_values}
 use Rattle.std.proofs.lemmas.Option.{cond_some, slice_get-map, slice_get_within}
-use Rattle.coap_server_session.proofs.values.SettleLemmas.{none_held, settled_quiet, settled_is_settled, settled_stays}
+use Rattle.coap_server_session.proofs.values.SettleLemmas.{none_is_pending, settled_quiet, settled_is_settled}
+use Rattle.coap_server_session.proofs.values.SettleLemmas.{settled_stays}
 use Rattle.coap_model.proofs.OptionLemmas.{there_is_none, there_at}
 use Rattle.coap_model.proofs.world.EntryLemmas.{all_to, all_append, all_filter, all_map}
 
@@ -524,7 +525,8 @@ with_new v = v.sessions ++ (v.ids + 1, new_session v.config.limits) ∷ []
 pub one_opened : (v : ServerValue) → AreSettled v.shared v.sessions → map (settled_entry v.shared) (with_new v)
     ≡ with_new v
 one_opened v settled =
-    let quiet = settled_quiet v.shared (new_session v.config.limits) (none_held v.shared.now [] (omega arith)) refl in
+    let quiet = settled_quiet v.shared (new_session v.config.limits) (none_is_pending v.shared.now [] (omega arith))
+    refl in
     all_settled_stay v.shared (with_new v) (all_append (λ e. IsSettled v.shared e.1) v.sessions _ settled (quiet, tt))
 
 module _ (v : ServerValue) (entries : Entries) (server : IsServer v) (is : entries ≡ insert_entry nat_eq v.sessions

@@ -5,7 +5,7 @@ use Rattle.std.proofs.Common.{slice_get}
 use Rattle.coap_server_engine.specs.Prelude.{values_of, set_value_at, stop_of, Reason, changes, ServerState}
 use Rattle.coap_server_engine.specs.Prelude.{SessionValue, TakeOutcome}
 use Rattle.coap_server_engine.specs.Prelude.{session_takes, taking, shared_changed, IsSettled, RefusesPiece}
-use Rattle.coap_server_engine.specs.Prelude.{settled_held}
+use Rattle.coap_server_engine.specs.Prelude.{settled_pending}
 use Rattle.coap_server_engine.specs.Prelude.{ServerValue, LiesAt, session_of, changed_at, session_becomes}
 use Rattle.coap_server_engine.specs.Prelude.{settled_entry}
 use Rattle.coap_server_engine.specs.Prelude.{AreSettled, server_taken_on, server_taken, count_on, count_taken}
@@ -19,7 +19,7 @@ use Rattle.coap_server_engine.proofs.values.ServerLemmas.{Entries, one_of_all, w
 use Rattle.coap_server_engine.proofs.values.ServerLemmas.{changed_written, settling, one_settles, all_settled_stay}
 use Rattle.coap_server_engine.proofs.values.ServerLemmas.{all_still, taken_server_with, lies_where_taken}
 use Rattle.coap_server_session.proofs.values.TakenLemmas.{shared_stays, refused_changes_nothing, refused_stays_settled}
-use Rattle.coap_server_session.proofs.values.TakenLemmas.{taking_settles_held}
+use Rattle.coap_server_session.proofs.values.TakenLemmas.{taking_settles_pending}
 
 -- ---- the server
 
@@ -45,14 +45,14 @@ module _ (v : ServerValue) (id i : ℕ) (s : SessionValue) (piece : List ℕ) (s
 
   -- If no resource changed, the other connections are settled.
   quiet_is : changes taking_here.change ≡ false
-      → changed_at i (settled_held shared_after) (set_value_at v.sessions i taking_here.session)
+      → changed_at i (settled_pending shared_after) (set_value_at v.sessions i taking_here.session)
       ≡ map (settled_entry shared_after) with_it
   quiet_is quiet =
       let last : SessionValue → SessionValue = λ _. taking_here.session in
       rw (shared_stays v.shared taking_here.change quiet)
-      (changed_written i (settled_held v.shared) v.sessions taking_here.session
+      (changed_written i (settled_pending v.shared) v.sessions taking_here.session
       ∙ ap (λ (to : SessionValue). changed_at i (λ _. to) v.sessions)
-      (taking_settles_held v.shared s piece (one_of_all (IsSettled v.shared) i v.sessions s server.settled here))
+      (taking_settles_pending v.shared s piece (one_of_all (IsSettled v.shared) i v.sessions s server.settled here))
       ∙ changed_one id (settling v.shared last) v.sessions i lies.distinct lies.index lies.within
       ∙ one_settles v.shared id last v.sessions server.settled)
 
@@ -70,7 +70,7 @@ module _ (v : ServerValue) (id i : ℕ) (s : SessionValue) (piece : List ℕ) (s
   abbrev left_so : ServerState → SessionValue → Bool → Entries
   left_so shared after changed =
       cond changed (map (settled_entry shared) (set_value_at v.sessions i after))
-      (changed_at i (settled_held shared) (set_value_at v.sessions i after))
+      (changed_at i (settled_pending shared) (set_value_at v.sessions i after))
 
   -- A server with these connections.
   module _ (shared : ServerState) (entries : Entries) (shared_is : shared ≡ shared_after)

@@ -7,7 +7,7 @@ use Rattle.std.proofs.Math.Bool.{and-false}
 use Rattle.coap_server_engine.specs.Prelude.{ServerValue, session_of, is_there, count_taken, AcceptedCall, Took}
 use Rattle.coap_server_engine.specs.Prelude.{ShowsMore, Following, FollowsMore}
 use Rattle.coap_server_engine.specs.Prelude.{InResult, Exchange, Answering, AnswersMore, AreUnanswered, AskResult}
-use Rattle.coap_server_engine.specs.Prelude.{asked_by, served, AreMade}
+use Rattle.coap_server_engine.specs.Prelude.{ask_result, served, AreMade}
 use Rattle.coap_server_engine.specs.Prelude.{IsServed, IsPartlyServed, IsTakenFor, IsNotTakenFor, asking, asks_for}
 use Rattle.coap_server_engine.specs.Prelude.{handed_by, message_limit, server_offered, offered_events, response_for}
 use Rattle.coap_server_engine.specs.Prelude.{Message, LiesAt, keys_of, server_taken, server_taken_on, taking}
@@ -16,18 +16,18 @@ use Rattle.coap_server_engine.proofs.values.ServerLemmas.{keys_where_settled, li
 use Rattle.coap_server_engine.specs.values.InResults.{goes_on}
 use Rattle.coap_server_engine.proofs.scripting.ShownLemmas.{shows_same, shows_then}
 use Rattle.coap_server_engine.proofs.scripting.FollowLemmas.{followed_none, followed_then}
-use Rattle.coap_server_engine.proofs.values.ResponseLemmas.{answers_none, answers_then, nothing_offered, nothing_told}
+use Rattle.coap_server_engine.proofs.values.ResponseLemmas.{answers_none, answers_then, nothing_offered, offers_nothing}
 
 -- Some takes accepted bytes, and the server is `now`.
 pub record Serves (v : ServerValue) (id : ℕ) (bytes : List ℕ) (now : ServerValue) (taken : ℕ)
-    (told : List AcceptedCall → Type 0) (asks : List Exchange → Type 0) : Type 0 where
+    (reported : List AcceptedCall → Type 0) (asks : List Exchange → Type 0) : Type 0 where
   pub there : true ≡ is_there (session_of id v.sessions)
   pub responses : List (List ℕ)
   pub made : AreMade v id bytes responses
   pub within : taken ≤ length bytes
   pub so_far : (served v id bytes responses).fed ≡ record { server = now; count = taken; done = false }
   pub shows : ShowsMore v now (served v id bytes responses).events
-  pub tells : told (served v id bytes responses).events
+  pub reports : reported (served v id bytes responses).events
   pub exchanged : asks (served v id bytes responses).exchanges
 
 pub serves_nothing : (v : ServerValue) (id : ℕ) (bytes : List ℕ) (a : Following) (x : Answering)
@@ -40,7 +40,7 @@ serves_nothing v id bytes a x there = record {
   within = omega arith;
   so_far = refl;
   shows = shows_same v v refl;
-  tells = followed_none a;
+  reports = followed_none a;
   exchanged = answers_none x;
 }
 
@@ -56,7 +56,7 @@ serves_nobody v id bytes a x nobody = record {
   counted = refl;
   server = refl;
   shows = shows_same v v refl;
-  tells = followed_none a;
+  reports = followed_none a;
   exchanged = answers_none x;
 }
 
@@ -76,7 +76,7 @@ module _ (v : ServerValue) (id : ℕ) (bytes : List ℕ) (now : ServerValue) (ta
     counted = ap (λ (f : InResult). f.count) (sym so.so_far);
     server = ap (λ (f : InResult). f.server) (sym so.so_far);
     shows = so.shows;
-    tells = so.tells;
+    reports = so.reports;
     exchanged = so.exchanged;
   }
 
@@ -94,7 +94,7 @@ module _ (v : ServerValue) (id : ℕ) (bytes : List ℕ) (now : ServerValue) (ta
       count = one.count;
       refused = rw so.so_far one.refused;
       shows = rw so.so_far (shows_then v now after (served v id bytes so.responses).events _ so.shows one.shows);
-      tells = rw so.so_far (followed_then a b c (served v id bytes so.responses).events _ so.tells one.tells);
+      reports = rw so.so_far (followed_then a b c (served v id bytes so.responses).events _ so.reports one.reports);
       exchanged = so.exchanged;
     }
 
@@ -109,20 +109,21 @@ module _ (v : ServerValue) (id : ℕ) (bytes : List ℕ) (now : ServerValue) (ta
       more_fed = rw (so.so_far, one.server, counted) refl
 
       more_events : (served v id bytes more).events ≡ (served v id bytes so.responses).events
-          ++ Took id (take k (drop taken bytes)) ∷ (asked_by now id (drop taken bytes) response).events
+          ++ Took id (take k (drop taken bytes)) ∷ (ask_result now id (drop taken bytes) response).events
       unfolding served
       more_events = rw (so.so_far, counted) refl
 
       more_exchanges : (served v id bytes more).exchanges
-          ≡ (served v id bytes so.responses).exchanges ++ (asked_by now id (drop taken bytes) response).exchanges
+          ≡ (served v id bytes so.responses).exchanges ++ (ask_result now id (drop taken bytes) response).exchanges
       unfolding served
       more_exchanges = rw so.so_far refl
 
       more_shows : ShowsMore v after (served v id bytes more).events
       more_shows = rw more_events (shows_then v now after (served v id bytes so.responses).events _ so.shows one.shows)
 
-      more_tells : FollowsMore a c (served v id bytes more).events
-      more_tells = rw more_events (followed_then a b c (served v id bytes so.responses).events _ so.tells one.tells)
+      more_reports : FollowsMore a c (served v id bytes more).events
+      more_reports = rw more_events (followed_then a b c (served v id bytes so.responses).events _ so.reports
+          one.reports)
 
       more_exchanged : AnswersMore x z (served v id bytes more).exchanges
       more_exchanged =
@@ -138,7 +139,7 @@ module _ (v : ServerValue) (id : ℕ) (bytes : List ℕ) (now : ServerValue) (ta
         within = omega (arith, within, left, length-drop taken bytes);
         so_far = more_fed ∙ cc (ne_eqb k 0 some, counted);
         shows = more_shows;
-        tells = more_tells;
+        reports = more_reports;
         exchanged = more_exchanged;
       }
 
@@ -157,7 +158,7 @@ module _ (v : ServerValue) (id : ℕ) (bytes : List ℕ) (now : ServerValue) (ta
             counted = ap (λ (f : InResult). f.count) (sym fed);
             server = ap (λ (f : InResult). f.server) (sym fed);
             shows = more_shows;
-            tells = more_tells;
+            reports = more_reports;
             exchanged = more_exchanged;
           }
 
@@ -181,15 +182,15 @@ taken_stays v id i piece = lies_still id i v.sessions (server_taken v id piece).
 -- ---- one take
 
 -- If no byte was written, nothing is given.
-unasked : (v : ServerValue) (id limit : ℕ) (o : Option Message)
+unrequested : (v : ServerValue) (id limit : ℕ) (o : Option Message)
     → ((asking v id limit [] o).server ≡ v) × ((asking v id limit [] o).events ≡ [])
-unasked v id limit None = (refl, refl)
-unasked v id limit (Some m) = (nothing_offered v id, nothing_told v id)
+unrequested v id limit None = (refl, refl)
+unrequested v id limit (Some m) = (nothing_offered v id, offers_nothing v id)
 
-asked_exchanges : (v : ServerValue) (id limit : ℕ) (o : Option Message)
+requested_exchanges : (v : ServerValue) (id limit : ℕ) (o : Option Message)
     → (asking v id limit [] o).exchanges ≡ asks_for id limit [] o
-asked_exchanges v id limit None = refl
-asked_exchanges v id limit (Some m) = refl
+requested_exchanges v id limit None = refl
+requested_exchanges v id limit (Some m) = refl
 
 -- The application wrote no byte.
 pub asks_unanswered : (id limit : ℕ) (o : Option Message) → AreUnanswered (asks_for id limit [] o)
@@ -198,36 +199,37 @@ asks_unanswered id limit (Some m) = (refl, tt)
 
 module _ (v u after : ServerValue) (id : ℕ) (left response : List ℕ) (k : ℕ) (a b c : Following) (x y : Answering)
     (took : u ≡ server_taken v id left) (shows : ShowsMore v u (Took id (take k left) ∷ []))
-    (told : FollowsMore a b (Took id (take k left) ∷ []))
-    (asked : AnswersMore x y (asks_for id (message_limit v id) response (handed_by v id left))) where
+    (reported : FollowsMore a b (Took id (take k left) ∷ []))
+    (requested : AnswersMore x y (asks_for id (message_limit v id) response (handed_by v id left))) where
   -- A request was handed over, and the application was asked.
-  pub taken_asked : (m : Message) (token : List ℕ) → handed_by v id left ≡ Some m → token ≡ m.token
+  pub taken_requested : (m : Message) (token : List ℕ) → handed_by v id left ≡ Some m → token ≡ m.token
       → after ≡ server_offered u id (response_for u id token response)
       → ShowsMore u after (offered_events u id (response_for u id token response))
       → FollowsMore b c (offered_events u id (response_for u id token response))
       → IsTakenFor v id left response k after (FollowsMore a c) (AnswersMore x y)
-  taken_asked m token handed same is gives tells =
-      let effect : asked_by v id left response ≡ asking u id (message_limit v id) response (Some m) =
+  taken_requested m token handed same is gives reports =
+      let effect : ask_result v id left response ≡ asking u id (message_limit v id) response (Some m) =
       ap (asking (server_taken v id left) id (message_limit v id) response) handed
       ∙ ap (λ (s : ServerValue). asking s id (message_limit v id) response (Some m)) (sym took) in
       let given : after ≡ server_offered u id (response_for u id m.token response) = rw same at is in
       let gave : ShowsMore u after (offered_events u id (response_for u id m.token response)) = rw same at gives in
-      let told_it : FollowsMore b c (offered_events u id (response_for u id m.token response)) = rw same at tells in
+      let reported_it : FollowsMore b c (offered_events u id (response_for u id m.token response)) = rw same at reports
+      in
       record {
         server = given ∙ ap (λ (r : AskResult). r.server) (sym effect);
         shows = rw effect (shows_then v u after (Took id (take k left) ∷ []) _ shows gave);
-        tells = rw effect (followed_then a b c (Took id (take k left) ∷ []) _ told told_it);
-        exchanged = rw effect (rw handed at asked);
+        reports = rw effect (followed_then a b c (Took id (take k left) ∷ []) _ reported reported_it);
+        exchanged = rw effect (rw handed at requested);
       }
 
   -- The application wrote no byte, or no request was handed over.
   pub taken_silent : response ≡ [] → IsTakenFor v id left response k u (FollowsMore a b) (AnswersMore x y)
   taken_silent empty =
-      let nothing = unasked (server_taken v id left) id (message_limit v id) (handed_by v id left) in
-      let exchanged = asked_exchanges (server_taken v id left) id (message_limit v id) (handed_by v id left) in
+      let nothing = unrequested (server_taken v id left) id (message_limit v id) (handed_by v id left) in
+      let exchanged = requested_exchanges (server_taken v id left) id (message_limit v id) (handed_by v id left) in
       rw empty (record {
         server = took ∙ sym nothing.0;
         shows = rw nothing.1 shows;
-        tells = rw nothing.1 told;
-        exchanged = rw exchanged (rw empty at asked);
+        reports = rw nothing.1 reported;
+        exchanged = rw exchanged (rw empty at requested);
       })

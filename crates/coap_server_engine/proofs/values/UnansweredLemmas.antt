@@ -5,10 +5,10 @@ use Rattle.std.proofs.lemmas.Bool.{and_parts, ltb-true, eqb-false}
 use Rattle.coap_server_engine.specs.Prelude.{ServerValue, session_of, is_there, count_taken, server_taken}
 use Rattle.coap_server_engine.specs.Prelude.{server_taken_on, AcceptedCall, Took, taking, shared_changed}
 use Rattle.coap_server_engine.specs.Prelude.{InResult, in_result, fed_turns, took, took_turns, where_there, Exchange}
-use Rattle.coap_server_engine.specs.Prelude.{AreUnanswered, asked_by, asking, served, ServeResult, AreMade, IsServed}
+use Rattle.coap_server_engine.specs.Prelude.{AreUnanswered, ask_result, asking, served, ServeResult, AreMade, IsServed}
 use Rattle.coap_server_engine.specs.Prelude.{Message, handed_by, message_limit, SessionValue}
 use Rattle.coap_server_engine.specs.values.InResults.{goes_on}
-use Rattle.coap_server_engine.proofs.values.ResponseLemmas.{nothing_offered, nothing_told}
+use Rattle.coap_server_engine.proofs.values.ResponseLemmas.{nothing_offered, offers_nothing}
 use Rattle.coap_server_engine.proofs.world.AtOnceLaws.{becomes_settled}
 use Rattle.coap_server_engine.proofs.scripting.ReplayLemmas.{AreTurnsOf, all_turns_made, fed_nothing}
 use Rattle.coap_server_engine.proofs.scripting.ShownLemmas.{none_taken_there}
@@ -19,11 +19,11 @@ unanswered_parts (x ∷ xs) ys all = let more = unanswered_parts xs ys all.1 in 
 
 -- A take whose request got no response at once.
 pub record IsTakenAlone (v : ServerValue) (id : ℕ) (left response : List ℕ) : Type 0 where
-  pub server : (asked_by v id left response).server ≡ server_taken v id left
-  pub events : (asked_by v id left response).events ≡ []
+  pub server : (ask_result v id left response).server ≡ server_taken v id left
+  pub events : (ask_result v id left response).events ≡ []
 
 pub unanswered_take : (v : ServerValue) (id : ℕ) (left response : List ℕ)
-    → AreUnanswered (asked_by v id left response).exchanges → IsTakenAlone v id left response
+    → AreUnanswered (ask_result v id left response).exchanges → IsTakenAlone v id left response
 unanswered_take v id left response none =
     record { server = (by (handed_by v id left) none).0; events = (by (handed_by v id left) none).1 }
   where
@@ -34,7 +34,7 @@ unanswered_take v id left response none =
         → ((asking u id (message_limit v id) response o).server ≡ u)
         × ((asking u id (message_limit v id) response o).events ≡ [])
     by None none = (refl, refl)
-    by (Some m) none = rw none.0 (nothing_offered u id, nothing_told u id)
+    by (Some m) none = rw none.0 (nothing_offered u id, offers_nothing u id)
 
 -- The connection is still there after a take.
 taken_there : (v : ServerValue) (id : ℕ) (piece : List ℕ) → is_there (session_of id v.sessions) ≡ true
@@ -62,10 +62,10 @@ not_done : (a b : Bool) → (a && not b) ≡ true → (a ≡ true) × (b ≡ fal
 not_done a true is = absurd (let wrong : false ≡ true = (and_parts a false is).1 in cc wrong)
 not_done a false is = ((and_parts a true is).0, refl)
 
-there_told : (id : ℕ) (call : AcceptedCall) (o : Option SessionValue) → is_there o ≡ true
+there_reported : (id : ℕ) (call : AcceptedCall) (o : Option SessionValue) → is_there o ≡ true
     → where_there o (λ s. call) ≡ call ∷ []
-there_told id call None there = absurd cc
-there_told id call (Some s) there = refl
+there_reported id call None there = absurd cc
+there_reported id call (Some s) there = refl
 
 -- One more take, to be made, whose request got no response at once.
 module _ (v : ServerValue) (id : ℕ) (bytes : List ℕ) (responses : List (List ℕ)) (response : List ℕ)
@@ -88,7 +88,7 @@ module _ (v : ServerValue) (id : ℕ) (bytes : List ℕ) (responses : List (List
       so_far.events,
       goes,
       alone.events,
-      there_told id (Took id (take (count_taken before.server id left) left))
+      there_reported id (Took id (take (count_taken before.server id left) left))
           (session_of id before.server.sessions) so_far.there,
     ) refl
 
@@ -117,20 +117,21 @@ has_taken v id bytes [] there made none =
 has_taken v id bytes (response ∷ responses) there made none =
     let s : ServeResult = served v id bytes responses in
     let split =
-    unanswered_parts s.exchanges (asked_by s.fed.server id (drop s.fed.count bytes) response).exchanges none in
+    unanswered_parts s.exchanges (ask_result s.fed.server id (drop s.fed.count bytes) response).exchanges none in
     let so_far = has_taken v id bytes responses there made.1 split.0 in
     let f : InResult = fed_turns so_far.turns v id bytes in
     has_more v id bytes responses response so_far (rw so_far.fed at made.0)
     (unanswered_take f.server id (drop f.count bytes) response (rw so_far.fed at split.1))
 
-pub unanswered_is_alone : (v after : ServerValue) (id count : ℕ) (bytes : List ℕ) (told : List AcceptedCall → Type 0)
-    → IsServed v id bytes count after told (λ xs. AreUnanswered xs)
-    → (after ≡ (in_result v id bytes).server) × (count ≡ (in_result v id bytes).count) × told (took v id bytes)
+pub unanswered_is_alone : (v after : ServerValue) (id count : ℕ) (bytes : List ℕ)
+    (reported : List AcceptedCall → Type 0) → IsServed v id bytes count after reported (λ xs. AreUnanswered xs)
+    → (after ≡ (in_result v id bytes).server) × (count ≡ (in_result v id bytes).count) × reported (took v id bytes)
 unfolding served
-unanswered_is_alone v after id count bytes told part = by (session_of id v.sessions) refl
+unanswered_is_alone v after id count bytes reported part = by (session_of id v.sessions) refl
   where
     Claim : Type 0
-    Claim = (after ≡ (in_result v id bytes).server) × (count ≡ (in_result v id bytes).count) × told (took v id bytes)
+    Claim = (after ≡ (in_result v id bytes).server) × (count ≡ (in_result v id bytes).count)
+        × reported (took v id bytes)
 
     by : (o : Option SessionValue) → session_of id v.sessions ≡ o → Claim
     by None is =
@@ -139,7 +140,7 @@ unanswered_is_alone v after id count bytes told part = by (session_of id v.sessi
         let events : took v id bytes ≡ [] = none_taken_there v id (ap is_there is) bytes (length bytes) in (
           rw none at part.server ∙ sym nothing.1,
           rw none at part.counted ∙ sym nothing.0,
-          rw events (rw none at part.tells),
+          rw events (rw none at part.reports),
         )
     by (Some s) is =
         let alone = has_taken v id bytes part.responses (ap is_there is) part.made part.exchanged in
@@ -150,7 +151,7 @@ unanswered_is_alone v after id count bytes told part = by (session_of id v.sessi
         let fed : (served v id bytes part.responses).fed ≡ in_result v id bytes = alone.fed ∙ sym all.0 in (
           part.server ∙ ap (λ (f : InResult). f.server) fed,
           part.counted ∙ ap (λ (f : InResult). f.count) fed,
-          rw (alone.events ∙ sym all.1) at part.tells,
+          rw (alone.events ∙ sym all.1) at part.reports,
         )
       where
         stops : (b : Bool) → goes_on bytes

@@ -23,7 +23,7 @@ use Rattle.coap_server_engine.specs.values.ServerDeadlines.{session_work}
 use Rattle.coap_server_session.specs.Prelude.{AllByRecursion, find, list_any, ObserverValue, is_stale, is_time_observer}
 use Rattle.coap_server_session.specs.Prelude.{changed_mark, may_concern, IsBefore}
 use Rattle.coap_server_session.specs.declared.cause.Cause.TheVariants as cause
-use Rattle.coap_server_session.proofs.values.SettleLemmas.{settled_stays, settled_still, none_held}
+use Rattle.coap_server_session.proofs.values.SettleLemmas.{settled_stays, settled_still, none_is_pending}
 use Rattle.coap_server_session.proofs.values.CauseLemmas.{hash_where_changed, settled_elsewhere}
 use Rattle.coap_server_session.proofs.values.DueLemmas.{at_moment, mark_later}
 use Rattle.coap_server_session.proofs.values.TakenLemmas.{shared_stays}
@@ -154,9 +154,9 @@ timeless : (shared : ServerState) (before later : ℕ) (s : SessionValue) → Is
     (cause.Moment before) s ≡ false → IsSettled shared s → IsSettled (at_moment shared later) s
     × ((now : ℕ) → due_on now s ≡ None)
 timeless shared before later s store none settled =
-    let parts = or_parts (nat_lt 0 (length s.link.held)) (list_any is_time_observer s.observers) none in
-    let few : length s.link.held ≤ 0 = omega (arith, ltb-false 0 (length s.link.held) parts.0) in (
-      settled_still shared (at_moment shared later) s (λ _. none_held later s.link.held few)
+    let parts = or_parts (nat_lt 0 (length s.link.pending)) (list_any is_time_observer s.observers) none in
+    let few : length s.link.pending ≤ 0 = omega (arith, ltb-false 0 (length s.link.pending) parts.0) in (
+      settled_still shared (at_moment shared later) s (λ _. none_is_pending later s.link.pending few)
           (λ fresh. fresh_later shared later s.observers store parts.1 (none_due (is_stale shared) s.observers fresh))
           settled,
       λ now. never (due_on now s) (λ due. (unconcerned (cause.Moment now) due s none).0),

@@ -17,7 +17,7 @@ use Rattle.coap_model.specs.declared.answers.ResponseFault.TheVariants as respon
 use Rattle.coap_path.specs.Applications.{ApplicationsValue}
 use Rattle.coap_model.proofs.OptionLemmas.{same_there, one_made}
 use Rattle.coap_model.proofs.world.AcrossLaws.{applications_stay}
-use Rattle.coap_model.proofs.world.HearingLaws.{world_stays, world_known, world_hears}
+use Rattle.coap_model.proofs.world.EndOfInputLaws.{world_stays, world_known, world_hears}
 use Rattle.coap_model.specs.world.World as world
 use Rattle.coap_server_engine.specs.Prelude.{AllByRecursion, Message, message_of, spelling, FormatFault, Reason}
 use Rattle.coap_server_engine.specs.Prelude.{LimitValues, takes_messages, frame_refusal}
@@ -32,11 +32,11 @@ use Rattle.coap_server_engine.specs.Prelude.{stop_on, handed_on, handed_frame, h
 use Rattle.coap_server_engine.specs.Prelude.{responded_refusal, responded_refusal_on, response_for, failure_with}
 use Rattle.coap_server_engine.proofs.values.ServerLemmas.{Entries, all_are_settled}
 use Rattle.coap_server_session.proofs.values.SettleLemmas.{settled_stays}
-use Rattle.coap_server_engine.proofs.values.AtOnceLemmas.{with_request, other_fault, accepted_with, asked_last}
+use Rattle.coap_server_engine.proofs.values.AtOnceLemmas.{with_request, other_fault, accepted_with, requested_last}
 use Rattle.coap_server_engine.proofs.values.AtOnceLemmas.{failure_read, HandsOver, request_handed, deadline}
 use Rattle.coap_server_engine.proofs.values.AtOnceLemmas.{deadline_later, deadline_is_latest, latest, took_session}
 use Rattle.coap_server_engine.proofs.values.AtOnceLemmas.{took_nothing, took_settled}
-use Rattle.coap_server_engine.proofs.values.DueAtOnceLemmas.{NoneAsked, settles_request, no_request_fault}
+use Rattle.coap_server_engine.proofs.values.DueAtOnceLemmas.{NoRequests, settles_request, no_request_fault}
 use Rattle.coap_server_engine.proofs.world.DeadlineLaws.{no_request_waits}
 use Rattle.coap_server_engine.proofs.world.ShowLaws.{server_after_settling, shared_shown, session_there}
 
@@ -110,11 +110,12 @@ none_is None none = refl
 none_is (Some x) none = absurd cc
 
 module _ (v : ServerValue) (es : List AcceptedCall) (id : ℕ) (piece : List ℕ) (m : Message) (shows : Shows v es)
-    (asked : handed_by v id piece ≡ Some m) where
+    (requested : handed_by v id piece ≡ Some m) where
   -- The connection before the take.
   there_before : (s : SessionValue) × (session_of id v.sessions ≡ Some s) × HandsOver v.shared s piece m
   unfolding handed_frame
-  there_before = by (session_of id v.sessions) (stop_on (session_of id (server_taken v id piece).sessions)) refl asked
+  there_before = by (session_of id v.sessions) (stop_on (session_of id (server_taken v id piece).sessions)) refl
+      requested
     where
       by : (found : Option SessionValue) (stop : Option Reason) → session_of id v.sessions ≡ found
           → option_and_then frame_message (handed_on v piece found stop) ≡ Some m
@@ -170,48 +171,49 @@ module _ (v : ServerValue) (es : List AcceptedCall) (id : ℕ) (piece : List ℕ
     accepted_later : (bytes : List ℕ) (response : Message) → message_of bytes ≡ Ok response → response.token ≡ m.token
         → is_plain_response response ≡ true → responded_refusal (server_taken v id piece) id bytes ≡ None
     accepted_later bytes response reads token plain =
-        let has : has_request response.token waiting.link.held ≡ true =
-        subst (λ (t : List ℕ). has_request t waiting.link.held ≡ true) (sym token)
-        (asked_last m.token asking.link.held due) in
+        let has : has_request response.token waiting.link.pending ≡ true =
+        subst (λ (t : List ℕ). has_request t waiting.link.pending ≡ true) (sym token)
+        (requested_last m.token asking.link.pending due) in
         refusal_is bytes
         ∙ ap (λ (read : Result Message FormatFault). option_map response_fault
         (frame_refusal (session_settled v.shared waiting).link read)) reads
         ∙ ap (λ (o : Option RespondFault). option_map response_fault o)
         (accepted_with (session_settled v.shared waiting).link response has_room
-        (subst (λ (s : SessionValue). has_request response.token s.link.held ≡ true) (sym stays_settled) has) plain)
+        (subst (λ (s : SessionValue). has_request response.token s.link.pending ≡ true) (sym stays_settled) has) plain)
 
   -- ---- a deadline that has come
 
   -- No request of the application was pending.
-  none_before : due ≤ v.shared.now → NoneAsked asking.link.held
+  none_before : due ≤ v.shared.now → NoRequests asking.link.pending
   none_before come =
       let model = session_there v es id asking shows there_before.1 in
       let w : World = world_after v.config es in
       let now : v.shared.now ≡ w.now = ap (λ (h : ServerState). h.now) (shared_shown v es shows) in
-      let held : asking.link.held ≡ model.side.history.held = ap (λ (s : SessionValue). s.link.held) model.shown in
+      let pending : asking.link.pending ≡ model.side.history.pending = ap (λ (s : SessionValue). s.link.pending)
+      model.shown in
       let phases : asking.link.phase ≡ model.side.history.phase = ap (λ (s : SessionValue). s.link.phase) model.shown in
       let live : takes_messages model.side.history.phase ≡ true =
       subst (λ (p : Phase). takes_messages p ≡ true) phases
       (and_parts (takes_messages asking.link.phase) _ there_before.2.takes).0 in
-      let silent : first_due v.shared.now asking.link.held ≡ None =
+      let silent : first_due v.shared.now asking.link.pending ≡ None =
       sym (found_ready v.shared asking (and_parts (takes_messages asking.link.phase) _ there_before.2.takes).1).0
       ∙ asking_settled.0 in
       let last : latest v.config.applications v.shared.now ≡ due =
       ap (λ (o : Option ApplicationsValue). latest o v.shared.now) (sym (shown_applications v es shows))
       ∙ deadline_is_latest v.shared asking piece m there_before.2 in
-      subst NoneAsked (sym held)
+      subst NoRequests (sym pending)
       (no_request_waits v.config es id model.side model.there (never_stopped model.side.history.phase live)
       (omega (arith, ap (latest v.config.applications) now, last, now, come))
-      (subst (λ (n : ℕ). AllByRecursion (λ e. due_moment n e ≡ None) model.side.history.held) now
-      (subst (AllByRecursion (λ e. due_moment v.shared.now e ≡ None)) held
-      (due_nothing v.shared.now asking.link.held silent).0.0)))
+      (subst (λ (n : ℕ). AllByRecursion (λ e. due_moment n e ≡ None) model.side.history.pending) now
+      (subst (AllByRecursion (λ e. due_moment v.shared.now e ≡ None)) pending
+      (due_nothing v.shared.now asking.link.pending silent).0.0)))
 
-  none_after : due ≤ v.shared.now → NoneAsked (session_settled v.shared waiting).link.held
+  none_after : due ≤ v.shared.now → NoRequests (session_settled v.shared waiting).link.pending
   none_after come =
-      let silent : first_due v.shared.now asking.link.held ≡ None =
+      let silent : first_due v.shared.now asking.link.pending ≡ None =
       sym (found_ready v.shared asking (and_parts (takes_messages asking.link.phase) _ there_before.2.takes).1).0
       ∙ asking_settled.0 in
-      settles_request v.shared waiting asking.link.held m.token due refl ready silent come (none_before come)
+      settles_request v.shared waiting asking.link.pending m.token due refl ready silent come (none_before come)
 
   -- ---- errors
 

@@ -23,7 +23,7 @@ use Rattle.coap_server_engine.specs.Prelude.{session_given_by}
 use Rattle.coap_server_engine.specs.Prelude.{server_given, response_event, responded_refusal, responded_refusal_on}
 use Rattle.coap_server_engine.specs.Prelude.{on_session}
 use Rattle.coap_server_engine.specs.Prelude.{server_settled}
-use Rattle.coap_server_engine.specs.Prelude.{Removed, Ended, Released, Announced, Dropped, takes, AreAcceptedBehind}
+use Rattle.coap_server_engine.specs.Prelude.{Removed, Ended, Released, Announced, Dropped, takes, AreAcceptedAfter}
 use Rattle.coap_server_engine.specs.Prelude.{Shows}
 use Rattle.coap_server_engine.specs.Prelude.{ShowsRefused, server_of}
 use Rattle.coap_model.specs.declared.answers.TakeFault.TheVariants as taken
@@ -52,7 +52,7 @@ where_free refusal fault (Some s) missing none = (s, refl, none)
 
 pub new_shows : {F : Type 0} (r : Result ServerValue F) (c : ConfigValues) → c.starts.moment < 2 ^ 64
     → IfSome c.applications (λ a. 1 ≤ a.deadline) → IfOk r (λ v. v ≡ new_server c) → IfOk r (λ v. Shows v [])
-unfolding server_of AreAcceptedBehind
+unfolding server_of AreAcceptedAfter
 new_shows (Ok v) c fits least is =
     rw is (record { accepted = tt; same = rw (world_first c) refl; moment = omega (arith, fits); deadline = least })
 new_shows (Err e) c fits least is = tt
@@ -81,9 +81,9 @@ written_shows (Err e) v new id n none is = tt
 pub tick_shows : {T F : Type 0} (r : Result T F) (v new : ServerValue) (now : ℕ) → now < 2 ^ 64
     → is_ok r ≡ nat_le v.shared.now now → OnOk r (new ≡ server_ticked v now)
     → OnOk r ((es : List AcceptedCall) → Shows v es → Shows new (es ++ Ticked now ∷ []))
-tick_shows (Ok x) v new now fits told is =
-    λ es shows. rw is (shows_ticked v es now shows (leb-true v.shared.now now (sym told)) (omega (arith, fits)))
-tick_shows (Err e) v new now fits told is = tt
+tick_shows (Ok x) v new now fits reported is =
+    λ es shows. rw is (shows_ticked v es now shows (leb-true v.shared.now now (sym reported)) (omega (arith, fits)))
+tick_shows (Err e) v new now fits reported is = tt
 
 -- ---- put, remove
 

@@ -8,7 +8,7 @@ use Rattle.coap_path.specs.Applications.{ApplicationsValue, is_answered}
 use Rattle.coap_store.specs.Requests.{path_of}
 use Rattle.coap_store.specs.ApplicationRequests.{application_deadline, passes_checks}
 use Rattle.coap_store.specs.Store.{StoreValue}
-use Rattle.coap_model.specs.world.Connections.{moment_after, next_held, settled_once}
+use Rattle.coap_model.specs.world.Connections.{moment_after, next_pending, settled_once}
 use Rattle.coap_model.specs.world.Fates.{ApplicationRequest, Fate, entry_of, is_of_application, has_stopped}
 use Rattle.coap_model.specs.world.Fates.{new_request, if_there}
 use Rattle.coap_model.specs.world.Fates.{requests_after, requests_responded, requests_due, requests_once}
@@ -27,9 +27,9 @@ use Rattle.coap_server_engine.specs.Prelude.{AcceptedCall, steps_of, world_after
 use Rattle.coap_conn.specs.History.{link_of}
 use Rattle.coap_model.specs.world.Fates.{is_unanswered_with, fate_by}
 use Rattle.coap_conn.specs.Reaction.{is_asking}
-use Rattle.coap_model.specs.world.Connections.{held_message}
+use Rattle.coap_model.specs.world.Connections.{late_message}
 use Rattle.coap_server_engine.proofs.values.AtOnceLemmas.{latest}
-use Rattle.coap_server_engine.proofs.values.DueAtOnceLemmas.{NoneAsked}
+use Rattle.coap_server_engine.proofs.values.DueAtOnceLemmas.{NoRequests}
 
 latest_grows : (a : Option ApplicationsValue) (now later : ℕ) → now ≤ later → latest a now ≤ latest a later
 latest_grows None now later h = omega arith
@@ -78,7 +78,7 @@ due_before bound s None rs are = are
 due_before bound s (Some (Answer Engine token moment)) rs are = are
 due_before bound s (Some (Answer Application token moment)) rs are =
     fated_before bound (λ r. is_unanswered_with token r && r.deadline == moment)
-    (fate_by Engine s.history (held_message Application token)) rs are
+    (fate_by Engine s.history (late_message Application token)) rs are
 due_before bound s (Some (Pong token)) rs are = are
 
 within_before : (turns bound : ℕ) (store : StoreValue) (now : ℕ) (s : Connection) (rs : List ApplicationRequest)
@@ -86,8 +86,8 @@ within_before : (turns bound : ℕ) (store : StoreValue) (now : ℕ) (s : Connec
 unfolding requests_within requests_once
 within_before zero bound store now s rs are = are
 within_before (suc turns) bound store now s rs are =
-    within_before turns bound store now (settled_once store now s) (requests_due s (next_held now s) rs)
-    (due_before bound s (next_held now s) rs are)
+    within_before turns bound store now (settled_once store now s) (requests_due s (next_pending now s) rs)
+    (due_before bound s (next_pending now s) rs are)
 
 then_before : (id bound : ℕ) (w : World) (rs : List ApplicationRequest) → AreBefore bound rs
     → AreBefore bound (requests_then id w rs)
@@ -95,7 +95,7 @@ unfolding requests_then requests_settled
 then_before id bound w rs are =
     there_or_not (side_of id w.sides)
     (λ found. AreBefore bound (if_there found (requests_settled w.store w.now) rs)) (λ none. are)
-    (λ s found. within_before (length s.history.held + length s.observers) bound w.store w.now s rs are)
+    (λ s found. within_before (length s.history.pending + length s.observers) bound w.store w.now s rs are)
 
 module _ (a : Option ApplicationsValue) where
   acted_before : (limits : LimitValues) (id : ℕ) (w : World) (st : Step) (rs : List ApplicationRequest)
@@ -155,14 +155,17 @@ abbrev MomentBefore : ℕ → PendingEntryValue → Type 0
 MomentBefore bound (Answer by token moment) = moment ≤ bound
 MomentBefore bound (Pong token) = ⊥
 
-none_asked : (now bound : ℕ) (held : List PendingEntryValue) → bound ≤ now
-    → AllByRecursion (λ e. due_moment now e ≡ None) held
-    → AllByRecursion (MomentBefore bound) (filter is_of_application held) → NoneAsked held
-none_asked now bound [] come none before = tt
-none_asked now bound (Answer Engine token moment ∷ held) come none before =
-    (refl, none_asked now bound held come none.1 before)
-none_asked now bound (Pong token ∷ held) come none before = (refl, none_asked now bound held come none.1 before)
-none_asked now bound (Answer Application token moment ∷ held) come none before =
+none_requested : (now bound : ℕ) (pending : List PendingEntryValue) → bound ≤ now
+    → AllByRecursion (λ e. due_moment now e ≡ None) pending
+    → AllByRecursion (MomentBefore bound) (filter is_of_application pending) → NoRequests pending
+none_requested now bound [] come none before = tt
+none_requested now bound (Answer Engine token moment ∷ pending) come none before =
+    (refl, none_requested now bound pending come none.1 before)
+none_requested now bound (Pong token ∷ pending) come none before = (
+  refl,
+  none_requested now bound pending come none.1 before,
+)
+none_requested now bound (Answer Application token moment ∷ pending) come none before =
     absurd (let later : now < moment = not_come none.0 in omega (arith, later, before.0, come))
   where
     not_come : (if nat_le moment now then Some moment else None) ≡ None → now < moment
@@ -174,11 +177,11 @@ none_asked now bound (Answer Application token moment ∷ held) come none before
 pub no_request_waits : (c : ConfigValues) (es : List AcceptedCall) (id : ℕ) (s : Connection)
     → side_of id (world_after c es).sides ≡ Some s → has_stopped s.history.phase ≡ false
     → latest c.applications (world_after c es).now ≤ (world_after c es).now
-    → AllByRecursion (λ e. due_moment (world_after c es).now e ≡ None) s.history.held → NoneAsked s.history.held
+    → AllByRecursion (λ e. due_moment (world_after c es).now e ≡ None) s.history.pending → NoRequests s.history.pending
 no_request_waits c es id s there live come none =
     let w : World = world_after c es in
     let bound : ℕ = latest c.applications w.now in
-    none_asked w.now bound s.history.held come none
+    none_requested w.now bound s.history.pending come none
     (subst (AllByRecursion (MomentBefore bound)) ((requests_accounted c es id s there).pending live)
     (all_map (λ r. r.deadline ≤ bound) (MomentBefore bound) entry_of (λ r is. is) (filter waits (requests_on c id es))
     (all_filter (λ r. r.deadline ≤ bound) waits (requests_on c id es) (requests_before c es id))))

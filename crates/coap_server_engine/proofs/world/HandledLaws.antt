@@ -122,9 +122,9 @@ took_became c es id bytes s t is all there then =
 
 -- ---- the result that a take reports
 
-tells_what_became : (before after : Stream) (s t : Connection) (message : Bool) → Became before after s t message
+reports_what_became : (before after : Stream) (s t : Connection) (message : Bool) → Became before after s t message
     → handled_so (handles s) message (stop_of t.history.phase) ≡ handled_between (Some s) (Some t)
-tells_what_became before after s t message became = grind (arith, le-ltb, lt-ltb, length-append)
+reports_what_became before after s t message became = grind (arith, le-ltb, lt-ltb, length-append)
 
 -- ---- the clause of a take
 
@@ -154,10 +154,10 @@ module _ (v : ServerValue) (es : List AcceptedCall) (id : ℕ) (piece : List ℕ
       ∙ ap (λ (k : ConfigValues). side_stop (side_of id (world_after k fs).sides))
       (ap (λ (o : Option SessionValue). (server_taken_on v id piece o).config) e)
 
-  tells_handled : (there : Option Connection) → side_of id (world_after v.config es).sides ≡ there
+  reports_handled : (there : Option Connection) → side_of id (world_after v.config es).sides ≡ there
       → handled_on v piece (session_of id v.sessions) stop_then ≡ handled_in v.config es event_then id
-  tells_handled None none = rw (no_session v es id shows none, none) refl
-  tells_handled (Some s) there =
+  reports_handled None none = rw (no_session v es id shows none, none) refl
+  reports_handled (Some s) there =
       let c : ConfigValues = v.config in
       let rest : List ℕ = (stream_on c.limits.max_message id es).rest in
       let at : session_of id v.sessions ≡ Some (session_shown rest s) = side_there v es id s shows there in
@@ -167,7 +167,7 @@ module _ (v : ServerValue) (es : List AcceptedCall) (id : ℕ) (piece : List ℕ
       (sym (takes_shown v es id piece shows))
       (took_so c es id piece s (accepted_is c es shows.accepted) there v.shared) in
       let after = became c es id (take (count_taken v id piece) piece) s message there so in
-      rw (at, stop_shown (session_shown rest s) at, after.1, there) (tells_what_became _ _ s after.0 message after.2)
+      rw (at, stop_shown (session_shown rest s) at, after.1, there) (reports_what_became _ _ s after.0 message after.2)
 
 pub take_says : (r : Result Taken TakeFault) (v : ServerValue) (id : ℕ) (piece : List ℕ)
     → IfOk r (λ t. t.bytes ≡ count_taken v id piece) → IfOk r (λ t. t.handled ≡ handled_by v id piece)
@@ -175,7 +175,7 @@ pub take_says : (r : Result Taken TakeFault) (v : ServerValue) (id : ℕ) (piece
     (λ t. (es : List AcceptedCall) → Shows v es → t.handled ≡ handled_in v.config es (Took id (take t.bytes piece)) id)
 unfolding handled_by
 take_says (Ok t) v id piece count says = λ es shows.
-    says ∙ tells_handled v es id piece shows (side_of id (world_after v.config es).sides) refl
+    says ∙ reports_handled v es id piece shows (side_of id (world_after v.config es).sides) refl
     ∙ ap (λ (n : ℕ). handled_in v.config es (Took id (take n piece)) id) (sym count)
 take_says (Err e) v id piece count says = tt
 

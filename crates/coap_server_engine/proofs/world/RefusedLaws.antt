@@ -35,8 +35,8 @@ gone_on_with c es id more = split_on (size_on c.limits.max_message id es) (strea
 -- Allocation failed for the message that ends with the byte after the first `n` bytes of a slice.
 pub record RefusesLast (v : ServerValue) (es : List AcceptedCall) (id : ℕ) (piece : List ℕ) (n : ℕ) : Type 0 where
   pub last : ℕ
-  pub behind : List ℕ
-  pub all : piece ≡ take n piece ++ last ∷ behind
+  pub later : List ℕ
+  pub all : piece ≡ take n piece ++ last ∷ later
   pub quiet : beyond id (stream_on v.config.limits.max_message id es) (gone_on_with v.config es id (take n piece)) ≡ []
   pub message : Message
   pub ends : beyond id (stream_on v.config.limits.max_message id es) (gone_on_with v.config es id (take (n + 1) piece))
@@ -81,7 +81,7 @@ refuses_last v es id piece n s shows e refused =
     rw (all, stored.is, stored.reads) at (added_front N so_far.rest piece clean.1) in
     record {
       last = get_or piece n 0;
-      behind = drop (suc n) piece;
+      later = drop (suc n) piece;
       all = sym (take-append-drop n piece) ∙ ap (λ (b : List ℕ). front ++ b) (drop-cons piece n 0 within);
       quiet = rw (stream_more M id es front) at nothing.steps;
       message = stored.message;

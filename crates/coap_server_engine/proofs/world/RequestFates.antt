@@ -14,11 +14,11 @@ use Rattle.coap_server_engine.specs.Prelude.{Message, Stream, takes_messages, Co
 use Rattle.coap_server_engine.specs.Prelude.{AcceptedCall, Took, IsAccepted, AreAccepted, takes, world_after, is_handed}
 use Rattle.coap_server_engine.specs.Prelude.{request_in, request_between, request_to, message_between}
 use Rattle.coap_server_session.specs.values.HandedRequests.{is_application}
-use Rattle.coap_model.specs.world.Connections.{asks_answer, held_for, delay_of, Delay}
+use Rattle.coap_model.specs.world.Connections.{asks_answer, delay_for, delay_of, Delay}
 use Rattle.coap_model.specs.world.Fates.{requests_on, handed_requests, handed_in, handed_between, is_by_application}
 use Rattle.coap_model.specs.world.Fates.{is_responder}
 use Rattle.coap_model.proofs.world.ReachedLaws.{accepted_is, on_one}
-use Rattle.coap_model.proofs.world.BecameLaws.{Became, Stayed, Heard, Rejected}
+use Rattle.coap_model.proofs.world.BecameLaws.{Became, Stayed, Reacted, Rejected}
 use Rattle.coap_model.proofs.world.FateHanded.{event_hands}
 use Rattle.coap_server_engine.proofs.world.RequestLaws.{none_between, one_between}
 use Rattle.coap_server_engine.proofs.world.HandledLaws.{took_became}
@@ -39,7 +39,7 @@ module _ (w : World) (s t : Connection) where
   -- A message is handed over under both definitions, or under none.
   message_lent : (m : Message) → handed_in w.store w.now s m ≡ option_to_list (request_to w.store w.now s m)
   message_lent m =
-      let delay : Option Delay = held_for (after s.history (call.Handle m)) (delay_of w.store w.now m) in
+      let delay : Option Delay = delay_for (after s.history (call.Handle m)) (delay_of w.store w.now m) in
       ap (λ (b : Bool). cond (asks_answer s m && b) (m ∷ []) []) (same_delay delay)
       ∙ elim (cases_Bool (asks_answer s m && is_handed delay)) [ inl is ↦ rw is refl | inr other ↦ rw other refl ]
 
@@ -60,7 +60,7 @@ module _ (w : World) (s t : Connection) where
       → handed_between w s t ≡ lent
   became_lent earlier later message (Stayed e same messages fault) =
       none_lent (ap (λ (u : Connection). u.history.handled) same)
-  became_lent earlier later message (Heard e does m one stops messages fault) = one_lent m one
+  became_lent earlier later message (Reacted e does m one stops messages fault) = one_lent m one
   became_lent earlier later message (Rejected e does fault rejects messages is) = none_lent rejects.handled
 
 -- An accepted take adds to the requests handed over the one that it lends, unless the connection stopped.

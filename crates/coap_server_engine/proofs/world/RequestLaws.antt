@@ -19,11 +19,11 @@ use Rattle.coap_conn.specs.Calls.{link_after}
 use Rattle.coap_conn.specs.LinkValue.{LinkValue}
 use Rattle.coap_conn.specs.History.{link_of, IsHistory}
 use Rattle.coap_conn.proofs.LinkLemmas.{after_link}
-use Rattle.coap_model.specs.world.Connections.{asks_answer, held_for, delay_of, Delay}
-use Rattle.coap_server_session.specs.values.Sessions.{held_in}
+use Rattle.coap_model.specs.world.Connections.{asks_answer, delay_for, delay_of, Delay}
+use Rattle.coap_server_session.specs.values.Sessions.{delay_in}
 use Rattle.coap_model.proofs.world.TookLaws.{piece_adds_message}
 use Rattle.coap_model.proofs.world.ReachedLaws.{accepted_is, takes_there, IsReached}
-use Rattle.coap_model.proofs.world.BecameLaws.{became, Became, Stayed, Heard, Rejected}
+use Rattle.coap_model.proofs.world.BecameLaws.{became, Became, Stayed, Reacted, Rejected}
 use Rattle.coap_model.proofs.world.SideLaws.{handles_parts}
 use Rattle.coap_server_session.proofs.world.SideShown.{shared_of}
 use Rattle.coap_server_engine.proofs.world.ShowLaws.{side_there, no_session, takes_shown, shared_shown, taking_front}
@@ -60,36 +60,36 @@ quiet_became : (before after : Stream) (s t : Connection) (message : Bool) → m
     → Became before after s t message → message_between s t ≡ None
 quiet_became before after s t message quiet (Stayed e same messages fault) =
     none_between s t (ap (λ (u : Connection). u.history.handled) same)
-quiet_became before after s t message quiet (Heard e does m one stops messages fault) = absurd cc
+quiet_became before after s t message quiet (Reacted e does m one stops messages fault) = absurd cc
 quiet_became before after s t message quiet (Rejected e does fault rejects messages is) =
     none_between s t rejects.handled
 
 -- A take that handled this message.
-heard_became : (before after : Stream) (s t : Connection) (message : Bool) (m : Message) → message ≡ true
+received_became : (before after : Stream) (s t : Connection) (message : Bool) (m : Message) → message ≡ true
     → after.messages ≡ before.messages ++ m ∷ [] → Became before after s t message → message_between s t ≡ Some m
-heard_became before after s t message m heard adds (Stayed e same messages fault) = absurd cc
-heard_became before after s t message m heard adds (Heard e does n one stops messages fault) =
+received_became before after s t message m received adds (Stayed e same messages fault) = absurd cc
+received_became before after s t message m received adds (Reacted e does n one stops messages fault) =
     one_between s t n one ∙ ap (λ (k : Message). Some k) (last_same before.messages n m (sym messages ∙ adds))
-heard_became before after s t message m heard adds (Rejected e does fault rejects messages is) = absurd cc
+received_became before after s t message m received adds (Rejected e does fault rejects messages is) = absurd cc
 
 -- ---- the request
 
 -- The model hands over the same requests.
 same_request : (w : World) (rest : List ℕ) (s : Connection) (m : Message) → IsHistory s.history
     → is_handed_over (shared_of w.store w.now) (session_shown rest s).link m
-    ≡ (asks_answer s m && is_handed (held_for (after s.history (call.Handle m)) (delay_of w.store w.now m)))
+    ≡ (asks_answer s m && is_handed (delay_for (after s.history (call.Handle m)) (delay_of w.store w.now m)))
 same_request w rest s m history =
     let same : link_of (after s.history (call.Handle m)) ≡ link_after (link_of s.history) (call.Handle m) =
     after_link s.history (call.Handle m) tt history in
-    let held : (l : LinkValue) → l ≡ link_of (after s.history (call.Handle m)) → (d : Option Delay)
-    → held_in l d ≡ held_for (after s.history (call.Handle m)) d =
+    let pending : (l : LinkValue) → l ≡ link_of (after s.history (call.Handle m)) → (d : Option Delay)
+    → delay_in l d ≡ delay_for (after s.history (call.Handle m)) d =
     λ l is d. rw is (elim d
-    as (λ o. held_in (link_of (after s.history (call.Handle m))) o ≡ held_for (after s.history (call.Handle m)) o) [
+    as (λ o. delay_in (link_of (after s.history (call.Handle m))) o ≡ delay_for (after s.history (call.Handle m)) o) [
       | None ↦ refl
       | Some x ↦ refl
     ]) in
     ap (λ d. asks_answer s m && is_handed d)
-    (held (link_after (link_of s.history) (call.Handle m)) (sym same) (delay_of w.store w.now m))
+    (pending (link_after (link_of s.history) (call.Handle m)) (sym same) (delay_of w.store w.now m))
 
 read_request : (shared : ServerState) (v : SessionValue) (frame : List ℕ) (m : Message) → message_of frame ≡ Ok m
     → option_and_then frame_message (handed_read shared v frame (Ok m))
@@ -170,11 +170,11 @@ module _ (c : ConfigValues) (es : List AcceptedCall) (id : ℕ) (piece : List �
         (no_fault_before c es id piece s is there shared does) frame m e reads in
         let added : later.messages ≡ before.messages ++ m ∷ [] =
         rw (takes_there c es id piece s there, does) (ap (λ (u : Stream). u.messages) adds.stream) in
-        let heard : message ≡ true = ap (λ (o : TakeOutcome). o.handled) (front (AFrame frame) e) ∙ rw reads refl in
+        let received : message ≡ true = ap (λ (o : TakeOutcome). o.handled) (front (AFrame frame) e) ∙ rw reads refl in
         read_request shared shown frame m reads
         ∙ ap (λ b. if b then Some m else None) (same_request w rest s m history)
         ∙ ap (option_and_then (request_to w.store w.now s))
-        (sym (heard_became before later s after_take.0 message m heard added after_take.2))
+        (sym (received_became before later s after_take.0 message m received added after_take.2))
 
     found_same : (found : FrameEventValue) → (framing size rest piece).finding ≡ found
         → Same (handed_found shared shown found)

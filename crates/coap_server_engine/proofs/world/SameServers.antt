@@ -7,7 +7,7 @@ use Rattle.coap_server_engine.specs.Prelude.{world_after, stream_on}
 use Rattle.coap_server_engine.specs.Prelude.{kept_on, session_shown, place_shown, server_of}
 use Rattle.coap_server_engine.specs.Prelude.{normalised_steps, kept_at}
 use Rattle.coap_model.proofs.world.ReachedLaws.{events_distinct}
-use Rattle.coap_model.proofs.world.HearingLaws.{each_same, same_heard}
+use Rattle.coap_model.proofs.world.EndOfInputLaws.{each_same, same_received}
 
 -- ---- servers
 
@@ -18,7 +18,7 @@ unfolding server_of
 same_servers c es fs alike kept =
     let M : ℕ = c.limits.max_message in
     let w : World = world_after c es in
-    let worlds : w ≡ world_after c fs = same_heard c es fs alike in
+    let worlds : w ≡ world_after c fs = same_received c es fs alike in
     let same : (id : ℕ) (s : Connection) → side_of id w.sides ≡ Some s
     → kept_on s (stream_on M id es).rest ≡ kept_on s (stream_on M id fs).rest = λ id s there. cc (kept id) in
     let sessions : map (place_shown M es) w.sides ≡ map (place_shown M fs) w.sides =

@@ -49,8 +49,8 @@ use Rattle.coap_server_session.proofs.world.SideShown.{shared_of, faulted_shown,
 use Rattle.coap_server_session.proofs.world.SideShown.{written_shown}
 use Rattle.coap_server_session.proofs.world.SideShown.{ended_side_shown, released_shown, given_shown, announced_shown}
 use Rattle.coap_server_session.proofs.world.SideShown.{settled_shown}
-use Rattle.coap_model.proofs.world.HearingLaws.{world_stays, IsKnownPlace, IsKnownWorld, acted_known, world_known}
-use Rattle.coap_model.proofs.world.HearingLaws.{world_hears}
+use Rattle.coap_model.proofs.world.EndOfInputLaws.{world_stays, IsKnownPlace, IsKnownWorld, acted_known, world_known}
+use Rattle.coap_model.proofs.world.EndOfInputLaws.{world_hears}
 use Rattle.coap_model.proofs.OptionLemmas.{one_made}
 use Rattle.coap_conn.proofs.LinkLemmas.{new_shown}
 use Rattle.coap_store.specs.Answer as store_change

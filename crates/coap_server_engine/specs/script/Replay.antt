@@ -108,7 +108,7 @@ drain_ran v id bytes = comes_to (server_written v id (length bytes)) (out_line i
 abbrev pub status_ran : ServerValue → ℕ → SessionValue → EventResult
 status_ran v id s =
     comes_to v
-    (status_line id s.link.phase (length s.frame) (length s.link.waiting) (length s.link.held) (length s.observers))
+    (status_line id s.link.phase (length s.frame) (length s.link.waiting) (length s.link.pending) (length s.observers))
 
 -- ---- events
 
@@ -146,10 +146,10 @@ event_ran v (Drop id) =
 event_ran v (Status id) = on_connection v (codes "status") id (status_ran v id) (session_of id v.sessions)
 
 -- The result `r` with its text after the text `before`.
-abbrev pub behind : List ℕ → EventResult → EventResult
-behind before r = comes_to r.server (before ++ r.text)
+abbrev pub result_after : List ℕ → EventResult → EventResult
+result_after before r = comes_to r.server (before ++ r.text)
 
 -- The server after all events in order, and all their lines.
 unfoldable pub replayed : ServerValue → List ScriptEventValue → EventResult
 replayed v [] = comes_to v []
-replayed v (e ∷ es) = behind (event_ran v e).text (replayed (event_ran v e).server es)
+replayed v (e ∷ es) = result_after (event_ran v e).text (replayed (event_ran v e).server es)

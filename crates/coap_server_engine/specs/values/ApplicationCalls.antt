@@ -16,7 +16,7 @@ use Rattle.coap_server_engine.specs.values.Servers.{ServerValue, session_of, cou
 use Rattle.coap_server_engine.specs.values.ServerAnswers.{IsNotTaken, responded_refusal, IsReplyOn, response_event}
 use Rattle.coap_server_engine.specs.values.InResults.{InResult, unfed, fed_more, goes_on, ShowsMore}
 use Rattle.coap_server_engine.specs.values.HandedRequests.{handed_by}
-use Rattle.coap_server_engine.specs.values.Exchanges.{Exchange, Asked, Offered, Given}
+use Rattle.coap_server_engine.specs.values.Exchanges.{Exchange, Requested, Offered, Given}
 
 -- ---- a response of the application
 
@@ -60,7 +60,7 @@ message_limit v id = limit_of v (session_of id v.sessions)
 -- The exchange of a request, if there is one.
 abbrev pub asks_for : (id limit : ℕ) → List ℕ → Option Message → List Exchange
 asks_for id limit response None = []
-asks_for id limit response (Some m) = Asked id m limit response ∷ []
+asks_for id limit response (Some m) = Requested id m limit response ∷ []
 
 -- The effect of a request, if there is one. The application wrote `response`.
 abbrev pub asking : ServerValue → (id limit : ℕ) → List ℕ → Option Message → AskResult
@@ -74,25 +74,25 @@ asking v id limit response (Some m) = record {
 -- ---- one take
 
 -- The effect of the request that a take of `left` hands to the application.
-abbrev pub asked_by : ServerValue → ℕ → List ℕ → List ℕ → AskResult
-asked_by v id left response = asking (server_taken v id left) id (message_limit v id) response (handed_by v id left)
+abbrev pub ask_result : ServerValue → ℕ → List ℕ → List ℕ → AskResult
+ask_result v id left response = asking (server_taken v id left) id (message_limit v id) response (handed_by v id left)
 
 -- Holds for a take of `left` that accepted `count` bytes, and for the response that the application wrote if it was
 -- asked.
 pub record IsTakenFor (v : ServerValue) (id : ℕ) (left response : List ℕ) (count : ℕ) (after : ServerValue)
-    (told : List AcceptedCall → Type 0) (asks : List Exchange → Type 0) : Type 0 where
-  pub server : after ≡ (asked_by v id left response).server
-  pub shows : ShowsMore v after (Took id (take count left) ∷ (asked_by v id left response).events)
-  pub tells : told (Took id (take count left) ∷ (asked_by v id left response).events)
-  pub exchanged : asks (asked_by v id left response).exchanges
+    (reported : List AcceptedCall → Type 0) (asks : List Exchange → Type 0) : Type 0 where
+  pub server : after ≡ (ask_result v id left response).server
+  pub shows : ShowsMore v after (Took id (take count left) ∷ (ask_result v id left response).events)
+  pub reports : reported (Took id (take count left) ∷ (ask_result v id left response).events)
+  pub exchanged : asks (ask_result v id left response).exchanges
 
 -- Holds if allocation failed in a take of `left`.
 pub record IsNotTakenFor (v : ServerValue) (id : ℕ) (left : List ℕ) (after : ServerValue)
-    (told : List AcceptedCall → Type 0) : Type 0 where
+    (reported : List AcceptedCall → Type 0) : Type 0 where
   pub count : ℕ
   pub refused : IsNotTaken v id left (taking.Memory count) after
   pub shows : ShowsMore v after (Took id (take count left) ∷ [])
-  pub tells : told (Took id (take count left) ∷ [])
+  pub reports : reported (Took id (take count left) ∷ [])
 
 -- ---- takes, until no byte is left or one accepts none
 
@@ -110,11 +110,11 @@ unserved v = record { fed = unfed v; events = []; exchanges = [] }
 -- application wrote `response`.
 abbrev pub served_more : ℕ → List ℕ → List ℕ → ServeResult → ServeResult
 served_more id left response s = record {
-  fed = record (fed_more id left s.fed) { server = (asked_by s.fed.server id left response).server };
+  fed = record (fed_more id left s.fed) { server = (ask_result s.fed.server id left response).server };
   events =
       s.events
-      ++ Took id (take (count_taken s.fed.server id left) left) ∷ (asked_by s.fed.server id left response).events;
-  exchanges = s.exchanges ++ (asked_by s.fed.server id left response).exchanges;
+      ++ Took id (take (count_taken s.fed.server id left) left) ∷ (ask_result s.fed.server id left response).events;
+  exchanges = s.exchanges ++ (ask_result s.fed.server id left response).exchanges;
 }
 
 -- The value after takes during which the application wrote these responses, the last one first: one for each take.
@@ -129,10 +129,10 @@ AreMade v id bytes [] = Unit {0}
 AreMade v id bytes (response ∷ responses) =
     (goes_on bytes (served v id bytes responses).fed ≡ true) × AreMade v id bytes responses
 
--- Holds if all bytes were offered, and `count` of them were accepted. `after` is the server then, `told` holds of the
--- events and `asks` of the exchanges. If there is no connection, no take was made.
+-- Holds if all bytes were offered, and `count` of them were accepted. `after` is the server then, `reported` holds of
+-- the events and `asks` of the exchanges. If there is no connection, no take was made.
 pub record IsServed (v : ServerValue) (id : ℕ) (bytes : List ℕ) (count : ℕ) (after : ServerValue)
-    (told : List AcceptedCall → Type 0) (asks : List Exchange → Type 0) : Type 0 where
+    (reported : List AcceptedCall → Type 0) (asks : List Exchange → Type 0) : Type 0 where
   pub responses : List (List ℕ)
   pub made : AreMade v id bytes responses
   pub over : goes_on bytes (served v id bytes responses).fed ≡ true → session_of id v.sessions ≡ None
@@ -140,13 +140,13 @@ pub record IsServed (v : ServerValue) (id : ℕ) (bytes : List ℕ) (count : ℕ
   pub counted : count ≡ (served v id bytes responses).fed.count
   pub server : after ≡ (served v id bytes responses).fed.server
   pub shows : ShowsMore v after (served v id bytes responses).events
-  pub tells : told (served v id bytes responses).events
+  pub reports : reported (served v id bytes responses).events
   pub exchanged : asks (served v id bytes responses).exchanges
 
 -- Holds if allocation failed in a take, after those before it. `after` is the server then. It shows the events of the
 -- takes before it, and of the bytes which the failing take accepted.
 pub record IsPartlyServed (v : ServerValue) (id : ℕ) (bytes : List ℕ) (after : ServerValue)
-    (told : List AcceptedCall → Type 0) (asks : List Exchange → Type 0) : Type 0 where
+    (reported : List AcceptedCall → Type 0) (asks : List Exchange → Type 0) : Type 0 where
   pub responses : List (List ℕ)
   pub made : AreMade v id bytes responses
   pub going : goes_on bytes (served v id bytes responses).fed ≡ true
@@ -155,7 +155,7 @@ pub record IsPartlyServed (v : ServerValue) (id : ℕ) (bytes : List ℕ) (after
       (drop (served v id bytes responses).fed.count bytes) (taking.Memory count) after
   pub shows : ShowsMore v after ((served v id bytes responses).events
       ++ Took id (take count (drop (served v id bytes responses).fed.count bytes)) ∷ [])
-  pub tells : told ((served v id bytes responses).events
+  pub reports : reported ((served v id bytes responses).events
       ++ Took id (take count (drop (served v id bytes responses).fed.count bytes)) ∷ [])
   pub exchanged : asks (served v id bytes responses).exchanges
 
@@ -163,7 +163,7 @@ pub record IsPartlyServed (v : ServerValue) (id : ℕ) (bytes : List ℕ) (after
 
 -- Holds if the application was asked for a later response for the connection `id`, and the server gave it, or did not
 -- accept it.
-pub record IsGivenLater (v : ServerValue) (id : ℕ) (after : ServerValue) (told : List AcceptedCall → Type 0)
+pub record IsGivenLater (v : ServerValue) (id : ℕ) (after : ServerValue) (reported : List AcceptedCall → Type 0)
     (asks : List Exchange → Type 0) : Type 0 where
   pub bytes : List ℕ
   pub outcome : Result Reply ResponseFault
@@ -171,14 +171,14 @@ pub record IsGivenLater (v : ServerValue) (id : ℕ) (after : ServerValue) (told
   pub reply : IfOk outcome (λ r. IsReplyOn bytes r (session_of id v.sessions))
   pub server : after ≡ server_offered v id bytes
   pub shows : ShowsMore v after (offered_events v id bytes)
-  pub tells : told (offered_events v id bytes)
+  pub reports : reported (offered_events v id bytes)
   pub exchanged : asks (Offered id bytes ∷ Given id outcome ∷ [])
 
 -- The same by the connection that the application named. If it named none, nothing happened.
-abbrev pub IsAskedLater : ServerValue → Option ℕ → ServerValue → (List AcceptedCall → Type 0)
+abbrev pub IsRequestedLater : ServerValue → Option ℕ → ServerValue → (List AcceptedCall → Type 0)
     → (List Exchange → Type 0) → Type 0
-IsAskedLater v None after told asks = (after ≡ v) × (told [] × asks [])
-IsAskedLater v (Some id) after told asks = IsGivenLater v id after told asks
+IsRequestedLater v None after reported asks = (after ≡ v) × (reported [] × asks [])
+IsRequestedLater v (Some id) after reported asks = IsGivenLater v id after reported asks
 
 -- Holds if the application gave this number of later responses, one after the other, with these events and exchanges.
 -- The server is the last one then.
@@ -193,8 +193,8 @@ pub data AreGivenLater (v : ServerValue) : ℕ → ServerValue → List Accepted
 
 -- Holds if the application was asked for later responses until it had none (`more` is `false`), or until it had given
 -- `most` of them.
-pub record AreAskedLater (v : ServerValue) (most : ℕ) (more : Bool) (after : ServerValue)
-    (told : List AcceptedCall → Type 0) (asks : List Exchange → Type 0) : Type 0 where
+pub record AreRequestedLater (v : ServerValue) (most : ℕ) (more : Bool) (after : ServerValue)
+    (reported : List AcceptedCall → Type 0) (asks : List Exchange → Type 0) : Type 0 where
   pub number : ℕ
   pub events : List AcceptedCall
   pub exchanges : List Exchange
@@ -202,5 +202,5 @@ pub record AreAskedLater (v : ServerValue) (most : ℕ) (more : Bool) (after : S
   pub within : number ≤ most
   pub over : more ≡ (number == most)
   pub shows : ShowsMore v after events
-  pub tells : told events
+  pub reports : reported events
   pub exchanged : asks exchanges

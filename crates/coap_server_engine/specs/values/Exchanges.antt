@@ -6,13 +6,13 @@ use Rattle.coap_conn.specs.declared.phase.Reply.{Reply}
 use Rattle.coap_model.specs.declared.answers.ResponseFault.{ResponseFault}
 
 -- One exchange with the application:
--- - `Asked`: a request of a connection, and the response that the application wrote, or no byte. `limit` is the size of
---   the largest message that may be sent there.
+-- - `Requested`: a request of a connection, and the response that the application wrote, or no byte. `limit` is the
+--   size of the largest message that may be sent there.
 -- - `Offered`: a later response, for a connection.
 -- - `Given`: the result of that response.
 -- - `Gone`: the end of a connection.
 pub data Exchange : Type 0 where
-  Asked : (id : ℕ) (request : Message) (limit : ℕ) (response : List ℕ) → Exchange
+  Requested : (id : ℕ) (request : Message) (limit : ℕ) (response : List ℕ) → Exchange
   Offered : (id : ℕ) (response : List ℕ) → Exchange
   Given : (id : ℕ) (outcome : Result Reply ResponseFault) → Exchange
   Gone : (id : ℕ) → Exchange
@@ -24,7 +24,7 @@ offers (Some id) response = Offered id response ∷ []
 
 -- The application wrote no byte in this exchange.
 abbrev pub IsUnanswered : Exchange → Type 0
-IsUnanswered (Asked id request limit response) = response ≡ []
+IsUnanswered (Requested id request limit response) = response ≡ []
 IsUnanswered (Offered id response) = ⊥
 IsUnanswered (Given id outcome) = Unit {0}
 IsUnanswered (Gone id) = Unit {0}

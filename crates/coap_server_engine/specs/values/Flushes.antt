@@ -22,7 +22,7 @@ waiting_at id v = waiting_in (session_of id v.sessions)
 -- The number of pending entries plus the number of observers of a connection.
 abbrev pub more_in : Option SessionValue → ℕ
 more_in None = 0
-more_in (Some s) = length s.link.held + length s.observers
+more_in (Some s) = length s.link.pending + length s.observers
 
 -- The same number for the connection with this id.
 abbrev pub more_at : ℕ → ServerValue → ℕ

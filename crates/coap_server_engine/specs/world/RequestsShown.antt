@@ -8,7 +8,7 @@ use Rattle.coap_conn.specs.History.{after}
 use Rattle.coap_conn.specs.Calls as call
 use Rattle.coap_store.specs.Store.{StoreValue}
 use Rattle.coap_model.specs.Configs.{ConfigValues}
-use Rattle.coap_model.specs.world.Connections.{Connection, asks_answer, held_for, delay_of}
+use Rattle.coap_model.specs.world.Connections.{Connection, asks_answer, delay_for, delay_of}
 use Rattle.coap_model.specs.world.World.{World, side_of}
 use Rattle.coap_model.specs.world.Events.{AcceptedCall, world_after}
 use Rattle.coap_server_session.specs.values.HandedRequests.{is_handed}
@@ -20,7 +20,7 @@ message_between before after = slice_get after.history.handled (length before.hi
 -- A message, if it is a request that becomes a pending entry of the application.
 abbrev pub request_to : StoreValue → ℕ → Connection → Message → Option Message
 request_to store now s m =
-    if asks_answer s m && is_handed (held_for (after s.history (call.Handle m)) (delay_of store now m))
+    if asks_answer s m && is_handed (delay_for (after s.history (call.Handle m)) (delay_of store now m))
     then Some m else None
 
 -- The request between two states of a connection. There is none if the connection did not exist, or no longer accepts

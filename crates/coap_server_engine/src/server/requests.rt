@@ -36,7 +36,7 @@ impl Server {
     ghost use Rattle.coap_server_engine.specs.Prelude.{LiesAt, frame_message, AcceptedCall, Took, takes};
     ghost use Rattle.coap_server_engine.specs.Prelude.{handled_in, Shows, request_in, ShowsRefused};
     ghost use Rattle.coap_server_engine.specs.Prelude.{IsRefusedFor, FollowsMore, handed_frame, handed_by};
-    ghost use Rattle.coap_server_engine.specs.Prelude.{AnswersMore, IsServed, IsPartlyServed, IsAskedLater};
+    ghost use Rattle.coap_server_engine.specs.Prelude.{AnswersMore, IsServed, IsPartlyServed, IsRequestedLater};
     ghost use Rattle.coap_server_engine.specs.Prelude.{IsTakenRequest, server_offered};
     ghost use Rattle.coap_server_engine.specs.Prelude.{offered_events, response_for, IsTakenFor, IsNotTakenFor};
     ghost use Rattle.coap_server_engine.specs.Prelude.{asks_for, message_limit, changing_frame, frame_key, ChangesBy};
@@ -221,8 +221,8 @@ impl Server {
             Shows self.new (events ++ Took index.id (take t.0.bytes rest.now) ∷ [])) }
         ensures token { IfOk result (λ t. IfSome t.1 (λ token.
             option_map (λ m. m.token) (handed_by self.old index.id rest.now) ≡ Some token.items)) }
-        ensures unasked { IfOk result (λ t. IfNone t.1 (response.new.items ≡ [])) }
-        ensures asked { OnOk result (AnswersMore (A.follows application.old) (A.follows application.new)
+        ensures unrequested { IfOk result (λ t. IfNone t.1 (response.new.items ≡ [])) }
+        ensures requested { OnOk result (AnswersMore (A.follows application.old) (A.follows application.new)
             (asks_for index.id (message_limit self.old index.id) response.new.items
             (handed_by self.old index.id rest.now))) }
         ensures refused { IfErr result (λ fault. IsNotTaken self.old index.id rest.now fault self.new) }
@@ -261,7 +261,7 @@ impl Server {
             ≡ server_offered self.old id (response_for self.old id token.now.items response.now) }
         ensures shows { ShowsMore self.old self.new
             (offered_events self.old id (response_for self.old id token.now.items response.now)) }
-        ensures told { FollowsMore (M.follows monitor.old) (M.follows monitor.new)
+        ensures reported { FollowsMore (M.follows monitor.old) (M.follows monitor.new)
             (offered_events self.old id (response_for self.old id token.now.items response.now)) }
         ensures lies { LiesAt id at self.new.sessions }
     {
@@ -407,7 +407,7 @@ impl Server {
         monitor: &mut M,
     ) -> Option<ConnId>
         ensures settled { IfSome result (λ id. AreSettled self.old.shared self.old.sessions) }
-        ensures asked { IsAskedLater self.old result self.new
+        ensures requested { IsRequestedLater self.old result self.new
             (FollowsMore (M.follows monitor.old) (M.follows monitor.new))
             (AnswersMore (A.follows application.old) (A.follows application.new)) }
         ensures none { IfNone result (A.idle application.new) }

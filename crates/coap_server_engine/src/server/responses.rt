@@ -88,7 +88,7 @@ impl Server {
         ensures err { OnErr result (self.new ≡ self.old) }
         ensures after { self.new ≡ server_offered self.old id response.now }
         ensures shows { ShowsMore self.old self.new (offered_events self.old id response.now) }
-        ensures told { FollowsMore (M.follows monitor.old) (M.follows monitor.new)
+        ensures reported { FollowsMore (M.follows monitor.old) (M.follows monitor.new)
             (offered_events self.old id response.now) }
     {
         let Some(at) = at else {

@@ -7,7 +7,7 @@ ghost use Rattle.coap_server_engine.specs.Prelude.{AreMarkedBut, AreMarkedAfter,
 ghost use Rattle.coap_server_engine.specs.Prelude.{IsFlushedAt, session_written, session_ended, session_released};
 ghost use Rattle.coap_server_engine.specs.Prelude.{session_announced, session_settled, LiesAt, session_of, changed_at};
 ghost use Rattle.coap_server_engine.specs.Prelude.{settled_entry, AreSettled, UnaffectedAreSettled, AreUntouched};
-ghost use Rattle.coap_server_engine.specs.Prelude.{AreOthersSettled, settled_held, released_refusal_on, IsAnnounced};
+ghost use Rattle.coap_server_engine.specs.Prelude.{AreOthersSettled, settled_pending, released_refusal_on, IsAnnounced};
 ghost use Rattle.coap_server_engine.specs.Prelude.{handled_so, responded_refusal_on, IsReplyOn, message_of};
 ghost use Rattle.coap_server_engine.specs.Prelude.{session_given_by, splits_of, Covers, AreCovered};
 ghost use Rattle.coap_server_engine.specs.Prelude.{AreCoveredBut, AddsConcerned, earliest_deadline as earliest_of};
@@ -176,7 +176,7 @@ pub(super) fn settle_after(
     requires own { IfSome (slice_get (values sessions.old) at) (IsMarked shared.now) }
     ensures covered { AreCovered sets.new (unmarked sessions.new.entries) }
     ensures after { unmarked sessions.new.entries ≡ (if is_some changed then map (settled_entry shared.entry.now)
-        (unmarked sessions.old.entries) else changed_at at (settled_held shared.entry.now)
+        (unmarked sessions.old.entries) else changed_at at (settled_pending shared.entry.now)
         (unmarked sessions.old.entries)) }
     ensures marked { AreAllMarked shared.entry.now sessions.new.entries }
     ensures splits { splits_of sessions.new.entries ≡ splits_of sessions.old.entries }

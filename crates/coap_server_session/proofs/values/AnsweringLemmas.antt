@@ -11,7 +11,7 @@ use Rattle.coap_server_session.specs.Prelude.{Delay, delay_by, delay_or, hold_ca
 use Rattle.coap_server_session.specs.Prelude.{response_message, response_with_observe, notification_of, MayObserve}
 use Rattle.coap_server_session.specs.Prelude.{ServerState}
 use Rattle.coap_server_session.specs.Prelude.{moment_after, asks_entry, is_whole, with_entry, goes_on, ObserverValue}
-use Rattle.coap_server_session.specs.Prelude.{new_entry, answer_on, delay_on, held_in, is_stale, mark_of}
+use Rattle.coap_server_session.specs.Prelude.{new_entry, answer_on, delay_on, delay_in, is_stale, mark_of}
 use Rattle.coap_server_session.specs.Prelude.{notification_on}
 use Rattle.coap_server_session.specs.Prelude.{state_on, first_index, is_observed, response_on, is_sent, link_replied}
 use Rattle.coap_server_session.specs.Prelude.{entries_replied, entries_notified, Response}
@@ -24,7 +24,7 @@ use Rattle.coap_store.specs.Answer as answer
 use Rattle.coap_store.specs.Answer.{Answer}
 use Rattle.coap_store.specs.declared.plan.Watch.TheVariants as watch
 use Rattle.coap_store.proofs.ApplicationLaws.{prompt_cases}
-use Rattle.coap_store.proofs.HoldLaws.{held_of, held_unwatched, same_change, same_at_once, refused_for_now}
+use Rattle.coap_store.proofs.HoldLaws.{delay_of_answer, delayed_unwatched, same_change, same_at_once, refused_for_now}
 use Rattle.coap_store.proofs.WatchLaws.{promptly_watched_is_there}
 use Rattle.coap_server_session.proofs.values.EntryLemmas.{is_first}
 use Rattle.coap_model.proofs.world.EntryLemmas.{asks_to_enter}
@@ -65,10 +65,11 @@ unfolding immediate_answer
 refused_immediately s now m seconds holds =
     let same : (answer_of s now m).watch ≡ (immediate_answer s now m).watch = cc holds in
     record {
-      quiet = same_change s now m ∙ (held_of s now m seconds holds).change;
+      quiet = same_change s now m ∙ (delay_of_answer s now m seconds holds).change;
       refused = refused_for_now s now m seconds holds;
       unwatched = false_from_ne_true (asks_entry (immediate_answer s now m).watch)
-          (λ asks. held_unwatched s now m seconds holds (same ∙ asks_to_enter (immediate_answer s now m).watch asks));
+          (λ asks. delayed_unwatched s now m seconds holds (same
+          ∙ asks_to_enter (immediate_answer s now m).watch asks));
     }
 
 refused_by : (s : StoreValue) (now : ℕ) (m : Message) (d : Delay) (deadline hold : Option ℕ)
@@ -98,7 +99,7 @@ module _ (shared : ServerState) (m : Message) (d : Delay) (room : ℕ) (others :
   pub late_link : (l after : LinkValue) (moment : ℕ) → moment ≡ moment_after shared.now d.seconds
       → after ≡ (if can_hold l then link_after l (hold_call d.by m.token moment)
       else link_after l (call.Reply (response_message m.token (only code.service_unavailable))))
-      → after ≡ link_replied shared l room others m (held_in l (delay_on shared m))
+      → after ≡ link_replied shared l room others m (delay_in l (delay_on shared m))
   late_link l after moment at is =
       let refused : response_message m.token (only code.service_unavailable) ≡ response_on shared room others m =
       cc (late_unobserved, (refused_delay_of shared m d delays).refused) in
@@ -109,9 +110,9 @@ module _ (shared : ServerState) (m : Message) (d : Delay) (room : ℕ) (others :
         | true ↦ cc at
         | false ↦ cc refused
       ]
-      ∙ ap (λ (delay : Option Delay). link_replied shared l room others m (held_in l delay)) (sym delays)
+      ∙ ap (λ (delay : Option Delay). link_replied shared l room others m (delay_in l delay)) (sym delays)
 
-  pub late_entries : (l : LinkValue) → others ≡ entries_replied shared l room others m (held_in l (delay_on shared m))
+  pub late_entries : (l : LinkValue) → others ≡ entries_replied shared l room others m (delay_in l (delay_on shared m))
   late_entries l =
       rw delays
       (elim (can_hold l) as (λ b. others ≡ entries_replied shared l room others m (if b then Some d else None)) [
@@ -148,20 +149,20 @@ delay_handed shared m deadline is = ap (λ (d : Option ℕ). delay_or d (answer_
 module _ (shared : ServerState) (m : Message) (l : LinkValue) (room : ℕ) (others : List ObserverValue)
     (none : delay_on shared m ≡ None) where
   pub prompt_link : link_after l (call.Reply (response_on shared room others m))
-      ≡ link_replied shared l room others m (held_in l (delay_on shared m))
+      ≡ link_replied shared l room others m (delay_in l (delay_on shared m))
   prompt_link = cc none
 
   pub prompt_entries : (enters : Bool)
       → enters ≡ (is_observed shared room others m && is_sent l (response_on shared room others m))
       → with_entry enters others (new_entry shared m)
-      ≡ entries_replied shared l room others m (held_in l (delay_on shared m))
+      ≡ entries_replied shared l room others m (delay_in l (delay_on shared m))
   prompt_entries enters is = cc
 
   -- A request that changes the store gets no entry.
   module _ (does : changes (answer_on shared m).change ≡ true) where
     pub change_link : (after : LinkValue) (r : Response) → r ≡ (answer_on shared m).response
         → after ≡ link_after l (call.Reply (response_with_observe m.token false r))
-        → after ≡ link_replied shared l room others m (held_in l (delay_on shared m))
+        → after ≡ link_replied shared l room others m (delay_in l (delay_on shared m))
     change_link after r same is =
         is
         ∙ ap (λ (s : Response). link_after l (call.Reply (response_with_observe m.token false s))) same
@@ -169,14 +170,14 @@ module _ (shared : ServerState) (m : Message) (l : LinkValue) (room : ℕ) (othe
         (sym (unobserved shared m room others does))
         ∙ prompt_link
 
-    pub change_entries : others ≡ entries_replied shared l room others m (held_in l (delay_on shared m))
+    pub change_entries : others ≡ entries_replied shared l room others m (delay_in l (delay_on shared m))
     change_entries = prompt_entries false (cc (unobserved shared m room others does))
 
 -- ---- pending entries
 
 -- If no entry is due, nothing is sent.
-pub nothing_sent : (l : LinkValue) (now : ℕ) → first_due now l.held ≡ None → link_after l (call.Due now) ≡ l
-nothing_sent l now none = rw (none, (due_nothing now l.held none).1, append-nil l.waiting) refl
+pub nothing_sent : (l : LinkValue) (now : ℕ) → first_due now l.pending ≡ None → link_after l (call.Due now) ≡ l
+nothing_sent l now none = rw (none, (due_nothing now l.pending none).1, append-nil l.waiting) refl
 
 -- ---- a notification
 
@@ -197,14 +198,14 @@ notified_entries shared l entries index o false first is = (is_first (is_stale s
 
 -- An observer stays if and only if the code computes so from the entry at the index.
 pub observer_stays_by : (shared : ServerState) (l : LinkValue) (entries : List ObserverValue) (index : ℕ)
-    (seen o : ObserverValue) (a : Answer) (c : ℕ) (goes : Bool) (reply : Reply) → slice_get entries index ≡ Some seen
+    (found o : ObserverValue) (a : Answer) (c : ℕ) (goes : Bool) (reply : Reply) → slice_get entries index ≡ Some found
     → slice_get entries index ≡ Some o
-    → a ≡ says (notification_of shared.store shared.now seen.path seen.format) → c ≡ a.response.code
+    → a ≡ says (notification_of shared.store shared.now found.path found.format) → c ≡ a.response.code
     → goes ≡ (c == code.content)
-    → reply ≡ fit (limit_in l) (response_with_observe seen.token goes a.response)
-    (bare_response (response_with_observe seen.token goes a.response)) → (goes && is_whole reply)
+    → reply ≡ fit (limit_in l) (response_with_observe found.token goes a.response)
+    (bare_response (response_with_observe found.token goes a.response)) → (goes && is_whole reply)
     ≡ goes_whole shared l o
-observer_stays_by shared l entries index seen o a c goes reply read at told code_is goes_is sent =
-    let same : seen ≡ o = cc (read, at) in
-    let stays : (goes && is_whole reply) ≡ goes_whole shared l seen = cc (told, code_is, goes_is, sent) in
+observer_stays_by shared l entries index found o a c goes reply read at reported code_is goes_is sent =
+    let same : found ≡ o = cc (read, at) in
+    let stays : (goes && is_whole reply) ≡ goes_whole shared l found = cc (reported, code_is, goes_is, sent) in
     stays ∙ ap (goes_whole shared l) same

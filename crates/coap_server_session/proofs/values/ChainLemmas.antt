@@ -157,11 +157,11 @@ concerned_by_path (cause.Path hash) o = refl
 concerned_by_path (cause.Moment before) o = refl
 
 -- The observer of a value in the list.
-seen_at : (xs : List Observer) (i : ℕ) (o : ObserverValue) → slice_get (map observer_value xs) i ≡ Some o
+observer_at : (xs : List Observer) (i : ℕ) (o : ObserverValue) → slice_get (map observer_value xs) i ≡ Some o
     → (x : Observer) × (slice_get (map linked xs) i ≡ Some (linked x)) × (o ≡ observer_value x)
-seen_at [] i o at = absurd cc
-seen_at (x ∷ xs) zero o at = (x, refl, let same : observer_value x ≡ o = cc in sym same)
-seen_at (x ∷ xs) (suc i) o at = seen_at xs i o at
+observer_at [] i o at = absurd cc
+observer_at (x ∷ xs) zero o at = (x, refl, let same : observer_value x ≡ o = cc in sym same)
+observer_at (x ∷ xs) (suc i) o at = observer_at xs i o at
 
 pub linked_at : (xs : List Observer) (i : ℕ) (x : Observer) → i < length xs → x ≡ get_or xs i x
     → slice_get (map linked xs) i ≡ Some (linked x)
@@ -173,7 +173,7 @@ others_unconcerned : (why : Cause) (n : ℕ) (xs : List Observer) (last : Option
     → IsLastBefore why n (map linked xs) last → (i : ℕ) (o : ObserverValue) → next_index last ≤ i → i < n
     → slice_get (map observer_value xs) i ≡ Some o → is_concerned why o ≡ false
 others_unconcerned why n xs last is i o low high at =
-    let x = seen_at xs i o at in
+    let x = observer_at xs i o at in
     concerned_by_path why o ∙ ap (λ (p : ObserverValue). concerns_path why p.path) x.2
     ∙ is.others i (linked x.0) low high x.1
 
@@ -196,9 +196,10 @@ one_of due (x ∷ xs) (suc k) within one =
     (one_of due xs k (omega (arith, within)) one)
 
 -- A chain has a last observer if and only if the change affects an observer.
-pub last_tells : (why : Cause) (chains : Chains) (xs : List Observer) → AreChainedTo (length xs) chains (map linked xs)
+pub last_concerns : (why : Cause) (chains : Chains) (xs : List Observer)
+    → AreChainedTo (length xs) chains (map linked xs)
     → is_some (last_in why chains) ≡ list_any (λ o. concerns_path why o.path) (map observer_value xs)
-last_tells why chains xs all = by (last_in why chains) (all.last why)
+last_concerns why chains xs all = by (last_in why chains) (all.last why)
   where
     by : (last : Option ℕ) → IsLastBefore why (length xs) (map linked xs) last
         → is_some last ≡ list_any (λ o. concerns_path why o.path) (map observer_value xs)

@@ -17,20 +17,20 @@ use Rattle.coap_server_session.specs.Prelude.{first_becomes, goes_on, notificati
 use Rattle.coap_server_session.specs.Prelude.{TakeOutcome}
 use Rattle.coap_server_session.specs.Prelude.{is_stale, session_ready, session_takes, session_max, session_with}
 use Rattle.coap_server_session.specs.Prelude.{without_entry}
-use Rattle.coap_server_session.specs.Prelude.{new_entry, answer_on, Delay, delay_on, hold_call, held_in}
+use Rattle.coap_server_session.specs.Prelude.{new_entry, answer_on, Delay, delay_on, hold_call, delay_in}
 use Rattle.coap_server_session.specs.Prelude.{session_replied, asks_this}
-use Rattle.coap_server_session.specs.Prelude.{session_handled, taking_read, taking_found, taking, next_held_in}
+use Rattle.coap_server_session.specs.Prelude.{session_handled, taking_read, taking_found, taking, next_pending_in}
 use Rattle.coap_server_session.specs.Prelude.{next_stale}
 use Rattle.coap_server_session.specs.Prelude.{link_sent, entry_left, notification_on, session_notified}
 use Rattle.coap_server_session.specs.Prelude.{session_settled_so}
 use Rattle.coap_server_session.specs.Prelude.{session_settled_once, session_settled_within, session_settled}
-use Rattle.coap_server_session.specs.Prelude.{settled_held}
+use Rattle.coap_server_session.specs.Prelude.{settled_pending}
 use Rattle.coap_server_session.specs.Prelude.{session_written, session_ended, session_released, session_announced}
 use Rattle.coap_server_session.specs.Prelude.{session_given}
 use Rattle.coap_server_session.specs.Prelude.{path_hash, observes_hash, is_time_observer, may_concern, last_hash}
 use Rattle.coap_server_session.specs.Prelude.{due_on}
 use Rattle.coap_server_session.specs.Prelude.{AllByRecursion, IsTagged, observer_value}
-use Rattle.coap_server_session.specs.Prelude.{IsUnaffected, ConcernsNone, IsBefore, link_with, standing_in, send}
+use Rattle.coap_server_session.specs.Prelude.{IsUnaffected, ConcernsNone, IsBefore, link_with, state_in, send}
 use Rattle.coap_server_session.specs.declared.cause.Cause.TheVariants as cause
 use Rattle.coap_server_session.specs.declared.observer.Observer.{Observer}
 use Rattle.coap_path.specs.ResourceKinds.{kind_of_path, is_dynamic}
@@ -40,18 +40,18 @@ use Rattle.coap_conn.specs.declared.reason.Reason.TheVariants.{ReleasedHere}
 use Rattle.coap_conn.specs.Reaction.{stop}
 use Rattle.coap_conn.specs.Responses.{response_refusal}
 use Rattle.coap_conn.specs.PendingEntries.{without_request}
-use Rattle.coap_conn.specs.Calls.{end_reason, release, standing_without, may_announce, link_with_deed}
+use Rattle.coap_conn.specs.Calls.{end_reason, release, state_without, may_announce, link_with_deed}
 use Rattle.coap_conn.specs.Calls as call
 use Rattle.coap_store.specs.Answer.{Answer}
 use Rattle.coap_store.specs.Answer as answer
 use Rattle.coap_model.specs.world.Connections.{is_cut}
 use Rattle.coap_model.proofs.OptionLemmas.{some_where}
-use Rattle.coap_model.proofs.world.SideLaws.{send_held}
+use Rattle.coap_model.proofs.world.SideLaws.{send_pending}
 use Rattle.coap_model.proofs.world.RespondedLaws.{request_fewer}
 use Rattle.coap_server_session.proofs.values.ChainLemmas.{none_observes}
 use Rattle.coap_server_session.proofs.values.EntryLemmas.{read_at}
 use Rattle.coap_server_session.proofs.values.TagLemmas.{all_at}
-use Rattle.coap_server_session.proofs.values.SettleLemmas.{reply_held, fewer_held}
+use Rattle.coap_server_session.proofs.values.SettleLemmas.{reply_pending, fewer_pending}
 
 -- ---- the last observer
 
@@ -70,20 +70,20 @@ none_last (x ∷ xs) none = absurd (omega (arith, none))
 
 -- ---- a change that does not concern a connection
 
-none_pending : (held : List PendingEntryValue) → nat_lt 0 (length held) ≡ false → held ≡ []
+none_pending : (pending : List PendingEntryValue) → nat_lt 0 (length pending) ≡ false → pending ≡ []
 none_pending [] none = refl
-none_pending (e ∷ held) none = absurd (omega (arith, ltb-false 0 (length (e ∷ held)) none))
+none_pending (e ∷ pending) none = absurd (omega (arith, ltb-false 0 (length (e ∷ pending)) none))
 
-never_due : (now : ℕ) (s : SessionValue) → s.link.held ≡ [] → list_any is_time_observer s.observers ≡ false
+never_due : (now : ℕ) (s : SessionValue) → s.link.pending ≡ [] → list_any is_time_observer s.observers ≡ false
     → due_on now s ≡ None
-never_due now s held told = rw (held, told) refl
+never_due now s pending reported = rw (pending, reported) refl
 
 pub unconcerned : (why : Cause) (now : ℕ) (s : SessionValue) → may_concern why s ≡ false
     → IsUnaffected why now s × ConcernsNone why s.observers
 unconcerned (cause.Path hash) now s none = let each = none_observes hash s.observers none in (each, each)
 unconcerned (cause.Moment before) now s none =
-    let parts = or_parts (nat_lt 0 (length s.link.held)) (list_any is_time_observer s.observers) none in (
-      subst (IsBefore now) (sym (never_due before s (none_pending s.link.held parts.0) parts.1)) tt,
+    let parts = or_parts (nat_lt 0 (length s.link.pending)) (list_any is_time_observer s.observers) none in (
+      subst (IsBefore now) (sym (never_due before s (none_pending s.link.pending parts.0) parts.1)) tt,
       parts.1,
     )
 
@@ -93,35 +93,36 @@ unconcerned (cause.Moment before) now s none =
 pub record AddsNone (s t : SessionValue) : Type 0 where
   pub observers : (p : Path → Bool) → list_any (λ o. p o.path) s.observers ≡ false
       → list_any (λ o. p o.path) t.observers ≡ false
-  pub held : length t.link.held ≤ length s.link.held
+  pub pending : length t.link.pending ≤ length s.link.pending
 
 pub still_unconcerned : (why : Cause) (s t : SessionValue) → AddsNone s t → may_concern why s ≡ false
     → may_concern why t ≡ false
 still_unconcerned (cause.Path hash) s t adds none = adds.observers (λ path. path_hash path == hash) none
 still_unconcerned (cause.Moment before) s t adds none =
-    let parts = or_parts (nat_lt 0 (length s.link.held)) (list_any is_time_observer s.observers) none in
-    let few : length t.link.held ≤ 0 = omega (arith, adds.held, ap length (none_pending s.link.held parts.0)) in
-    let fewer : nat_lt 0 (length t.link.held) ≡ false = grind (arith, few) in
+    let parts = or_parts (nat_lt 0 (length s.link.pending)) (list_any is_time_observer s.observers) none in
+    let few : length t.link.pending ≤ 0 = omega (arith, adds.pending, ap length (none_pending s.link.pending parts.0))
+    in
+    let fewer : nat_lt 0 (length t.link.pending) ≡ false = grind (arith, few) in
     rw fewer (adds.observers (λ path. not (is_dynamic (kind_of_path path))) parts.1)
 
 adds_none : (s : SessionValue) → AddsNone s s
-adds_none s = record { observers = λ p none. none; held = omega arith }
+adds_none s = record { observers = λ p none. none; pending = omega arith }
 
 adds_then : (s t u : SessionValue) → AddsNone s t → AddsNone t u → AddsNone s u
 adds_then s t u first next = record {
   observers = λ p none. next.observers p (first.observers p none);
-  held = omega (arith, first.held, next.held);
+  pending = omega (arith, first.pending, next.pending);
 }
 
 -- The observers of a connection that is not open are removed.
 none_with : (s : SessionValue) (frame : List ℕ) (l : LinkValue) (os : List ObserverValue)
     → ((p : Path → Bool) → list_any (λ o. p o.path) s.observers ≡ false → list_any (λ o. p o.path) os ≡ false)
-    → length l.held ≤ length s.link.held → AddsNone s (session_with frame l os)
+    → length l.pending ≤ length s.link.pending → AddsNone s (session_with frame l os)
 none_with s frame l os none few = record {
   observers =
       λ p before. cond_both (is_open l.phase) os [] (λ xs. list_any (λ o. p o.path) xs ≡ false)
       (λ _. none p before) (λ _. refl);
-  held = few;
+  pending = few;
 }
 
 -- ---- settling
@@ -160,7 +161,7 @@ none_notified shared v o found =
     none_with v v.frame (link_after v.link (call.Reply m)) _
     (λ p none. none_replaced (λ x. p x.path) (is_stale shared) _ v.observers
     (left p none (goes_on (notification_of shared.store shared.now o.path o.format) && whole)) none)
-    (reply_held v.link m)
+    (reply_pending v.link m)
   where
     left : (p : Path → Bool) → list_any (λ x. p x.path) v.observers ≡ false → (stays : Bool)
         → list_any (λ x. p x.path) (entry_left shared o stays) ≡ false
@@ -168,12 +169,12 @@ none_notified shared v o found =
     left p none false = refl
 
 none_once : (shared : ServerState) (v : SessionValue) → AddsNone v (session_settled_once shared v)
-unfolding session_settled_once next_held_in next_stale
+unfolding session_settled_once next_pending_in next_stale
 none_once shared v =
-    elim (next_held_in shared.now v)
-    as (λ due. next_held_in shared.now v ≡ due → AddsNone v (session_settled_so shared v due)) [
+    elim (next_pending_in shared.now v)
+    as (λ due. next_pending_in shared.now v ≡ due → AddsNone v (session_settled_so shared v due)) [
       | Some e ↦ λ found.
-          let fewer = fewer_held v.link shared.now e (some_where (session_ready v) _ e found) in
+          let fewer = fewer_pending v.link shared.now e (some_where (session_ready v) _ e found) in
           none_with v v.frame (link_sent v.link shared.now e) v.observers (λ p none. none) (omega (arith, fewer))
       | None ↦ λ _.
           (elim (next_stale shared v) as (λ next. next_stale shared v ≡ next
@@ -194,9 +195,9 @@ pub settled_adds : (shared : ServerState) (v : SessionValue) → AddsNone v (ses
 unfolding session_settled
 settled_adds shared v = none_within _ shared v
 
-pub held_adds : (shared : ServerState) (v : SessionValue) → AddsNone v (settled_held shared v)
-held_adds shared v =
-    cond_both (length v.link.held == 0) v (session_settled shared v) (AddsNone v) (λ _. adds_none v)
+pub pending_adds : (shared : ServerState) (v : SessionValue) → AddsNone v (settled_pending shared v)
+pending_adds shared v =
+    cond_both (length v.link.pending == 0) v (session_settled shared v) (AddsNone v) (λ _. adds_none v)
     (λ _. settled_adds shared v)
 
 -- ---- other calls, after which the connection settles
@@ -205,45 +206,45 @@ pub adds_settled : (shared : ServerState) (v t : SessionValue) → AddsNone v t 
 adds_settled shared v t adds = adds_then v t _ adds (settled_adds shared t)
 
 pub same_adds : (s : SessionValue) (frame : List ℕ) → AddsNone s (record s { frame = frame })
-same_adds s frame = record { observers = λ p none. none; held = omega arith }
+same_adds s frame = record { observers = λ p none. none; pending = omega arith }
 
 pub written_adds : (n : ℕ) (v : SessionValue) → AddsNone v (session_written v n)
-written_adds n v = record { observers = λ p none. none; held = omega arith }
+written_adds n v = record { observers = λ p none. none; pending = omega arith }
 
 pub ended_adds : (v : SessionValue) → AddsNone v (session_ended v)
 ended_adds v =
     none_with v v.frame _ v.observers (λ p none. none)
     (cond_both (takes_messages v.link.phase)
-    (link_with v.link (stop (standing_in v.link) (end_reason (is_cut v.frame)) [])) v.link
-    (λ k. length k.held ≤ length v.link.held)
+    (link_with v.link (stop (state_in v.link) (end_reason (is_cut v.frame)) [])) v.link
+    (λ k. length k.pending ≤ length v.link.pending)
     (λ _. omega arith) (λ _. omega arith))
 
 pub released_adds : (v : SessionValue) → AddsNone v (session_released v)
 released_adds v =
     none_with v v.frame _ v.observers (λ p none. none)
-    (cond_both (is_open v.link.phase) (link_with v.link (stop (standing_in v.link) ReleasedHere (release ∷ []))) v.link
-    (λ k. length k.held ≤ length v.link.held)
+    (cond_both (is_open v.link.phase) (link_with v.link (stop (state_in v.link) ReleasedHere (release ∷ []))) v.link
+    (λ k. length k.pending ≤ length v.link.pending)
     (λ _. omega arith) (λ _. omega arith))
 
 pub announced_adds : (size : ℕ) (v : SessionValue) → AddsNone v (session_announced v size)
 announced_adds size v =
     none_with v v.frame _ v.observers (λ p none. none)
     (cond_both (may_announce v.link size) (link_with_deed v.link (call.Announces size)) v.link
-    (λ k. length k.held ≤ length v.link.held)
+    (λ k. length k.pending ≤ length v.link.pending)
     (λ _. omega arith) (λ _. omega arith))
 
 pub given_adds : (m : Message) (v : SessionValue) → AddsNone v (session_given v m)
 given_adds m v =
-    let left = standing_without m.token (standing_in v.link) in
+    let left = state_without m.token (state_in v.link) in
     none_with v v.frame _ v.observers (λ p none. none)
     (cond_both (answers v.link.phase && is_none (response_refusal v.link m))
-    (link_with v.link (send left m (bare_response m))) v.link (λ k. length k.held ≤ length v.link.held)
+    (link_with v.link (send left m (bare_response m))) v.link (λ k. length k.pending ≤ length v.link.pending)
     (λ does.
     let allowed : response_refusal v.link m ≡ None = no_refusal (response_refusal v.link m)
     (and_parts (answers v.link.phase) (is_none (response_refusal v.link m)) does).1 in
     omega (
       arith,
-      send_held left m (bare_response m) (fit (limit_in v.link) m (bare_response m)),
+      send_pending left m (bare_response m) (fit (limit_in v.link) m (bare_response m)),
       request_fewer v.link m allowed,
     ))
     (λ _. omega arith))
@@ -315,7 +316,7 @@ read_last : (shared : ServerState) (v : SessionValue) (count : ℕ) (r : Result 
 unfolding session_handled without_entry
 read_last shared v count (Ok m) =
     let l : LinkValue = link_after v.link (call.Handle m) in
-    let hold : Option Delay = held_in l (delay_on shared m) in
+    let hold : Option Delay = delay_in l (delay_on shared m) in
     let others : List ObserverValue = without_entry m.token v.observers in
     cond_both (asks_this v.link m) (session_replied shared l others m hold) (session_with [] l v.observers)
     (λ w. AddsLastTo v.observers w.observers)

@@ -9,7 +9,7 @@ use Rattle.coap_server_session.specs.Prelude.{key_for, stored_at, state_at, is_d
 use Rattle.coap_server_session.specs.Prelude.{Dynamic}
 use Rattle.coap_server_session.specs.Prelude.{IsStore, ServerState, ObserverValue, SessionValue, is_marked, is_stale}
 use Rattle.coap_server_session.specs.Prelude.{IsSettled}
-use Rattle.coap_server_session.specs.Prelude.{mark_of, state_on, changed_mark, sooner, is_time_observer, next_told}
+use Rattle.coap_server_session.specs.Prelude.{mark_of, state_on, changed_mark, sooner, is_time_observer, next_notified}
 use Rattle.coap_server_session.specs.Prelude.{due_on}
 use Rattle.coap_server_session.specs.Prelude.{IsBefore}
 use Rattle.std.proofs.lemmas.Bool.{not-false, false_from_ne_true, or_parts, ne_eqb}
@@ -48,20 +48,21 @@ not_come : (now later : ℕ) (e : PendingEntryValue) → due_moment now e ≡ No
 not_come now later (Pong token) none after = refl
 not_come now later (Answer by token moment) none after = grind (arith, after moment)
 
-none_come_later : (now later : ℕ) (held : List PendingEntryValue) → AllByRecursion (λ e. due_moment now e ≡ None) held
-    → AllByRecursion (λ x. later < x) (filter_map (future_moment now) held)
-    → AllByRecursion (λ e. due_moment later e ≡ None) held
+none_come_later : (now later : ℕ) (pending : List PendingEntryValue)
+    → AllByRecursion (λ e. due_moment now e ≡ None) pending
+    → AllByRecursion (λ x. later < x) (filter_map (future_moment now) pending)
+    → AllByRecursion (λ e. due_moment later e ≡ None) pending
 none_come_later now later [] none after = tt
-none_come_later now later (e ∷ held) none after =
-    let parts = cons_parts (λ x. later < x) (future_moment now e) (filter_map (future_moment now) held) after in
-    (not_come now later e none.0 parts.0, none_come_later now later held none.1 parts.1)
+none_come_later now later (e ∷ pending) none after =
+    let parts = cons_parts (λ x. later < x) (future_moment now e) (filter_map (future_moment now) pending) after in
+    (not_come now later e none.0 parts.0, none_come_later now later pending none.1 parts.1)
 
-not_due_later : (now later : ℕ) (held : List PendingEntryValue) → first_due now held ≡ None
-    → IsBefore later (next_moment now held) → first_due later held ≡ None
-not_due_later now later held none before =
-    let nothing = (due_nothing now held none).0 in
-    nothing_due_first later held (
-      none_come_later now later held nothing.0 (before_each later (filter_map (future_moment now) held) before),
+not_due_later : (now later : ℕ) (pending : List PendingEntryValue) → first_due now pending ≡ None
+    → IsBefore later (next_moment now pending) → first_due later pending ≡ None
+not_due_later now later pending none before =
+    let nothing = (due_nothing now pending none).0 in
+    nothing_due_first later pending (
+      none_come_later now later pending nothing.0 (before_each later (filter_map (future_moment now) pending) before),
       nothing.1,
     )
 
@@ -135,11 +136,11 @@ none_stale shared later (o ∷ os) store stored none =
     rw (sym (stale_so shared later o store parts.0) ∙ none.0) (none_stale shared later os store parts.1 none.1)
 
 -- If an observer observes the time, no later second is before the next one.
-none_tells_time_before : (now later : ℕ) (observers : List ObserverValue) → now < later → later < 2 ^ 64
-    → IsBefore later (next_told now observers) → list_any is_time_observer observers ≡ false
-none_tells_time_before now later observers more fits before =
+none_reports_time_before : (now later : ℕ) (observers : List ObserverValue) → now < later → later < 2 ^ 64
+    → IsBefore later (next_notified now observers) → list_any is_time_observer observers ≡ false
+none_reports_time_before now later observers more fits before =
     false_from_ne_true (list_any is_time_observer observers) (λ is.
-    let next : next_told now observers ≡ Some (now + 1) =
+    let next : next_notified now observers ≡ Some (now + 1) =
     rw (is, ne_eqb now 18446744073709551615 (λ e. omega (arith, e, more, fits))) refl in
     let soon : later < now + 1 = subst (IsBefore later) next before in
     omega (arith, more, soon))
@@ -149,7 +150,8 @@ none_tells_time_before now later observers more fits before =
 pub stays_settled : (shared : ServerState) (later : ℕ) (v : SessionValue) → IsStore shared.store → IsSettled shared v
     → shared.now < later → later < 2 ^ 64 → IsBefore later (due_on shared.now v) → IsSettled (at_moment shared later) v
 stays_settled shared later v store settled more fits before =
-    let parts = before_both later (next_moment shared.now v.link.held) (next_told shared.now v.observers) before in
-    let stored = none_tells_time_before shared.now later v.observers more fits parts.1 in
-    settled_still shared (at_moment shared later) v (λ none. not_due_later shared.now later v.link.held none parts.0)
+    let parts = before_both later (next_moment shared.now v.link.pending) (next_notified shared.now v.observers) before
+    in
+    let stored = none_reports_time_before shared.now later v.observers more fits parts.1 in
+    settled_still shared (at_moment shared later) v (λ none. not_due_later shared.now later v.link.pending none parts.0)
     (λ fresh. none_stale shared later v.observers store stored (none_due (is_stale shared) v.observers fresh)) settled

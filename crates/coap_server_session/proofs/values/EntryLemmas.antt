@@ -28,9 +28,9 @@ is_first due (o ∷ os) i e =
           subst (IsFirst due (o ∷ os)) zero_is
           (record { within = omega arith; found = rw here; becomes = λ p. rw here; goes = rw here }))
       | false ↦ λ other first. (
-          let behind = one_made (λ k. suc k) (first_index due os) i first in
-          let is = is_first due os behind.0 behind.1 in
-          subst (IsFirst due (o ∷ os)) behind.2
+          let later = one_made (λ k. suc k) (first_index due os) i first in
+          let is = is_first due os later.0 later.1 in
+          subst (IsFirst due (o ∷ os)) later.2
           (record { within = omega (arith, is.within); found = cc; becomes = λ p. cc (is.becomes p); goes = cc }))
     ] refl e
 
@@ -59,13 +59,13 @@ read_at xs i x within read =
 
 -- ---- filtered views
 
-pub others_seen : (token : List ℕ) (os : List Observer)
+pub other_values : (token : List ℕ) (os : List Observer)
     → map observer_value (filter (λ o. not (same_bytes o.token.items token)) os)
     ≡ without_entry token (map observer_value os)
 unfolding without_entry
-others_seen token [] = refl
-others_seen token (o ∷ os) =
-    let rest = others_seen token os in
+other_values token [] = refl
+other_values token (o ∷ os) =
+    let rest = other_values token os in
     elim (not (same_bytes o.token.items token))
     as (λ b. map observer_value (if b then o ∷ filter (λ p. not (same_bytes p.token.items token)) os
     else filter (λ p. not (same_bytes p.token.items token)) os)

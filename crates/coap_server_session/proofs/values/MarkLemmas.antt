@@ -7,13 +7,13 @@ use Rattle.coap_server_session.specs.Prelude.{key_for, kind_of_path, state_at, i
 use Rattle.coap_server_session.specs.Prelude.{Dynamic}
 use Rattle.coap_server_session.specs.Prelude.{ServerState, StaleObserver, Cause, LinkValue, is_open, ObserverValue}
 use Rattle.coap_server_session.specs.Prelude.{ObserversValue}
-use Rattle.coap_server_session.specs.Prelude.{mark_at, mark_of, is_marked, state_on, is_stale, present_mark, untold_by}
+use Rattle.coap_server_session.specs.Prelude.{mark_at, mark_of, is_marked, state_on, is_stale, present_mark, unsent_by}
 use Rattle.coap_server_session.specs.Prelude.{changed_mark, AreMarked, observers_left, is_time_observer, path_hash}
 use Rattle.coap_server_session.specs.Prelude.{is_concerned, ConcernsNone, marks_anew}
 use Rattle.coap_server_session.specs.Prelude.{first_index, IsFirstStale, IsFirstMarked, goes_on, notification_of}
 use Rattle.coap_server_session.specs.Prelude.{Response}
 use Rattle.coap_wire.specs.Codes as code
-use Rattle.coap_store.proofs.NotificationLaws.{notification_tells}
+use Rattle.coap_store.proofs.NotificationLaws.{notification_reports}
 use Rattle.coap_server_session.specs.declared.cause.Cause.TheVariants as cause
 use Rattle.coap_path.specs.declared.resource_kind.ResourceKind.{ResourceKind}
 use Rattle.std.proofs.lemmas.Bool.{ne_eqb, eqb-true, or_parts}
@@ -25,11 +25,11 @@ use Rattle.coap_server_session.proofs.values.SettleLemmas.{marked_now}
 -- ---- the mark of one observer
 
 -- The comparison in the code gives the changed mark.
-pub untold_is_changed : (shared : ServerState) (o : ObserverValue)
-    → untold_by (present_mark shared o.path) o.mark ≡ changed_mark shared o
+pub unsent_is_changed : (shared : ServerState) (o : ObserverValue)
+    → unsent_by (present_mark shared o.path) o.mark ≡ changed_mark shared o
 unfolding changed_mark is_stale
-untold_is_changed shared o =
-    elim (state_on shared o.path) as (λ state. untold_by (option_map (mark_at shared.now) state) o.mark
+unsent_is_changed shared o =
+    elim (state_on shared o.path) as (λ state. unsent_by (option_map (mark_at shared.now) state) o.mark
     ≡ (if not (is_marked shared.now o.mark state) then Some (mark_of shared.now state) else None)) [
       | None ↦ refl
       | Some r ↦
@@ -97,27 +97,28 @@ marked_is_stale shared os marks found marked is = record {
       mark_of_stale shared o found.mark cc;
 }
 
-pub unmarked_is_told : (shared : ServerState) (os : List ObserverValue) (marks : List (Option ℕ))
+pub unmarked_is_reported : (shared : ServerState) (os : List ObserverValue) (marks : List (Option ℕ))
     → AreMarked shared os marks → first_index is_some marks ≡ None → first_index (is_stale shared) os ≡ None
-unmarked_is_told shared os marks marked none = sym (first_marked shared os) ∙ ap (first_index is_some) (sym marked)
+unmarked_is_reported shared os marks marked none = sym (first_marked shared os) ∙ ap (first_index is_some) (sym marked)
     ∙ none
 
 -- ---- entries that are added, removed or notified
 
-pub told_marked : (shared : ServerState) (os : List ObserverValue) (marks : List (Option ℕ)) (i : ℕ) (o : ObserverValue)
-    → AreMarked shared os marks → changed_mark shared o ≡ None
+pub notified_marked : (shared : ServerState) (os : List ObserverValue) (marks : List (Option ℕ)) (i : ℕ)
+    (o : ObserverValue) → AreMarked shared os marks → changed_mark shared o ≡ None
     → AreMarked shared (slice_set os i o) (slice_set marks i None)
-told_marked shared os marks i o marked none =
+notified_marked shared os marks i o marked none =
     rw marked (sym (map-set (changed_mark shared) os i o ∙ ap (set (map (changed_mark shared) os) i) none))
 
 -- An observer that was just notified has no changed mark.
-pub told_unmarked : (shared : ServerState) (o : ObserverValue) (mark : ℕ)
+pub notified_unmarked : (shared : ServerState) (o : ObserverValue) (mark : ℕ)
     → goes_on (notification_of shared.store shared.now o.path o.format) ≡ true
     → mark ≡ mark_of shared.now (state_on shared o.path) → changed_mark shared (record o { mark = mark }) ≡ None
-told_unmarked shared o mark goes is =
-    let told : Response = notification_of shared.store shared.now o.path o.format in
-    let tells = notification_tells shared.store shared.now o.path o.format (eqb-true told.code code.content goes) in
-    rw is (fresh_unmarked shared _ (marked_now shared o tells.representation tells.there))
+notified_unmarked shared o mark goes is =
+    let reported : Response = notification_of shared.store shared.now o.path o.format in
+    let reports = notification_reports shared.store shared.now o.path o.format
+    (eqb-true reported.code code.content goes) in
+    rw is (fresh_unmarked shared _ (marked_now shared o reports.representation reports.there))
 
 pub gone_marked : (shared : ServerState) (os : List ObserverValue) (marks : List (Option ℕ)) (i : ℕ)
     → AreMarked shared os marks → AreMarked shared (remove os i) (remove marks i)

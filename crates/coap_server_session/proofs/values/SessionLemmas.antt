@@ -14,11 +14,11 @@ use Rattle.coap_server_session.specs.Prelude.{link_after, is_open, takes_message
 use Rattle.coap_server_session.specs.Prelude.{ServerState, Inside}
 use Rattle.coap_server_session.specs.Prelude.{ObserverValue, ObserversValue, SessionValue, is_stale, session_ready}
 use Rattle.coap_server_session.specs.Prelude.{session_takes, sizes_of, session_with, without_entry}
-use Rattle.coap_server_session.specs.Prelude.{Delay, delay_on, held_in, session_replied, asks_this, session_handled}
+use Rattle.coap_server_session.specs.Prelude.{Delay, delay_on, delay_in, session_replied, asks_this, session_handled}
 use Rattle.coap_server_session.specs.Prelude.{change_by}
 use Rattle.coap_server_session.specs.Prelude.{TakeOutcome, taking_read, taking, RefusesPiece, notification_on}
 use Rattle.coap_server_session.specs.Prelude.{session_notified}
-use Rattle.coap_server_session.specs.Prelude.{next_held_in, next_stale, link_sent, session_settled_once, first_index}
+use Rattle.coap_server_session.specs.Prelude.{next_pending_in, next_stale, link_sent, session_settled_once, first_index}
 use Rattle.coap_server_session.specs.Prelude.{link_replied, entries_replied, entries_notified, framer_on, IsSession}
 use Rattle.coap_server_session.specs.Prelude.{session_value, observers_left, frame_refusal, OnMessage, response_refusal}
 use Rattle.coap_server_session.specs.Prelude.{FormatFault}
@@ -28,7 +28,7 @@ use Rattle.coap_frame.proofs.FramingLemmas.{empty_framer, framing_is_framer}
 use Rattle.coap_frame.proofs.FrontLaws.{frame_first}
 use Rattle.coap_wire.proofs.StreamSteps.{whole_itself}
 use Rattle.coap_frame.proofs.GivenLaws.{taken_within, frame_taken, takes_a_byte, unread_one_less, unread_nothing}
-use Rattle.coap_conn.specs.declared.phase.Verdict.TheVariants as told
+use Rattle.coap_conn.specs.declared.phase.Verdict.TheVariants as reported
 use Rattle.coap_conn.specs.Calls as call
 use Rattle.coap_conn.proofs.LinkLemmas.{stays_so}
 use Rattle.coap_server_session.proofs.values.EntryLemmas.{is_first}
@@ -102,9 +102,9 @@ replied_as shared l others m (Some seconds) = refl
 pub on_request : {T E : Type 0} (r : Result T E) (shared : ServerState) (v : SessionValue) (m : Message)
     (l after : LinkValue) (o p : ObserversValue) → asks_this v.link m ≡ true → l ≡ link_after v.link (call.Handle m)
     → o.room ≡ v.link.limits.observers → o.entries ≡ v.observers
-    → OnOk r (after ≡ link_replied shared l o.room (without_entry m.token o.entries) m (held_in l (delay_on shared m)))
+    → OnOk r (after ≡ link_replied shared l o.room (without_entry m.token o.entries) m (delay_in l (delay_on shared m)))
     → OnOk r
-    (p.entries ≡ entries_replied shared l o.room (without_entry m.token o.entries) m (held_in l (delay_on shared m)))
+    (p.entries ≡ entries_replied shared l o.room (without_entry m.token o.entries) m (delay_in l (delay_on shared m)))
     → OnOk r ((frame : List ℕ) → session_with [] after p.entries
     ≡ session_handled shared (record v { frame = frame }) m)
 unfolding session_handled
@@ -113,13 +113,13 @@ on_request (Ok x) shared v m l after o p asks is room entries link_is p_is = λ 
     let rooms : o.room ≡ first.limits.observers =
     room ∙ ap (λ (both : LimitValues × ℕ). both.0.observers)
     (sym (stays_so sizes_of (takes_messages v.link.phase) v.link _ refl)) in
-    cc (replied_as shared first (without_entry m.token v.observers) m (held_in first (delay_on shared m)))
+    cc (replied_as shared first (without_entry m.token v.observers) m (delay_in first (delay_on shared m)))
 on_request (Err e) shared v m l after o p asks is room entries link_is p_is = tt
 
 -- A verdict other than `Request` is no request.
-pub no_request_told : (what : Verdict) → (what ≡ told.Request → ⊥) → is_request (verdict_value what) ≡ false
-no_request_told told.Request other = absurd (other refl)
-no_request_told what other = refl
+pub no_request_reported : (what : Verdict) → (what ≡ reported.Request → ⊥) → is_request (verdict_value what) ≡ false
+no_request_reported reported.Request other = absurd (other refl)
+no_request_reported what other = refl
 
 pub message_handled : (shared : ServerState) (v : SessionValue) (m : Message) (l : LinkValue) → asks_this v.link m
     ≡ false
@@ -201,10 +201,10 @@ ready_is l false same =
     (λ fits. false≢true (same.1 (leb-true l.limits.max_sent (free_in l) fits)))
 
 -- The value of a session after the state that a stop discards was removed.
-given_up_seen : (s : Inside) (l : LinkValue) (g : FramerValue) (o p : ObserversValue) → g ≡ framer_on l s.framer
+given_up_value : (s : Inside) (l : LinkValue) (g : FramerValue) (o p : ObserversValue) → g ≡ framer_on l s.framer
     → p ≡ observers_left l o
     → record { frame = g.kept; link = l; observers = p.entries } ≡ session_with s.framer.kept l o.entries
-given_up_seen s l g o p g_is p_is =
+given_up_value s l g o p g_is p_is =
     cc
 
 -- A session whose first stale observer, at this index, was notified.
@@ -239,7 +239,7 @@ module _ (shared : ServerState) (s : Inside) (index : ℕ) (l : LinkValue) (o : 
       → record { frame = g.kept; link = l; observers = p.entries }
       ≡ session_notified shared (session_value s) (next_stale shared (session_value s))
   notified_once g p g_is p_is =
-      given_up_seen s l g o p g_is p_is
+      given_up_value s l g o p g_is p_is
       ∙ ap (session_with s.framer.kept l) (entries session_is_notified.0 session_is_notified.1)
       ∙ ap (λ (k : LinkValue). session_with s.framer.kept k
       (entries_notified shared s.link s.observers.entries session_is_notified.0))
@@ -256,18 +256,18 @@ sent_sizes l now (Pong token) = refl
 
 -- A session whose first due entry was sent.
 module _ (shared : ServerState) (s : Inside) (l : LinkValue) (ready : session_ready (session_value s) ≡ true)
-    (some : is_some (first_due shared.now s.link.held) ≡ true)
-    (link : (e : PendingEntryValue) → first_due shared.now s.link.held ≡ Some e → l
+    (some : is_some (first_due shared.now s.link.pending) ≡ true)
+    (link : (e : PendingEntryValue) → first_due shared.now s.link.pending ≡ Some e → l
     ≡ link_sent s.link shared.now e) where
-  abbrev pub due : (e : PendingEntryValue) × (first_due shared.now s.link.held ≡ Some e)
-  due = there_is (first_due shared.now s.link.held) some
+  abbrev pub due : (e : PendingEntryValue) × (first_due shared.now s.link.pending ≡ Some e)
+  due = there_is (first_due shared.now s.link.pending) some
 
-  held_is : next_held_in shared.now (session_value s) ≡ Some due.0
-  held_is = (found_ready shared (session_value s) ready).0 ∙ due.1
+  pending_is : next_pending_in shared.now (session_value s) ≡ Some due.0
+  pending_is = (found_ready shared (session_value s) ready).0 ∙ due.1
 
-  pub held_found : true
-      ≡ (is_some (next_held_in shared.now (session_value s)) || is_some (next_stale shared (session_value s)))
-  held_found = cc held_is
+  pub pending_found : true
+      ≡ (is_some (next_pending_in shared.now (session_value s)) || is_some (next_stale shared (session_value s)))
+  pending_found = cc pending_is
 
   pub sent_session : (g : FramerValue) (p : ObserversValue) → IsSession s → g ≡ framer_on l s.framer
       → p ≡ observers_left l s.observers → IsSession (record { framer = g; link = l; observers = p })
@@ -278,4 +278,4 @@ module _ (shared : ServerState) (s : Inside) (l : LinkValue) (ready : session_re
   pub sent_once : (g : FramerValue) (p : ObserversValue) → g ≡ framer_on l s.framer → p ≡ observers_left l s.observers
       → record { frame = g.kept; link = l; observers = p.entries } ≡ session_settled_once shared (session_value s)
   unfolding session_settled_once
-  sent_once g p g_is p_is = given_up_seen s l g s.observers p g_is p_is ∙ cc (link due.0 due.1, held_is)
+  sent_once g p g_is p_is = given_up_value s l g s.observers p g_is p_is ∙ cc (link due.0 due.1, pending_is)

@@ -10,7 +10,7 @@ use Rattle.coap_server_session.specs.Prelude.{framing_of, framer_after}
 use Rattle.coap_frame.specs.Framing.{split_frame, Nothing}
 use Rattle.coap_frame.proofs.GivenLaws.{frame_taken}
 use Rattle.coap_server_session.specs.Prelude.{LinkValue, can_hold, Application}
-use Rattle.coap_server_session.specs.Prelude.{Delay, delay_on, held_in, ServerState}
+use Rattle.coap_server_session.specs.Prelude.{Delay, delay_on, delay_in, ServerState}
 use Rattle.coap_server_session.specs.Prelude.{asks_this, is_handed, is_handed_over, handed, handed_read, Inside}
 use Rattle.coap_server_session.specs.Prelude.{IsSession, session_value}
 use Rattle.coap_server_session.specs.Prelude.{completed, framer_on, session_takes}
@@ -43,11 +43,11 @@ frame_is_back v piece frame is e =
 -- A request of the application is handed over if the pending list has room.
 pub handed_late : (shared : ServerState) (m : Message) (seconds : ℕ)
     → delay_on shared m ≡ Some (record { by = Application; seconds = seconds }) → (l : LinkValue)
-    → can_hold l ≡ is_handed (held_in l (delay_on shared m))
+    → can_hold l ≡ is_handed (delay_in l (delay_on shared m))
 handed_late shared m seconds delays l =
     let d : Delay = record { by = Application; seconds = seconds } in
     elim (can_hold l) as (λ b. b ≡ is_handed (if b then Some d else None)) [ true ↦ refl | false ↦ refl ]
-    ∙ ap (λ (delay : Option Delay). is_handed (held_in l delay)) (sym delays)
+    ∙ ap (λ (delay : Option Delay). is_handed (delay_in l delay)) (sym delays)
 
 -- A message that is no request is not handed over.
 pub message_not_handed : (shared : ServerState) (l : LinkValue) (m : Message) → asks_this l m ≡ false

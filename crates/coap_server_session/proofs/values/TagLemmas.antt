@@ -72,15 +72,15 @@ two_lists room es fs ms ns entries marks =
     ap (λ (os : List ObserverValue). record { room = room; entries = os; marks = ms }) entries
     ∙ ap (λ (os : List (Option ℕ)). record { room = room; entries = fs; marks = os }) marks
 
-pub told_value : (room : ℕ) (xs : List Observer) (i mark place : ℕ) (x : Observer) (o : ObserverValue) → i < length xs
-    → x ≡ get_or xs i x → slice_get (map observer_value xs) i ≡ Some o
+pub notified_value : (room : ℕ) (xs : List Observer) (i mark place : ℕ) (x : Observer) (o : ObserverValue)
+    → i < length xs → x ≡ get_or xs i x → slice_get (map observer_value xs) i ≡ Some o
     → (let y : Observer = record x { mark = mark; index = place; changed = None } in ◌≡◌ {A = ObserversValue}
     (record { room = room; entries = map observer_value (set xs i y); marks = map mark_in (set xs i y) }) (record {
       room = room;
       entries = set (map observer_value xs) i (record o { mark = mark });
       marks = set (map mark_in xs) i None;
     }))
-told_value room xs i mark place x o within read at =
+notified_value room xs i mark place x o within read at =
     let y : Observer = record x { mark = mark; index = place; changed = None } in
     let both : Some (observer_value x) ≡ Some o = sym (read_at xs i x within read) ∙ at in
     let same : observer_value x ≡ o = cc both in

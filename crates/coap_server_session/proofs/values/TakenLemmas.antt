@@ -10,11 +10,11 @@ use Rattle.coap_server_session.specs.Prelude.{same_bytes, Change, changes, IsPut
 use Rattle.coap_server_session.specs.Prelude.{has_place}
 use Rattle.coap_server_session.specs.Prelude.{with_entry, is_whole, ObserverValue, SessionValue, TakeOutcome, is_stale}
 use Rattle.coap_server_session.specs.Prelude.{session_ready, session_takes, session_max, without_entry, new_entry}
-use Rattle.coap_server_session.specs.Prelude.{session_with, answer_on, Delay, delay_on, hold_call, held_in}
+use Rattle.coap_server_session.specs.Prelude.{session_with, answer_on, Delay, delay_on, hold_call, delay_in}
 use Rattle.coap_server_session.specs.Prelude.{session_replied, asks_this}
 use Rattle.coap_server_session.specs.Prelude.{session_handled, taking_read, taking_found, taking, shared_changed}
-use Rattle.coap_server_session.specs.Prelude.{next_held_in, next_stale, session_settled, IsSettled, RefusesPiece}
-use Rattle.coap_server_session.specs.Prelude.{settled_held}
+use Rattle.coap_server_session.specs.Prelude.{next_pending_in, next_stale, session_settled, IsSettled, RefusesPiece}
+use Rattle.coap_server_session.specs.Prelude.{settled_pending}
 use Rattle.std.proofs.lemmas.Bool.{eqb-true, and_parts, cond_both}
 use Rattle.std.proofs.lemmas.List.{length-append, take-append-le}
 use Rattle.std.proofs.Math.Seq.{take-append-add}
@@ -29,7 +29,7 @@ use Rattle.coap_store.specs.Answer as answer
 use Rattle.coap_server_session.proofs.values.AnsweringLemmas.{nothing_changed, may_watch}
 use Rattle.coap_server_session.proofs.values.EntryLemmas.{none_in}
 use Rattle.coap_model.proofs.world.EntryLemmas.{all_if, all_filter, all_entered, none_due}
-use Rattle.coap_server_session.proofs.values.SettleLemmas.{none_held, settled_quiet, settled_stays, marked_now}
+use Rattle.coap_server_session.proofs.values.SettleLemmas.{none_is_pending, settled_quiet, settled_stays, marked_now}
 use Rattle.coap_server_session.proofs.values.SettleLemmas.{found_ready}
 
 -- ---- no observer is stale
@@ -38,12 +38,13 @@ abbrev NoneStale : ServerState → List ObserverValue → Type 0
 NoneStale shared os = AllByRecursion (λ o. is_stale shared o ≡ false) os
 
 -- If no observer is stale, a connection settles only if an entry is pending.
-settled_held_none : (shared : ServerState) (v : SessionValue) → NoneStale shared v.observers
-    → settled_held shared v ≡ session_settled shared v
-settled_held_none shared v none =
-    cond_both (length v.link.held == 0) v (session_settled shared v) (λ w. w ≡ session_settled shared v)
+settled_pending_none : (shared : ServerState) (v : SessionValue) → NoneStale shared v.observers
+    → settled_pending shared v ≡ session_settled shared v
+settled_pending_none shared v none =
+    cond_both (length v.link.pending == 0) v (session_settled shared v) (λ w. w ≡ session_settled shared v)
     (λ nothing. sym (settled_stays shared v
-    (settled_quiet shared v (none_held shared.now v.link.held (omega (arith, eqb-true (length v.link.held) 0 nothing)))
+    (settled_quiet shared v (none_is_pending shared.now v.link.pending
+    (omega (arith, eqb-true (length v.link.pending) 0 nothing)))
     (none_in (is_stale shared) v.observers none))))
     (λ _. refl)
 
@@ -58,12 +59,12 @@ replied_none shared l others m None none =
     let observes : Bool = has_place l.limits.observers others a.watch in
     let response : Message = response_with_observe m.token observes a.response in
     let enters : Bool = observes && is_whole (fit (limit_in l) response (bare_response response)) in
-    let told : enters ≡ true → is_stale shared (new_entry shared m) ≡ false = λ e.
+    let reported : enters ≡ true → is_stale shared (new_entry shared m) ≡ false = λ e.
     let asks = (and_parts observes (is_whole (fit (limit_in l) response (bare_response response))) e).0 in
     let may = may_watch shared m (and_parts (asks_entry a.watch) (nat_lt (length others) l.limits.observers) asks).0 in
     marked_now shared (new_entry shared m) may.representation may.there in
     all_if fresh (is_open (link_after l (call.Reply response)).phase) (with_entry enters others (new_entry shared m))
-    (all_entered fresh enters others (new_entry shared m) none told)
+    (all_entered fresh enters others (new_entry shared m) none reported)
 replied_none shared l others m (Some d) none =
     all_if (λ o. is_stale shared o ≡ false)
     (is_open (link_after l (hold_call d.by m.token (moment_after shared.now d.seconds))).phase) others none
@@ -75,7 +76,7 @@ read_none : (shared : ServerState) (v : SessionValue) (count : ℕ) (r : Result 
 unfolding session_handled without_entry
 read_none shared v count (Ok m) none =
     let l : LinkValue = link_after v.link (call.Handle m) in
-    let hold : Option Delay = held_in l (delay_on shared m) in
+    let hold : Option Delay = delay_in l (delay_on shared m) in
     let fresh : ObserverValue → Type 0 = λ o. is_stale shared o ≡ false in
     cond_both (asks_this v.link m) (session_replied shared l (without_entry m.token v.observers) m hold)
     (session_with [] l v.observers) (λ w. NoneStale shared w.observers)
@@ -97,19 +98,19 @@ found_none shared v f (AFault fault) none =
     v.observers none
 
 -- A connection that was settled has only its pending entries to settle, if the server state is unchanged.
-pub taking_settles_held : (shared : ServerState) (v : SessionValue) (piece : List ℕ) → IsSettled shared v
-    → settled_held shared (taking shared v piece).session ≡ session_settled shared (taking shared v piece).session
+pub taking_settles_pending : (shared : ServerState) (v : SessionValue) (piece : List ℕ) → IsSettled shared v
+    → settled_pending shared (taking shared v piece).session ≡ session_settled shared (taking shared v piece).session
 unfolding taking
-taking_settles_held shared v piece settled =
+taking_settles_pending shared v piece settled =
     let f : Framing = framing (session_max v) v.frame piece in
     let nothing : TakeOutcome = record { count = 0; handled = false; session = v; change = answer.Nothing } in
     cond_both (session_takes v) (taking_found shared v f f.finding) nothing
-    (λ t. settled_held shared t.session ≡ session_settled shared t.session)
+    (λ t. settled_pending shared t.session ≡ session_settled shared t.session)
     (λ takes.
     let ready = (and_parts (takes_messages v.link.phase) (session_ready v) takes).1 in
-    settled_held_none shared _ (found_none shared v f f.finding
+    settled_pending_none shared _ (found_none shared v f f.finding
     (none_due (is_stale shared) v.observers (sym ((found_ready shared v ready).1) ∙ settled.1))))
-    (λ _. cond_both (length v.link.held == 0) v (session_settled shared v) (λ w. w ≡ session_settled shared v)
+    (λ _. cond_both (length v.link.pending == 0) v (session_settled shared v) (λ w. w ≡ session_settled shared v)
     (λ _. sym (settled_stays shared v settled)) (λ _. refl))
 
 -- ---- allocation failed
@@ -176,7 +177,7 @@ module _ (shared : ServerState) (v : SessionValue) (piece : List ℕ) (count : �
   refused_changes_nothing = ap (λ (t : TakeOutcome). t.change) front_taken
 
   pub refused_stays_settled : IsSettled shared v → IsSettled shared (taking shared v (take count piece)).session
-  unfolding next_held_in next_stale
+  unfolding next_pending_in next_stale
   refused_stays_settled settled = subst (λ (t : TakeOutcome). IsSettled shared t.session) (sym front_taken) settled
 
   pub refused_kept : (P : SessionValue → Type 0) → ((frame : List ℕ) → P (record v { frame = frame }))

@@ -6,33 +6,34 @@ use Rattle.coap_server_session.specs.Prelude.{Message, StreamFault, takes_messag
 use Rattle.coap_server_session.specs.Prelude.{reject_of}
 use Rattle.coap_server_session.specs.Prelude.{release_refusal, stop, History, IsHistory, limit_now, after, link_of}
 use Rattle.coap_server_session.specs.Prelude.{Call}
-use Rattle.coap_server_session.specs.Prelude.{end_reason, link_after, LinkValue, link_with, standing_in, StoreValue}
+use Rattle.coap_server_session.specs.Prelude.{end_reason, link_after, LinkValue, link_with, state_in, StoreValue}
 use Rattle.coap_server_session.specs.Prelude.{path_of}
 use Rattle.coap_server_session.specs.Prelude.{Nothing, prompt_answer, Delay, delay_of, hold_call, Responder, Engine}
 use Rattle.coap_server_session.specs.Prelude.{Application, response_with_observe, ServerState, is_cut}
 use Rattle.coap_server_session.specs.Prelude.{side_responded, session_given, side_announced, may_raise, Connection}
 use Rattle.coap_server_session.specs.Prelude.{handles, waiting_on, has_room, side_with}
-use Rattle.coap_server_session.specs.Prelude.{with_history, moment_after, held_for, side_replied, asks_answer}
+use Rattle.coap_server_session.specs.Prelude.{with_history, moment_after, delay_for, side_replied, asks_answer}
 use Rattle.coap_server_session.specs.Prelude.{side_after}
 use Rattle.coap_server_session.specs.Prelude.{change_after, side_faulted, side_written, side_ended, side_released}
 use Rattle.coap_server_session.specs.Prelude.{next_due}
-use Rattle.coap_server_session.specs.Prelude.{notified, next_held, settled_so, settled_once, settled_within, settled}
-use Rattle.coap_server_session.specs.Prelude.{SessionValue, session_with, new_entry, held_in, session_replied}
+use Rattle.coap_server_session.specs.Prelude.{notified, next_pending, settled_so, settled_once, settled_within, settled}
+use Rattle.coap_server_session.specs.Prelude.{SessionValue, session_with, new_entry, delay_in, session_replied}
 use Rattle.coap_server_session.specs.Prelude.{session_handled}
 use Rattle.coap_server_session.specs.Prelude.{change_by, session_rejected, session_written, session_ended}
 use Rattle.coap_server_session.specs.Prelude.{session_released}
 use Rattle.coap_server_session.specs.Prelude.{without_entry, session_announced, is_stale, next_stale, entry_left}
-use Rattle.coap_server_session.specs.Prelude.{session_notified, next_held_in, session_settled_so, session_settled_once}
+use Rattle.coap_server_session.specs.Prelude.{session_notified, next_pending_in, session_settled_so}
+use Rattle.coap_server_session.specs.Prelude.{session_settled_once}
 use Rattle.coap_server_session.specs.Prelude.{session_settled_within, session_settled, Observer, without_token}
 use Rattle.coap_server_session.specs.Prelude.{has_place}
 use Rattle.coap_server_session.specs.Prelude.{entry_for, is_whole, with_entry, is_due, goes_on, notification}
 use Rattle.coap_server_session.specs.Prelude.{notification_message, left_of, first_becomes, format_of, observer_shown}
 use Rattle.coap_server_session.specs.Prelude.{kept_on}
-use Rattle.coap_server_session.specs.Prelude.{session_shown, PendingEntryValue, link_sent, held_message, after_sent}
+use Rattle.coap_server_session.specs.Prelude.{session_shown, PendingEntryValue, link_sent, late_message, after_sent}
 use Rattle.std.proofs.lemmas.Bool.{and_parts, cond_both, le-leb}
 use Rattle.std.proofs.lemmas.List.{length-map}
 use Rattle.coap_model.proofs.world.KnownLaws.{IsWatchable, entry_watchable, IsKnown, IsVersioned}
-use Rattle.coap_model.proofs.world.KnownLaws.{tells_on_to_observer, left_watchable}
+use Rattle.coap_model.proofs.world.KnownLaws.{reports_on_to_observer, left_watchable}
 use Rattle.coap_server_session.proofs.world.KnownShown.{mark_now, due_is_stale}
 use Rattle.coap_model.proofs.world.EntryLemmas.{asks_to_enter, all_to}
 use Rattle.coap_server_session.proofs.world.EntryShown.{without_shown, entered_shown, TellTheSame, found_shown}
@@ -42,7 +43,7 @@ use Rattle.coap_conn.proofs.LinkLemmas.{after_link}
 use Rattle.coap_model.proofs.world.WalkLaws.{there_or_not}
 use Rattle.coap_conn.specs.Calls as call
 use Rattle.coap_model.proofs.world.SideLaws.{next_known, once_known, AreKnown, IsKnownSide, handles_parts}
-use Rattle.coap_conn.specs.PendingEntries as held
+use Rattle.coap_conn.specs.PendingEntries as pending
 
 -- The server state of a store and a time.
 abbrev pub shared_of : StoreValue → ℕ → ServerState
@@ -95,7 +96,7 @@ unfolding side_ended
 ended_side_shown rest s is =
     let v : LinkValue = link_of s.history in
     let ended : Bool → Bool → LinkValue =
-    λ takes cut. if takes then link_with v (stop (standing_in v) (end_reason cut) []) else v in
+    λ takes cut. if takes then link_with v (stop (state_in v) (end_reason cut) []) else v in
     side_shown rest s _ _ s.observers (call_goes_on s.history (call.End (is_cut rest)) tt)
     (after_link s.history (call.End (is_cut rest)) tt is)
     ∙ ap (λ l. session_with (kept_on s rest) l (map observer_shown s.observers))
@@ -145,18 +146,18 @@ module _ (store : StoreValue) (now : ℕ) (small : now ≤ 18446744073709551615)
       shown_as [] (after h (call.Reply response)) _ (with_entry enters os entry)
       (after_link h (call.Reply response) tt history)
       ∙ cc (length-map os observer_shown, entered)
-  replied_shown h os m (Some d) history = held_shown d.by
+  replied_shown h os m (Some d) history = pending_shown d.by
     where
-      held_shown : (by : Responder)
+      pending_shown : (by : Responder)
           → session_shown [] (side_with (after h (hold_call by m.token (moment_after now d.seconds))) os)
           ≡ session_with [] (link_after (link_of h) (hold_call by m.token (moment_after now d.seconds)))
           (map observer_shown os)
-      held_shown Engine =
-          let held : Call = call.Hold m.token (moment_after now d.seconds) in
-          shown_as [] (after h held) _ os (after_link h held tt history)
-      held_shown Application =
-          let held : Call = call.HoldRequest m.token (moment_after now d.seconds) in
-          shown_as [] (after h held) _ os (after_link h held tt history)
+      pending_shown Engine =
+          let pending : Call = call.Hold m.token (moment_after now d.seconds) in
+          shown_as [] (after h pending) _ os (after_link h pending tt history)
+      pending_shown Application =
+          let pending : Call = call.HoldRequest m.token (moment_after now d.seconds) in
+          shown_as [] (after h pending) _ os (after_link h pending tt history)
 
   -- A message that is processed.
   pub handled_shown : (rest : List ℕ) (s : Connection) (m : Message) → IsHistory s.history → handles s ≡ true
@@ -167,18 +168,18 @@ module _ (store : StoreValue) (now : ℕ) (small : now ≤ 18446744073709551615)
       let l = link_after (link_of s.history) (call.Handle m) in
       let same : link_of h ≡ l = after_link s.history (call.Handle m) tt history in
       let hold = delay_of store now m in
-      let held = elim hold as (λ o. held_for h o ≡ held_in (link_of h) o) [ None ↦ refl | Some d ↦ refl ] in
+      let pending = elim hold as (λ o. delay_for h o ≡ delay_in (link_of h) o) [ None ↦ refl | Some d ↦ refl ] in
       let shared = shared_of store now in
       let others = without_token m.token s.observers in
       let vs = without_entry m.token (map observer_shown s.observers) in
       let before : Bool → Connection =
-      λ asks. if asks then side_replied store now h others m (held_for h hold) else with_history s h in
-      let afterwards : Bool → SessionValue = λ asks. if asks then session_replied shared l vs m (held_in l hold)
+      λ asks. if asks then side_replied store now h others m (delay_for h hold) else with_history s h in
+      let afterwards : Bool → SessionValue = λ asks. if asks then session_replied shared l vs m (delay_in l hold)
       else session_with [] l (map observer_shown s.observers) in
       rw e (elim (asks_answer s m) as (λ asks. session_shown [] (before asks) ≡ afterwards asks) [
         | true ↦
-            replied_shown h others m (held_for h hold) ((call_goes_on s.history (call.Handle m) tt).history history)
-            ∙ cc (without_shown m.token s.observers, held, same)
+            replied_shown h others m (delay_for h hold) ((call_goes_on s.history (call.Handle m) tt).history history)
+            ∙ cc (without_shown m.token s.observers, pending, same)
         | false ↦ shown_as [] h l s.observers same
       ])
 
@@ -191,11 +192,11 @@ change_shown store now s m e = ap (λ b. cond (b && asks_answer s m) (prompt_ans
 
 pub sent_link : (h : History) (now : ℕ) (e : PendingEntryValue) → IsHistory h
     → link_of (after_sent h now e) ≡ link_sent (link_of h) now e
-sent_link h now (held.Answer by token moment) is =
-    after_link (after h (call.Due now)) (call.Reply (held_message by token)) tt
+sent_link h now (pending.Answer by token moment) is =
+    after_link (after h (call.Due now)) (call.Reply (late_message by token)) tt
     ((call_goes_on h (call.Due now) tt).history is)
-    ∙ ap (λ l. link_after l (call.Reply (held_message by token))) (after_link h (call.Due now) tt is)
-sent_link h now (held.Pong token) is = after_link h (call.Due now) tt is
+    ∙ ap (λ l. link_after l (call.Reply (late_message by token))) (after_link h (call.Due now) tt is)
+sent_link h now (pending.Pong token) is = after_link h (call.Due now) tt is
 
 -- ---- one iteration of settling, and all of them
 
@@ -204,9 +205,9 @@ module _ (store : StoreValue) (now : ℕ) (small : now ≤ 18446744073709551615)
       → (stays ≡ true → goes_on (notification store now o) ≡ true)
       → map observer_shown (left_of store now o stays) ≡ entry_left (shared_of store now) (observer_shown o) stays
   left_shown o true known on =
-      let tells = tells_on_to_observer store now o (on refl) in
+      let reports = reports_on_to_observer store now o (on refl) in
       cc (
-        ap format_of tells.there ∙ tells.same,
+        ap format_of reports.there ∙ reports.same,
         mark_now store now o.path small is (left_watchable store now o known (on refl)),
       )
   left_shown o false known on = refl
@@ -226,7 +227,7 @@ module _ (store : StoreValue) (now : ℕ) (small : now ≤ 18446744073709551615)
       ≡ (if b then find (is_stale (shared_of store now)) (map observer_shown s.observers) else None)) [
         | true ↦
             found_shown (is_due store now) (is_stale (shared_of store now)) s.observers
-            (same_tests s.observers known.told)
+            (same_tests s.observers known.reported)
         | false ↦ refl
       ]
 
@@ -234,8 +235,8 @@ module _ (store : StoreValue) (now : ℕ) (small : now ≤ 18446744073709551615)
       → ((o : Observer) → found ≡ Some o → IsKnown store o)
       → session_shown rest (notified store now s found)
       ≡ session_notified (shared_of store now) (session_shown rest s) (option_map observer_shown found)
-  notified_shown rest s None known told = refl
-  notified_shown rest s (Some o) known told =
+  notified_shown rest s None known reported = refl
+  notified_shown rest s (Some o) known reported =
       let stale = is_stale (shared_of store now) in
       let m = notification_message o.token (notification store now o) in
       let on = goes_on (notification store now o) in
@@ -245,17 +246,17 @@ module _ (store : StoreValue) (now : ℕ) (small : now ≤ 18446744073709551615)
       side_shown rest s _ l (first_becomes (is_due store now) left s.observers)
       (call_goes_on s.history (call.Reply m) tt) (after_link s.history (call.Reply m) tt known.is_history)
       ∙ cc (
-        become_shown (is_due store now) stale left s.observers (same_tests s.observers known.told),
-        left_shown o stays (told o refl) (λ e. (and_parts on _ e).0),
+        become_shown (is_due store now) stale left s.observers (same_tests s.observers known.reported),
+        left_shown o stays (reported o refl) (λ e. (and_parts on _ e).0),
       )
 
   once_shown : (rest : List ℕ) (s : Connection) → IsKnownSide store s
       → session_shown rest (settled_once store now s)
       ≡ session_settled_once (shared_of store now) (session_shown rest s)
-  unfolding settled_once session_settled_once next_held_in
+  unfolding settled_once session_settled_once next_pending_in
   once_shown rest s known =
       let v : SessionValue = session_shown rest s in
-      there_or_not (next_held now s)
+      there_or_not (next_pending now s)
       (λ found. session_shown rest (settled_so store now s found) ≡ session_settled_so (shared_of store now) v found)
       (λ none. notified_shown rest s (next_due store now s) known (next_known store now small is s known)
       ∙ ap (session_notified (shared_of store now) v) (next_shown rest s known))
@@ -276,6 +277,6 @@ module _ (store : StoreValue) (now : ℕ) (small : now ≤ 18446744073709551615)
       → session_shown rest (settled store now s) ≡ session_settled (shared_of store now) (session_shown rest s)
   unfolding settled session_settled
   settled_shown rest s known =
-      within_shown (length s.history.held + length s.observers) rest s known
-      ∙ ap (λ more. session_settled_within (length s.history.held + more) (shared_of store now) (session_shown rest s))
-      (sym (length-map s.observers observer_shown))
+      within_shown (length s.history.pending + length s.observers) rest s known
+      ∙ ap (λ more. session_settled_within (length s.history.pending + more) (shared_of store now)
+      (session_shown rest s)) (sym (length-map s.observers observer_shown))

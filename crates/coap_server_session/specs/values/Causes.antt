@@ -13,14 +13,14 @@ use Rattle.coap_server_session.specs.values.Deadlines.{IsBefore, due_on, is_time
 -- ---- the hash of a path, below 256
 
 -- The hash of bytes appended to bytes with the hash `hash`.
-abbrev pub hash_behind : ℕ → List ℕ → ℕ
-hash_behind hash [] = hash
-hash_behind hash (b ∷ bs) = hash_behind ((hash * 31 + b) % 256) bs
+abbrev pub hash_after : ℕ → List ℕ → ℕ
+hash_after hash [] = hash
+hash_after hash (b ∷ bs) = hash_after ((hash * 31 + b) % 256) bs
 
 -- The hash of segments appended to segments with the hash `hash`.
 abbrev pub segments_hash : ℕ → Path → ℕ
 segments_hash hash [] = hash
-segments_hash hash (s ∷ ss) = segments_hash (hash_behind hash s) ss
+segments_hash hash (s ∷ ss) = segments_hash (hash_after hash s) ss
 
 abbrev pub path_hash : Path → ℕ
 path_hash path = segments_hash 0 path
@@ -57,7 +57,7 @@ may_touch (cause.Moment before) now s = list_any is_time_observer s.observers ||
 -- pending or an observer observes the time.
 abbrev pub may_concern : Cause → SessionValue → Bool
 may_concern (cause.Path hash) s = list_any (observes_hash hash) s.observers
-may_concern (cause.Moment before) s = nat_lt 0 (length s.link.held) || list_any is_time_observer s.observers
+may_concern (cause.Moment before) s = nat_lt 0 (length s.link.pending) || list_any is_time_observer s.observers
 
 -- The hash of the path of the last observer, if there is one.
 abbrev pub last_hash : List ObserverValue → Option ℕ

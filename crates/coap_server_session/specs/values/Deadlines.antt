@@ -22,13 +22,13 @@ abbrev pub is_time_observer : ObserverValue → Bool
 is_time_observer o = not (is_dynamic (kind_of_path o.path))
 
 -- The time of the next notification if an observer observes the time.
-abbrev pub next_told : ℕ → List ObserverValue → Option ℕ
-next_told now observers = if list_any is_time_observer observers then next_second now else None
+abbrev pub next_notified : ℕ → List ObserverValue → Option ℕ
+next_notified now observers = if list_any is_time_observer observers then next_second now else None
 
 -- The next time after `now` at which time alone may make something due on a connection. A delayed response is due then,
 -- or an observer of the time must be notified.
 abbrev pub due_on : ℕ → SessionValue → Option ℕ
-due_on now s = sooner (next_moment now s.link.held) (next_told now s.observers)
+due_on now s = sooner (next_moment now s.link.pending) (next_notified now s.observers)
 
 -- Holds if `later` is before the deadline, or if there is no deadline.
 abbrev pub IsBefore : ℕ → Option ℕ → Type 0

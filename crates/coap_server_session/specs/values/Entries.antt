@@ -51,8 +51,8 @@ abbrev pub is_sent : LinkValue → Message → Bool
 is_sent l m = is_whole (fit (limit_in l) m (bare_response m))
 
 -- The entries after a request that is answered at once. `others` are the entries with other tokens.
-abbrev pub entries_asked : ServerState → LinkValue → ℕ → List ObserverValue → Message → List ObserverValue
-entries_asked shared l room others m =
+abbrev pub entries_requested : ServerState → LinkValue → ℕ → List ObserverValue → Message → List ObserverValue
+entries_requested shared l room others m =
     with_entry (is_observed shared room others m && is_sent l (response_on shared room others m)) others
     (new_entry shared m)
 
@@ -64,7 +64,7 @@ link_replied shared l room others m (Some d) = link_after l (hold_call d.by m.to
 -- The entries after a request. A request whose response is delayed has no entry.
 abbrev pub entries_replied : ServerState → LinkValue → ℕ → List ObserverValue → Message
     → Option Delay → List ObserverValue
-entries_replied shared l room others m None = entries_asked shared l room others m
+entries_replied shared l room others m None = entries_requested shared l room others m
 entries_replied shared l room others m (Some d) = others
 
 -- ---- a notification (RFC 7641 section 4.2)
@@ -78,8 +78,8 @@ entries_notified shared l entries o =
 -- ---- pending entries
 
 -- The connection after it settles, which it does only if an entry is pending.
-abbrev pub settled_held : ServerState → SessionValue → SessionValue
-settled_held shared v = if length v.link.held == 0 then v else session_settled shared v
+abbrev pub settled_pending : ServerState → SessionValue → SessionValue
+settled_pending shared v = if length v.link.pending == 0 then v else session_settled shared v
 
 -- ---- a stop
 

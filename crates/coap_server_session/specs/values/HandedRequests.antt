@@ -13,7 +13,7 @@ use Rattle.coap_conn.specs.declared.pending.Responder.TheVariants.{Engine, Appli
 use Rattle.coap_model.specs.world.Connections.{Delay}
 use Rattle.coap_server_session.specs.declared.server_state.ServerState.{ServerState}
 use Rattle.coap_server_session.specs.values.Sessions.{SessionValue, session_takes, session_max, asks_this, delay_on}
-use Rattle.coap_server_session.specs.values.Sessions.{held_in}
+use Rattle.coap_server_session.specs.values.Sessions.{delay_in}
 
 -- `true` if the application responds, and not the engine.
 abbrev pub is_application : Responder → Bool
@@ -28,7 +28,7 @@ is_handed (Some d) = is_application d.by
 -- `true` if a message is a request that becomes a pending entry of the application. The engine does not answer it, and
 -- the pending list has room.
 abbrev pub is_handed_over : ServerState → LinkValue → Message → Bool
-is_handed_over shared l m = asks_this l m && is_handed (held_in (link_after l (call.Handle m)) (delay_on shared m))
+is_handed_over shared l m = asks_this l m && is_handed (delay_in (link_after l (call.Handle m)) (delay_on shared m))
 
 -- A frame, if its message is handed to the application.
 abbrev pub handed_read : ServerState → SessionValue → List ℕ → Result Message FormatFault → Option (List ℕ)

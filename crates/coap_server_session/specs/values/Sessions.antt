@@ -16,8 +16,8 @@ use Rattle.coap_conn.specs.Reaction.{react}
 use Rattle.coap_conn.specs.Fit.{fit, bare_response}
 use Rattle.coap_conn.specs.Rejects.{reject_of}
 use Rattle.coap_conn.specs.PendingEntries.{PendingEntryValue, first_due}
-use Rattle.coap_conn.specs.PendingEntries as held
-use Rattle.coap_conn.specs.LinkValue.{LinkValue, new_link, free_in, limit_in, standing_in, can_hold}
+use Rattle.coap_conn.specs.PendingEntries as pending
+use Rattle.coap_conn.specs.LinkValue.{LinkValue, new_link, free_in, limit_in, state_in, can_hold}
 use Rattle.coap_conn.specs.Calls.{link_after, may_announce}
 use Rattle.coap_conn.specs.Calls as call
 use Rattle.coap_path.specs.Paths.{Path, same_bytes}
@@ -31,7 +31,7 @@ use Rattle.coap_store.specs.Changes.{IsPut}
 use Rattle.coap_store.specs.Messages.{response_with_observe}
 use Rattle.coap_store.specs.Notifications.{notification_of}
 use Rattle.coap_server_session.specs.declared.server_state.ServerState.{ServerState}
-use Rattle.coap_model.specs.world.Connections.{is_cut, moment_after, held_message, Delay, delay_of, hold_call}
+use Rattle.coap_model.specs.world.Connections.{is_cut, moment_after, late_message, Delay, delay_of, hold_call}
 use Rattle.coap_model.specs.world.Observers.{format_of, has_place, is_whole, with_entry, goes_on, notification_message}
 use Rattle.coap_model.specs.world.Observers.{first_becomes}
 use Rattle.coap_wire.specs.declared.sizes.TheConstants.{LARGEST_MESSAGE}
@@ -108,10 +108,10 @@ is_stale shared o = not (is_marked shared.now o.mark (state_on shared o.path))
 abbrev pub present_mark : ServerState → Path → Option ℕ
 present_mark shared path = option_map (mark_at shared.now) (state_on shared path)
 
--- The mark of the current state if it differs from the mark `told`, 0 if the path is absent, otherwise `None`.
-abbrev pub untold_by : Option ℕ → ℕ → Option ℕ
-untold_by None told = Some 0
-untold_by (Some present) told = if present == told then None else Some present
+-- The mark of the current state if it differs from the mark `reported`, 0 if the path is absent, otherwise `None`.
+abbrev pub unsent_by : Option ℕ → ℕ → Option ℕ
+unsent_by None reported = Some 0
+unsent_by (Some present) reported = if present == reported then None else Some present
 
 -- The changed mark of an observer: the mark of the current state if the observer is stale, otherwise `None`.
 unfoldable pub changed_mark : ServerState → ObserverValue → Option ℕ
@@ -203,9 +203,9 @@ abbrev pub delay_on : ServerState → Message → Option Delay
 delay_on shared m = delay_of shared.store shared.now m
 
 -- The same delay, or `None` if the pending list is full.
-abbrev pub held_in : LinkValue → Option Delay → Option Delay
-held_in l None = None
-held_in l (Some d) = if can_hold l then Some d else None
+abbrev pub delay_in : LinkValue → Option Delay → Option Delay
+delay_in l None = None
+delay_in l (Some d) = if can_hold l then Some d else None
 
 -- The connection after a request: its response is delayed, or was sent at once.
 abbrev pub session_replied : ServerState → LinkValue → List ObserverValue → Message → Option Delay → SessionValue
@@ -215,13 +215,13 @@ session_replied shared l others m (Some d) =
 
 -- `true` if a message is a request that this connection answers.
 abbrev pub asks_this : LinkValue → Message → Bool
-asks_this l m = is_request (react (standing_in l) m).verdict
+asks_this l m = is_request (react (state_in l) m).verdict
 
 -- The connection after it processed a message.
 unfoldable pub session_handled : ServerState → SessionValue → Message → SessionValue
 session_handled shared v m =
     if asks_this v.link m then session_replied shared (link_after v.link (call.Handle m))
-    (without_entry m.token v.observers) m (held_in (link_after v.link (call.Handle m)) (delay_on shared m))
+    (without_entry m.token v.observers) m (delay_in (link_after v.link (call.Handle m)) (delay_on shared m))
     else session_with [] (link_after v.link (call.Handle m)) v.observers
 
 -- The change of the store that a message makes.
@@ -332,15 +332,15 @@ session_notified shared v (Some o) =
     (goes_on (notification_of shared.store shared.now o.path o.format))
 
 -- The pending entry that is due first, if the queue has room to send it.
-unfoldable pub next_held_in : ℕ → SessionValue → Option PendingEntryValue
-next_held_in now v = if session_ready v then first_due now v.link.held else None
+unfoldable pub next_pending_in : ℕ → SessionValue → Option PendingEntryValue
+next_pending_in now v = if session_ready v then first_due now v.link.pending else None
 
 -- The link after the pending entry that is due first was removed: its response was sent, or its Pong was queued with
 -- Custody.
 abbrev pub link_sent : LinkValue → ℕ → PendingEntryValue → LinkValue
-link_sent l now (held.Answer by token moment) =
-    link_after (link_after l (call.Due now)) (call.Reply (held_message by token))
-link_sent l now (held.Pong token) = link_after l (call.Due now)
+link_sent l now (pending.Answer by token moment) =
+    link_after (link_after l (call.Due now)) (call.Reply (late_message by token))
+link_sent l now (pending.Pong token) = link_after l (call.Due now)
 
 -- The connection after one iteration of settling: a pending entry is sent before any observer is notified.
 abbrev pub session_settled_so : ServerState → SessionValue → Option PendingEntryValue → SessionValue
@@ -349,7 +349,7 @@ session_settled_so shared v (Some e) = session_with v.frame (link_sent v.link sh
 
 -- The connection after one iteration of settling.
 unfoldable pub session_settled_once : ServerState → SessionValue → SessionValue
-session_settled_once shared v = session_settled_so shared v (next_held_in shared.now v)
+session_settled_once shared v = session_settled_so shared v (next_pending_in shared.now v)
 
 -- The connection after this number of iterations.
 unfoldable pub session_settled_within : ℕ → ServerState → SessionValue → SessionValue
@@ -359,8 +359,8 @@ session_settled_within (suc turns) shared v = session_settled_within turns share
 -- The connection after it settled. Each iteration leaves fewer pending entries or fewer stale observers, so as many
 -- iterations suffice as there are entries and observers.
 unfoldable pub session_settled : ServerState → SessionValue → SessionValue
-session_settled shared v = session_settled_within (length v.link.held + length v.observers) shared v
+session_settled shared v = session_settled_within (length v.link.pending + length v.observers) shared v
 
 -- Holds if nothing is left to settle: no pending entry is due and no observer is stale, or the queue has no room.
 abbrev pub IsSettled : ServerState → SessionValue → Type 0
-IsSettled shared v = (next_held_in shared.now v ≡ None) × (next_stale shared v ≡ None)
+IsSettled shared v = (next_pending_in shared.now v ≡ None) × (next_stale shared v ≡ None)

@@ -2,7 +2,8 @@
 
 ghost use Rattle.std.specs.Prelude.{◌≡◌, ℕ, false, None, ◌+◌, ◌||◌, Some, length, nat_lt};
 ghost use Rattle.coap_server_session.specs.Prelude.{sooner as lesser, IsUnaffected, ConcernsNone, due_on, IsBefore};
-ghost use Rattle.coap_server_session.specs.Prelude.{next_told as next_told_of, has_come, may_touch, may_concern};
+ghost use Rattle.coap_server_session.specs.Prelude.{next_notified as next_notified_of, has_come, may_touch};
+ghost use Rattle.coap_server_session.specs.Prelude.{may_concern};
 ghost use Rattle.coap_server_session.specs.Prelude.{last_hash, is_time_observer, list_any};
 
 use super::Session;
@@ -51,7 +52,8 @@ impl Session {
     /// Returns `true` if time alone may make something due: an entry is pending, or an observer observes the time.
     fn may_come_due(&self) -> bool
         ensures exact { result
-            ≡ (nat_lt 0 (length self.now.session.link.held) || list_any is_time_observer self.now.session.observers) }
+            ≡ (nat_lt 0 (length self.now.session.link.pending)
+            || list_any is_time_observer self.now.session.observers) }
         ensures never { result ≡ false → (now : ℕ) → due_on now self.now.session ≡ None }
     {
         self.link.pending() > 0 || self.observers.any_observes_time()
@@ -74,12 +76,12 @@ impl Session {
     pub fn due(&self, now: u64) -> Option<u64>
         ensures { result ≡ due_on now self.now.session }
     {
-        sooner(self.link.next_moment(now), self.next_told(now))
+        sooner(self.link.next_moment(now), self.next_notified(now))
     }
 
     /// Returns the next second if an observer of the time must be notified then.
-    fn next_told(&self, now: u64) -> Option<u64>
-        ensures { result ≡ next_told_of now self.now.session.observers }
+    fn next_notified(&self, now: u64) -> Option<u64>
+        ensures { result ≡ next_notified_of now self.now.session.observers }
     {
         if !self.observers.any_observes_time() || now == u64::MAX {
             return None;

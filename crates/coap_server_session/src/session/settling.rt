@@ -7,9 +7,9 @@ use crate::server_state::ServerState;
 
 impl Session {
     ghost use Rattle.std.specs.Prelude.{◌≡◌, false, ◌≤◌, ◌||◌, Some, length, is_some};
-    ghost use Rattle.coap_server_session.specs.Prelude.{IsReady, IsMarkedBut, IsMarked, next_held_in, next_stale};
+    ghost use Rattle.coap_server_session.specs.Prelude.{IsReady, IsMarkedBut, IsMarked, next_pending_in, next_stale};
     ghost use Rattle.coap_server_session.specs.Prelude.{session_notified, session_settled_once, session_written};
-    ghost use Rattle.coap_server_session.specs.Prelude.{session_settled, IsSettled, settled_held};
+    ghost use Rattle.coap_server_session.specs.Prelude.{session_settled, IsSettled, settled_pending};
 
     /// Settles the connection: sends the pending entries that are due, then notifies the stale observers, one after the
     /// other.
@@ -72,7 +72,7 @@ impl Session {
     /// The changed marks of the observers are current.
     pub fn settle_if_pending(&mut self, shared: &ServerState)
         requires { IsMarked shared.now self.old }
-        ensures after { self.new.session ≡ settled_held shared.entry.now self.old.session }
+        ensures after { self.new.session ≡ settled_pending shared.entry.now self.old.session }
         ensures marked { IsMarked shared.entry.now self.new }
         ensures split { self.new.split ≡ self.old.split }
     {
@@ -86,7 +86,7 @@ impl Session {
     fn settle_once(&mut self, shared: &ServerState) -> bool
         requires { IsMarked shared.now self.old }
         ensures after { self.new.session ≡ session_settled_once shared.entry.now self.old.session }
-        ensures found { result ≡ (is_some (next_held_in shared.entry.now.now self.old.session)
+        ensures found { result ≡ (is_some (next_pending_in shared.entry.now.now self.old.session)
             || is_some (next_stale shared.entry.now self.old.session)) }
         ensures marked { IsMarked shared.entry.now self.new }
         ensures split { self.new.split ≡ self.old.split }

@@ -15,7 +15,7 @@ pub(crate) struct CallLog<'a> {
     pub page: &'a Page,
     /// `true` if the calls of `Door::wait` are recorded, and a connection is ready when its text says so. Otherwise the
     /// connections are always ready.
-    tells_waits: bool,
+    records_waits: bool,
     /// Number of calls of `Door::wait`.
     waits: Cell<usize>,
     /// Time of a clock that advances in waits alone, in seconds.
@@ -24,10 +24,10 @@ pub(crate) struct CallLog<'a> {
 
 impl<'a> CallLog<'a> {
     /// Creates a record in a line.
-    pub(crate) fn new(page: &'a Page, tells_waits: bool, moment: u64) -> CallLog<'a> {
+    pub(crate) fn new(page: &'a Page, records_waits: bool, moment: u64) -> CallLog<'a> {
         CallLog {
             page,
-            tells_waits,
+            records_waits,
             waits: Cell::new(0),
             moment: Cell::new(moment),
         }
@@ -63,11 +63,11 @@ impl Wire for ScriptedWire<'_> {
 
 impl Ready for ScriptedWire<'_> {
     fn may_read(&self) -> bool {
-        !self.log.tells_waits || self.reads.has_word(self.log.waits.get())
+        !self.log.records_waits || self.reads.has_word(self.log.waits.get())
     }
 
     fn may_write(&self) -> bool {
-        !self.log.tells_waits || self.writes.has_word(self.log.waits.get())
+        !self.log.records_waits || self.writes.has_word(self.log.waits.get())
     }
 }
 
@@ -122,7 +122,7 @@ impl<'a> Door for ScriptedDoor<'a> {
         if let Wait::Until(moment) = wait {
             log.moment.set(moment);
         }
-        if log.tells_waits {
+        if log.records_waits {
             note(log.page, "wait", u64::from(opens), &[], &wait);
         }
     }

@@ -26,7 +26,7 @@ loop-size-preserved c =
     grind (arith, common_steps, c.try_push.ensures.ok, c.in_ok-ok.ensures.variant) in
     let whole = c.in_ok-segment.ensures.cases in
     rw items (goes_on c.loop-size.segments.items c.in_ok-segment.segment c.from.result c.in-Some.size.now
-    c.in-Some.rest.now c.in_ok-segment.behind.now
+    c.in-Some.rest.now c.in_ok-segment.later.now
     c.loop-size.left.now c.args.list.now c.in-Some.ensures.cases.0 c.from.ensures whole.0 whole.1
     whole.2 c.loop-size.invariant)
 

@@ -10,5 +10,5 @@ returns-clause-waiting c limits tokens calls ranges accepted = few_wait limits t
 pub returns-clause-outstanding : goal.returns-clause-outstanding
 returns-clause-outstanding c limits tokens calls ranges accepted = few_outstanding limits tokens calls
 
-pub returns-clause-held : goal.returns-clause-held
-returns-clause-held c limits tokens calls = client_holds_nothing limits tokens calls
+pub returns-clause-pending : goal.returns-clause-pending
+returns-clause-pending c limits tokens calls = client_holds_nothing limits tokens calls

@@ -1,5 +1,5 @@
 use Rattle.coap_conn.proofs.HistoryLaws.{new_fits, reaction_fits, sent_fits, stopped_fits, released_fits, due_fits}
-use Rattle.coap_conn.proofs.HistoryLaws.{asked_fits, cancelled_fits}
+use Rattle.coap_conn.proofs.HistoryLaws.{requested_fits, cancelled_fits}
 use Rattle.coap_conn.proofs.AnnounceLaws.{announcement_fits}
 use Rattle.coap_conn.proofs.ApplicationLaws.{responded_fits}
 use Rattle.coap_conn.proofs.laws.queued_messages_fit_limit.Goals as goal
@@ -25,8 +25,8 @@ returns-clause-released c = released_fits
 pub returns-clause-due : goal.returns-clause-due
 returns-clause-due c = due_fits
 
-pub returns-clause-asked : goal.returns-clause-asked
-returns-clause-asked c = asked_fits
+pub returns-clause-requested : goal.returns-clause-requested
+returns-clause-requested c = requested_fits
 
 pub returns-clause-cancelled : goal.returns-clause-cancelled
 returns-clause-cancelled c = cancelled_fits

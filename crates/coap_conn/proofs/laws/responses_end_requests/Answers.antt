@@ -1,10 +1,10 @@
 use Rattle.coap_conn.specs.Prelude.{matches_response}
-use Rattle.coap_conn.proofs.OutstandingLaws.{answers_asked, last_ends, none_left, notified_stays, request_ended}
-use Rattle.coap_conn.proofs.OutstandingLaws.{pong_ends, stranger_stays, response_told, pong_told_of}
+use Rattle.coap_conn.proofs.OutstandingLaws.{answers_requested, last_ends, none_left, notified_stays, request_ended}
+use Rattle.coap_conn.proofs.OutstandingLaws.{pong_ends, stranger_stays, response_reported, pong_is_reported}
 use Rattle.coap_conn.proofs.laws.responses_end_requests.Goals as goal
 
 pub returns-clause-answer : goal.returns-clause-answer
-returns-clause-answer c = answers_asked
+returns-clause-answer c = answers_requested
 
 pub returns-clause-last : goal.returns-clause-last
 returns-clause-last c = last_ends
@@ -24,8 +24,8 @@ returns-clause-pong c = pong_ends
 pub returns-clause-stranger : goal.returns-clause-stranger
 returns-clause-stranger c = stranger_stays
 
-pub returns-clause-response_told : goal.returns-clause-response_told
-returns-clause-response_told c = response_told
+pub returns-clause-response_reported : goal.returns-clause-response_reported
+returns-clause-response_reported c = response_reported
 
-pub returns-clause-pong_told : goal.returns-clause-pong_told
-returns-clause-pong_told c = pong_told_of
+pub returns-clause-pong_reported : goal.returns-clause-pong_reported
+returns-clause-pong_reported c = pong_is_reported

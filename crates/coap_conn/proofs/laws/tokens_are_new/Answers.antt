@@ -6,8 +6,8 @@ use Rattle.coap_conn.proofs.laws.tokens_are_new.Goals as goal
 pub returns-clause-different : goal.returns-clause-different
 returns-clause-different c = tokens_differ
 
-pub returns-clause-asked : goal.returns-clause-asked
-returns-clause-asked c = token_left
+pub returns-clause-requested : goal.returns-clause-requested
+returns-clause-requested c = token_left
 
 pub returns-clause-given : goal.returns-clause-given
 returns-clause-given c h m e none =

@@ -9,8 +9,8 @@ returns-in-Some-clause-first c = search rules
 
 pub returns-in-Some-clause-within : goal.returns-in-Some-clause-within
 returns-in-Some-clause-within c =
-    subst (λ i. IfSome i (λ i. i < length c.args.held.now)) (sym (returns-in-Some-clause-first c))
-    (due_within c.args.now c.args.held.now)
+    subst (λ i. IfSome i (λ i. i < length c.args.pending.now)) (sym (returns-in-Some-clause-first c))
+    (due_within c.args.now c.args.pending.now)
 
 pub returns-in-None-clause-first : goal.returns-in-None-clause-first
 unfolding due_index
@@ -18,5 +18,5 @@ returns-in-None-clause-first c = search rules
 
 pub returns-in-None-clause-within : goal.returns-in-None-clause-within
 returns-in-None-clause-within c =
-    subst (λ i. IfSome i (λ i. i < length c.args.held.now)) (sym (returns-in-None-clause-first c))
-    (due_within c.args.now c.args.held.now)
+    subst (λ i. IfSome i (λ i. i < length c.args.pending.now)) (sym (returns-in-None-clause-first c))
+    (due_within c.args.now c.args.pending.now)

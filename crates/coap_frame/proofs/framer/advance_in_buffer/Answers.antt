@@ -1,8 +1,8 @@
 use Rattle.std.proofs.Common.{List, ℕ, take, sym, ap, subst, ◌∙◌, arith}
 use Rattle.coap_frame.specs.Prelude.{Framing, IsFilled, finding_in, framer_of, FrameStatus, HasLayoutIn}
-use Rattle.coap_frame.specs.declared.framer.BufferContent.TheVariants as held
-use Rattle.coap_frame.proofs.FramingLemmas.{framing_unfinished, framing_whole, framing_fault, behind_more, behind_frame}
-use Rattle.coap_frame.proofs.FramingLemmas.{behind_fault}
+use Rattle.coap_frame.specs.declared.framer.BufferContent.TheVariants as content
+use Rattle.coap_frame.proofs.FramingLemmas.{framing_unfinished, framing_whole, framing_fault, rest_more, rest_frame}
+use Rattle.coap_frame.proofs.FramingLemmas.{rest_is_faulty}
 use Rattle.coap_frame.proofs.framer.advance_in_buffer.Goals as goal
 
 pub returns-in-Unfinished : goal.returns-in-Unfinished
@@ -17,7 +17,7 @@ returns-in-Unfinished c =
     let is = framing_unfinished max kept p new taken filled in
     record {
       after =
-          behind_more max c.args.copied.now kept p new taken c.saturating_add.result c.requires.some
+          rest_more max c.args.copied.now kept p new taken c.saturating_add.result c.requires.some
           c.saturating_add.ensures filled;
       taken = sym (ap (λ (f : Framing). f.taken) is);
       within = filled.within;
@@ -39,11 +39,11 @@ returns-in-Whole c =
     let is = framing_whole max kept p new taken layout filled in
     record {
       after =
-          behind_frame max c.args.copied.now kept p new taken c.saturating_add.result c.requires.some
+          rest_frame max c.args.copied.now kept p new taken c.saturating_add.result c.requires.some
           c.saturating_add.ensures layout filled;
       taken = sym (ap (λ (f : Framing). f.taken) is);
       within = filled.within;
-      layout = subst (HasLayoutIn new) (sym c.in-Whole.is) filled.stands.3;
+      layout = subst (HasLayoutIn new) (sym c.in-Whole.is) filled.has_status.3;
       found = ap (finding_in new) c.in-Whole.is ∙ sym (ap (λ (f : Framing). f.finding) is);
       capacity = omega (arith, c.requires.room, c.fill-taken.ensures.capacity);
     }
@@ -61,8 +61,8 @@ returns-in-Fault c =
     let is = framing_fault max kept p new taken fault filled in
     record {
       after =
-          ap (λ (b : List ℕ). framer_of max held.Prefix b c.saturating_add.result) c.clear.ensures.items
-          ∙ behind_fault max c.args.copied.now kept p new taken c.saturating_add.result c.requires.some
+          ap (λ (b : List ℕ). framer_of max content.Prefix b c.saturating_add.result) c.clear.ensures.items
+          ∙ rest_is_faulty max c.args.copied.now kept p new taken c.saturating_add.result c.requires.some
           c.saturating_add.ensures fault filled;
       taken = sym (ap (λ (f : Framing). f.taken) is);
       within = filled.within;

@@ -1,7 +1,7 @@
 use Rattle.std.proofs.Common.{List, ℕ, [], ◌++◌, length, take, sym, ap, subst, ◌∙◌, arith}
 use Rattle.coap_wire.proofs.StreamSteps.{unfinished_below}
 use Rattle.coap_frame.specs.Prelude.{Framing, IsFilled, finding_in, framer_of, FrameStatus, HasLayoutIn}
-use Rattle.coap_frame.specs.declared.framer.BufferContent.TheVariants as held
+use Rattle.coap_frame.specs.declared.framer.BufferContent.TheVariants as content
 use Rattle.coap_frame.proofs.FramingLemmas.{framing_unfinished, framing_whole, framing_fault, alone_more, alone_frame}
 use Rattle.coap_frame.proofs.FramingLemmas.{alone_fault}
 use Rattle.coap_frame.proofs.framer.advance_in_piece.Goals as goal
@@ -12,7 +12,7 @@ append-requires c =
     let filled =
     subst (λ (s : FrameStatus). IsFilled c.args.max [] p (take c.classify-taken.result.0 p) c.classify-taken.result.0 s)
     c.in-Unfinished.is c.classify-taken.ensures in
-    let below = unfinished_below c.args.max p (omega (arith, c.requires.low)) filled.stands.0 in
+    let below = unfinished_below c.args.max p (omega (arith, c.requires.low)) filled.has_status.0 in
     omega (arith, below, c.requires.room, ap (λ (b : List ℕ). length b) c.requires.empty)
 
 pub returns-in-Unfinished : goal.returns-in-Unfinished
@@ -45,11 +45,11 @@ returns-in-Whole c =
     let is = framing_whole max [] p (take taken p) taken layout filled in
     record {
       after =
-          ap (λ (b : List ℕ). framer_of max held.Prefix b c.args.copied.now) c.requires.empty
+          ap (λ (b : List ℕ). framer_of max content.Prefix b c.args.copied.now) c.requires.empty
           ∙ alone_frame max c.args.copied.now taken p layout c.requires.countable filled;
       taken = sym (ap (λ (f : Framing). f.taken) is);
       within = filled.within;
-      layout = subst (HasLayoutIn (take taken p)) (sym c.in-Whole.is) filled.stands.3;
+      layout = subst (HasLayoutIn (take taken p)) (sym c.in-Whole.is) filled.has_status.3;
       found = ap (finding_in (take taken p)) c.in-Whole.is ∙ sym (ap (λ (f : Framing). f.finding) is);
       capacity = c.requires.room;
     }
@@ -64,7 +64,7 @@ returns-in-Fault c =
     let is = framing_fault max [] p (take taken p) taken c.in-Fault.field-0 filled in
     record {
       after =
-          ap (λ (b : List ℕ). framer_of max held.Prefix b c.args.copied.now) c.requires.empty
+          ap (λ (b : List ℕ). framer_of max content.Prefix b c.args.copied.now) c.requires.empty
           ∙ alone_fault max c.args.copied.now taken p c.in-Fault.field-0 c.requires.countable filled;
       taken = sym (ap (λ (f : Framing). f.taken) is);
       within = filled.within;

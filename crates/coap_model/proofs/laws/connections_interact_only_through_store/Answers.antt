@@ -1,4 +1,5 @@
-use Rattle.coap_model.proofs.world.ViewLaws.{view_seen, one_side_of_a_view, one_store_of_a_view, one_moment_of_a_view}
+use Rattle.coap_model.proofs.world.ViewLaws.{view_concerns, one_side_of_a_view, one_store_of_a_view}
+use Rattle.coap_model.proofs.world.ViewLaws.{one_moment_of_a_view}
 use Rattle.coap_model.proofs.world.ViewLaws.{one_side_of_one_view}
 use Rattle.coap_model.proofs.laws.connections_interact_only_through_store.Goals as goal
 use Rattle.coap_model.specs.Prelude.{world_after}
@@ -8,7 +9,7 @@ pub returns : goal.returns
 unfolding world_after
 returns c =
     search (
-      view_seen,
+      view_concerns,
       one_side_of_a_view,
       one_store_of_a_view,
       one_moment_of_a_view,

@@ -1,4 +1,4 @@
-use Rattle.coap_model.proofs.world.CustodyLaws.{responded_keeps, written_same, told_keeps, taken_out, answer_sent}
+use Rattle.coap_model.proofs.world.CustodyLaws.{responded_keeps, written_same, notified_keeps, taken_out, answer_sent}
 use Rattle.coap_model.proofs.world.CustodyLaws.{pong_sent, if_over, handled_over, left_kept, Leaves}
 use Rattle.coap_model.proofs.laws.pending_entries_are_sent.Goals as goal
 use Rattle.coap_model.specs.Prelude.{side_after, handles, side_handled, side_faulted, side_ended, side_released}
@@ -28,7 +28,7 @@ returns c = record {
     responds_fitted s.history m answering none,
     responded_keeps s m answering none,
   );
-  told = told_keeps;
+  reported = notified_keeps;
   taken = taken_out;
   answer = answer_sent;
   pong = pong_sent;

@@ -1,6 +1,6 @@
 use Rattle.std.proofs.Common.{[], ◌∷◌, ◌+◌, length, refl, ap, arith, inl, ◌∙◌}
 use Rattle.std.proofs.lemmas.List.{length-append}
-use Rattle.coap_serve.specs.Prelude.{TellsMore, Times, config_of, known_by, known_of_run, new_server, no_trace}
+use Rattle.coap_serve.specs.Prelude.{AddsCalls, Times, config_of, known_by, known_of_run, new_server, no_trace}
 use Rattle.coap_serve.specs.Prelude.{service_of, trace_then, turn_trace, views_of}
 use Rattle.coap_serve.specs.listener.Run.{NoneMade, OneMade}
 use Rattle.coap_serve.proofs.listener.RunLemmas.{cut_ends, cut_named, memory_ends, nothing_matches, turn_matches}
@@ -78,9 +78,9 @@ returns-clause-run g c =
             last = w.turn.new.self.server;
             ran = both_made so_far.ran w.turn.ensures.ran;
             ends = cut_ends _ _
-                (known_of_run (TellsMore (g.C.Clock.moments c.args.clock.now) (g.C.Clock.moments w.now-now.new.self))
-                (TellsMore (g.U.Clock.moments c.args.uptime.now) (g.U.Clock.moments w.now-second.new.self))
-                (TellsMore (g.D.Door.calls c.args.door.now) (g.D.Door.calls w.turn.new.door))
+                (known_of_run (AddsCalls (g.C.Clock.moments c.args.clock.now) (g.C.Clock.moments w.now-now.new.self))
+                (AddsCalls (g.U.Clock.moments c.args.uptime.now) (g.U.Clock.moments w.now-second.new.self))
+                (AddsCalls (g.D.Door.calls c.args.door.now) (g.D.Door.calls w.turn.new.door))
                 (known_by g.M.Monitor.follows g.A.Application.follows c.args.monitor.now w.turn.new.monitor
                 c.args.application.now w.turn.new.application))
                 w.turn.new.self.server w.in-Err.memory w.in-Err.ensures.fault (record {

@@ -1,5 +1,5 @@
 use Rattle.std.proofs.Common.{◌≡◌, false, length}
-use Rattle.coap_serve.specs.Prelude.{AreTurns, HasRun, Matches, RunTrace, TellsMore, Turns, config_of, environment}
+use Rattle.coap_serve.specs.Prelude.{AreTurns, HasRun, Matches, RunTrace, AddsCalls, Turns, config_of, environment}
 use Rattle.coap_serve.specs.Prelude.{known_by, known_of_run, new_server, service_of, some_waits, views_of}
 use Rattle.coap_serve.proofs.door.run.Given as goal
 
@@ -15,9 +15,9 @@ invariant-loop-turn g l =
           g.D.Wire.Wire.answers g.D.Wire.Wire.rooms)) l.fn.setup.config front
           (service_of l.service.server l.service.peers.entries l.service.second l.service.idle) l.wait;
       counted : length front.times ≡ l.turn;
-      matches : Matches (known_of_run (TellsMore (g.C.Clock.moments l.fn.clock) (g.C.Clock.moments l.clock))
-          (TellsMore (g.U.Clock.moments l.fn.uptime) (g.U.Clock.moments l.uptime))
-          (TellsMore (g.D.Door.calls l.fn.door) (g.D.Door.calls l.door))
+      matches : Matches (known_of_run (AddsCalls (g.C.Clock.moments l.fn.clock) (g.C.Clock.moments l.clock))
+          (AddsCalls (g.U.Clock.moments l.fn.uptime) (g.U.Clock.moments l.uptime))
+          (AddsCalls (g.D.Door.calls l.fn.door) (g.D.Door.calls l.door))
           (known_by g.M.Monitor.follows g.A.Application.follows l.fn.monitor l.monitor l.fn.application l.application))
           front;
       ready : l.service.is_spent ≡ false;

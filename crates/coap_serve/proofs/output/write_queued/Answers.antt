@@ -7,9 +7,9 @@ pub accepted-requires : goal.accepted-requires
 accepted-requires g c = whole_part _ c.in-Some.ensures.parts
 
 -- The connection does not exist.
-pub returns-in_default-clause-told : goal.returns-in_default-clause-told
-returns-in_default-clause-told g c = followed_none (g.M.Monitor.follows c.args.monitor.now)
+pub returns-in_default-clause-reported : goal.returns-in_default-clause-reported
+returns-in_default-clause-reported g c = followed_none (g.M.Monitor.follows c.args.monitor.now)
 
 -- No byte is queued.
-pub returns-then-count-eq0-clause-told : goal.returns-then-count-eq0-clause-told
-returns-then-count-eq0-clause-told g c = followed_none (g.M.Monitor.follows c.args.monitor.now)
+pub returns-then-count-eq0-clause-reported : goal.returns-then-count-eq0-clause-reported
+returns-then-count-eq0-clause-reported g c = followed_none (g.M.Monitor.follows c.args.monitor.now)

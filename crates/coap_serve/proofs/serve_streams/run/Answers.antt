@@ -14,10 +14,10 @@ loop-init g c = record {
   room = refl;
 }
 
-pub take_turn-requires-clause-stands : goal.take_turn-requires-clause-stands
-take_turn-requires-clause-stands g c =
-    let stands = c.requires.stands in
-    (stands.0, c.args.config.now, _, (c.loop.invariant.runs stands.0 stands.1).goes)
+pub take_turn-requires-clause-is_at : goal.take_turn-requires-clause-is_at
+take_turn-requires-clause-is_at g c =
+    let is_at = c.requires.is_at in
+    (is_at.0, c.args.config.now, _, (c.loop.invariant.runs is_at.0 is_at.1).goes)
 
 pub returns-in_err-turn-clause-run : goal.returns-in_err-turn-clause-run
 returns-in_err-turn-clause-run g c = λ first goes.

@@ -6,41 +6,41 @@ returns-in_default-clause-run g c =
     let ran = not_begun c.args.config.now _ _ (g.M.Monitor.follows c.args.monitor.now) in
     (ran.0, ran.1, ran.2, ran.3, ran.4, ran.5)
 
-pub returns-in_default-clause-told : goal.returns-in_default-clause-told
-returns-in_default-clause-told g c = not_begun c.args.config.now _ _ (g.M.Monitor.follows c.args.monitor.now)
+pub returns-in_default-clause-reported : goal.returns-in_default-clause-reported
+returns-in_default-clause-reported g c = not_begun c.args.config.now _ _ (g.M.Monitor.follows c.args.monitor.now)
 
 pub returns-in_default-open-clause-run : goal.returns-in_default-open-clause-run
 returns-in_default-open-clause-run g c =
     let ran = not_begun c.args.config.now _ _ (g.M.Monitor.follows c.args.monitor.now) in
     (ran.0, ran.1, ran.2, ran.3, ran.4, ran.5)
 
-pub returns-in_default-open-clause-told : goal.returns-in_default-open-clause-told
-returns-in_default-open-clause-told g c = not_begun c.args.config.now _ _ (g.M.Monitor.follows c.args.monitor.now)
+pub returns-in_default-open-clause-reported : goal.returns-in_default-open-clause-reported
+returns-in_default-open-clause-reported g c = not_begun c.args.config.now _ _ (g.M.Monitor.follows c.args.monitor.now)
 
-pub returns-in_default-greet-clause-told : goal.returns-in_default-greet-clause-told
-returns-in_default-greet-clause-told g c =
+pub returns-in_default-greet-clause-reported : goal.returns-in_default-greet-clause-reported
+returns-in_default-greet-clause-reported g c =
     cut_at_first c.args.config.now c.in-Ok.server c.open.new.self c.in-Ok-open.id
     (assumption (c.in-Ok.ensures, c.in-Ok-open.ensures)) (g.M.Monitor.follows c.args.monitor.now) _ c.opened.ensures _ _
     _ _ c.in_default-greet.ensures.part
 
 pub returns-in_default-greet-clause-run : goal.returns-in_default-greet-clause-run
 returns-in_default-greet-clause-run g c =
-    let ran = returns-in_default-greet-clause-told g c in (ran.0, ran.1, ran.2, ran.3, ran.4, ran.5)
+    let ran = returns-in_default-greet-clause-reported g c in (ran.0, ran.1, ran.2, ran.3, ran.4, ran.5)
 
-pub run-requires-clause-stands : goal.run-requires-clause-stands
-run-requires-clause-stands g c = (
+pub run-requires-clause-is_at : goal.run-requires-clause-is_at
+run-requires-clause-is_at g c = (
   c.args.monitor.now,
   (goes_at_first c.args.config.now c.in-Ok.server c.open.new.self c.in-Ok-open.id
       (assumption (c.in-Ok.ensures, c.in-Ok-open.ensures)) (g.M.Monitor.follows c.args.monitor.now) _ c.opened.ensures _
       _ c.in-Ok-greet.ensures.ok).0,
 )
 
-pub returns-clause-told : goal.returns-clause-told
-returns-clause-told g c =
+pub returns-clause-reported : goal.returns-clause-reported
+returns-clause-reported g c =
     let first = goes_at_first c.args.config.now c.in-Ok.server c.open.new.self c.in-Ok-open.id
     (assumption (c.in-Ok.ensures, c.in-Ok-open.ensures)) (g.M.Monitor.follows c.args.monitor.now) _ c.opened.ensures _
     _ c.in-Ok-greet.ensures.ok in
     greeted c.args.config.now _ _ _ _ _ _ c.run.result first.1 (c.run.ensures.run c.args.monitor.now first.0)
 
 pub returns-clause-run : goal.returns-clause-run
-returns-clause-run g c = let ran = returns-clause-told g c in (ran.0, ran.1, ran.2, ran.3, ran.4, ran.5)
+returns-clause-run g c = let ran = returns-clause-reported g c in (ran.0, ran.1, ran.2, ran.3, ran.4, ran.5)

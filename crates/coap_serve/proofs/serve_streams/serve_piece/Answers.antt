@@ -22,13 +22,13 @@ loop-rest-init g c = record {
 -- The connection exists.
 pub unreachable-requires : goal.unreachable-requires
 unreachable-requires g c =
-    let goes = c.requires.stands in
+    let goes = c.requires.is_at in
     not_there goes.2 (g.M.Monitor.follows goes.0) (g.M.Monitor.follows c.args.monitor.now)
     goes.3 c.in_default.ensures.there
 
 pub unreachable-requires-in-Err-NoSuch : goal.unreachable-requires-in-Err-NoSuch
 unreachable-requires-in-Err-NoSuch g c =
-    let goes = c.requires.stands in
+    let goes = c.requires.is_at in
     let so_far = c.loop-rest.invariant.serves goes.0 goes.1 goes.2 goes.3 in
     let e = rw c.in-Err-NoSuch.field-0-is at c.in-Err-NoSuch.ensures in
     is_not_missing goes.1 c.loop-rest.server c.args.id _ c.loop-rest.rest.now (g.M.Monitor.follows goes.0)
@@ -87,7 +87,7 @@ returns-then-is_some-clause-served g c = λ first k bytes goes.
 -- A call of `take` accepts at least one byte.
 some : (g : Over) (c : goal.After-rest-1 g) → 1 ≤ c.in-Ok.taken.bytes
 some g c =
-    let goes = c.requires.stands in
+    let goes = c.requires.is_at in
     let so_far = c.loop-rest.invariant.serves goes.0 goes.1 goes.2 goes.3 in
     front_some goes.1 c.loop-rest.server c.args.id _ c.loop-rest.rest.now (g.M.Monitor.follows goes.0)
     (g.M.Monitor.follows c.loop-rest.monitor) so_far.goes c.take_at.new.self c.in-Ok.taken (assumption c.in-Ok.ensures)

@@ -23,7 +23,7 @@ returns-clause-turn g c = λ first k bytes goes.
 pub returns-in_err-messages-clause-read : goal.returns-in_err-messages-clause-read
 returns-in_err-messages-clause-read g c =
     let p = err_from_is_err_and c.from_residual.result c.from_residual.ensures.1 in
-    let stands = c.requires.stands in
+    let is_at = c.requires.is_at in
     rw (p.1, p.2) (c.in-Some.ensures.failure
-    ∙ rw c.requires.reader_works (sym (not_unread stands.1 stands.2 _ c.serve_piece.new.server _ _
-    c.in_err-messages.field-0.0 (c.in_err-messages.ensures.served stands.0 stands.1 stands.2 stands.3))))
+    ∙ rw c.requires.reader_works (sym (not_unread is_at.1 is_at.2 _ c.serve_piece.new.server _ _
+    c.in_err-messages.field-0.0 (c.in_err-messages.ensures.served is_at.0 is_at.1 is_at.2 is_at.3))))

@@ -3,9 +3,11 @@ use Rattle.coap_server_engine.proofs.laws.responses_at_once_have_room.Goals as g
 
 pub returns : goal.returns
 returns c = record {
-  refused = λ v events id piece bytes m fault shows asked. at_once_refused v events id piece m shows asked bytes fault;
-  accepted = λ v events id piece bytes m response shows early asked. at_once_accepted v events id piece m
-      shows asked early bytes response;
+  refused = λ v events id piece bytes m fault shows requested. at_once_refused v events id piece m shows requested bytes
+      fault;
+  accepted = λ v events id piece bytes m response shows early requested. at_once_accepted v events id piece m
+      shows requested early bytes response;
   answered =
-      λ v events id piece bytes m shows early asked. at_once_answered v events id piece m shows asked early bytes;
+      λ v events id piece bytes m shows early requested. at_once_answered v events id piece m shows requested early
+      bytes;
 }

@@ -4,7 +4,7 @@ use Rattle.std.proofs.Math.Bool.{not-not}
 use Rattle.coap_server_session.specs.Prelude.{StoreValue, Nothing, changed, IsPut, changes, asks_entry, is_whole}
 use Rattle.coap_server_session.specs.Prelude.{with_entry}
 use Rattle.coap_server_session.specs.Prelude.{ObserverValue, ObserversValue, answer_on, answer_of, Delay, Engine}
-use Rattle.coap_server_session.specs.Prelude.{delay_by, delay_on, held_in, shared_changed}
+use Rattle.coap_server_session.specs.Prelude.{delay_by, delay_on, delay_in, shared_changed}
 use Rattle.coap_server_session.specs.Prelude.{new_entry, without_entry, change_hash, is_observed, link_replied}
 use Rattle.coap_server_session.specs.Prelude.{entries_replied, AreMarked, changed_mark, marks_after, ServerState}
 use Rattle.coap_store.specs.Answer.{Answer}
@@ -68,7 +68,7 @@ prompted : (c : After-respond-reply) (enters : Bool) (after : ObserversValue)
     → AreMarked c.args.shared.now after.entries after.marks)
     → let m = c.args.request.now in
     let before = c.args.observers.now in
-    let hold = held_in c.args.link.now (delay_on c.args.shared.now m) in
+    let hold = delay_in c.args.link.now (delay_on c.args.shared.now m) in
     (None ≡ change_hash (answer_on c.args.shared.now m).change)
     × (c.respond-reply.new.link
     ≡ link_replied c.args.shared.now c.args.link.now before.room (without_entry m.token before.entries) m hold)

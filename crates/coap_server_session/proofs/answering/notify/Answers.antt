@@ -2,7 +2,7 @@ use Rattle.std.proofs.Common.{◌≡◌, true, false, sym, ap}
 use Rattle.std.proofs.lemmas.Bool.{and_parts}
 use Rattle.coap_server_session.specs.Prelude.{ObserverValue, ObserversValue, is_stale, observer_value}
 use Rattle.coap_server_session.proofs.values.EntryLemmas.{is_first}
-use Rattle.coap_server_session.proofs.values.MarkLemmas.{told_marked, told_unmarked, gone_marked}
+use Rattle.coap_server_session.proofs.values.MarkLemmas.{notified_marked, notified_unmarked, gone_marked}
 use Rattle.coap_server_session.proofs.values.AnsweringLemmas.{goes_whole, observer_stays_by, notified_entries}
 use Rattle.coap_server_session.proofs.answering.notify.Goals.{else-goes_on-via-then-goes_on+else-is_whole}
 use Rattle.coap_server_session.proofs.answering.notify.Goals.{else-goes_on-via-else-goes_on}
@@ -31,7 +31,7 @@ returns-then-is_whole-clause-entries c = λ o at.
     let index = c.args.stale.index in
     let stays = observer_stays_by shared link entries index (observer_value c.get-observer.result.now) o _ _ _ _
     c.get-observer.ensures.value at
-    c.fill_notification-index.ensures.told c.code.ensures c.eq-goes_on.ensures
+    c.fill_notification-index.ensures.reported c.code.ensures c.eq-goes_on.ensures
     (rw c.of.ensures at c.respond-reply.ensures.reply) in
     let both : true ≡ goes_whole shared link o = cc (
       stays,
@@ -53,7 +53,7 @@ returns-else-goes_on-clause-entries c = λ o at.
     let index = c.args.stale.index in
     let stays = observer_stays_by shared link entries index (observer_value c.get-observer.result.now) o _ _ _ _
     c.get-observer.ensures.value at
-    c.fill_notification-index.ensures.told c.code.ensures c.eq-goes_on.ensures
+    c.fill_notification-index.ensures.reported c.code.ensures c.eq-goes_on.ensures
     (rw c.of.ensures at c.respond-reply.ensures.reply) in
     let not_both : false ≡ goes_whole shared link o = elim c.else-goes_on.branch [
       | else-goes_on-via-then-goes_on+else-is_whole w ↦
@@ -78,7 +78,7 @@ returns-then-is_whole-clause-marked c =
     let o : ObserverValue = observer_value c.get-observer.result.now in
     let at = c.get-observer.ensures.value in
     let stays = observer_stays_by shared link entries index o o _ _ _ _ at at
-    c.fill_notification-index.ensures.told c.code.ensures c.eq-goes_on.ensures
+    c.fill_notification-index.ensures.reported c.code.ensures c.eq-goes_on.ensures
     (rw c.of.ensures at c.respond-reply.ensures.reply) in
     let both : true ≡ goes_whole shared link o = cc (
       stays,
@@ -86,9 +86,10 @@ returns-then-is_whole-clause-marked c =
       c.is_whole.ensures,
       c.if-is_whole.true,
     ) in
-    let told = told_unmarked shared o c.args.stale.mark (and_parts _ _ (sym both)).0 (c.requires.first.mark o at) in
-    rw (c.set_mark.ensures o at) (told_marked shared entries c.args.observers.now.marks index
-    (record o { mark = c.args.stale.mark }) c.requires.marked told)
+    let reported = notified_unmarked shared o c.args.stale.mark (and_parts _ _ (sym both)).0
+    (c.requires.first.mark o at) in
+    rw (c.set_mark.ensures o at) (notified_marked shared entries c.args.observers.now.marks index
+    (record o { mark = c.args.stale.mark }) c.requires.marked reported)
 
 pub returns-else-goes_on-clause-marked : goal.returns-else-goes_on-clause-marked
 returns-else-goes_on-clause-marked c =

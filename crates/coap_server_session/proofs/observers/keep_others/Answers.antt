@@ -3,7 +3,7 @@ use Rattle.coap_server_session.specs.Prelude.{filter, not, same_bytes, observer_
 use Rattle.std.proofs.lemmas.Bool.{ltb-false}
 use Rattle.std.proofs.lemmas.Fn.{filter_same}
 use Rattle.coap_server_session.specs.declared.observer.Observer.{Observer}
-use Rattle.coap_server_session.proofs.values.EntryLemmas.{others_seen}
+use Rattle.coap_server_session.proofs.values.EntryLemmas.{other_values}
 use Rattle.coap_server_session.specs.Prelude.{IsTagged}
 use Rattle.coap_server_session.proofs.values.TagLemmas.{all_kept_stay, others_keep_marks}
 use Rattle.coap_model.proofs.world.EntryLemmas.{all_filter}
@@ -16,7 +16,7 @@ kept : (c : goal.After-len) → c.retain.new.self.items ≡ filter (keeps c.args
 kept c = filter_same _ (keeps c.args.token.now) _ (λ x b q k. search rules) _ _ c.retain.ensures.filtered
 
 pub returns-clause-others : goal.returns-clause-others
-returns-clause-others c = ap (map observer_value) (kept c) ∙ others_seen c.args.token.now c.args.observers.now.items
+returns-clause-others c = ap (map observer_value) (kept c) ∙ other_values c.args.token.now c.args.observers.now.items
 
 pub returns-clause-same : goal.returns-clause-same
 returns-clause-same c = λ no_less.

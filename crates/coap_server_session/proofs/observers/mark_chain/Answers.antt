@@ -1,8 +1,8 @@
 use Rattle.std.proofs.Common.{◌≡◌, ◌<◌, ◌≤◌, ℕ, Option, Some, length, get_or, sym, ap, subst, ◌∙◌, arith}
 use Rattle.std.proofs.lemmas.List.{length-map}
-use Rattle.coap_server_session.specs.Prelude.{IsTagged, next_index, observer_value, present_mark, untold_by}
+use Rattle.coap_server_session.specs.Prelude.{IsTagged, next_index, observer_value, present_mark, unsent_by}
 use Rattle.coap_server_session.proofs.values.ChainLemmas.{IsMarkedFrom, mark_first, mark_next, all_marked, same_path}
-use Rattle.coap_server_session.proofs.values.MarkLemmas.{untold_is_changed}
+use Rattle.coap_server_session.proofs.values.MarkLemmas.{unsent_is_changed}
 use Rattle.coap_server_session.proofs.values.TagLemmas.{all_at}
 use Rattle.coap_server_session.proofs.observers.mark_chain.Goals.{After-last, After-set_mark, After-index}
 use Rattle.coap_server_session.proofs.observers.mark_chain.Goals.{After-set_mark-in-Some-at}
@@ -35,11 +35,11 @@ loop-at-init c =
     c.in-Some.is (from_last (goal.at.loop-at-init c).After-last) in
     let read : x ≡ get_or items k x =
     subst (λ (n : ℕ). x ≡ get_or items n x) c.from-last.ensures c.index-known.ensures in
-    let mark_is = c.untold_by-changed.ensures ∙ ap (λ (m : Option ℕ). untold_by m x.mark) c.present-present.ensures
-    ∙ untold_is_changed c.args.shared.now (observer_value x) in
+    let mark_is = c.unsent_by-changed.ensures ∙ ap (λ (m : Option ℕ). unsent_by m x.mark) c.present-present.ensures
+    ∙ unsent_is_changed c.args.shared.now (observer_value x) in
     let marks = rw c.from-last.ensures at e.marks in
     let next = mark_next k c.args.cause c.args.shared.now c.args.chains.now items items c.set_mark.new.observers.items
-    c.args.marked.now c.set_mark.new.marked x c.untold_by-changed.result c.requires.chained first read mark_is e.entries
+    c.args.marked.now c.set_mark.new.marked x c.unsent_by-changed.result c.requires.chained first read mark_is e.entries
     e.linked e.tagged marks e.flagged in
     (rw c.previous-at.ensures next.1, e.capacity)
 

@@ -9,5 +9,5 @@ respond_from-requires-clause-room c =
       arith,
       few_segments c.args.path c.requires.path,
       path_fits c.args.path c.requires.path,
-      ap path_size c.requires.told,
+      ap path_size c.requires.reported,
     )

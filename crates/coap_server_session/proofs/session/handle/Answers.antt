@@ -3,7 +3,7 @@ use Rattle.coap_store.specs.Answer as answer
 use Rattle.coap_server_session.specs.Prelude.{is_request, SessionValue, sizes_of, shared_changed, asks_this, answer_on}
 use Rattle.coap_server_session.specs.Prelude.{change_hash, takes_messages}
 use Rattle.coap_conn.proofs.LinkLemmas.{stays_so}
-use Rattle.coap_server_session.proofs.values.SessionLemmas.{on_request, no_request_told, message_handled}
+use Rattle.coap_server_session.proofs.values.SessionLemmas.{on_request, no_request_reported, message_handled}
 use Rattle.coap_server_session.proofs.values.SplitLemmas.{message_not_handed}
 use Rattle.coap_server_session.specs.declared.answering.RequestEffect.{RequestEffect}
 use Rattle.coap_server_session.proofs.session.handle.Goals as goal
@@ -22,7 +22,7 @@ returns-in_default c =
     let shared = c.args.shared.now in
     let link = c.args.link.now in
     let m = c.args.message.now in
-    let other = ap is_request (sym c.on.ensures.verdict) ∙ no_request_told c.on.result c.in_default.not-Request in
+    let other = ap is_request (sym c.on.ensures.verdict) ∙ no_request_reported c.on.result c.in_default.not-Request in
     let same = cond-false (asks_this link m) (answer_on shared m).change answer.Nothing other in
     assumption (
       λ (frame : List ℕ). message_handled shared

@@ -13,9 +13,9 @@ returns-then-is_prompt_built_in c =
     let etag = built_etag c.args.place (found_value c.args.found) built in
     let accepted = sym (ap (λ w. is_accepted w c.args.found.format) c.accept.ensures) ∙ sym c.is_accepted.ensures
     ∙ c.if-not-is_accepted.false in
-    let among = ap (λ e. is_among e (values_of numbers.etag c.args.asked.now)) etag in
+    let among = ap (λ e. is_among e (values_of numbers.etag c.args.parsed.now)) etag in
     c.content.ensures ∙ rw (etag, c.watch_for.ensures, c.max_age_of.ensures) refl ∙ sym (get_content c.args.place
-    (found_value c.args.found) c.args.asked.now accepted among (built_prompt c.args.place built))
+    (found_value c.args.found) c.args.parsed.now accepted among (built_prompt c.args.place built))
 
 pub returns-then-is_valid : goal.returns-then-is_valid
 returns-then-is_valid c =
@@ -23,13 +23,13 @@ returns-then-is_valid c =
     let lent = etag_lent c.as_ref.result ∙ ap (option_map (λ e. e.items)) c.as_ref.ensures.value ∙ etag in
     let accepted = sym (ap (λ w. is_accepted w c.args.found.format) c.accept.ensures) ∙ sym c.is_accepted.ensures
     ∙ c.if-not-is_accepted.false in
-    let among = sym (ap (λ e. is_among e (values_of numbers.etag c.args.asked.now)) lent)
+    let among = sym (ap (λ e. is_among e (values_of numbers.etag c.args.parsed.now)) lent)
     ∙ sym c.is_valid.ensures ∙ c.if-is_valid.true in
     c.valid.ensures ∙ rw (etag, c.watch_for-then-is_valid.ensures) refl
-    ∙ sym (get_valid c.args.place (found_value c.args.found) c.args.asked.now accepted among)
+    ∙ sym (get_valid c.args.place (found_value c.args.found) c.args.parsed.now accepted among)
 
 -- If the response is delayed, the query is good.
-good : (c : goal.After-delay) → is_good_query (value_of numbers.uri_query c.args.asked.now) ≡ true
+good : (c : goal.After-delay) → is_good_query (value_of numbers.uri_query c.args.parsed.now) ≡ true
 good c =
     elim c.else-is_async.branch [
       | else-is_async-via-then-is_async+else-not-has_good_query w ↦
@@ -45,12 +45,12 @@ returns-then-is_async-2 c =
     let lent = etag_lent c.as_ref.result ∙ ap (option_map (λ e. e.items)) c.as_ref.ensures.value ∙ etag in
     let accepted = sym (ap (λ w. is_accepted w c.args.found.format) c.accept.ensures) ∙ sym c.is_accepted.ensures
     ∙ c.if-not-is_accepted.false in
-    let among = sym (ap (λ e. is_among e (values_of numbers.etag c.args.asked.now)) lent) ∙ sym c.is_valid.ensures
+    let among = sym (ap (λ e. is_among e (values_of numbers.etag c.args.parsed.now)) lent) ∙ sym c.is_valid.ensures
     ∙ c.if-is_valid.false in
     let waits = sym c.is_async-2.ensures ∙ c.if-is_async-2.true in
     c.delay.ensures
     ∙ rw (c.content-then-is_async-2.ensures, etag, c.max_age_of-then-is_async-2.ensures, c.seconds.ensures) refl
-    ∙ sym (get_late c.args.place (found_value c.args.found) c.args.asked.now accepted among waits (good c))
+    ∙ sym (get_late c.args.place (found_value c.args.found) c.args.parsed.now accepted among waits (good c))
 
 pub returns : goal.returns
 returns c =
@@ -58,8 +58,8 @@ returns c =
     let lent = etag_lent c.as_ref.result ∙ ap (option_map (λ e. e.items)) c.as_ref.ensures.value ∙ etag in
     let accepted = sym (ap (λ w. is_accepted w c.args.found.format) c.accept.ensures) ∙ sym c.is_accepted.ensures
     ∙ c.if-not-is_accepted.false in
-    let among = sym (ap (λ e. is_among e (values_of numbers.etag c.args.asked.now)) lent) ∙ sym c.is_valid.ensures
+    let among = sym (ap (λ e. is_among e (values_of numbers.etag c.args.parsed.now)) lent) ∙ sym c.is_valid.ensures
     ∙ c.if-is_valid.false in
     let prompt = sym c.is_async-2.ensures ∙ c.if-is_async-2.false in
     c.content-2.ensures ∙ rw (etag, c.watch_for-2.ensures, c.max_age_of-2.ensures) refl
-    ∙ sym (get_content c.args.place (found_value c.args.found) c.args.asked.now accepted among prompt)
+    ∙ sym (get_content c.args.place (found_value c.args.found) c.args.parsed.now accepted among prompt)

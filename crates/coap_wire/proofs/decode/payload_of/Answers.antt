@@ -27,13 +27,13 @@ returns-in_err-option c =
 pub loop-first-smaller : goal.loop-first-smaller
 loop-first-smaller c =
     falls c.loop-first.base c.in-Some.first.now c.loop-first.rest.now c.in-Some.after.now
-    (coap_option c.in_ok-option.option) c.in_ok-option.behind.now c.in-Some.ensures.cases.0 c.in_ok-option.ensures
+    (coap_option c.in_ok-option.option) c.in_ok-option.later.now c.in-Some.ensures.cases.0 c.in_ok-option.ensures
 
 pub loop-first-preserved : goal.loop-first-preserved
 loop-first-preserved c = (
   _,
   goes_on c.loop-first.invariant.0 c.loop-first.base c.in-Some.first.now c.loop-first.rest.now c.in-Some.after.now
-      (coap_option c.in_ok-option.option) c.in_ok-option.behind.now (body_at 0 c.args.body.now)
+      (coap_option c.in_ok-option.option) c.in_ok-option.later.now (body_at 0 c.args.body.now)
       c.in-Some.ensures.cases.0 c.if-first.false c.in_ok-option.ensures c.loop-first.invariant.1,
 )
 

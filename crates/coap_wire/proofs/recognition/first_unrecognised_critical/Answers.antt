@@ -1,5 +1,5 @@
 use Rattle.std.proofs.Common.{sym, ap, ◌∙◌}
-use Rattle.coap_wire.specs.Prelude.{coap_option, first_critical_behind, option_before}
+use Rattle.coap_wire.specs.Prelude.{coap_option, first_critical_given, option_before}
 use Rattle.coap_wire.proofs.RecognitionLaws.{critical_end, stops_at, goes_past_recognised, goes_past_elective}
 use Rattle.coap_wire.proofs.RecognitionLaws.{stays_ordered}
 use Rattle.coap_wire.proofs.recognition.first_unrecognised_critical.Goals as goal
@@ -34,4 +34,4 @@ loop-option-preserved c = (
 pub returns : goal.returns
 returns c =
     let before = option_before c.loop-option.before in
-    sym (ap (first_critical_behind before) c.in-None.ensures.steps.0 ∙ critical_end before) ∙ c.loop-option.invariant.3
+    sym (ap (first_critical_given before) c.in-None.ensures.steps.0 ∙ critical_end before) ∙ c.loop-option.invariant.3

@@ -20,17 +20,17 @@ returns-in_err-_attribute c =
 pub loop-first-smaller : goal.loop-first-smaller
 loop-first-smaller c =
     falls c.in-Some.first.now c.loop-first.rest.now c.in-Some.after.now
-    (attribute_of c.in_ok-_attribute._attribute) c.in_ok-_attribute.behind.now c.in-Some.ensures.cases.0
+    (attribute_of c.in_ok-_attribute._attribute) c.in_ok-_attribute.later.now c.in-Some.ensures.cases.0
     c.in_ok-_attribute.ensures
 
 pub loop-first-preserved : goal.loop-first-preserved
 loop-first-preserved c = (
   _,
   goes_on c.loop-first.invariant.0
-      (attribute_of c.in_ok-_attribute._attribute) c.loop-first.rest.now c.in_ok-_attribute.behind.now
+      (attribute_of c.in_ok-_attribute._attribute) c.loop-first.rest.now c.in_ok-_attribute.later.now
       (attributes_at c.args.text.now)
       (one_attribute c.in-Some.first.now c.loop-first.rest.now c.in-Some.after.now
-      (attribute_of c.in_ok-_attribute._attribute) c.in_ok-_attribute.behind.now c.in-Some.ensures.cases.0
+      (attribute_of c.in_ok-_attribute._attribute) c.in_ok-_attribute.later.now c.in-Some.ensures.cases.0
       c.if-first-ne59.false c.in_ok-_attribute.ensures) c.loop-first.invariant.1,
 )
 

@@ -25,20 +25,20 @@ pub returns-in_err-next : goal.returns-in_err-next
 returns-in_err-next c =
     let p = err_from_is_err_and c.from_residual-in_err-next.result c.from_residual-in_err-next.ensures.1 in
     rw (p.1, p.2) (fails c.loop-link.invariant.0 c.loop-link.rest.now _ (links_of c.args.text.now)
-    (no_separator c.loop-link.rest.now c.in_ok-_link._link c.in_ok-_link.behind.now _ c.in_ok-_link.ensures
+    (no_separator c.loop-link.rest.now c.in_ok-_link._link c.in_ok-_link.later.now _ c.in_ok-_link.ensures
     c.in_err-next.ensures) c.loop-link.invariant.1)
 
 pub returns-in_default : goal.returns-in_default
 returns-in_default c =
     let next = rw c.in_default.is at c.in_ok-next.ensures in
     ends c.loop-link.invariant.0 c.in_ok-_link._link c.loop-link.rest.now (links_of c.args.text.now)
-    (last_link c.loop-link.rest.now c.in_ok-_link._link c.in_ok-_link.behind.now c.in_ok-_link.ensures next)
+    (last_link c.loop-link.rest.now c.in_ok-_link._link c.in_ok-_link.later.now c.in_ok-_link.ensures next)
     c.loop-link.invariant.1
 
 pub loop-link-smaller : goal.loop-link-smaller
 loop-link-smaller c =
     let next = rw c.in-Some.is at c.in_ok-next.ensures in
-    falls c.loop-link.rest.now c.in_ok-_link._link c.in_ok-_link.behind.now c.in-Some.next.now c.in_ok-_link.ensures
+    falls c.loop-link.rest.now c.in_ok-_link._link c.in_ok-_link.later.now c.in-Some.next.now c.in_ok-_link.ensures
     next
 
 pub loop-link-preserved : goal.loop-link-preserved
@@ -47,6 +47,6 @@ loop-link-preserved c =
       _,
       goes_on c.loop-link.invariant.0 c.in_ok-_link._link c.loop-link.rest.now c.in-Some.next.now
           (links_of c.args.text.now)
-          (one_link c.loop-link.rest.now c.in_ok-_link._link c.in_ok-_link.behind.now c.in-Some.next.now
+          (one_link c.loop-link.rest.now c.in_ok-_link._link c.in_ok-_link.later.now c.in-Some.next.now
           c.in_ok-_link.ensures next) c.loop-link.invariant.1,
     )

@@ -22,7 +22,7 @@ loop-number-preserved c =
     (λ (e : ℕ × Stored). c.loop-number.from ≤ e.0 → e.0 < c.in-Some.number → (w : ListingValue)
     → counted c.args.endpoints cs w (registration_of e.1.registration) ≡ w)
     (λ e f from less w. found_unmet c.args.endpoints cs c.args.name.now c.label_of_name-label.result
-    c.args.labels.now.entries e c.label_of_name-label.ensures.value c.requires.asked f (before e.0 from less).0
+    c.args.labels.now.entries e c.label_of_name-label.ensures.value c.requires.requested f (before e.0 from less).0
     (before e.0 from less).1 w)
     c.args.entries.now.entries c.requires.labelled in
     let step = next_visited
@@ -50,7 +50,7 @@ returns c =
     (λ (e : ℕ × Stored). c.loop-number.from ≤ e.0 → (w : ListingValue)
     → counted c.args.endpoints cs w (registration_of e.1.registration) ≡ w)
     (λ e f from w. found_unmet c.args.endpoints cs c.args.name.now c.label_of_name-label.result
-    c.args.labels.now.entries e c.label_of_name-label.ensures.value c.requires.asked f (before e.0 from f.small).0
+    c.args.labels.now.entries e c.label_of_name-label.ensures.value c.requires.requested f (before e.0 from f.small).0
     (before e.0 from f.small).1 w)
     c.args.entries.now.entries c.requires.labelled in
     sym (none_visited (λ (w : ListingValue) (s : Stored).

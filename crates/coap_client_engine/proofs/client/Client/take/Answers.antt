@@ -1,6 +1,6 @@
 use Rattle.std.proofs.Common.{None, take, refl, sym, ap, ◌∙◌, arith}
-use Rattle.coap_client_engine.specs.Prelude.{message_of, frame_back, ClientTakeOutcome, client_takes, heard_value}
-use Rattle.coap_client_engine.proofs.ClientShown.{took_takes, took_told, took_shown}
+use Rattle.coap_client_engine.specs.Prelude.{message_of, frame_back, ClientTakeOutcome, client_takes, received_event}
+use Rattle.coap_client_engine.proofs.ClientShown.{took_takes, took_reported, took_shown}
 use Rattle.coap_client_engine.proofs.TakingLemmas.{framed_count, takes_none, takes_framed, took_is, took_client}
 use Rattle.coap_client_engine.proofs.client.Client.take.Goals as goal
 
@@ -19,7 +19,7 @@ returns-then-not-takes c =
         within = omega arith;
         event = event;
         takes = took_takes v p 0 count;
-        told = took_told v p 0 None count event;
+        reported = took_reported v p 0 None count event;
         shows = took_shown v p 0 count;
       },
     )
@@ -39,8 +39,8 @@ returns c =
     c.frame_given.ensures ∙ ap (λ spent. frame_back spent (take c.take_in-bytes.result.0 p)) c.split_frame.ensures in
     let count = c.take_in-bytes.ensures.count ∙ framed_count c.self.inside.framer c.self.inside.link p
     ∙ ap (λ (t : ClientTakeOutcome). t.count) (sym all) in
-    let event = ap (λ frame. heard_value c.take_in-bytes.result.1 (message_of frame)) given
-    ∙ c.take_in-bytes.ensures.told ∙ ap (λ (t : ClientTakeOutcome). t.event) (sym all) in (
+    let event = ap (λ frame. received_event c.take_in-bytes.result.1 (message_of frame)) given
+    ∙ c.take_in-bytes.ensures.reported ∙ ap (λ (t : ClientTakeOutcome). t.event) (sym all) in (
       (
         refl,
         (λ _. tt),
@@ -53,7 +53,7 @@ returns c =
         within = c.take_in-bytes.ensures.within;
         event = event;
         takes = took_takes v p c.take_in-bytes.result.0 count;
-        told = took_told v p c.take_in-bytes.result.0 _ count event;
+        reported = took_reported v p c.take_in-bytes.result.0 _ count event;
         shows = took_shown v p c.take_in-bytes.result.0 count;
       },
     )

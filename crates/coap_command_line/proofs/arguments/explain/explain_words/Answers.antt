@@ -1,6 +1,6 @@
 use Rattle.std.proofs.Common.{map, refl}
 use Rattle.coap_command_line.specs.Prelude.{found_of, rows_of}
-use Rattle.coap_command_line.proofs.PlanLemmas.{explain_refused, explain_told}
+use Rattle.coap_command_line.proofs.PlanLemmas.{explain_refused, explain_gives}
 use Rattle.coap_command_line.proofs.arguments.explain.explain_words.Goals as goal
 
 pub returns-in-Err : goal.returns-in-Err
@@ -9,5 +9,5 @@ returns-in-Err g c =
 
 pub returns : goal.returns
 returns g c =
-    explain_told _ (map g.S.AsStr.text c.args.words.now) (rows_of (found_of c.in-Ok.matches)) c.explain_plan.result refl
-    c.in-Ok.ensures.kinds c.in-Ok.ensures.rows c.explain_plan.ensures
+    explain_gives _ (map g.S.AsStr.text c.args.words.now) (rows_of (found_of c.in-Ok.matches)) c.explain_plan.result
+    refl c.in-Ok.ensures.kinds c.in-Ok.ensures.rows c.explain_plan.ensures

@@ -7,11 +7,11 @@ use Rattle.coap_conn.proofs.link.Link.on_response.Goals as goal
 pub invariant_of-self : goal.invariant_of-self
 invariant_of-self c =
     let fewer : length (map outstanding_value c.remove_request_in.new.entries.items)
-    ≤ length (map outstanding_value c.self.inside.asked.items) =
+    ≤ length (map outstanding_value c.self.inside.outstanding.items) =
     omega (
       arith,
       length-map c.remove_request_in.new.entries.items outstanding_value,
-      length-map c.self.inside.asked.items outstanding_value,
+      length-map c.self.inside.outstanding.items outstanding_value,
       c.remove_request_in.ensures.fewer,
     ) in (
       link_left (link_value c.self.inside) (map outstanding_value c.remove_request_in.new.entries.items)

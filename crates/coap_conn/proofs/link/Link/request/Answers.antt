@@ -4,7 +4,7 @@ use Rattle.coap_conn.specs.Outstanding as value
 use Rattle.coap_conn.specs.Prelude.{outstanding_value, next_token, with_token, entry_of, LinkValue, asking_in}
 use Rattle.coap_conn.specs.Calls as call
 use Rattle.coap_conn.proofs.LinkLemmas.{shows}
-use Rattle.coap_conn.proofs.OutstandingLemmas.{new_room, new_number, refused_new, refused_size, asked_after}
+use Rattle.coap_conn.proofs.OutstandingLemmas.{new_room, new_number, refused_new, refused_size, requested_after}
 use Rattle.coap_conn.proofs.link.Link.request.Goals as goal
 use Rattle.coap_conn.proofs.link.Link.request.Goals.{then-observe, else-observe}
 
@@ -15,25 +15,26 @@ returns-in_err-token-clause-answer c =
     (refused_new (asking_in c.args.self.now) (with_token c.args.message.now (next_token c.args.self.now.tokens))
     c.in_err-token.field-0.0 c.in_err-token.ensures.answer)
 
-pub returns-in_err-queue_asked-clause-answer : goal.returns-in_err-queue_asked-clause-answer
-returns-in_err-queue_asked-clause-answer c =
+pub returns-in_err-queue_request-clause-answer : goal.returns-in_err-queue_request-clause-answer
+returns-in_err-queue_request-clause-answer c =
     let p =
-    err_from_is_err_and c.from_residual-in_err-queue_asked.result c.from_residual-in_err-queue_asked.ensures.1 in
+    err_from_is_err_and c.from_residual-in_err-queue_request.result c.from_residual-in_err-queue_request.ensures.1 in
     let same = c.with_token.ensures ∙ ap (with_token c.args.message.now) c.in_ok-token.ensures.token in
     rw (p.1, p.2) (refused_size (asking_in c.args.self.now) _ c.with_token.result _ same c.in_ok-token.ensures.answer
-    c.in_err-queue_asked.ensures.answer)
+    c.in_err-queue_request.ensures.answer)
 
 -- ---- the request is outstanding
 
 pub enter-requires-clause-room : goal.enter-requires-clause-room
 enter-requires-clause-room c =
     let room = new_room (asking_in c.args.self.now) c.in_ok-token.ensures.answer in
-    subst (λ (v : LinkValue). length v.outstanding < v.limits.outstanding) (sym c.in_ok-queue_asked.ensures.after) room
+    subst (λ (v : LinkValue). length v.outstanding < v.limits.outstanding) (sym c.in_ok-queue_request.ensures.after)
+    room
 
 pub enter-requires-clause-token : goal.enter-requires-clause-token
 enter-requires-clause-token c =
     let number = new_number (asking_in c.args.self.now) c.in_ok-token.ensures.answer in
-    subst (λ (v : LinkValue). v.tokens < 18446744073709551615) (sym c.in_ok-queue_asked.ensures.after) number
+    subst (λ (v : LinkValue). v.tokens < 18446744073709551615) (sym c.in_ok-queue_request.ensures.after) number
 
 -- ---- the request was sent
 
@@ -41,7 +42,7 @@ pub returns-clause-answer : goal.returns-clause-answer
 returns-clause-answer c =
     let same = c.with_token.ensures ∙ ap (with_token c.args.message.now) c.in_ok-token.ensures.token in
     refused_size (asking_in c.args.self.now) _ c.with_token.result _ same c.in_ok-token.ensures.answer
-    c.in_ok-queue_asked.ensures.answer
+    c.in_ok-queue_request.ensures.answer
 
 pub returns-clause-after : goal.returns-clause-after
 returns-clause-after c =
@@ -57,9 +58,9 @@ returns-clause-after c =
           ∙ ap value.Request (w.copy_of-else-observe.ensures ∙ c.in_ok-token.ensures.token)
           ∙ ap (λ (b : Bool). entry_of b (next_token c.args.self.now.tokens)) (sym w.if-observe.false)
     ] in
-    asked_after c.args.self.now c.queue_asked.new.self c.enter.new.self _ c.with_token.result
+    requested_after c.args.self.now c.queue_request.new.self c.enter.new.self _ c.with_token.result
     (entry_of c.args.observe (next_token c.args.self.now.tokens)) _
-    (returns-clause-answer c) same entered c.in_ok-queue_asked.ensures.after c.enter.ensures
+    (returns-clause-answer c) same entered c.in_ok-queue_request.ensures.after c.enter.ensures
 
 pub returns-clause-shows : goal.returns-clause-shows
 returns-clause-shows c =

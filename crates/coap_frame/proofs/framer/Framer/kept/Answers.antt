@@ -7,7 +7,7 @@ pub returns-in-Prefix-clause-below : goal.returns-in-Prefix-clause-below
 returns-in-Prefix-clause-below c =
     let inside = c.self.inside in
     let below = kept_below (framer_value inside) c.self.invariant.0 in
-    let kept : length (kept_in inside.held inside.buffer.items) ≡ length inside.buffer.items =
+    let kept : length (kept_in inside.content inside.buffer.items) ≡ length inside.buffer.items =
     ap (λ (h : BufferContent). length (kept_in h inside.buffer.items)) c.in-Prefix.is in
     let max : inside.max ≡ c.args.self.now.max = ap (λ (v : FramerValue). v.max) c.self.view_is in
     omega (arith, below, kept, max, c.len.ensures)

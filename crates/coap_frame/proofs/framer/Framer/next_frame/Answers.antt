@@ -42,29 +42,29 @@ returns c =
     let p = c.args.piece.now in
     let a = c.advance-taken in
     let new = a.new.buffer.items in
-    let what = c.match-standing.what in
+    let what = c.match-status.what in
     let spends = ap (λ (f : FramerValue). f.spent) a.ensures.after in
     let same : framer_after v p ≡ framer_after c.args.self.now p =
     ap (λ (f : FramerValue). framer_after f p) c.self.view_is in
     let framed : IsFramedRef (record { taken = a.result.0; what = what }) (framing_of v p) =
-    elim c.match-standing.branch [
+    elim c.match-status.branch [
       | in-Unfinished w ↦
-          given_more v.max v.kept p new a.result.0 a.new.held a.result.1 what a.ensures.taken a.ensures.found spends
+          given_more v.max v.kept p new a.result.0 a.new.content a.result.1 what a.ensures.taken a.ensures.found spends
           w.in-Unfinished.is w.what-is
       | in-Fault w ↦
-          given_fault v.max v.kept p new a.result.0 a.new.held a.result.1 what a.ensures.taken a.ensures.found spends
+          given_fault v.max v.kept p new a.result.0 a.new.content a.result.1 what a.ensures.taken a.ensures.found spends
           w.in-Fault.fault w.in-Fault.is w.what-is
       | in-Whole+in-Prefix w ↦
-          given_whole v.max v.kept p new a.result.0 a.new.held a.result.1 what a.ensures.taken a.ensures.found spends
+          given_whole v.max v.kept p new a.result.0 a.new.content a.result.1 what a.ensures.taken a.ensures.found spends
           w.in-Whole.layout w.in-Whole.is w.in-Prefix.is (ap finding_of_ref w.what-is) (ap lent_of_ref w.what-is)
       | in-Whole+in-Split w ↦
-          given_split v.max v.kept p new a.result.0 a.new.held a.result.1 what a.ensures.taken a.ensures.found spends
+          given_split v.max v.kept p new a.result.0 a.new.content a.result.1 what a.ensures.taken a.ensures.found spends
           w.in-Whole.layout w.in-Whole.is w.in-Split.is
           (ap finding_of_ref w.what-is ∙ ap (λ bytes. AFrame bytes) w.deref.ensures.value)
           (ap lent_of_ref w.what-is ∙ w.deref.ensures.value)
     ] in
-    let after : c.match-standing.self.0 ≡ framer_after c.args.self.now p =
-    elim c.match-standing.branch [
+    let after : c.match-status.self.0 ≡ framer_after c.args.self.now p =
+    elim c.match-status.branch [
       | in-Unfinished w ↦ ap (λ s. s.0) w.self-is ∙ a.ensures.after ∙ same
       | in-Fault w ↦ ap (λ s. s.0) w.self-is ∙ a.ensures.after ∙ same
       | in-Whole+in-Prefix w ↦ ap (λ s. s.0) w.self-is ∙ a.ensures.after ∙ same

@@ -13,7 +13,7 @@ returns c =
     ap (λ (k : List ℕ). record {
       room = inside.room;
       kept = k;
-      seen = inside.seen + length c.args.bytes.now;
+      passed = inside.passed + length c.args.bytes.now;
       is_whole = inside.is_whole;
       is_silent = inside.is_silent;
       messages = inside.messages;

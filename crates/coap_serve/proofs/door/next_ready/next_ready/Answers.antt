@@ -14,19 +14,19 @@ pub loop-at-preserved : goal.loop-at-preserved
 loop-at-preserved g c =
     let readable = g.W.Ready.readable in
     let writable = g.W.Ready.writable in
-    let seen = looked_at readable writable c.args.server.now c.args.peers.now.entries c.loop-at.at
+    let looked = looked_at readable writable c.args.server.now c.args.peers.now.entries c.loop-at.at
     c.interest_at-interest.ensures c.index.ensures (rw c.if-is_ready.false at c.is_ready.ensures) in (
       omega (arith, c.loop-at.invariant.0, c.next-at-in-loop-at.ensures.from),
       omega (arith, c.next-at-in-loop-at.ensures.within, c.len-in-loop-at.ensures.len),
-      each_on c.loop-at.at c.loop-at.invariant.2 (rw seen.1 seen.3)
+      each_on c.loop-at.at c.loop-at.invariant.2 (rw looked.1 looked.3)
           (sleepers_skipped readable writable c.requires.asleep c.next-at-in-loop-at.ensures.asleep),
     )
 
 pub returns-then-is_ready-clause-next : goal.returns-then-is_ready-clause-next
 returns-then-is_ready-clause-next g c =
-    let seen = looked_at g.W.Ready.readable g.W.Ready.writable c.args.server.now c.args.peers.now.entries c.loop-at.at
+    let looked = looked_at g.W.Ready.readable g.W.Ready.writable c.args.server.now c.args.peers.now.entries c.loop-at.at
     c.interest_at-interest.ensures c.index.ensures (rw c.if-is_ready.true at c.is_ready.ensures) in
-    rw seen.1 seen.3
+    rw looked.1 looked.3
 
 pub returns-clause-next : goal.returns-clause-next
 returns-clause-next g c =

@@ -2,8 +2,8 @@ use Rattle.std.proofs.Common.{ap, arith, length, map, refl, ◌+◌, ◌≤◌, 
 use Rattle.std.proofs.lemmas.List.{length-map}
 use Rattle.std.proofs.lemmas.Option.{slice_get-map}
 use Rattle.coap_serve.specs.Prelude.{PeerInterest, peer_status}
-use Rattle.coap_serve.proofs.listener.LookLemmas.{calm_wait, none_seen, one_seen, opened_wait, ready_wait}
-use Rattle.coap_serve.proofs.listener.LookLemmas.{sleepers_seen}
+use Rattle.coap_serve.proofs.listener.LookLemmas.{calm_wait, none_idle, one_idle, opened_wait, ready_wait}
+use Rattle.coap_serve.proofs.listener.LookLemmas.{sleepers_idle}
 use Rattle.coap_serve.proofs.listener.SleepLemmas.{looked_at, one_looked, sleepers_rest}
 use Rattle.coap_serve.proofs.door.next_ready.next_wait.Goals as goal
 
@@ -21,13 +21,13 @@ loop-at-init g c =
       c.len.ensures.len,
     ) in (
       within,
-      sleepers_seen 0 c.next-at.result (omega arith) (omega (
+      sleepers_idle 0 c.next-at.result (omega arith) (omega (
         arith,
         within,
         length-map c.args.peers.now.entries
             (peer_status readable writable c.args.server.now),
       )) (sleepers_rest readable writable c.requires.asleep
-          c.next-at.ensures.asleep) (none_seen {all = all}),
+          c.next-at.ensures.asleep) (none_idle {all = all}),
       c.requires.asleep,
     )
 
@@ -37,21 +37,21 @@ loop-at-preserved g c =
     let writable = g.W.Ready.writable in
     let entries = c.args.peers.now.entries in
     let status = peer_status readable writable c.args.server.now in
-    let seen = looked_at readable writable c.args.server.now entries c.loop-at.at c.interest_at-interest.ensures
+    let looked = looked_at readable writable c.args.server.now entries c.loop-at.at c.interest_at-interest.ensures
     c.index-peer.ensures (rw c.if-is_ready.false at c.is_ready.ensures) in
-    let due = ap (λ (w : PeerInterest). w.due) seen.2 in
+    let due = ap (λ (w : PeerInterest). w.due) looked.2 in
     let within : c.next-at-in-loop-at.result ≤ length entries = omega (
       arith,
       c.next-at-in-loop-at.ensures.within,
       c.len-in-loop-at.ensures.len,
     ) in
-    let asleep = one_looked readable writable c.loop-at.invariant.2 c.loop-at.at seen.1 seen.3 due
+    let asleep = one_looked readable writable c.loop-at.invariant.2 c.loop-at.at looked.1 looked.3 due
     c.record_look.ensures.asleep c.record_look.ensures.awake in (
       within,
-      sleepers_seen (c.loop-at.at + 1) c.next-at-in-loop-at.result c.next-at-in-loop-at.ensures.from
+      sleepers_idle (c.loop-at.at + 1) c.next-at-in-loop-at.result c.next-at-in-loop-at.ensures.from
           (omega (arith, within, length-map entries status)) (sleepers_rest readable writable asleep
           c.next-at-in-loop-at.ensures.asleep)
-          (one_seen c.loop-at.at (slice_get-map status entries c.loop-at.at ∙ rw seen.1 refl) seen.3
+          (one_idle c.loop-at.at (slice_get-map status entries c.loop-at.at ∙ rw looked.1 refl) looked.3
           (rw due at c.sooner-due.ensures) c.loop-at.invariant.1),
       asleep,
     )
@@ -62,9 +62,9 @@ returns-then-is_ready-clause-wait g c =
     let writable = g.W.Ready.writable in
     let entries = c.args.peers.now.entries in
     let status = peer_status readable writable c.args.server.now in
-    let seen = looked_at readable writable c.args.server.now entries c.loop-at.at c.interest_at-interest.ensures
+    let looked = looked_at readable writable c.args.server.now entries c.loop-at.at c.interest_at-interest.ensures
     c.index-peer.ensures (rw c.if-is_ready.true at c.is_ready.ensures) in
-    rw c.if-opens.false (ready_wait c.loop-at.at (slice_get-map status entries c.loop-at.at ∙ rw seen.1 refl) seen.3
+    rw c.if-opens.false (ready_wait c.loop-at.at (slice_get-map status entries c.loop-at.at ∙ rw looked.1 refl) looked.3
     c.loop-at.invariant.1)
 
 pub returns-clause-wait : goal.returns-clause-wait

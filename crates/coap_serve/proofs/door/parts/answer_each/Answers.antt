@@ -18,7 +18,7 @@ loop-count-preserved g c =
           one_more_given (g.M.Monitor.follows c.args.monitor.now) (g.M.Monitor.follows c.loop-count.monitor)
           (g.M.Monitor.follows c.answer_once.new.monitor) (g.A.Application.follows c.args.application.now)
           (g.A.Application.follows c.loop-count.application) (g.A.Application.follows c.answer_once.new.application)
-          one.asked.0 so_far.given one.asked.1 one.asked.2 refl;
+          one.requested.0 so_far.given one.requested.1 one.requested.2 refl;
       kept = sleep_then so_far.kept one.kept;
     }
 
@@ -28,7 +28,8 @@ returns-then-not-answer_once-clause-shows g c =
     no_more_given (g.M.Monitor.follows c.args.monitor.now) (g.M.Monitor.follows c.loop-count.monitor)
     (g.M.Monitor.follows c.answer_once.new.monitor) (g.A.Application.follows c.args.application.now)
     (g.A.Application.follows c.loop-count.application) (g.A.Application.follows c.answer_once.new.application)
-    one.asked.0 c.loop-count.invariant.given one.asked.1 one.asked.2 refl (omega (arith, c.loop-count-test.true))
+    one.requested.0 c.loop-count.invariant.given one.requested.1 one.requested.2 refl
+    (omega (arith, c.loop-count-test.true))
 
 pub returns-then-not-answer_once-clause-kept : goal.returns-then-not-answer_once-clause-kept
 returns-then-not-answer_once-clause-kept g c = sleep_then c.loop-count.invariant.kept c.if-not-answer_once.ensures.kept

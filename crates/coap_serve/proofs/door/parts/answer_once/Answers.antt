@@ -6,17 +6,17 @@ use Rattle.coap_serve.proofs.door.parts.answer_once.Goals as goal
 -- No connection has the number.
 pub returns-in_default-index_of-clause-kept : goal.returns-in_default-index_of-clause-kept
 returns-in_default-index_of-clause-kept g c =
-    let asked = c.in-Some.ensures.asked in
+    let requested = c.in-Some.ensures.requested in
     sleep_none c.in-Some.id
-    (rw asked.server (offered_keeps c.args.server.now c.in-Some.id asked.bytes c.in-Some.ensures.settled))
+    (rw requested.server (offered_keeps c.args.server.now c.in-Some.id requested.bytes c.in-Some.ensures.settled))
     c.wake_all.ensures
 
 pub returns-clause-kept : goal.returns-clause-kept
 returns-clause-kept g c =
-    let asked = c.in-Some.ensures.asked in
+    let requested = c.in-Some.ensures.requested in
     sleep_woken c.in-Some.id c.in-Some-index_of.at
-    (rw asked.server (offered_keeps c.args.server.now c.in-Some.id asked.bytes c.in-Some.ensures.settled))
+    (rw requested.server (offered_keeps c.args.server.now c.in-Some.id requested.bytes c.in-Some.ensures.settled))
     c.in-Some-index_of.ensures.at c.wake.ensures.awake c.wake.ensures.asleep
 
-pub returns-clause-asked : goal.returns-clause-asked
-returns-clause-asked g c = (Some c.in-Some.id, refl, c.in-Some.ensures.asked)
+pub returns-clause-requested : goal.returns-clause-requested
+returns-clause-requested g c = (Some c.in-Some.id, refl, c.in-Some.ensures.requested)

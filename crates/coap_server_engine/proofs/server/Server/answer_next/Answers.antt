@@ -4,16 +4,16 @@ use Rattle.coap_server_engine.proofs.scripting.FollowLemmas.{followed_none}
 use Rattle.coap_server_engine.proofs.server.Server.answer_next.Goals as goal
 
 -- The application has no response now.
-pub returns-in_err-id-clause-asked : goal.returns-in_err-id-clause-asked
-returns-in_err-id-clause-asked g c =
+pub returns-in_err-id-clause-requested : goal.returns-in_err-id-clause-requested
+returns-in_err-id-clause-requested g c =
     rw c.from_residual.ensures
     (refl, (followed_none (g.M.Monitor.follows c.args.monitor.now), c.in_err-id.ensures.offered))
 
 pub returns-in_err-id-clause-none : goal.returns-in_err-id-clause-none
 returns-in_err-id-clause-none g c = rw c.from_residual.ensures c.in_err-id.ensures.none
 
-pub returns-clause-asked : goal.returns-clause-asked
-returns-clause-asked g c =
+pub returns-clause-requested : goal.returns-clause-requested
+returns-clause-requested g c =
     let e = c.offer-outcome.ensures in
     record {
       bytes = c.deref.result.now;
@@ -22,7 +22,7 @@ returns-clause-asked g c =
       reply = e.reply;
       server = e.after;
       shows = e.shows;
-      tells = e.told;
+      reports = e.reported;
       exchanged =
           rw c.deref.ensures.value
           (answers_then (g.A.Application.follows c.args.application.now)

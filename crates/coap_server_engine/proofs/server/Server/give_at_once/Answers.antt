@@ -1,6 +1,6 @@
 use Rattle.std.proofs.Common.{◌≡◌, [], refl, sym, ◌∙◌, arith}
 use Rattle.coap_server_engine.proofs.values.ResponseLemmas.{empty_of, ok_none, err_some, empty_response}
-use Rattle.coap_server_engine.proofs.values.ResponseLemmas.{nothing_offered, nothing_told, response_if_accepted}
+use Rattle.coap_server_engine.proofs.values.ResponseLemmas.{nothing_offered, offers_nothing, response_if_accepted}
 use Rattle.coap_server_engine.proofs.values.ResponseLemmas.{refused_response, server_if_refused, refused_events}
 use Rattle.coap_server_engine.proofs.values.ResponseLemmas.{offered_lies}
 use Rattle.coap_server_engine.proofs.values.ServerLemmas.{is_there_at}
@@ -24,16 +24,16 @@ returns-then-is_empty-clause-shows g c =
     empty_of c.args.response.now c.is_empty.result c.is_empty.ensures c.if-is_empty.true in
     rw (
       empty_response c.args.self.now c.args.id c.args.token.now.items c.args.response.now none,
-      nothing_told c.args.self.now c.args.id,
+      offers_nothing c.args.self.now c.args.id,
     ) (shows_same c.args.self.now c.args.self.now refl)
 
-pub returns-then-is_empty-clause-told : goal.returns-then-is_empty-clause-told
-returns-then-is_empty-clause-told g c =
+pub returns-then-is_empty-clause-reported : goal.returns-then-is_empty-clause-reported
+returns-then-is_empty-clause-reported g c =
     let none : c.args.response.now ≡ [] =
     empty_of c.args.response.now c.is_empty.result c.is_empty.ensures c.if-is_empty.true in
     rw (
       empty_response c.args.self.now c.args.id c.args.token.now.items c.args.response.now none,
-      nothing_told c.args.self.now c.args.id,
+      offers_nothing c.args.self.now c.args.id,
     ) (followed_none (g.M.Monitor.follows c.args.monitor.now))
 
 pub offer-given-requires : goal.offer-given-requires
@@ -75,8 +75,8 @@ returns-clause-shows g c =
     rw (refused_response v c.args.id c.args.token.now.items bytes some.0 some.1 written)
     (rw (same, failure) at c.offer.ensures.shows)
 
-pub returns-clause-told : goal.returns-clause-told
-returns-clause-told g c =
+pub returns-clause-reported : goal.returns-clause-reported
+returns-clause-reported g c =
     let v = c.args.self.now in
     let bytes = c.args.response.now in
     let e = c.offer-given.ensures in
@@ -84,10 +84,10 @@ returns-clause-told g c =
     let same = e.after ∙ server_if_refused v c.args.id bytes some.0 some.1 in
     let written : bytes ≡ [] → ⊥ = grind (arith, c.is_empty.ensures, c.if-is_empty.false) in
     let failure = c.as_slice.ensures.value ∙ c.failure_frame-failure.ensures in
-    let first = rw (refused_events v c.args.id bytes some.0 some.1) at e.told in
+    let first = rw (refused_events v c.args.id bytes some.0 some.1) at e.reported in
     rw (refused_response v c.args.id c.args.token.now.items bytes some.0 some.1 written)
     (followed_then (g.M.Monitor.follows c.args.monitor.now) (g.M.Monitor.follows c.offer-given.new.monitor)
-    (g.M.Monitor.follows c.offer.new.monitor) [] _ first (rw (same, failure) at c.offer.ensures.told))
+    (g.M.Monitor.follows c.offer.new.monitor) [] _ first (rw (same, failure) at c.offer.ensures.reported))
 
 pub returns-clause-lies : goal.returns-clause-lies
 returns-clause-lies g c =

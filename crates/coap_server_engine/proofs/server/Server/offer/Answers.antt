@@ -10,8 +10,8 @@ use Rattle.coap_model.specs.declared.answers.ResponseFault.TheVariants.{NoSuch}
 use Rattle.coap_server_engine.proofs.server.Server.offer.Goals as goal
 
 -- No connection has this id.
-pub returns-in_default-clause-told : goal.returns-in_default-clause-told
-returns-in_default-clause-told g c =
+pub returns-in_default-clause-reported : goal.returns-in_default-clause-reported
+returns-in_default-clause-reported g c =
     rw (refused_events c.args.self.now c.args.id c.args.response.now NoSuch (search rules))
     (followed_none (g.M.Monitor.follows c.args.monitor.now))
 
@@ -21,8 +21,8 @@ lies_at : (v w : ServerValue) (id i : ℕ) (o : Option ℕ) → v ≡ w → o �
 lies_at v w id i o same is lies = subst (λ u. LiesAt id i u.sessions) (sym same) (rw is at lies)
 
 -- The link does not accept the response.
-pub returns-in_err-reply-clause-told : goal.returns-in_err-reply-clause-told
-returns-in_err-reply-clause-told g c =
+pub returns-in_err-reply-clause-reported : goal.returns-in_err-reply-clause-reported
+returns-in_err-reply-clause-reported g c =
     let bytes = c.args.response.now in
     let lies = lies_at _ _ c.args.id c.in-Some.at _ c.self.view_is c.in-Some.is c.requires.lies in
     let refused = ap (responded_refusal_on bytes) lies.found ∙ c.in_err-reply.ensures.answer in

@@ -2,7 +2,7 @@ use Rattle.coap_server_engine.specs.Prelude.{event_value, replayed, events_ran}
 use Rattle.std.proofs.Common.{map, rules, refl}
 use Rattle.std.proofs.lemmas.List.{length-map, take_all}
 use Rattle.coap_io.proofs.streams.DeviceLemmas.{bytes_none}
-use Rattle.coap_server_engine.proofs.scripting.ReplayLemmas.{stands, refused_at, cut_at, one_replayed, one_shown}
+use Rattle.coap_server_engine.proofs.scripting.ReplayLemmas.{is_at, refused_at, cut_at, one_replayed, one_shown}
 use Rattle.coap_server_engine.proofs.scripting.ReplayLemmas.{cut_shown, refused_shown}
 use Rattle.coap_server_engine.proofs.server.Server.replay.Goals as goal
 use Rattle.coap_server_engine.proofs.scripting.ShownLemmas.{shows_same}
@@ -17,7 +17,7 @@ loop-index-init g c = record {
 
 pub returns-in_default : goal.returns-in_default
 returns-in_default g c =
-    let here = stands c.args.events.now _ _ c.loop-index-test.true c.index-events-index.is in
+    let here = is_at c.args.events.now _ _ c.loop-index-test.true c.index-events-index.is in
     let refused = refused_at _ _ _ _ _ _ c.loop-index.invariant.replays _ here _ _ refl c.in_default.ensures.run in
     search (
       rules,
@@ -28,14 +28,14 @@ returns-in_default g c =
 
 pub returns-in_default-write_parts-clause-replayed : goal.returns-in_default-write_parts-clause-replayed
 returns-in_default-write_parts-clause-replayed g c =
-    let here = stands c.args.events.now _ _ c.loop-index-test.true c.index-events-index.is in
+    let here = is_at c.args.events.now _ _ c.loop-index-test.true c.index-events-index.is in
     cut_at _ _ _ _ _ _ c.loop-index.invariant.replays _ here _ _ _ c.in-Ok.ensures.run
     (rw c.parts.ensures at c.in_default-write_parts.ensures.part)
     (cut_shown _ _ _ _ _ _ c.loop-index.invariant.replays c.loop-index.invariant.shows _ here _ c.in-Ok.ensures.shows)
 
 pub loop-index-preserved : goal.loop-index-preserved
 loop-index-preserved g c =
-    let here = stands c.args.events.now _ _ c.loop-index-test.true c.index-events-index.is in
+    let here = is_at c.args.events.now _ _ c.loop-index-test.true c.index-events-index.is in
     record {
       replays =
           one_replayed _ _ _ _ _ _ c.loop-index.invariant.replays _ here _ _ _ c.in-Ok.ensures.run

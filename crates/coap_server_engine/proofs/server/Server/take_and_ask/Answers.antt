@@ -5,15 +5,15 @@ use Rattle.coap_server_engine.proofs.values.ServingLemmas.{asks_unanswered}
 use Rattle.coap_server_engine.proofs.server.Server.take_and_ask.Goals as goal
 
 -- The application answers none.
-pub returns-then-not-answers-clause-asked : goal.returns-then-not-answers-clause-asked
-returns-then-not-answers-clause-asked g c =
+pub returns-then-not-answers-clause-requested : goal.returns-then-not-answers-clause-requested
+returns-then-not-answers-clause-requested g c =
     rw c.requires.empty
     (c.answers.ensures.follows c.if-not-answers.true _
     (asks_unanswered _ _ (handed_by c.args.self.now c.args.index.id c.args.rest.now)))
 
 -- There is no request.
-pub returns-in_default-clause-asked : goal.returns-in_default-clause-asked
-returns-in_default-clause-asked g c =
+pub returns-in_default-clause-requested : goal.returns-in_default-clause-requested
+returns-in_default-clause-requested g c =
     let none : handed_by c.args.self.now c.args.index.id c.args.rest.now ≡ None =
     ap (option_and_then frame_message) (sym c.in_ok-taken.ensures.frame) ∙ sym c.in_default.ensures in
     rw none (answers_none (g.A.Application.follows c.args.application.now))

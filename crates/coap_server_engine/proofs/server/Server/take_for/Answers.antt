@@ -1,7 +1,7 @@
 use Rattle.std.proofs.Common.{ℕ, take, ap, arith, refl, sym}
 use Rattle.coap_server_engine.specs.Prelude.{WasRefused, WasTaken}
 use Rattle.coap_server_engine.proofs.values.ResponseLemmas.{token_made}
-use Rattle.coap_server_engine.proofs.values.ServingLemmas.{taken_stays, taken_asked, taken_silent}
+use Rattle.coap_server_engine.proofs.values.ServingLemmas.{taken_stays, taken_requested, taken_silent}
 use Rattle.coap_server_engine.proofs.scripting.ReplayLemmas.{not_taken_within}
 use Rattle.coap_server_engine.proofs.values.WorkLemmas.{adds_offered}
 use Rattle.coap_server_engine.proofs.server.Server.take_for.Goals as goal
@@ -31,13 +31,13 @@ returns-in-Some-clause-ok g c =
     let e = c.in-Ok.ensures in
     let made = token_made _ _ (sym (rw c.in-Some.is at e.token)) in
     let given = rw c.deref.ensures.value at c.give_at_once.ensures in
-    taken_asked c.args.self.now c.take_and_ask.new.self c.give_at_once.new.self c.args.received.index.id
+    taken_requested c.args.self.now c.take_and_ask.new.self c.give_at_once.new.self c.args.received.index.id
     c.args.received.bytes.now c.take_and_ask.new.response.items c.in-Ok.taken.bytes
     (g.M.Monitor.follows c.args.monitor.now) (g.M.Monitor.follows c.accepted.new.self)
     (g.M.Monitor.follows c.give_at_once.new.monitor)
     (g.A.Application.follows c.args.application.now) (g.A.Application.follows c.take_and_ask.new.application)
-    e.ok e.shows c.accepted.ensures e.asked made.0 c.in-Some.token.items made.1 made.2 given.after given.shows
-    given.told
+    e.ok e.shows c.accepted.ensures e.requested made.0 c.in-Some.token.items made.1 made.2 given.after given.shows
+    given.reported
 
 -- The application was not asked, or there is no request.
 pub returns-in_default-clause-ok : goal.returns-in_default-clause-ok
@@ -48,7 +48,7 @@ returns-in_default-clause-ok g c =
     (g.M.Monitor.follows c.args.monitor.now) (g.M.Monitor.follows c.accepted.new.self)
     (g.M.Monitor.follows c.accepted.new.self)
     (g.A.Application.follows c.args.application.now) (g.A.Application.follows c.take_and_ask.new.application)
-    e.ok e.shows c.accepted.ensures e.asked (rw c.in_default.is at e.unasked)
+    e.ok e.shows c.accepted.ensures e.requested (rw c.in_default.is at e.unrequested)
 
 pub give_at_once-requires : goal.give_at_once-requires
 give_at_once-requires g c = rw c.in-Ok.ensures.ok (taken_stays c.args.self.now _ _ _ c.requires)

@@ -4,7 +4,7 @@ use Rattle.std.proofs.lemmas.List.{length-map}
 use Rattle.coap_server_engine.specs.Prelude.{stop_of, is_there, session_takes, taking as session_taking, Taken}
 use Rattle.coap_server_engine.specs.Prelude.{TakeFault}
 use Rattle.coap_server_engine.specs.Prelude.{IsMarked, IsServer, AreOthersSettled, LiesAt}
-use Rattle.coap_server_engine.specs.Prelude.{unmarked_entry, server_value, settled_entry, settled_held, changed_at}
+use Rattle.coap_server_engine.specs.Prelude.{unmarked_entry, server_value, settled_entry, settled_pending, changed_at}
 use Rattle.coap_server_engine.proofs.values.ServerLemmas.{Entries, length-written, one_of_all, set_unmarked}
 use Rattle.coap_server_engine.proofs.values.ServerLemmas.{unmarked_at, within_unmarked, all_written, own_written}
 use Rattle.coap_server_session.proofs.values.CauseLemmas.{hash_where_changed}
@@ -94,7 +94,7 @@ index-session-requires c =
     let at = c.args.index.at in
     let new = c.take.new.self in
     let settles : Entries → Entries = λ fs. if is_some c.in-Ok.taking.changed
-    then map (settled_entry c.take.new.shared) fs else changed_at at (settled_held c.take.new.shared) fs in
+    then map (settled_entry c.take.new.shared) fs else changed_at at (settled_pending c.take.new.shared) fs in
     let entries = c.settle_after.ensures.after ∙ ap settles (set_unmarked es at new new.session refl) in
     let here = unmarked_at es at _ c.index_mut.ensures.value in
     within_unmarked _ _ _ (taken_lies _ c.args.index.id _ _ c.args.piece.now c.self.invariant.server lies here _ _ _ _
@@ -108,7 +108,7 @@ invariant_of-self-in-Ok c =
     let at = c.args.index.at in
     let new = c.take.new.self in
     let settles : Entries → Entries = λ fs. if is_some c.in-Ok.taking.changed
-    then map (settled_entry c.take.new.shared) fs else changed_at at (settled_held c.take.new.shared) fs in
+    then map (settled_entry c.take.new.shared) fs else changed_at at (settled_pending c.take.new.shared) fs in
     let entries = c.settle_after.ensures.after ∙ ap settles (set_unmarked es at new new.session refl) in
     let here = unmarked_at es at _ c.index_mut.ensures.value in
     let taken = taken_server _ c.args.index.id _ _ c.args.piece.now c.self.invariant.server lies here _ _ _ _ e.after
@@ -171,7 +171,7 @@ returns-in-Ok c =
     let at = c.args.index.at in
     let new = c.take.new.self in
     let settles : Entries → Entries = λ fs. if is_some c.in-Ok.taking.changed
-    then map (settled_entry c.take.new.shared) fs else changed_at at (settled_held c.take.new.shared) fs in
+    then map (settled_entry c.take.new.shared) fs else changed_at at (settled_pending c.take.new.shared) fs in
     let entries = c.settle_after.ensures.after ∙ ap settles (set_unmarked es at new new.session refl) in
     let here = unmarked_at es at _ c.index_mut.ensures.value in
     let taken : Result Taken TakeFault =

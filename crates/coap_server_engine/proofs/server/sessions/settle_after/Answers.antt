@@ -1,12 +1,12 @@
 use Rattle.std.proofs.Common.{IfSome, Option, Some, refl, sym, ap, subst, ◌∙◌, map}
 use Rattle.coap_server_engine.specs.Prelude.{MarkedSession, IsMarked, IsMarkedBut, UnaffectedAreSettled, settled_entry}
-use Rattle.coap_server_engine.specs.Prelude.{settled_held, unmarked, AddsConcerned}
+use Rattle.coap_server_engine.specs.Prelude.{settled_pending, unmarked, AddsConcerned}
 use Rattle.coap_server_session.specs.declared.cause.Cause.TheVariants as cause
 use Rattle.coap_server_engine.proofs.values.ServerLemmas.{splits_written, written_unmarked, set_unmarked, unmarked_at}
 use Rattle.coap_server_engine.proofs.values.ServerLemmas.{all_written}
 use Rattle.coap_server_session.proofs.values.CauseLemmas.{but_none}
 use Rattle.coap_server_engine.proofs.values.ServerCauseLemmas.{others_untouched, all_settle}
-use Rattle.coap_server_session.proofs.values.ConcernLemmas.{held_adds}
+use Rattle.coap_server_session.proofs.values.ConcernLemmas.{pending_adds}
 use Rattle.coap_server_engine.proofs.values.ConcernedLemmas.{covered_changed_by, covered_one_marked}
 use Rattle.coap_server_engine.proofs.server.sessions.settle_after.Goals as goal
 
@@ -24,12 +24,12 @@ returns-in-None c =
     let e = c.settle_if_pending.ensures in
     rw c.in-None.is (record {
       splits = splits_written es c.args.at c.index_mut.result.now _ c.index_mut.ensures.value e.split;
-      after = written_unmarked (settled_held shared) es c.args.at _ _ c.index_mut.ensures.value e.after;
+      after = written_unmarked (settled_pending shared) es c.args.at _ _ c.index_mut.ensures.value e.after;
       marked = all_written (IsMarked shared) es c.args.at _ (rw c.in-None.is at c.requires.marked) e.marked;
       affected = record { kept = λ i outside. outside; covers = tt };
       covered =
-          covered_changed_by _ c.args.at (settled_held shared) _ _ (held_adds shared)
-          (written_unmarked (settled_held shared) es c.args.at _ _ c.index_mut.ensures.value e.after)
+          covered_changed_by _ c.args.at (settled_pending shared) _ _ (pending_adds shared)
+          (written_unmarked (settled_pending shared) es c.args.at _ _ c.index_mut.ensures.value e.after)
           (c.note.ensures _ (unmarked_at es c.args.at _ c.index.ensures) c.requires.covered);
     })
 

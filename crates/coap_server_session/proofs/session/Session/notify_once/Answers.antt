@@ -4,7 +4,7 @@ use Rattle.coap_server_session.specs.Prelude.{free_in, ObserverValue, SessionVal
 use Rattle.coap_server_session.specs.Prelude.{session_ready, session_notified, session_value, IsMarked}
 use Rattle.coap_server_session.specs.Prelude.{next_stale, FramerValue}
 use Rattle.coap_server_session.proofs.values.EntryLemmas.{none_at_index}
-use Rattle.coap_server_session.proofs.values.MarkLemmas.{left_marked_by, marked_is_stale, unmarked_is_told}
+use Rattle.coap_server_session.proofs.values.MarkLemmas.{left_marked_by, marked_is_stale, unmarked_is_reported}
 use Rattle.coap_server_session.proofs.values.SettleLemmas.{found_ready}
 use Rattle.coap_server_session.proofs.values.SessionLemmas.{next_found, notified_session, notified_once}
 use Rattle.coap_server_session.proofs.session.Session.notify_once.Goals as goal
@@ -18,7 +18,7 @@ returns-in_default c =
     ∙ le-leb c.args.self.now.session.link.limits.max_sent (free_in c.args.self.now.session.link) c.requires.ready in
     let marked = subst (IsMarked shared) (sym c.self.view_is) c.requires.marked in
     let none = none_at_index (is_stale shared) s.observers.entries
-    (unmarked_is_told shared s.observers.entries s.observers.marks marked c.in_default.ensures.none) in
+    (unmarked_is_reported shared s.observers.entries s.observers.marks marked c.in_default.ensures.none) in
     let silent = (found_ready shared v ready).1 ∙ none in
     rw (c.first_changed.ensures.same, ← c.self.view_is)
     (record {

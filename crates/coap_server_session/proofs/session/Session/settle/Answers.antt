@@ -9,7 +9,7 @@ unfolding session_settled session_settled_within
 returns-else-settle_bound-gt0 c =
     let shared = c.args.shared.now in
     let v = c.args.self.now.session in
-    let none : length v.link.held + length v.observers ≡ 0 =
+    let none : length v.link.pending + length v.observers ≡ 0 =
     omega (arith, c.settle_bound.ensures, c.if-settle_bound-gt0.false) in
     let after = sym (ap (λ (n : ℕ). session_settled_within n shared v) none) in
     record {

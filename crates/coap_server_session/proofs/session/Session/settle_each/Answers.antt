@@ -7,7 +7,7 @@ pub loop-init : goal.loop-init
 unfolding session_settled
 loop-init c =
     let v = c.args.self.now.session in
-    let all : c.settle_bound-end.result - 0 ≡ length v.link.held + length v.observers =
+    let all : c.settle_bound-end.result - 0 ≡ length v.link.pending + length v.observers =
     omega (arith, c.settle_bound-end.ensures) in
     (ap (λ (n : ℕ). session_settled_within n c.args.shared.now v) all, (c.requires, refl))
 

@@ -1,12 +1,12 @@
 use Rattle.std.proofs.Common.{◌≡◌, refl, sym, ap, subst, ◌∙◌, ◌||◌, Option, is_some}
 use Rattle.coap_server_session.specs.Prelude.{PendingEntryValue, first_due, ObserverValue, SessionValue, MarkedSession}
 use Rattle.coap_server_session.specs.Prelude.{LinkValue, FramerValue}
-use Rattle.coap_server_session.specs.Prelude.{next_held_in, next_stale, IsMarked}
+use Rattle.coap_server_session.specs.Prelude.{next_pending_in, next_stale, IsMarked}
 use Rattle.coap_server_session.specs.Prelude.{session_ready, session_settled_once, session_settled_so, session_notified}
 use Rattle.coap_server_session.specs.Prelude.{session_value}
 use Rattle.coap_server_session.proofs.values.MarkLemmas.{left_marked_by}
 use Rattle.coap_server_session.proofs.values.SettleLemmas.{stays_once, settled_unready, found_ready}
-use Rattle.coap_server_session.proofs.values.SessionLemmas.{ready_is, held_found, sent_session, sent_once}
+use Rattle.coap_server_session.proofs.values.SessionLemmas.{ready_is, pending_found, sent_session, sent_once}
 use Rattle.coap_server_session.proofs.session.Session.settle_once.Goals as goal
 use Rattle.coap_model.proofs.OptionLemmas.{there_is_none}
 
@@ -47,8 +47,8 @@ returns-then-send_due c =
           c.discard_if_closed.new.observers c.discard_if_closed.ensures.framer c.discard_if_closed.ensures.observers
           ∙ ap (λ (m : MarkedSession). session_settled_once shared m.session) c.self.view_is;
       found =
-          held_found shared s _ ready some c.send_due.ensures.sent
-          ∙ ap (λ (m : MarkedSession). is_some (next_held_in shared.now m.session)
+          pending_found shared s _ ready some c.send_due.ensures.sent
+          ∙ ap (λ (m : MarkedSession). is_some (next_pending_in shared.now m.session)
           || is_some (next_stale shared m.session))
           c.self.view_is;
       marked =
@@ -70,7 +70,8 @@ returns c =
     let s = c.self.inside in
     let v : SessionValue = session_value s in
     let ready = ready_is s.link c.ready.result c.ready.ensures ∙ c.if-not-ready.false in
-    let quiet = there_is_none (first_due shared.now s.link.held) (sym c.send_due.ensures.found ∙ c.if-send_due.false) in
+    let quiet = there_is_none (first_due shared.now s.link.pending) (sym c.send_due.ensures.found ∙ c.if-send_due.false)
+    in
     let none = (found_ready shared v ready).0 ∙ quiet in
     let same = c.send_due.ensures.silent quiet in
     let settles : session_settled_once shared v ≡ session_notified shared v (next_stale shared v) =

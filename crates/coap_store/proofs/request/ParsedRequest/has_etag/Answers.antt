@@ -8,9 +8,9 @@ use Rattle.coap_store.proofs.request.ParsedRequest.has_etag.Goals as goal
 
 pub returns-then-not-self : goal.returns-then-not-self
 returns-then-not-self c =
-    let absent : c.self.inside.notes.now.has_etag ≡ false = cc in
+    let absent : c.self.inside.known.now.has_etag ≡ false = cc in
     none_passes (λ (value : List ℕ). same_bytes value c.args.etag.now) numbers.etag c.self.inside.request.now
-    (sym absent ∙ c.self.invariant.notes.etag)
+    (sym absent ∙ c.self.invariant.known.etag)
     ∙ ap (λ m. list_any (λ (value : List ℕ). same_bytes value c.args.etag.now) (values_of numbers.etag m))
     c.self.view_is
 

@@ -1,4 +1,4 @@
-use Rattle.coap_store.specs.Prelude.{options_after, coap_option, notes_value}
+use Rattle.coap_store.specs.Prelude.{options_after, coap_option, options_value}
 use Rattle.std.proofs.Common.{rules}
 use Rattle.coap_store.proofs.OptionScanLemmas.{or_none_more, or_one, not_given, nothing_noted}
 use Rattle.coap_store.proofs.request_options.RequestOptions.note.Goals as goal
@@ -29,6 +29,6 @@ returns-in-39 c = rw c.in-39.is (simp (or_none_more, or_one, not_given))
 
 pub returns-in_default : goal.returns-in_default
 returns-in_default c =
-    nothing_noted (notes_value c.args.self.now) (coap_option c.args.option.now) (search rules) (search rules)
+    nothing_noted (options_value c.args.self.now) (coap_option c.args.option.now) (search rules) (search rules)
     (search rules) (search rules) (search rules) (search rules) (search rules) (search rules)
     (search rules) (search rules)

@@ -13,7 +13,7 @@ removed : (c : goal.After-set_watch) → c.set_watch.new.self ≡ answer_of c.ar
 removed c =
     c.set_watch.ensures ∙ ap without_watch c.check-index.ensures.answer
     ∙ answer_removes _ _ _ (sym c.removes_watch.ensures ∙ c.if-removes_watch.true)
-    ∙ ap (answer_of c.args.self.now c.args.now) c.by-asked.ensures
+    ∙ ap (answer_of c.args.self.now c.args.now) c.by-parsed.ensures
 
 pub returns-then-removes_watch-clause-answer : goal.returns-then-removes_watch-clause-answer
 returns-then-removes_watch-clause-answer c = removed c
@@ -35,7 +35,7 @@ returns-then-removes_watch-clause-short c =
 left : (c : goal.Else-removes_watch) → c.check-index.new.plan ≡ answer_of c.args.self.now c.args.now c.args.request.now
 left c =
     c.check-index.ensures.answer ∙ answer_leaves _ _ _ (sym c.removes_watch.ensures ∙ c.if-removes_watch.false)
-    ∙ ap (answer_of c.args.self.now c.args.now) c.by-asked.ensures
+    ∙ ap (answer_of c.args.self.now c.args.now) c.by-parsed.ensures
 
 pub returns-else-removes_watch-clause-answer : goal.returns-else-removes_watch-clause-answer
 returns-else-removes_watch-clause-answer c = left c
@@ -57,7 +57,7 @@ pub returns-then-removes_watch-clause-index : goal.returns-then-removes_watch-cl
 returns-then-removes_watch-clause-index c =
     let at =
     subst (λ (m : Message). IfSome c.check-index.result (λ i. IsFoundAt c.args.self.now.resources (path_of m) i))
-    c.by-asked.ensures c.check-index.ensures.index in
+    c.by-parsed.ensures c.check-index.ensures.index in
     subst (λ (a : Answer). IfSome c.check-index.result (λ i. IsChangeAt c.args.self.now a.change i)) (sym (removed c))
     (placed_of _ _ _ c.check-index.result at)
 
@@ -65,7 +65,7 @@ pub returns-else-removes_watch-clause-index : goal.returns-else-removes_watch-cl
 returns-else-removes_watch-clause-index c =
     let at =
     subst (λ (m : Message). IfSome c.check-index.result (λ i. IsFoundAt c.args.self.now.resources (path_of m) i))
-    c.by-asked.ensures c.check-index.ensures.index in
+    c.by-parsed.ensures c.check-index.ensures.index in
     subst (λ (a : Answer). IfSome c.check-index.result (λ i. IsChangeAt c.args.self.now a.change i)) (sym (left c))
     (placed_of _ _ _ c.check-index.result at)
 

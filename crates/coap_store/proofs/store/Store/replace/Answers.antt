@@ -1,6 +1,6 @@
 use Rattle.std.proofs.Common.{subst, sym, ap, ◌∙◌, ◌+◌, ◌≡◌}
 use Rattle.coap_store.specs.Prelude.{CatalogueValue, store_value, TakesPut, IsStore, IsFoundAt, StoreValue, put_at}
-use Rattle.coap_store.specs.Prelude.{path_told}
+use Rattle.coap_store.specs.Prelude.{body_path}
 use Rattle.coap_store.proofs.CatalogueLemmas.{place_within, put_by_index}
 use Rattle.coap_store.proofs.StoreLemmas.{store_put, bare_listing_short}
 use Rattle.coap_store.proofs.store.Store.replace.Goals as goal
@@ -8,11 +8,11 @@ use Rattle.coap_store.proofs.store.Store.replace.Goals as goal
 -- The resources with the representation at the index are those with it at the path.
 stored : (c : goal.After-self-1) → c.replace.new.self ≡ record (c.self.inside.resources) {
   resources =
-      put_at c.self.inside.resources.resources (path_told c.args._body.now)
+      put_at c.self.inside.resources.resources (body_path c.args._body.now)
       (record { version = c.self.inside.versions + 1; format = c.in_range.result; bytes = c.args.bytes.now });
 }
 stored c =
-    let path = path_told c.args._body.now in
+    let path = body_path c.args._body.now in
     c.in_ok-replace.ensures.ok
     ∙ ap (λ rs. record (c.self.inside.resources) { resources = rs })
     (put_by_index c.self.inside.resources.resources path c.args.index _
@@ -26,17 +26,17 @@ after : (c : goal.After-self-1) → IsStore (record (store_value c.self.inside) 
 after c =
     let s = store_value c.self.inside in
     let takes =
-    subst (λ v. TakesPut v (path_told c.args._body.now) c.args.bytes.now) (sym c.self.view_is) c.requires.taken in
+    subst (λ v. TakesPut v (body_path c.args._body.now) c.args.bytes.now) (sym c.self.view_is) c.requires.taken in
     subst (λ (k : CatalogueValue).
     IsStore (record s { resources = k.resources; applications = k.applications; versions = s.versions + 1 }))
     (sym (stored c))
-    (store_put s (path_told c.args._body.now) c.in_range.result c.args.bytes.now c.self.invariant
+    (store_put s (body_path c.args._body.now) c.in_range.result c.args.bytes.now c.self.invariant
     takes c.in_range.ensures.small)
 
 pub replace-requires-clause-within : goal.replace-requires-clause-within
 replace-requires-clause-within c =
-    place_within _ (path_told c.args._body.now) c.args.index
-    (subst (λ (s : StoreValue). IsFoundAt s.resources (path_told c.args._body.now) c.args.index)
+    place_within _ (body_path c.args._body.now) c.args.index
+    (subst (λ (s : StoreValue). IsFoundAt s.resources (body_path c.args._body.now) c.args.index)
     (sym c.self.view_is) c.requires.index)
 
 pub replace-requires-clause-short : goal.replace-requires-clause-short
@@ -50,7 +50,7 @@ returns-clause-store c = after c
 
 pub returns-clause-ok : goal.returns-clause-ok
 returns-clause-ok c =
-    let path = path_told c.args._body.now in
+    let path = body_path c.args._body.now in
     (λ i. record (store_value c.self.inside) {
       resources = (stored c i).resources;
       applications = (stored c i).applications;

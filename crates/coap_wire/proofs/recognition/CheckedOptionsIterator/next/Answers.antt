@@ -1,13 +1,13 @@
 use Rattle.std.proofs.Common.{rules, sym, ap, ◌∙◌}
-use Rattle.coap_wire.specs.Prelude.{coap_option, checked_behind, option_before}
+use Rattle.coap_wire.specs.Prelude.{coap_option, checked_given, option_before}
 use Rattle.coap_wire.proofs.RecognitionLaws.{checked_end, checks}
 use Rattle.coap_wire.proofs.recognition.CheckedOptionsIterator.next.Goals as goal
 
 pub returns-in_err-option-clause-steps : goal.returns-in_err-option-clause-steps
 returns-in_err-option-clause-steps c =
     let before = option_before c.self.inside.before in
-    let left = sym c.self.view_is ∙ ap (checked_behind before) c.in_err-option.ensures.steps.0 ∙ checked_end before in
-    let none = ap (checked_behind before) c.in_err-option.ensures.steps.1 ∙ checked_end before in
+    let left = sym c.self.view_is ∙ ap (checked_given before) c.in_err-option.ensures.steps.0 ∙ checked_end before in
+    let none = ap (checked_given before) c.in_err-option.ensures.steps.1 ∙ checked_end before in
     rw c.from_residual.ensures (left, none)
 
 pub returns-clause-steps : goal.returns-clause-steps

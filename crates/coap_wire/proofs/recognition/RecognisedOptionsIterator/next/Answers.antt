@@ -1,5 +1,5 @@
 use Rattle.std.proofs.Common.{rules, sym, ap, ◌∙◌}
-use Rattle.coap_wire.specs.Prelude.{coap_option, known_behind, option_before}
+use Rattle.coap_wire.specs.Prelude.{coap_option, known_given, option_before}
 use Rattle.coap_wire.proofs.RecognitionLaws.{known_end, knows, passes_over, stays_ordered}
 use Rattle.coap_wire.proofs.recognition.RecognisedOptionsIterator.next.Goals as goal
 
@@ -28,6 +28,6 @@ loop-option-preserved c = (
 pub returns-clause-steps : goal.returns-clause-steps
 returns-clause-steps c =
     let before = option_before c.loop-option.self-inside.before in (
-      sym c.loop-option.invariant.1 ∙ ap (known_behind before) c.in_default.ensures.steps.0 ∙ known_end before,
-      ap (known_behind before) c.in_default.ensures.steps.1 ∙ known_end before,
+      sym c.loop-option.invariant.1 ∙ ap (known_given before) c.in_default.ensures.steps.0 ∙ known_end before,
+      ap (known_given before) c.in_default.ensures.steps.1 ∙ known_end before,
     )

@@ -19,7 +19,7 @@ unreachable-requires c =
 pub unreachable-requires-in_default-read_separator : goal.unreachable-requires-in_default-read_separator
 unreachable-requires-in_default-read_separator c =
     not_failed c.self.inside.rest.now _ (eqb-false _ _ (sym c.is_empty.ensures ∙ c.if-is_empty.false))
-    (no_separator c.self.inside.rest.now c.in-Ok.link c.in-Ok.behind.now _ c.in-Ok.ensures
+    (no_separator c.self.inside.rest.now c.in-Ok.link c.in-Ok.later.now _ c.in-Ok.ensures
     c.in_default-read_separator.ensures) c.self.invariant
 
 pub invariant_of-self : goal.invariant_of-self
@@ -30,14 +30,14 @@ returns-in_default-next-clause-steps c =
     let next = rw c.in_default-next.is at c.in-Ok-read_separator.ensures in
     sym c.self.view_is ∙ last_read c.self.inside.rest.now c.in-Ok.link
     (eqb-false _ _ (sym c.is_empty.ensures ∙ c.if-is_empty.false))
-    (last_link c.self.inside.rest.now c.in-Ok.link c.in-Ok.behind.now c.in-Ok.ensures next)
+    (last_link c.self.inside.rest.now c.in-Ok.link c.in-Ok.later.now c.in-Ok.ensures next)
 
 pub returns-in_default-next-clause-goes : goal.returns-in_default-next-clause-goes
 returns-in_default-next-clause-goes c =
     let next = rw c.in_default-next.is at c.in-Ok-read_separator.ensures in
     let e = sym c.self.view_is
     ∙ last_read c.self.inside.rest.now c.in-Ok.link (eqb-false _ _ (sym c.is_empty.ensures ∙ c.if-is_empty.false))
-    (last_link c.self.inside.rest.now c.in-Ok.link c.in-Ok.behind.now c.in-Ok.ensures next) in
+    (last_link c.self.inside.rest.now c.in-Ok.link c.in-Ok.later.now c.in-Ok.ensures next) in
     search rules
 
 pub invariant_of-self-2 : goal.invariant_of-self-2
@@ -45,7 +45,7 @@ invariant_of-self-2 c =
     let next = rw c.in-Some.is at c.in-Ok-read_separator.ensures in
     stays_ok c.self.inside.rest.now c.in-Ok.link c.in-Some.next.now
     (eqb-false _ _ (sym c.is_empty.ensures ∙ c.if-is_empty.false))
-    (one_link c.self.inside.rest.now c.in-Ok.link c.in-Ok.behind.now c.in-Some.next.now c.in-Ok.ensures next)
+    (one_link c.self.inside.rest.now c.in-Ok.link c.in-Ok.later.now c.in-Some.next.now c.in-Ok.ensures next)
     c.self.invariant
 
 pub returns-clause-steps : goal.returns-clause-steps
@@ -53,7 +53,7 @@ returns-clause-steps c =
     let next = rw c.in-Some.is at c.in-Ok-read_separator.ensures in
     sym c.self.view_is ∙ first_read c.self.inside.rest.now c.in-Ok.link c.in-Some.next.now
     (eqb-false _ _ (sym c.is_empty.ensures ∙ c.if-is_empty.false))
-    (one_link c.self.inside.rest.now c.in-Ok.link c.in-Ok.behind.now c.in-Some.next.now c.in-Ok.ensures next)
+    (one_link c.self.inside.rest.now c.in-Ok.link c.in-Ok.later.now c.in-Some.next.now c.in-Ok.ensures next)
     c.self.invariant
 
 pub returns-clause-goes : goal.returns-clause-goes
@@ -62,6 +62,6 @@ returns-clause-goes c =
     let e = sym c.self.view_is
     ∙ first_read c.self.inside.rest.now c.in-Ok.link c.in-Some.next.now
     (eqb-false _ _ (sym c.is_empty.ensures ∙ c.if-is_empty.false))
-    (one_link c.self.inside.rest.now c.in-Ok.link c.in-Ok.behind.now c.in-Some.next.now c.in-Ok.ensures next)
+    (one_link c.self.inside.rest.now c.in-Ok.link c.in-Ok.later.now c.in-Some.next.now c.in-Ok.ensures next)
     c.self.invariant in
     search rules

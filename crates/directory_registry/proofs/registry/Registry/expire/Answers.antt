@@ -2,8 +2,8 @@ use Rattle.std.proofs.Common.{◌≡◌, rules, sym, ◌∙◌, ap, subst, filte
 use Rattle.indexmap.proofs.CallerLemmas.{filter-RetainsPairs}
 use Rattle.directory_registry.specs.Prelude.{registry_of, expired, RegistryValue, Each}
 use Rattle.directory_registry.specs.declared.registration.Stored.{Stored}
-use Rattle.directory_registry.proofs.RegistryLemmas.{seen, Key, Indexed}
-use Rattle.directory_registry.proofs.ChangeLemmas.{none_ended, kept_seen, kept_indexed, alive, is_there}
+use Rattle.directory_registry.proofs.RegistryLemmas.{views, Key, Indexed}
+use Rattle.directory_registry.proofs.ChangeLemmas.{none_ended, kept_view, kept_indexed, alive, is_there}
 use Rattle.directory_registry.proofs.registry.Registry.expire.Goals as goal
 
 pub returns-then-now-self : goal.returns-then-now-self
@@ -44,6 +44,6 @@ returns c =
     filter-RetainsPairs _ (alive c.args.now) _
     (λ k v b w g call. search rules) c.self.inside.entries.entries c.retain.new.self.entries
     c.retain.ensures.filtered in
-    let left = ap seen kept ∙ kept_seen c.args.now c.self.inside.entries.entries in
+    let left = ap views kept ∙ kept_view c.args.now c.self.inside.entries.entries in
     (λ i. record { entries = left i; next = c.self.inside.next; limit = c.self.inside.limit })
     ∙ ap (λ (v : RegistryValue). expired v c.args.now) c.self.view_is

@@ -2,7 +2,7 @@ use Rattle.std.proofs.Common.{◌≡◌, sym, ◌∙◌, subst, Some, None, arit
 use Rattle.directory_registry.specs.Prelude.{registry_of, RegistryValue, place_of}
 use Rattle.directory_registry.proofs.EntryLemmas.{ascends_from}
 use Rattle.directory_registry.proofs.RegistryLemmas.{place_there, place_absent, number_is, new_full, new_last, new_next}
-use Rattle.directory_registry.proofs.RegistryLemmas.{length_seen}
+use Rattle.directory_registry.proofs.RegistryLemmas.{length_view}
 use Rattle.directory_registry.proofs.registry.Registry.place.Goals as goal
 
 pub returns-in-Some : goal.returns-in-Some
@@ -23,7 +23,7 @@ returns-then-len-self c =
     (ascends_from c.self.inside.entries.entries c.self.invariant.ordered) c.self.invariant.indexed in
     subst (λ (v : RegistryValue). None ≡ place_of v c.args.key.now.items) c.self.view_is
     (new_full (registry_of c.self.inside)
-    (omega (arith, length_seen c.self.inside.entries.entries, c.len.ensures.len, c.if-len-self.true))
+    (omega (arith, length_view c.self.inside.entries.entries, c.len.ensures.len, c.if-len-self.true))
     ∙ place_absent (registry_of c.self.inside) c.args.key.now.items (is ∙ sym c.number_of.ensures ∙ c.in_default.is))
 
 pub returns-then-self : goal.returns-then-self
@@ -34,7 +34,7 @@ returns-then-self c =
     (ascends_from c.self.inside.entries.entries c.self.invariant.ordered) c.self.invariant.indexed in
     subst (λ (v : RegistryValue). None ≡ place_of v c.args.key.now.items) c.self.view_is
     (new_last (registry_of c.self.inside)
-    (omega (arith, length_seen c.self.inside.entries.entries, c.len.ensures.len, c.if-len-self.false))
+    (omega (arith, length_view c.self.inside.entries.entries, c.len.ensures.len, c.if-len-self.false))
     c.if-self.true
     ∙ place_absent (registry_of c.self.inside) c.args.key.now.items (is ∙ sym c.number_of.ensures ∙ c.in_default.is))
 
@@ -46,6 +46,6 @@ returns c =
     (ascends_from c.self.inside.entries.entries c.self.invariant.ordered) c.self.invariant.indexed in
     subst (λ (v : RegistryValue). Some c.self.inside.next ≡ place_of v c.args.key.now.items) c.self.view_is
     (new_next (registry_of c.self.inside)
-    (omega (arith, length_seen c.self.inside.entries.entries, c.len.ensures.len, c.if-len-self.false))
+    (omega (arith, length_view c.self.inside.entries.entries, c.len.ensures.len, c.if-len-self.false))
     c.if-self.false
     ∙ place_absent (registry_of c.self.inside) c.args.key.now.items (is ∙ sym c.number_of.ensures ∙ c.in_default.is))

@@ -4,16 +4,16 @@ use Rattle.directory_registry.specs.Prelude.{registry_of, removed, has_location,
 use Rattle.directory_registry.specs.declared.registration.Stored.{Stored}
 use Rattle.directory_registry.proofs.EntryLemmas.{ascends_from, each_lookup, each_map, each_both, each_remove}
 use Rattle.directory_registry.proofs.EntryLemmas.{number_other}
-use Rattle.directory_registry.proofs.RegistryLemmas.{seen, Indexed, all_after, packed_same}
+use Rattle.directory_registry.proofs.RegistryLemmas.{views, Indexed, all_after, packed_same}
 use Rattle.directory_registry.proofs.StoreLemmas.{IsOnly, Kept, only_present, others_indexed}
-use Rattle.directory_registry.proofs.ChangeLemmas.{location_seen, removed_seen, absent_removal, after_remove}
+use Rattle.directory_registry.proofs.ChangeLemmas.{location_viewed, removed_view, absent_removal, after_remove}
 use Rattle.directory_registry.proofs.registry.Registry.remove.Goals as goal
 
 pub returns-in_default-clause-found : goal.returns-in_default-clause-found
 unfolding registry_of
 returns-in_default-clause-found c =
     ap is_some (sym c.in_default.is ∙ c.remove.ensures.value)
-    ∙ sym (location_seen c.self.inside.next c.self.inside.numbers.entries c.self.inside.labels.entries c.args.number
+    ∙ sym (location_viewed c.self.inside.next c.self.inside.numbers.entries c.self.inside.labels.entries c.args.number
     c.self.inside.entries.entries c.self.invariant.indexed)
     ∙ ap (λ (v : RegistryValue). has_location v c.args.number) c.self.view_is
 
@@ -24,7 +24,7 @@ returns-in_default-clause-after c =
     sym c.remove.ensures.value ∙ c.in_default.is in
     let same = absent_removal c.self.inside.next c.self.inside.numbers.entries c.self.inside.labels.entries
     c.args.number c.self.inside.entries.entries c.self.invariant.indexed none in
-    let left = ap seen c.in_default.ensures.unchanged ∙ sym same in
+    let left = ap views c.in_default.ensures.unchanged ∙ sym same in
     (λ i. record { entries = left i; next = c.self.inside.next; limit = c.self.inside.limit })
     ∙ ap (λ (v : RegistryValue). removed v c.args.number) c.self.view_is
 
@@ -72,15 +72,15 @@ pub returns-clause-found : goal.returns-clause-found
 unfolding registry_of
 returns-clause-found c =
     ap is_some (sym c.in-Some.is ∙ c.remove.ensures.value)
-    ∙ sym (location_seen c.self.inside.next c.self.inside.numbers.entries c.self.inside.labels.entries c.args.number
+    ∙ sym (location_viewed c.self.inside.next c.self.inside.numbers.entries c.self.inside.labels.entries c.args.number
     c.self.inside.entries.entries c.self.invariant.indexed)
     ∙ ap (λ (v : RegistryValue). has_location v c.args.number) c.self.view_is
 
 pub returns-clause-after : goal.returns-clause-after
 unfolding registry_of removed
 returns-clause-after c =
-    let left = ap seen c.in-Some.ensures.entries
-    ∙ removed_seen c.self.inside.next c.self.inside.numbers.entries c.self.inside.labels.entries c.args.number
+    let left = ap views c.in-Some.ensures.entries
+    ∙ removed_view c.self.inside.next c.self.inside.numbers.entries c.self.inside.labels.entries c.args.number
     c.self.inside.entries.entries c.self.invariant.indexed in
     (λ i. record { entries = left i; next = c.self.inside.next; limit = c.self.inside.limit })
     ∙ ap (λ (v : RegistryValue). removed v c.args.number) c.self.view_is

@@ -4,8 +4,8 @@ use Rattle.directory_registry.specs.Prelude.{registry_of, attributed, with_attri
 use Rattle.directory_registry.specs.Prelude.{label_with, registration_label, registration_of, is_number, packed, Each}
 use Rattle.directory_registry.specs.declared.registration.Stored.{Stored}
 use Rattle.directory_registry.proofs.EntryLemmas.{ascends_from, each_lookup, each_set, number_other}
-use Rattle.directory_registry.proofs.RegistryLemmas.{any_err, seen, Indexed, all_after, packed_same, packed_label}
-use Rattle.directory_registry.proofs.ChangeLemmas.{location_seen, changed_seen, absent_change, forgot, after_change}
+use Rattle.directory_registry.proofs.RegistryLemmas.{any_err, views, Indexed, all_after, packed_same, packed_label}
+use Rattle.directory_registry.proofs.ChangeLemmas.{location_viewed, changed_view, absent_change, forgot, after_change}
 use Rattle.directory_registry.proofs.ChangeLemmas.{after_there}
 use Rattle.directory_registry.proofs.registry.Registry.set_attributes.Goals as goal
 
@@ -13,7 +13,7 @@ pub returns-in_default-clause-found : goal.returns-in_default-clause-found
 unfolding registry_of
 returns-in_default-clause-found c =
     ap is_some c.in_default.ensures.value
-    ∙ sym (location_seen c.self.inside.next c.self.inside.numbers.entries c.self.inside.labels.entries c.args.number
+    ∙ sym (location_viewed c.self.inside.next c.self.inside.numbers.entries c.self.inside.labels.entries c.args.number
     c.self.inside.entries.entries c.self.invariant.indexed)
     ∙ ap (λ (v : RegistryValue). has_location v c.args.number) c.self.view_is
 
@@ -113,7 +113,7 @@ pub returns-clause-found : goal.returns-clause-found
 unfolding registry_of
 returns-clause-found c =
     ap is_some c.in-Some-get_mut.ensures.value
-    ∙ sym (location_seen c.self.inside.next c.self.inside.numbers.entries c.self.inside.labels.entries c.args.number
+    ∙ sym (location_viewed c.self.inside.next c.self.inside.numbers.entries c.self.inside.labels.entries c.args.number
     c.self.inside.entries.entries c.self.invariant.indexed)
     ∙ ap (λ (v : RegistryValue). has_location v c.args.number) c.self.view_is
 
@@ -127,8 +127,8 @@ returns-clause-ok c =
     sym c.in-Some-get_mut.ensures.value in
     let written : (c.get_mut.follows.lender s).entries ≡ set_value
     (is_number c.args.number) c.self.inside.entries.entries s = (c.get_mut.follows.holds s).0 in
-    let made = ap seen written
-    ∙ changed_seen (with_attributes c.args.attributes) c.self.inside.next c.self.inside.numbers.entries
+    let made = ap views written
+    ∙ changed_view (with_attributes c.args.attributes) c.self.inside.next c.self.inside.numbers.entries
     c.self.inside.labels.entries c.args.number s old refl refl c.self.inside.entries.entries
     c.self.invariant.indexed there in
     (λ i. record { entries = made i; next = c.self.inside.next; limit = c.self.inside.limit })

@@ -7,7 +7,7 @@ use Rattle.directory_registry.specs.Prelude.{RegistryValue}
 use Rattle.directory_registry.specs.Prelude.{next_location, place_of, packed, is_number, Each}
 use Rattle.directory_registry.specs.declared.registration.Stored.{Stored}
 use Rattle.directory_registry.proofs.EntryLemmas.{ascends_from, each_map, number_other}
-use Rattle.directory_registry.proofs.RegistryLemmas.{any_err, seen, Key, same, Indexed, all_after, packed_same}
+use Rattle.directory_registry.proofs.RegistryLemmas.{any_err, views, Key, same, Indexed, all_after, packed_same}
 use Rattle.directory_registry.proofs.RegistryLemmas.{packed_label}
 use Rattle.directory_registry.proofs.StoreLemmas.{Kept, placed, next_above, stored_well, stored_view}
 use Rattle.directory_registry.proofs.ChangeLemmas.{forgot, after_insert}
@@ -57,7 +57,7 @@ unfolding registry_of
 returns-in_err-old-clause-err c =
     any_err c.from_residual-in_err-old.result _
     ((λ i. record {
-      entries = seen
+      entries = views
           (c.in_err-old.ensures.err i);
       next = c.self.inside.next;
       limit = c.self.inside.limit;
@@ -136,7 +136,7 @@ returns-clause-ok c =
     let place = placed (registry_of c.self.inside) c.args.key.items c.args.number c.self.inside.numbers.entries
     c.self.inside.labels.entries c.self.inside.entries.entries refl up c.self.invariant.indexed
     (ap (λ (v : RegistryValue). place_of v c.args.key.items) c.self.view_is ∙ c.requires.place) in
-    let entries = ap seen c.in_ok-old.ensures.entries
+    let entries = ap views c.in_ok-old.ensures.entries
     ∙ stored_view c.args.key.items c.args.number c.self.inside.next s c.self.inside.numbers.entries
     c.self.inside.labels.entries c.self.inside.entries.entries c.copy_of-copy.ensures up c.self.invariant.indexed
     place in

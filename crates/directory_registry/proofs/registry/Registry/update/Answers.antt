@@ -5,8 +5,8 @@ use Rattle.directory_registry.specs.Prelude.{RegistrationValue}
 use Rattle.directory_registry.specs.Prelude.{registration_label, registration_of, is_number, packed, Each}
 use Rattle.directory_registry.specs.declared.registration.Stored.{Stored}
 use Rattle.directory_registry.proofs.EntryLemmas.{ascends_from, each_lookup, each_set}
-use Rattle.directory_registry.proofs.RegistryLemmas.{seen, Indexed, all_after}
-use Rattle.directory_registry.proofs.ChangeLemmas.{location_seen, changed_seen, absent_change, after_change}
+use Rattle.directory_registry.proofs.RegistryLemmas.{views, Indexed, all_after}
+use Rattle.directory_registry.proofs.ChangeLemmas.{location_viewed, changed_view, absent_change, after_change}
 use Rattle.directory_registry.proofs.LabelLemmas.{label_renewed}
 use Rattle.directory_registry.proofs.registry.Registry.update.Goals as goal
 
@@ -14,7 +14,7 @@ pub returns-in_default-clause-found : goal.returns-in_default-clause-found
 unfolding registry_of
 returns-in_default-clause-found c =
     ap is_some c.in_default.ensures.value
-    ∙ sym (location_seen c.self.inside.next c.self.inside.numbers.entries c.self.inside.labels.entries c.args.number
+    ∙ sym (location_viewed c.self.inside.next c.self.inside.numbers.entries c.self.inside.labels.entries c.args.number
     c.self.inside.entries.entries c.self.invariant.indexed)
     ∙ ap (λ (v : RegistryValue). has_location v c.args.number) c.self.view_is
 
@@ -25,7 +25,7 @@ returns-in_default-clause-after c =
     let none : lookup (is_number c.args.number) c.self.inside.entries.entries ≡ None = sym c.in_default.ensures.value in
     let same = absent_change change c.self.inside.next c.self.inside.numbers.entries c.self.inside.labels.entries
     c.args.number c.self.inside.entries.entries c.self.invariant.indexed none in
-    let left = ap (λ m. seen m.entries) c.get_mut.follows.holds-at-none ∙ sym same in
+    let left = ap (λ m. views m.entries) c.get_mut.follows.holds-at-none ∙ sym same in
     (λ i. record { entries = left i; next = c.self.inside.next; limit = c.self.inside.limit })
     ∙ ap (λ (v : RegistryValue).
     updated v c.args.number c.args.now c.args.lifetime (option_map (λ b. b.items) c.args.base)) c.self.view_is
@@ -77,7 +77,7 @@ pub returns-clause-found : goal.returns-clause-found
 unfolding registry_of
 returns-clause-found c =
     ap is_some c.in-Some.ensures.value
-    ∙ sym (location_seen c.self.inside.next c.self.inside.numbers.entries c.self.inside.labels.entries c.args.number
+    ∙ sym (location_viewed c.self.inside.next c.self.inside.numbers.entries c.self.inside.labels.entries c.args.number
     c.self.inside.entries.entries c.self.invariant.indexed)
     ∙ ap (λ (v : RegistryValue). has_location v c.args.number) c.self.view_is
 
@@ -90,8 +90,8 @@ returns-clause-after c =
     sym c.in-Some.ensures.value in
     let written : (c.get_mut.follows.lender s).entries ≡ set_value
     (is_number c.args.number) c.self.inside.entries.entries s = (c.get_mut.follows.holds s).0 in
-    let made = ap seen written
-    ∙ changed_seen change c.self.inside.next c.self.inside.numbers.entries c.self.inside.labels.entries
+    let made = ap views written
+    ∙ changed_view change c.self.inside.next c.self.inside.numbers.entries c.self.inside.labels.entries
     c.args.number s c.in-Some.stored.now refl c.change-deadline.ensures.after c.self.inside.entries.entries
     c.self.invariant.indexed there in
     (λ i. record { entries = made i; next = c.self.inside.next; limit = c.self.inside.limit })

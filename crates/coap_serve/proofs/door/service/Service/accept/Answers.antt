@@ -20,7 +20,7 @@ returns-clause-asleep g c =
 pub returns-clause-opened : goal.returns-clause-opened
 returns-clause-opened g c = record {
   handed = Some c.in-Some.wire;
-  asked = search rules;
+  requested = search rules;
   opened =
       one_more_opened _ c.in-Ok-open.ensures.answer c.in-Ok-open.ensures.id c.in-Ok-open.ensures.ok
       c.in-Ok-insert.ensures.entries c.in-Ok.ensures c.new-activity.ensures;

@@ -1,10 +1,10 @@
-use Rattle.coap_serve.proofs.listener.LaterLemmas.{not_asked}
+use Rattle.coap_serve.proofs.listener.LaterLemmas.{not_requested}
 use Rattle.coap_serve.proofs.listener.SleepLemmas.{asleep_on, paired_on}
 use Rattle.coap_serve.proofs.door.service.Service.answer_later.Goals as goal
 
 pub returns-then-not-answers-clause-shows : goal.returns-then-not-answers-clause-shows
 returns-then-not-answers-clause-shows g c =
-    not_asked (g.M.Monitor.follows c.args.monitor.now) (g.A.Application.follows c.args.application.now)
+    not_requested (g.M.Monitor.follows c.args.monitor.now) (g.A.Application.follows c.args.application.now)
 
 pub invariant_of-self : goal.invariant_of-self
 invariant_of-self g c = record {

@@ -63,13 +63,13 @@ returns-in-Open-clause-asleep g c =
     let writable = g.W.Ready.writable in
     let there = c.pair_mut-peer.ensures.value in
     let now = set_there es c.args.at p _ _ there in
-    let seen = looked_at readable writable c.serve_peer.new.server (set_value_at es c.args.at p) c.args.at
+    let looked = looked_at readable writable c.serve_peer.new.server (set_value_at es c.args.at p) c.args.at
     (rw now c.in_ok-served.ensures.interest) c.index-peer.ensures c.is_ready-is_ready.ensures in
-    let entry : seen.0 ≡ (_, p) = cc (seen.1, now) in
+    let entry : looked.0 ≡ (_, p) = cc (looked.1, now) in
     asleep_beside readable writable c.in_ok-served.served.affected.words c.args.at _ _ p c.in_ok-served.ensures.kept
     c.requires.paired there refl
     (λ i apart outside. c.join.ensures i (c.record_look.ensures.asleep i apart outside))
     (λ outside. subst (λ e. MaySleep (peer_status readable writable c.serve_peer.new.server e)) entry
-    (looked_sleeps c.record_look.new.self c.args.at (peer_status readable writable c.serve_peer.new.server seen.0) _
-    seen.3 (rw seen.2 at c.record_look.ensures.awake) outside))
+    (looked_sleeps c.record_look.new.self c.args.at (peer_status readable writable c.serve_peer.new.server looked.0) _
+    looked.3 (rw looked.2 at c.record_look.ensures.awake) outside))
     c.requires.asleep

@@ -19,7 +19,7 @@ pub returns-then-now-moment-clause-moved : goal.returns-then-now-moment-clause-m
 returns-then-now-moment-clause-moved g c =
     same_time c.moment.ensures.settled (c.if-now-moment.true ∙ c.moment.ensures.moment)
 
-pub returns-then-now-moment-clause-told : goal.returns-then-now-moment-clause-told
-returns-then-now-moment-clause-told g c =
+pub returns-then-now-moment-clause-reported : goal.returns-then-now-moment-clause-reported
+returns-then-now-moment-clause-reported g c =
     rw (none_ticked c.args.self.now.server (c.if-now-moment.true ∙ c.moment.ensures.moment))
     (followed_none (g.M.Monitor.follows c.args.monitor.now))

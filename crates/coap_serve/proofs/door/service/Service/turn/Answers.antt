@@ -16,7 +16,7 @@ returns-in_err-next-clause-ran g c =
     c.end_silent.ensures.swept)
     (both_made (time_ran c.args.times.now c.tick.ensures.moved
     (time_called g.M.Monitor.follows c.end_silent.new.monitor c.tick.new.monitor c.tick.result c.args.times.now
-    c.tick.ensures.answer c.tick.ensures.shows c.tick.ensures.told c.tick.ensures.err))
+    c.tick.ensures.answer c.tick.ensures.shows c.tick.ensures.reported c.tick.ensures.err))
     (both_made (later_ran _ _ _ _ c.answer_later-is_full.ensures.shows) (turn_ran c.visit.ensures.shows)))
 
 pub returns-clause-ran : goal.returns-clause-ran
@@ -25,7 +25,7 @@ returns-clause-ran g c = ran_to_end (
     c.end_silent.ensures.swept)
     (both_made (time_ran c.args.times.now c.tick.ensures.moved
     (time_called g.M.Monitor.follows c.end_silent.new.monitor c.tick.new.monitor c.tick.result c.args.times.now
-    c.tick.ensures.answer c.tick.ensures.shows c.tick.ensures.told c.tick.ensures.err))
+    c.tick.ensures.answer c.tick.ensures.shows c.tick.ensures.reported c.tick.ensures.err))
     (both_made (later_ran _ _ _ _ c.answer_later-is_full.ensures.shows) (turn_ran c.visit.ensures.shows))))
     c.turn_ended.ensures.follows
 
@@ -42,7 +42,7 @@ returns-clause-turn g c =
     (g.A.Application.follows c.args.application.now) c.end_silent.new.application later.new.application
     c.end_silent.ensures.swept c.tick.ensures.moved
     (time_called g.M.Monitor.follows c.end_silent.new.monitor c.tick.new.monitor c.tick.result c.args.times.now
-    c.tick.ensures.answer c.tick.ensures.shows c.tick.ensures.told c.tick.ensures.err).follows
+    c.tick.ensures.answer c.tick.ensures.shows c.tick.ensures.reported c.tick.ensures.err).follows
     later.ensures.shows later.ensures.idle in
     let second = later.ensures.times.0 ∙ c.tick.ensures.times.0 ∙ c.end_silent.ensures.second in
     let idle = c.visit.ensures.times.1 ∙ later.ensures.times.1 ∙ c.tick.ensures.times.1 ∙ c.end_silent.ensures.idle in
@@ -91,13 +91,13 @@ returns-in_err-next-clause-cut g c =
     (g.A.Application.follows c.args.application.now) c.end_silent.new.application later.new.application
     c.end_silent.ensures.swept c.tick.ensures.moved
     (time_called g.M.Monitor.follows c.end_silent.new.monitor c.tick.new.monitor c.tick.result c.args.times.now
-    c.tick.ensures.answer c.tick.ensures.shows c.tick.ensures.told c.tick.ensures.err).follows
+    c.tick.ensures.answer c.tick.ensures.shows c.tick.ensures.reported c.tick.ensures.err).follows
     later.ensures.shows later.ensures.idle in
     let cut = c.visit.ensures.shows in
     rw p.1 (λ ready. record {
       start = record { server = later.new.self.server; is_full = later.result; history = begun.history };
       begun = begun.begun;
-      asked = c.visit.ensures.asks;
+      requested = c.visit.ensures.asks;
       cut = record {
         history = cut.history;
         made = cut.made;

@@ -7,7 +7,7 @@ use Rattle.coap_model.specs.Prelude.{takes_messages, fit}
 use Rattle.coap_model.specs.Prelude.{ConnectionState, Reaction, reaction_unless, react, live_reaction, is_asking}
 use Rattle.coap_model.specs.Prelude.{asks_custody, pong_with}
 use Rattle.coap_model.specs.Prelude.{has_stopped, bad_csm_option, is_request}
-use Rattle.coap_conn.specs.Reaction.{open_reaction, ping_reaction, csm_reaction, answered, told_of, is_reserved}
+use Rattle.coap_conn.specs.Reaction.{open_reaction, ping_reaction, csm_reaction, answered, reply_verdict, is_reserved}
 use Rattle.coap_conn.specs.Reaction.{is_signal, is_method, checks_critical_options, pong_of}
 use Rattle.coap_conn.specs.Announced.{has_critical_option}
 use Rattle.coap_conn.specs.Fit.{without_options}
@@ -23,10 +23,10 @@ use Rattle.coap_wire.specs.Codes as code
 abbrev IsNoRequest : Reaction → Type 0
 IsNoRequest r = is_request r.verdict ≡ false
 
-told_none : (r : Reply) → is_request (told_of r) ≡ false
-told_none Whole = refl
-told_none Bare = refl
-told_none Stopped = refl
+reply_none : (r : Reply) → is_request (reply_verdict r) ≡ false
+reply_none Whole = refl
+reply_none Bare = refl
+reply_none Stopped = refl
 
 opened_none : (waiting : Bool) → is_request (cond waiting verdict.Opened verdict.Done) ≡ false
 opened_none true = refl
@@ -39,10 +39,10 @@ csm_none s (Some number) = refl
 ping_none : (s : ConnectionState) (m : Message) → IsNoRequest (ping_reaction s m)
 ping_none s m =
     let late : Message = pong_with false m.token in
-    cond_both (asks_custody m && nat_lt 0 (length s.held)) _ _ IsNoRequest
-    (λ e. cond_both (nat_lt (length s.held) s.most) _ _ IsNoRequest (λ room. refl)
-    (λ full. told_none (fit s.limit late late)))
-    (λ e. told_none (fit s.limit (pong_of m) (without_options (pong_of m))))
+    cond_both (asks_custody m && nat_lt 0 (length s.pending)) _ _ IsNoRequest
+    (λ e. cond_both (nat_lt (length s.pending) s.most) _ _ IsNoRequest (λ room. refl)
+    (λ full. reply_none (fit s.limit late late)))
+    (λ e. reply_none (fit s.limit (pong_of m) (without_options (pong_of m))))
 
 answered_none : (s : ConnectionState) (m : Message) (e : Option OutstandingValue) → IsNoRequest (answered s m e)
 answered_none s m None = refl
@@ -86,18 +86,18 @@ module _ (s : ConnectionState) (m : Message) where
 -- ---- a request
 
 -- The caller answers the request, or the connection stops.
-abbrev IsAskedOrOver : Reaction → Type 0
-IsAskedOrOver r = (is_request r.verdict ≡ true) ⊎ (has_stopped r.effect.phase ≡ true)
+abbrev IsRequestedOrOver : Reaction → Type 0
+IsRequestedOrOver r = (is_request r.verdict ≡ true) ⊎ (has_stopped r.effect.phase ≡ true)
 
-pub asked_or_over : (s : ConnectionState) (m : Message) → s.role ≡ Server → takes_messages s.phase ≡ true
-    → is_asking m ≡ true → IsAskedOrOver (react s m)
+pub requested_or_over : (s : ConnectionState) (m : Message) → s.role ≡ Server → takes_messages s.phase ≡ true
+    → is_asking m ≡ true → IsRequestedOrOver (react s m)
 unfolding react
-asked_or_over s m server live asks = by (stop_of s.phase) live
+requested_or_over s m server live asks = by (stop_of s.phase) live
   where
-    by : (over : Option Reason) → is_none over ≡ true → IsAskedOrOver (reaction_unless s m over)
-    by None none = live_so s m IsAskedOrOver (record {
-      asked = inl refl;
-      stands = λ now outstanding what other may on. absurd (both_ways (is_asking m) other asks);
+    by : (over : Option Reason) → is_none over ≡ true → IsRequestedOrOver (reaction_unless s m over)
+    by None none = live_so s m IsRequestedOrOver (record {
+      requested = inl refl;
+      silent = λ now outstanding what other may on. absurd (both_ways (is_asking m) other asks);
       stops = λ why farewell what plain one may. inr refl;
       queues = λ n what may. absurd (both_ways (is_asking m) (may.plain server).1 asks);
       keeps = λ now other ping custody some. absurd (both_ways (is_asking m) other asks);

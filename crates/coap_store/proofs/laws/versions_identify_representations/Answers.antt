@@ -1,5 +1,5 @@
 use Rattle.coap_store.proofs.RememberingLaws.{is_stored, was_stored}
-use Rattle.coap_store.proofs.laws.versions_tell_what_was_stored.Goals as goal
+use Rattle.coap_store.proofs.laws.versions_identify_representations.Goals as goal
 
 pub returns-clause-stored : goal.returns-clause-stored
 returns-clause-stored c = is_stored
@@ -8,4 +8,4 @@ pub returns-clause-changed : goal.returns-clause-changed
 returns-clause-changed c = was_stored
 
 pub returns-clause-same : goal.returns-clause-same
-returns-clause-same c = λ s path other told now was. was.same other now
+returns-clause-same c = λ s path other sent now was. was.same other now

@@ -9,8 +9,8 @@ use Rattle.coap_model.specs.Prelude.{with_history, ConnectionEntry, World, new_w
 use Rattle.coap_model.specs.Prelude.{Handled}
 use Rattle.coap_model.specs.Prelude.{Faulted, Written, ticks, acted, settled_place, step, after_steps, AcceptedCall}
 use Rattle.coap_model.specs.Prelude.{steps_of, world_after, takes_messages, stop, end_reason}
-use Rattle.coap_model.specs.Prelude.{standing_now, with_effect}
-use Rattle.coap_model.specs.Prelude.{takes_input, normalised_step, heard_steps, normalised_steps}
+use Rattle.coap_model.specs.Prelude.{state_now, with_effect}
+use Rattle.coap_model.specs.Prelude.{takes_input, normalised_step, received_steps, normalised_steps}
 use Rattle.coap_model.specs.Prelude.{all_settled}
 use Rattle.std.proofs.lemmas.Bool.{and_parts, leb-true, eqb-true, cond_both}
 use Rattle.coap_model.specs.world.World.{changed_at, Opened, Ticked, Stored, Removed, Ended, Released, Announced}
@@ -71,7 +71,7 @@ acted_known limits w (Opened id) known =
       versioned = known.versioned;
       moment = known.moment;
       places = all_append (IsKnownPlace w.store) w.sides _ known.places (
-        (record { is_history = omega arith; told = tt }),
+        (record { is_history = omega arith; reported = tt }),
         tt,
       );
     })
@@ -166,7 +166,7 @@ ends_if_taking : (s : Connection) (cut : Bool) → side_ended s (takes_messages 
 unfolding side_ended
 ends_if_taking s cut =
     let ended : Bool → Bool → Connection = λ takes cut. with_history s
-    (cond takes (with_effect s.history (stop (standing_now s.history) (end_reason cut) [])) s.history) in
+    (cond takes (with_effect s.history (stop (state_now s.history) (end_reason cut) [])) s.history) in
     elim (takes_messages s.history.phase) as (λ takes. ended takes (takes && cut) ≡ ended takes cut) [
       | true ↦ refl
       | false ↦ refl
@@ -193,10 +193,10 @@ each_same f g ps distinct same =
 
 -- ---- a step, and all of them
 
-heard_acted : (limits : LimitValues) (w : World) (s : Step) → AreDistinct w.sides
+received_acted : (limits : LimitValues) (w : World) (s : Step) → AreDistinct w.sides
     → acted limits w (normalised_step w s) ≡ acted limits w s
 unfolding acted
-heard_acted limits w (world.Ended id cut) distinct =
+received_acted limits w (world.Ended id cut) distinct =
     let f : Connection → Connection = λ t. side_ended t (takes_input (side_of id w.sides) && cut) in
     let g : Connection → Connection = λ t. side_ended t cut in
     ap (λ (ps : List ConnectionEntry). record w { sides = ps })
@@ -204,33 +204,34 @@ heard_acted limits w (world.Ended id cut) distinct =
     place_same id f g (record { id = other; side = s }) (other == id) refl
     (λ same. ap (λ (o : Option Connection). side_ended s (takes_input o && cut))
     (ap (λ (n : ℕ). side_of n w.sides) (sym same) ∙ there) ∙ ends_if_taking s cut)))
-heard_acted limits w other distinct = refl
+received_acted limits w other distinct = refl
 
-all_heard : (limits : LimitValues) (w : World) (ss : List Step) → AreDistinct w.sides
-    → after_steps limits w (heard_steps limits w ss) ≡ after_steps limits w ss
-unfolding after_steps heard_steps world.step
-all_heard limits w [] distinct = refl
-all_heard limits w (s ∷ ss) distinct =
-    rw (heard_acted limits w s distinct, after_steps)
-    (all_heard limits (world.step limits w s) ss (step_distinct limits w s distinct))
+all_received : (limits : LimitValues) (w : World) (ss : List Step) → AreDistinct w.sides
+    → after_steps limits w (received_steps limits w ss) ≡ after_steps limits w ss
+unfolding after_steps received_steps world.step
+all_received limits w [] distinct = refl
+all_received limits w (s ∷ ss) distinct =
+    rw (received_acted limits w s distinct, after_steps)
+    (all_received limits (world.step limits w s) ss (step_distinct limits w s distinct))
 
 -- The received steps lead to the same world as the events.
-pub heard_world : (c : ConfigValues) (es : List AcceptedCall)
+pub received_world : (c : ConfigValues) (es : List AcceptedCall)
     → after_steps c.limits (new_world c) (normalised_steps c es) ≡ world_after c es
 unfolding normalised_steps world_after
-heard_world c es = all_heard c.limits (new_world c) (steps_of c.limits.max_message es) tt
+received_world c es = all_received c.limits (new_world c) (steps_of c.limits.max_message es) tt
 
 -- So if the received steps are equal, the worlds are equal.
-pub same_heard : (c : ConfigValues) (es fs : List AcceptedCall) → normalised_steps c es ≡ normalised_steps c fs
+pub same_received : (c : ConfigValues) (es fs : List AcceptedCall) → normalised_steps c es ≡ normalised_steps c fs
     → world_after c es ≡ world_after c fs
-same_heard c es fs alike = sym (heard_world c es) ∙ ap (after_steps c.limits (new_world c)) alike ∙ heard_world c fs
+same_received c es fs alike = sym (received_world c es) ∙ ap (after_steps c.limits (new_world c)) alike
+    ∙ received_world c fs
 
 -- Equal steps are received as equal steps.
-pub heard_alike : (c : ConfigValues) (es fs : List AcceptedCall)
+pub received_alike : (c : ConfigValues) (es fs : List AcceptedCall)
     → steps_of c.limits.max_message es ≡ steps_of c.limits.max_message fs
     → normalised_steps c es ≡ normalised_steps c fs
 unfolding normalised_steps
-heard_alike c es fs alike = ap (heard_steps c.limits (new_world c)) alike
+received_alike c es fs alike = ap (received_steps c.limits (new_world c)) alike
 
 -- The end of input after a stop.
 pub quiet_end : (w : World) (id : ℕ) (s : Connection) (cut : Bool) → side_of id w.sides ≡ Some s

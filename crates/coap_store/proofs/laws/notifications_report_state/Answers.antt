@@ -1,8 +1,8 @@
-use Rattle.coap_store.proofs.NotificationLaws.{notification_tells, notification_format, notification_get}
-use Rattle.coap_store.proofs.laws.notifications_tell_the_state.Goals as goal
+use Rattle.coap_store.proofs.NotificationLaws.{notification_reports, notification_format, notification_get}
+use Rattle.coap_store.proofs.laws.notifications_report_state.Goals as goal
 
 pub returns-clause-content : goal.returns-clause-content
-returns-clause-content c = notification_tells
+returns-clause-content c = notification_reports
 
 pub returns-clause-format : goal.returns-clause-format
 returns-clause-format c = notification_format

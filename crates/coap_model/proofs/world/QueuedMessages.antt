@@ -8,7 +8,7 @@ use Rattle.coap_model.specs.Prelude.{first_due, ConnectionState}
 use Rattle.coap_model.specs.Prelude.{send_as, react}
 use Rattle.coap_model.specs.Prelude.{due_effect}
 use Rattle.coap_model.specs.Prelude.{reject_reason, History}
-use Rattle.coap_model.specs.Prelude.{limit_now, standing_now, after, own_csm, release, standing_due, is_whole}
+use Rattle.coap_model.specs.Prelude.{limit_now, state_now, after, own_csm, release, state_due, is_whole}
 use Rattle.coap_model.specs.Prelude.{responds, last_response}
 use Rattle.std.proofs.lemmas.List.{append-nil, append_assoc, reverse-append}
 use Rattle.coap_conn.specs.declared.phase.Phase.TheVariants as phase
@@ -41,14 +41,14 @@ pub record Queues (P : Message → Type 0) (h k : History) : Type 0 where
   pub more : List Message
   pub same : k.queued ≡ h.queued ++ more
   pub such : AllByRecursion P more
-  pub heard : List Message
-  pub handled : k.handled ≡ h.handled ++ heard
+  pub received : List Message
+  pub handled : k.handled ≡ h.handled ++ received
 
 -- No message is handled.
 pub queues_these : (P : Message → Type 0) (h k : History) (more : List Message) → k.queued ≡ h.queued ++ more
     → k.handled ≡ h.handled → AllByRecursion P more → Queues P h k
 queues_these P h k more same handled such =
-    record { more = more; same = same; such = such; heard = []; handled = handled ∙ sym (append-nil h.handled) }
+    record { more = more; same = same; such = such; received = []; handled = handled ∙ sym (append-nil h.handled) }
 
 pub queues_none : (P : Message → Type 0) (h : History) → Queues P h h
 queues_none P h = queues_these P h h [] (sym (append-nil h.queued)) refl tt
@@ -60,13 +60,13 @@ sent_all P s m less r is bare = grind arith
 
 -- The pending entries and the phase afterwards.
 pub sent_either : (s : ConnectionState) (m less : Message) (r : Reply) (P : List PendingEntryValue → Phase → Type 0)
-    → P s.held s.phase → P [] (phase.Stopped reason.PeerTooSmall)
-    → P (send_as s m less r).held (send_as s m less r).phase
+    → P s.pending s.phase → P [] (phase.Stopped reason.PeerTooSmall)
+    → P (send_as s m less r).pending (send_as s m less r).phase
 sent_either s m less r P is over = grind arith
 
 pub reply_either : (h : History) (m : Message) (P : List Message → List PendingEntryValue → Phase → Type 0)
-    → P h.handled h.held h.phase → P h.handled [] (phase.Stopped reason.PeerTooSmall)
-    → P (after h (call.Reply m)).handled (after h (call.Reply m)).held (after h (call.Reply m)).phase
+    → P h.handled h.pending h.phase → P h.handled [] (phase.Stopped reason.PeerTooSmall)
+    → P (after h (call.Reply m)).handled (after h (call.Reply m)).pending (after h (call.Reply m)).phase
 reply_either h m P is over = grind arith
 
 -- ---- effects on a history
@@ -74,16 +74,16 @@ reply_either h m P is over = grind arith
 -- A message that is handled: a server's reaction queues no response.
 pub message_queues : (h : History) (m : Message) → h.role ≡ Server → Queues IsNoResponse h (after h (call.Handle m))
 message_queues h m server =
-    let signals : AllByRecursion IsNoResponse (react (standing_now h) m).effect.queued =
-    react_so (standing_now h) m (λ e. AllByRecursion IsNoResponse e.queued) (record {
+    let signals : AllByRecursion IsNoResponse (react (state_now h) m).effect.queued =
+    react_so (state_now h) m (λ e. AllByRecursion IsNoResponse e.queued) (record {
       stays = tt;
-      stands = λ now outstanding stands. tt;
+      silent = λ now outstanding silent. tt;
       stops = λ why farewell plain one may. all_to IsPlain IsNoResponse (λ n is. is.0) farewell plain;
       queues = λ n is. (is server, tt);
       keeps = λ ping custody some. tt;
     }) in
     if_between (Queues IsNoResponse) (takes_messages h.phase) h _ (queues_none IsNoResponse h)
-    (λ takes. record { more = _; same = refl; such = signals; heard = m ∷ []; handled = refl })
+    (λ takes. record { more = _; same = refl; such = signals; received = m ∷ []; handled = refl })
 
 pub reject_queues : Rejects (Queues IsPlain)
 reject_queues h r takes room = queues_these IsPlain h _ _ refl refl (abort_plain (limit_now h) (reject_reason r))
@@ -104,7 +104,7 @@ written_queues P h n = queues_these P h _ [] (sym (append-nil h.queued)) refl tt
 -- Of the entries that are due, only a Pong is queued here.
 pub due_queues : (h : History) (now : ℕ) → Queues IsNoResponse h (after h (call.Due now))
 due_queues h now =
-    queues_these IsNoResponse h _ (due_effect (standing_due now (standing_now h)) (first_due now h.held)).queued
+    queues_these IsNoResponse h _ (due_effect (state_due now (state_now h)) (first_due now h.pending)).queued
     refl refl (grind arith)
 
 -- ---- responses
@@ -115,7 +115,7 @@ reply_queues h m =
     let P : Message → Type 0 = λ n. n.token ≡ m.token in
     if_between (Queues P) (answers h.phase) h _ (queues_none P h)
     (λ does. queues_these P h _ _ refl refl
-    (sent_all P (standing_now h) m (bare_response m) (fit (limit_now h) m (bare_response m)) refl refl))
+    (sent_all P (state_now h) m (bare_response m) (fit (limit_now h) m (bare_response m)) refl refl))
 
 -- An open connection sends responses.
 pub open_answers : (p : Phase) → is_open p ≡ true → answers p ≡ true

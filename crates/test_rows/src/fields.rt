@@ -17,7 +17,7 @@ pub(crate) struct RequestFields<'a> {
 }
 
 /// Reads the fields of a request. Their bytes replace those in `bytes`.
-pub(crate) fn read_asked<'a>(text: &str, bytes: &'a mut Vec<u8>) -> RequestFields<'a> {
+pub(crate) fn read_fields<'a>(text: &str, bytes: &'a mut Vec<u8>) -> RequestFields<'a> {
     let (digits, text) = cut(text);
     read_hex(digits, bytes);
     let [

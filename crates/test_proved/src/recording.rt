@@ -10,7 +10,7 @@ use std::alloc::Global;
 use std::process::Abort;
 
 /// Serves one connection over recording devices.
-fn serve_told(
+fn serve_recorded(
     alloc: Global,
     source: &mut Pieces,
     outlet: &mut RecordingOutlet,
@@ -34,7 +34,7 @@ fn writes(rt: &(impl Abort + AllocGlobal), left: usize, wanted: &[u8]) -> Result
     let mut source = Pieces::new(rt.alloc(), input, 2);
     let mut outlet = RecordingOutlet::new(rt.alloc(), 4, left);
     assert!(rt; config.starts().ids < u64::MAX);
-    let result = serve_told(rt.alloc(), &mut source, &mut outlet, &config);
+    let result = serve_recorded(rt.alloc(), &mut source, &mut outlet, &config);
     assert!(rt; outlet.bytes.as_slice() == wanted);
     assert!(rt; !source.failed);
     assert!(rt; outlet.failed == (result == Err(IoFault::Write)));
@@ -42,7 +42,7 @@ fn writes(rt: &(impl Abort + AllocGlobal), left: usize, wanted: &[u8]) -> Result
 }
 
 #[test]
-fn serves_over_devices_that_tell_all(rt: HostRuntime) {
+fn serves_over_recording_devices(rt: HostRuntime) {
     let result = writes(
         &rt,
         usize::MAX,
@@ -86,7 +86,7 @@ fn serves_over_slices_and_vectors(rt: HostRuntime) {
 }
 
 #[test]
-fn tells_what_was_written_before_a_fault(rt: HostRuntime) {
+fn reports_written_before_fault(rt: HostRuntime) {
     let result = writes(&rt, 1, b"\x60\xe1\x23\x01");
     assert!(&rt; result == Err(IoFault::Write));
 }
