@@ -7,7 +7,7 @@ from manual_sources import ERRORS, UNREACHED, code_of, printed, shape, source_of
 
 # Values other than texts that programs give to `print_fault`. Their texts are those of ERRORS, and the second lines of
 # which other checks know.
-VALUES = {"fault", "hindrance", "line.as_str()", "reason.as_str()", "text"}
+VALUES = {"IoFault", "fault", "hindrance", "line.as_str()", "reason.as_str()", "text"}
 
 # Error texts that a program does not print, and the text in place of that of clap.
 UNPRINTED = {"coap-server": {"bad target {}"}, "coap-client": set()}
