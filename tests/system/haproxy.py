@@ -25,7 +25,7 @@ sys.path[:0] = [os.path.join(HERE, "..", "harness"), os.path.join(HERE, "haproxy
 import messages  # noqa: E402
 from balancing import check_drained, check_four, check_full, check_killed, check_stuck  # noqa: E402
 from checks import Checks  # noqa: E402
-from documented import check_documented  # noqa: E402
+from documented import check_documented, check_one_server  # noqa: E402
 from greedy_sources import check_places, check_rate, check_silent  # noqa: E402
 from libcoap_over_tls import check_file, check_libcoap  # noqa: E402
 from packages import install  # noqa: E402
@@ -38,7 +38,7 @@ PACKAGES = {"haproxy": "haproxy", "openssl": "openssl", "coap-client-openssl": "
 CHECKS = [
     check_file, check_libcoap, check_tls, check_constrained, check_certified, check_silent, check_places, check_rate,
     check_idle, check_alive, check_unread, check_full, check_killed, check_drained, check_stuck, check_four,
-    check_documented,
+    check_documented, check_one_server,
 ]
 
 # The lines of the check of a server in the configuration.

@@ -45,6 +45,9 @@ from workspace import ROOT, crates, listed  # noqa: E402
 
 DATA = "docs/guarantees.tsv"
 CLAIMS, MODEL = "docs/GUARANTEES.md", "docs/MODEL.md"
+
+# The file with the id of the installed kit.
+KIT = "/opt/rattle/KIT-ID"
 NAMED = ["CONTRIBUTING.md", *(f"docs/{it}.md" for it in (
     "ARCHITECTURE", "DECISIONS", "DEPLOYING", "EMBEDDING", "EMBEDDING_C", "GATEWAYS", "GLOSSARY", "PERFORMANCE",
     "QUICKSTART"))]
@@ -235,6 +238,9 @@ def main(words):
     for document in (CLAIMS, MODEL, *NAMED):
         faults = [f"{document}: {it}" for it in wrong_document(document, claims)]
         wrong, passed = wrong + faults, passed + (not faults)
+    with open(KIT, encoding="utf-8") as it:
+        is_named = f"proved with `{it.read().strip()}`" in read(CLAIMS)
+    wrong, passed = wrong + [f"{CLAIMS}: the kit is not that of {KIT}"] * (not is_named), passed + is_named
     for sample in SAMPLES:
         faults = list(wrong_sample(*sample))
         wrong, passed = wrong + faults, passed + (not faults)

@@ -8,6 +8,7 @@ from proxies import (
     AT_ONCE, CONTENT, CREATED, GET, NOT_FOUND, PEER_SETTINGS, PUT, QUICK_CHECKS, SERVERS, SETTINGS, Kind, spelled,
 )
 from silent_peers import lasted
+from workspace import ROOT
 
 # Seconds that a peer waits for a full server. This is longer than a failing check takes.
 QUEUED = 4
@@ -66,10 +67,13 @@ def check_killed(checks, setting):
 
 def check_drained(checks, setting):
     """Checks a server in state drain: its connections stay, and new connections go to another server."""
+    drain = "set server coap/one state drain"
+    with open(f"{ROOT}/docs/DEPLOYING.md", encoding="utf-8") as page:
+        checks.same("the command of docs/DEPLOYING.md", f'echo "{drain}" | sudo socat - ' in page.read(), True)
     with setting.front(("one", "two")) as front:
         source = sources_of(front)["one"]
         with front.greeted(source) as peer:
-            front.tell("set server coap/one state drain")
+            front.tell(drain)
             checks.same("a new connection", front.who(source)[0], "two")
             checks.same("a connection from before", peer.ask(spelled(GET, b"q", "who")), (CONTENT, b"q", b"one"))
         front.tell("set server coap/one state ready")

@@ -1,4 +1,5 @@
-"""Runs the commands of docs/DEPLOYING.md for HAProxy in front of four servers, with stand-ins for systemd and apt."""
+"""Runs the commands of docs/DEPLOYING.md for one server, and for HAProxy in front of four, with stand-ins for make,
+systemd and apt."""
 
 import contextlib
 import os
@@ -17,11 +18,16 @@ from workspace import ROOT
 
 # Stands in for systemctl: starts the programs with the files that the commands wrote below @.
 SYSTEMCTL = r"""#!/bin/sh
+start() {
+    . "$1"
+    line=$(sed -n 's/^ExecStart=//p' "$2")
+    $(echo "$line" | sed "s|[$]COAP_SERVER_OPTIONS|$COAP_SERVER_OPTIONS|") &
+}
 case "$*" in
+"enable --now coap-server")
+    start @/etc/default/coap-server @/usr/local/lib/systemd/system/coap-server.service ;;
 "enable --now coap-server@"*)
-    . @/etc/default/coap-server-${3#*@}
-    line=$(sed -n 's/^ExecStart=//p' @/etc/systemd/system/coap-server@.service)
-    $(echo "$line" | sed "s|[$]COAP_SERVER_OPTIONS|$COAP_SERVER_OPTIONS|") & ;;
+    start @/etc/default/coap-server-${3#*@} @/etc/systemd/system/coap-server@.service ;;
 "reload haproxy") haproxy -db -f @/etc/haproxy/haproxy.cfg & ;;
 *) exit 1 ;;
 esac
@@ -33,14 +39,20 @@ def read(path):
         return file.read()
 
 
-def prepare(folder, setting, port, ports):
-    """Writes the files that `make install` installs, and the stand-ins, below a folder."""
-    front = placed(places_for(folder, port, ports)).replace("/etc/", f"{folder}/etc/")
+def commands_below(heading):
+    """Returns the section of docs/DEPLOYING.md with this heading, and its first block of commands."""
+    section = read("docs/DEPLOYING.md").partition(f"\n## {heading}\n")[2]
+    return section, textwrap.dedent(re.match(r"\n((?:    .*\n)+)", section)[1])
+
+
+def prepare(folder, setting, front):
+    """Writes the files that `make install` installs, with this configuration of HAProxy, and the stand-ins, below a
+    folder."""
     unit = read("install/coap-server.service.in").replace("@PREFIX@", f"{folder}/usr/local")
     files = {
-        "usr/local/share/doc/coap-server/examples/haproxy.cfg": front,
+        "usr/local/share/doc/coap-server/examples/haproxy.cfg": front.replace("/etc/", f"{folder}/etc/"),
         "usr/local/lib/systemd/system/coap-server.service": unit.replace("/etc/", f"{folder}/etc/"),
-        "shims/sudo": '#!/bin/sh\nexec "$@"\n', "shims/apt-get": "#!/bin/sh\n",
+        "shims/sudo": '#!/bin/sh\nexec "$@"\n', "shims/apt-get": "#!/bin/sh\n", "shims/make": "#!/bin/sh\n",
         "shims/systemctl": SYSTEMCTL.replace("@/", f"{folder}/"),
     }
     for name in ("etc/default", "etc/haproxy", "etc/systemd/system", "usr/local/bin", *map(os.path.dirname, files)):
@@ -60,32 +72,51 @@ def is_open(port):
     return False
 
 
-def check_documented(checks, setting):
-    """Checks that the commands succeed, and what the last one, a client, prints."""
-    section = read("docs/DEPLOYING.md").partition("\n## HAProxy in front\n")[2]
-    text = textwrap.dedent(re.match(r"\n((?:    .*\n)+)", section)[1])
-    port, ports = free_port(HOST), {name: free_port(HOST) for name in SERVERS}
+def check_commands(checks, folder, commands, port, client):
+    """Runs commands, which must succeed, below a folder with the stand-ins, and a client once a program accepts
+    connections at the port. Returns what the client prints."""
+    commands = commands.replace("/etc/", f"{folder}/etc/").replace("/usr/local/", f"{folder}/usr/local/")
+    own = {**os.environ, "PATH": f"{folder}/shims:{os.environ['PATH']}"}
+    with open(f"{folder}/log", "w+", encoding="utf-8", errors="replace") as log:
+        shell = subprocess.Popen(["bash", "-euc", commands], cwd=folder, env=own, stdin=subprocess.DEVNULL,
+                                 stdout=log, stderr=log, process_group=0)
+        try:
+            status, ends = shell.wait(LIMIT), time.monotonic() + LIMIT
+            log.seek(0)
+            checks.same("the commands of docs/DEPLOYING.md", (status, log.read() if status else ""), (0, ""))
+            while not is_open(port) and time.monotonic() < ends:
+                time.sleep(0.02)
+            how = {"stdin": subprocess.DEVNULL, "capture_output": True, "timeout": LIMIT, "text": True}
+            return subprocess.run(["bash", "-c", client], **how).stdout
+        finally:
+            with contextlib.suppress(ProcessLookupError):
+                os.killpg(shell.pid, signal.SIGKILL)
+
+
+def check_one_server(checks, setting):
+    """Checks the commands for one server, and what the client of the next sentence prints."""
+    section, commands = commands_below("One server")
+    client, printed = re.search(r"Then `(.*?)` must print `(.*?)`", section).groups()
+    port = free_port(HOST)
+    client = client.replace("127.0.0.1/", f"127.0.0.1:{port}/")
     with tempfile.TemporaryDirectory(prefix="deploying-") as folder:
-        prepare(folder, setting, port, ports)
-        for old, new in (("/etc/", f"{folder}/etc/"), ("/usr/local/", f"{folder}/usr/local/"),
-                         ("-p 570$n", "-p $(eval echo '$PORT'$n)"), ("//HOST/", f"//{HOST}:{port}/"),
-                         ("coap-client-openssl", f"coap-client-openssl -R {setting.folder}/authority.pem")):
-            text = text.replace(old, new)
-        commands, client = text.rstrip().rsplit("\n", 1)
-        numbered = {f"PORT{number}": str(ports[name]) for number, name in enumerate(SERVERS, 1)}
-        own = {**os.environ, **numbered, "PATH": f"{folder}/shims:{os.environ['PATH']}"}
-        with open(f"{folder}/log", "w+", encoding="utf-8", errors="replace") as log:
-            shell = subprocess.Popen(["bash", "-euc", commands], cwd=folder, env=own, stdin=subprocess.DEVNULL,
-                                     stdout=log, stderr=log, process_group=0)
-            try:
-                status, ends = shell.wait(LIMIT), time.monotonic() + LIMIT
-                log.seek(0)
-                checks.same("the commands of docs/DEPLOYING.md", (status, log.read() if status else ""), (0, ""))
-                while not is_open(port) and time.monotonic() < ends:
-                    time.sleep(0.02)
-                how = {"stdin": subprocess.DEVNULL, "capture_output": True, "timeout": LIMIT, "text": True}
-                said = subprocess.run(["bash", "-c", client], **how).stdout
-                checks.same("the client of docs/DEPLOYING.md", said, re.search(r"prints (.*)", client)[1] + "\n")
-            finally:
-                with contextlib.suppress(ProcessLookupError):
-                    os.killpg(shell.pid, signal.SIGKILL)
+        prepare(folder, setting, "")
+        said = check_commands(checks, folder, commands.replace("-d 100", f"-d 100 -p {port}"), port,
+                              f"{os.path.dirname(setting.server)}/{client}")
+        checks.same("the client of one server", said, printed)
+
+
+def check_documented(checks, setting):
+    """Checks the commands for HAProxy, and what the last one, a client, prints."""
+    text = commands_below("HAProxy in front")[1]
+    port, ports = free_port(HOST), {name: free_port(HOST) for name in SERVERS}
+    for number, name in enumerate(SERVERS, 1):
+        text = f"PORT{number}={ports[name]}\n{text}"
+    for old, new in (("-p 570$n", "-p $(eval echo '$PORT'$n)"), ("//HOST/", f"//{HOST}:{port}/"),
+                     ("coap-client-openssl", f"coap-client-openssl -R {setting.folder}/authority.pem")):
+        text = text.replace(old, new)
+    commands, client = text.rstrip().rsplit("\n", 1)
+    with tempfile.TemporaryDirectory(prefix="deploying-") as folder:
+        prepare(folder, setting, placed(places_for(folder, port, ports)))
+        said = check_commands(checks, folder, commands, port, client)
+        checks.same("the client of docs/DEPLOYING.md", said, re.search(r"prints (.*)", client)[1] + "\n")

@@ -19,8 +19,8 @@ def readings(gateway):
 def check_reading_pauses(checks, program):
     """Checks that a peer of another gateway cannot make this one read all retained messages each second."""
     with Setting(program, 1) as setting, Gateway(program, setting.broker, setting.folder, 2, ["-d", "2"]) as small:
-        (peer,), ends, rounds = setting.peers(), time.monotonic() + 15, 0
-        while time.monotonic() < ends:
+        (peer,), began, rounds = setting.peers(), time.monotonic(), 0
+        while readings(small) < 3 and time.monotonic() < began + 60:
             for method in (PUT, DELETE):
                 tokens = [peer.send(method, f"{PREFIX}/{name}", payload=b"%d" % rounds) for name in "abc"]
                 codes(peer, tokens)
@@ -28,7 +28,7 @@ def check_reading_pauses(checks, program):
             time.sleep(0.1)
         checks.same("more topics than places, many times", small.log().count("left out: ") > 20, True)
         # The first one at the start, one after a second, and one after ten more.
-        checks.same("readings", readings(small), 3)
+        checks.same("readings", (readings(small), time.monotonic() - began > 9), (3, True))
 
 
 def check_reread(checks, program):
