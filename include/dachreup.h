@@ -299,6 +299,9 @@ struct dachreup_server {
  *
  * The pending entries of a connection are delayed responses, delayed Pongs, and requests that the application has not
  * answered. A request that would exceed `pending` gets 5.03. So with 0, no request reaches the application.
+ *
+ * An engine accepts bytes only while its queue has room for `max_sent` bytes. So a program that joins two engines
+ * without a buffer between them gives one of them a queue of more than `max_sent` bytes.
  */
 struct dachreup_settings {
     size_t max_message; /* largest message accepted: 1,152 to 1,048,576; 0: 65,536 */
@@ -443,8 +446,8 @@ dachreup_server_take(struct dachreup_server *server, uint64_t id, const void *pi
  * Returns DACHREUP_NO_MORE if there is no such connection.
  *
  * Repeat it after calls that can queue bytes (open, take, respond, tick, put, put_at, remove, remove_at, ended,
- * release, announce), and write the bytes of each id. Between, make only calls that move bytes, and offer kept bytes
- * again: other calls may yield without end.
+ * release, announce), and write the bytes of each id by dachreup_server_parts and _written. Between, offer kept bytes
+ * again if need be, and make no other call that can queue bytes: otherwise there may be no end.
  *
  * If the transport accepts none or only a part of the bytes, keep the id. Call dachreup_server_parts with it once the
  * transport is writable. Without a further change, such as a part that was written, the id is not yielded again.
@@ -467,7 +470,8 @@ enum dachreup_reply { DACHREUP_REPLY_WHOLE = 0, DACHREUP_REPLY_BARE = 1, DACHREU
  * Queues the response to a request that the application answers, and sets *reply (enum dachreup_reply). `response` is
  * one encoded message with the token of the request. If it exceeds the size that the peer accepts, it is reduced to its
  * code and token (DACHREUP_REPLY_BARE); if that exceeds it too, the connection stops (DACHREUP_REPLY_STOPPED).
- * Returns DACHREUP_NO_SUCH, DACHREUP_NO_SUCH_REQUEST, DACHREUP_NOT_A_RESPONSE or DACHREUP_QUEUE_FULL.
+ * Returns DACHREUP_NO_SUCH, DACHREUP_NO_SUCH_REQUEST, DACHREUP_NOT_A_RESPONSE or DACHREUP_QUEUE_FULL. Directly after
+ * the take of the request, the queue has room.
  */
 DACHREUP_MUST_USE static inline dachreup_result
 dachreup_server_respond(struct dachreup_server *server, uint64_t id, const void *response,
