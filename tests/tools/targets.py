@@ -76,6 +76,8 @@ NUMBERS = [
     (LIMITS, "l.pending ≤ 256", COMPARISON, "of a connection | 16 each | 256 each |"),
     (LIMITS, "l.observers ≤ 256", COMPARISON, "of a connection | 16 each | 256 each |"),
     ("crates/coap_wire/src/token.rt", "MAX_TOKEN: usize = 64;", COMPARISON, "| Token (bytes) | 64 | 64 |"),
+    (TESTING, "| `make run`, elapsed | 1,234 s | 858 s | 1,322 s |", "README.md", "sessions: 14 to 30 minutes"),
+    (TESTING, "the gate took 1,933 s,", "README.md", "libcoap: half an hour to 2 hours"),
     ("crates/coap_path/src/applications.rt", "MAX_ENTRIES: usize = 16;", COMPARISON, "for up to 16 prefixes"),
     (PROXY, "sc0_conn_cur gt 32 }", DEPLOYING, "| 32 connections of a source, and 100 in 10 s |"),
     (PROXY, "sc0_conn_rate gt 100 }", DEPLOYING, "| 32 connections of a source, and 100 in 10 s |"),
