@@ -19,7 +19,7 @@ mod signals;
 mod state;
 
 use coap_conn::{Limits, Link, Reason, Reject, Role, Verdict};
-use coap_frame::Framer;
+use coap_frame::{Framer, frame_of};
 use coap_wire::{MessageRef, TokenRef, parse};
 pub use signals::ClientAnnounceFault;
 use std::alloc::{AllocError, Global};
@@ -172,7 +172,7 @@ impl Client {
         Taken {
             bytes,
             received,
-            frame: frame_given(self.framer.split_frame(), &piece[..bytes]),
+            frame: frame_of(self.framer.split_frame(), &piece[..bytes]),
         }
     }
 
@@ -254,13 +254,6 @@ fn take_in(framer: &mut Framer, link: &mut Link, piece: &[u8]) -> (usize, Receiv
         },
     };
     (framed.taken, received)
-}
-
-/// Returns the frame that the framer gave last: its buffered copy if the frame was split, otherwise the accepted bytes.
-fn frame_given<'a>(split: &'a [u8], taken: &'a [u8]) -> &'a [u8]
-    ensures { result.now ≡ frame_back split.now taken.now }
-{
-    if split.is_empty() { taken } else { split }
 }
 
 /// Processes a message, and returns the kind of its event.

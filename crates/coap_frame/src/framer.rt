@@ -4,6 +4,7 @@ ghost use Rattle.std.specs.Prelude.{◌≡◌, ◌≤◌, ◌<◌, [], OnOk, OnE
 ghost use Rattle.coap_frame.specs.Prelude.{Unfinished, prefix_kind, framing, framing_of, framer_after, framer_of};
 ghost use Rattle.coap_frame.specs.Prelude.{kept_in, frame_in, finding_in, finding_of, finding_read, sem, follows_so};
 ghost use Rattle.coap_frame.specs.Prelude.{none, IsFramer, MayUnread, with_frame_back, IsFramed, raised, IsRaiseAnswer};
+ghost use Rattle.coap_frame.specs.Prelude.{frame_back};
 ghost use Rattle.coap_frame.specs.Prelude.{BASE_MESSAGE_SIZE, LARGEST_MESSAGE, HasLayoutIn, IsFramedRef};
 ghost use Rattle.coap_frame.specs.declared.framer.BufferContent.TheVariants as content_as;
 ghost use Rattle.coap_frame.specs.contracts.framer.Framer.{the_row};
@@ -415,4 +416,12 @@ fn advance_in_buffer(
         }
     };
     (taken, status)
+}
+
+/// Returns the frame that a call of `next` or `next_frame` completed: the framer's copy (`split_frame`) if the frame was
+/// split, otherwise the bytes that the call took.
+pub fn frame_of<'a>(split: &'a [u8], taken: &'a [u8]) -> &'a [u8]
+    ensures { result.now ≡ frame_back split.now taken.now }
+{
+    if split.is_empty() { taken } else { split }
 }

@@ -20,4 +20,4 @@ pub mod laws;
 pub use coap_wire::FrameFault;
 pub use fault::RaiseFault;
 pub use frame_ref_event::{FrameRefEvent, FramedRef};
-pub use framer::{FrameEvent, Framed, Framer};
+pub use framer::{FrameEvent, Framed, Framer, frame_of};

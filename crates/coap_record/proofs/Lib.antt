@@ -1,5 +1,4 @@
 mod WorkedLines
-pub mod EscapeLemmas
 pub mod WordLaws
 pub mod LineLaws
 pub mod WriteLemmas

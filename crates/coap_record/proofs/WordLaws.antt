@@ -11,8 +11,8 @@ use Rattle.std.proofs.lemmas.List.Splits.{slice_split_none, slice_split_at}
 use Rattle.std.proofs.lemmas.Str.Parse.{numerals_by_value, tells_all_ascii_digits}
 use Rattle.hex.proofs.HexLemmas.{length-encode_with, decode_of-encode_lower}
 use Rattle.percent_encoding.proofs.PercentLemmas.{round_trip}
-use Rattle.coap_record.specs.declared.pieces.TheConstants.{ESCAPED}
-use Rattle.coap_record.proofs.EscapeLemmas.{segment_is}
+use Rattle.coap_store.specs.declared.links.TheConstants.{ESCAPED}
+use Rattle.coap_store.proofs.EscapeLemmas.{segment_is}
 use Rattle.coap_text.proofs.WordLemmas.{hex_of_some}
 use Rattle.coap_script.proofs.scripting.WordLemmas.{segments_of_some, path_read}
 use Rattle.coap_record.specs.Prelude.{list_all, flat_map, is_ascii_digit, all_ascii_digits}

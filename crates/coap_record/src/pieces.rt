@@ -5,20 +5,11 @@ ghost use Rattle.coap_record.specs.Prelude.{concat, flat_map, encode_lower, byte
 ghost use Rattle.coap_record.specs.Prelude.{path_word, slash, WritesText};
 
 use coap_io::{Outlet, WriteFailed, write_all};
-use coap_store::PathKey;
-use percent_encoding::{AsciiSet, NON_ALPHANUMERIC, ascii_set, percent_encode};
+use coap_store::{ESCAPED, PathKey};
+use percent_encoding::percent_encode;
 
 /// Number of bytes that are written in hexadecimal at once.
 const PIECE: usize = 64;
-
-/// Bytes that are escaped in a segment: all but letters, digits, `-`, `.`, `_` and `~` (RFC 3986 section 2.3).
-const ESCAPED: AsciiSet = ascii_set!(
-    NON_ALPHANUMERIC
-        .remove(b'-')
-        .remove(b'.')
-        .remove(b'_')
-        .remove(b'~')
-);
 
 /// Writes the bytes of all slices, in order.
 ///

@@ -1,7 +1,7 @@
 //! The result of a `take` that may have handed a request to the application, or changed a resource.
 
 ghost use Rattle.std.specs.Prelude.{◌≡◌, ◌&&◌, Some, None, is_none, option_and_then, option_copied, if◌then◌else◌};
-ghost use Rattle.coap_server_engine.specs.Prelude.{frame_message, frame_key, frame_back};
+ghost use Rattle.coap_server_engine.specs.Prelude.{frame_message, frame_key};
 
 use coap_conn::Reason;
 use coap_model::Taken;
@@ -49,13 +49,6 @@ impl<'a> TakenRequest<'a> {
             Err(_) => None,
         }
     }
-}
-
-/// Returns the frame that a take completed: its buffered copy if it was split, otherwise the accepted bytes.
-pub(crate) fn frame_of<'a>(split: &'a [u8], taken: &'a [u8]) -> &'a [u8]
-    ensures { result.now ≡ frame_back split.now taken.now }
-{
-    if split.is_empty() { taken } else { split }
 }
 
 /// Returns the frame if `lends` is `true`.

@@ -20,5 +20,5 @@ pub mod HoldLaws
 pub mod ApplicationLaws
 mod EntryLemmas
 mod MoveLemmas
-mod EscapeLemmas
+pub mod EscapeLemmas
 pub mod LinkLemmas

@@ -148,17 +148,22 @@ impl Catalogue {
         }) }
         ensures err { OnErr result (self.new ≡ self.old) }
     {
+        if let Some(index) = self.resources.get_index_of(&path) {
+            return self.replace(index, version, format, bytes);
+        }
         let resource = Resource {
             version,
             format,
             bytes: Vec::from_slice(self.alloc, bytes)?,
         };
-        let Some(index) = self.resources.get_index_of(&path) else {
-            let text = entry_text(self.alloc, &path, format)?;
-            let text = text.as_bytes();
-            return create(&mut self.resources, &mut self.listing, path, resource, text);
-        };
-        replace(&mut self.resources, &mut self.listing, index, resource)
+        let text = entry_text(self.alloc, &path, format)?;
+        create(
+            &mut self.resources,
+            &mut self.listing,
+            path,
+            resource,
+            text.as_bytes(),
+        )
     }
 
     /// Stores a representation at the resource with this index. If allocation fails, the resources are unchanged.

@@ -1,7 +1,7 @@
 use Rattle.std.proofs.Common.{refl, sym, ap, ◌∙◌, arith, ◌∷◌, [], ◌++◌}
 use Rattle.percent_encoding.specs.Iter.{encoded_text}
 use Rattle.coap_record.specs.Prelude.{slash}
-use Rattle.coap_record.proofs.EscapeLemmas.{segment_is}
+use Rattle.coap_store.proofs.EscapeLemmas.{segment_is}
 use Rattle.coap_record.proofs.WriteLemmas.{nothing_yet, piece_written, piece_cut, fault_text, fault_first}
 use Rattle.coap_record.proofs.pieces.write_segment.Goals as goal
 

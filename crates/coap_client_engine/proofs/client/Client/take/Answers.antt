@@ -36,7 +36,7 @@ returns c =
     let takes = ap client_takes (sym c.self.view_is) ∙ sym c.takes.ensures ∙ c.if-not-takes.false in
     let all = takes_framed c.self.inside v p c.self.invariant c.self.view_is takes in
     let given =
-    c.frame_given.ensures ∙ ap (λ spent. frame_back spent (take c.take_in-bytes.result.0 p)) c.split_frame.ensures in
+    c.frame_of.ensures ∙ ap (λ spent. frame_back spent (take c.take_in-bytes.result.0 p)) c.split_frame.ensures in
     let count = c.take_in-bytes.ensures.count ∙ framed_count c.self.inside.framer c.self.inside.link p
     ∙ ap (λ (t : ClientTakeOutcome). t.count) (sym all) in
     let event = ap (λ frame. received_event c.take_in-bytes.result.1 (message_of frame)) given
