@@ -1,9 +1,9 @@
 """Finds the crates that differ from the last commit for which `make mutants` tried all their edits.
 
 The file tests/mutants/last_runs has a line for each crate: `CRATE: COMMIT, DATE, RESULT`. `make mutants` writes the
-lines of all crates that it tried and of which no edit failed. It writes nothing if a file of crates or tests differed
-from the commit during the run. The file is committed with the next change. So all edits can be tried in one run, or in
-several.
+line of a crate when it has tried the last edit of the crate and none has failed. So a run that is ended early keeps
+what it has tried. It writes nothing if a file of crates or tests differed from the commit when the run began, or
+differs now. The file is committed with the next change.
 
 A crate differs from its run in each of these cases. Comments and line breaks do not count.
 
@@ -220,17 +220,25 @@ def unchanged_head():
     return head[0] if head and differ == [] else ""
 
 
-def record(commit, results):
-    """Writes the lines of a run that began at a commit. `results` has the number of its edits that passed, for each
-    crate of which none failed. Writes nothing if a file has changed since the run began."""
-    why = "files differed from HEAD when the run began" if not commit else ""
-    if not why and commit != unchanged_head():
-        why = "files have changed since the run began"
-    if why:
-        print(f"{LAST_RUNS} stays as it is: {why}")
-        return
-    lines = lines_by_crate()
-    lines |= {it: f"{it}: {commit}, {datetime.date.today()}, {count} passed" for it, count in results.items()}
-    with open(f"{ROOT}/{LAST_RUNS}", "w", encoding="utf-8") as file:
-        file.write("".join(f"{lines[it]}\n" for it in crates() if it in lines))
-    print(f"{LAST_RUNS} names the commit {commit} for {len(results)} crates: commit that file")
+class Record:
+    """The lines of a run that began at a commit. An empty commit says that files differed then."""
+
+    def __init__(self, commit):
+        self.commit, self.written = commit, {}
+        if not commit:
+            print(f"{LAST_RUNS} stays as it is: files differ from HEAD")
+
+    def add(self, results):
+        """Writes the lines of further crates. `results` has the number of their edits. Writes nothing if a file has
+        changed since the run began."""
+        if not self.commit or self.written == results:
+            return
+        if self.commit != unchanged_head():
+            print(f"{LAST_RUNS} stays as it is: files have changed since the run began")
+            return
+        self.written = results
+        lines = lines_by_crate()
+        lines |= {it: f"{it}: {self.commit}, {datetime.date.today()}, {count} passed" for it, count in results.items()}
+        with open(f"{ROOT}/{LAST_RUNS}", "w", encoding="utf-8") as file:
+            file.write("".join(f"{lines[it]}\n" for it in crates() if it in lines))
+        print(f"{LAST_RUNS} names the commit {self.commit[:8]} for {len(results)} crates: commit that file", flush=True)

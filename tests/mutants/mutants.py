@@ -128,10 +128,23 @@ class Plan:
     by_tests: list = field(default_factory=list)
     typed: list = field(default_factory=list)
 
-    def run(self):
-        """Tries the edits, and returns the verdict on each."""
-        verdicts = judge(self.control + self.by_clauses)
-        return {**verdicts, **judge_by_rows(self.by_rows), **judge_by_tests(self.by_tests)}
+    def run(self, ended):
+        """Tries the edits, those of clauses last, and returns the verdict on each. Calls `ended` with the verdicts so
+        far whenever all edits of a crate have been tried."""
+        others = judge_by_rows(self.by_rows) | judge_by_tests(self.by_tests)
+        ended(others)
+        return others | judge(self.control + self.by_clauses, lambda found: ended(others | found))
+
+    def passed_crates(self, verdicts):
+        """Returns the number of edits of each crate of which each edit was tried and none has a wrong verdict. If the
+        control was not tried yet, or has a wrong verdict, there is no such crate."""
+        is_right = {it: not is_wrong(it, refused) for it, refused in verdicts.items()}
+        if not all(is_right.get(it) for it in self.control):
+            return {}
+        edits = self.by_clauses + self.by_rows + self.by_tests
+        counts = collections.Counter(it.crate for it in edits)
+        return {crate: count for crate, count in counts.items()
+                if all(is_right.get(it) for it in edits if it.crate == crate)}
 
 
 def in_turn_from_each(edits, changed, files):
@@ -214,16 +227,6 @@ def conclude(plan, verdicts, wrong):
     return errors, f"{max(passed - errors, 0)} passed, {errors} failed"
 
 
-def passed_crates(verdicts):
-    """Returns the number of edits of each crate of which no edit has a wrong verdict. If the control has one, there is
-    no such crate."""
-    wrong = {it for it, refused in verdicts.items() if is_wrong(it, refused)}
-    if any(it.layer == "control" for it in wrong):
-        return {}
-    counts = collections.Counter(it.crate for it in verdicts if it.layer != "control")
-    return {crate: count for crate, count in counts.items() if crate not in {it.crate for it in wrong}}
-
-
 def main(words):
     below = crates()
     modes, names = {it for it in words if it.startswith("--")}, [it for it in words if not it.startswith("--")]
@@ -252,10 +255,10 @@ def main(words):
     print(f"{quoting - unquoted} of {quoting} edits quote a clause{types_of}", flush=True)
     if plan.control:
         print("The edits named harmless_ are a control, and must be reported as NOT REFUSED.", flush=True)
-    verdicts = plan.run()
-    failed, result = conclude(plan, verdicts, unquoted + untyped + miscounted)
-    if is_recorded and not unquoted + untyped + miscounted:
-        changes.record(commit, passed_crates(verdicts))
+    wrong = unquoted + untyped + miscounted
+    record = changes.Record(commit) if is_recorded and not wrong else None
+    verdicts = plan.run(lambda found: record and record.add(plan.passed_crates(found)))
+    failed, result = conclude(plan, verdicts, wrong)
     print(result)
     return 1 if failed else 0
 

@@ -167,8 +167,9 @@ def verdicts_of(one, outcome):
     return found
 
 
-def judge(edits):
-    """Tries all edits, with rounds in parallel, and returns for each whether it was rejected."""
+def judge(edits, ended=None):
+    """Tries all edits, with rounds in parallel, and returns for each whether it was rejected. Calls `ended` with the
+    verdicts so far each time when the last round of a crate has ended."""
     verdicts, running = {}, {}
     with (tempfile.TemporaryDirectory(prefix="edits-", ignore_cleanup_errors=True) as room,
           ThreadPoolExecutor(PROCESSORS) as pool):
@@ -188,4 +189,6 @@ def judge(edits):
                     work.is_busy, work.in_turn = False, work.in_turn - (not outcome.bad)
                 verdicts |= verdicts_of(one, outcome)
                 work.rounds += left_of(one, outcome)
+                if ended and not work.rounds and all(it is not work for it, _, _ in running.values()):
+                    ended(verdicts)
     return verdicts

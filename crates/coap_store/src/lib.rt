@@ -35,6 +35,7 @@ pub use coap_path::{PathKey, ResourceKind, Segments, UriPath};
 pub use delayed::{delayed_response, expired_response, refused_delay};
 pub use fault::StoreFault;
 pub use found::Payload;
+pub use links::ESCAPED;
 pub use notifications::ObservedPath;
 pub use plan::{Change, ChangePlan, Plan, PlannedChange, Watch};
 pub use states::{Present, State};

@@ -16,7 +16,8 @@ pub const MAX_END: usize = 13;
 /// Text of the built-in resources in the listing (RFC 6690 section 2).
 pub const BUILT_IN_TEXT: &[u8] = b"</>;ct=0,</time>;ct=0;obs,</async>;ct=0";
 
-/// Bytes that are escaped in a segment of a path: all but letters, digits, `-`, `.`, `_` and `~` (RFC 3986 section 2.3).
+/// Bytes that are escaped in a segment of a path: all but letters, digits, `-`, `.`, `_` and `~` (RFC 3986 section
+/// 2.3).
 pub const ESCAPED: AsciiSet = ascii_set!(
     NON_ALPHANUMERIC
         .remove(b'-')
