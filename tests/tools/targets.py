@@ -113,7 +113,7 @@ NUMBERS = [
     ("crates/coap_request/src/target.rt", "DEFAULT_PORT: u16 = 5_683;", MODEL, "port 5683 by default"),
     (CONFIGS, "c.dynamic_max ≤ 1000", DECISIONS, "at most 1,000 paths"),
     (PATH, "MAX_BYTES: usize = 255;", DECISIONS, "A `PathKey` has 255 bytes"),
-    ("crates/coap_sockets/src/door.rt", "for _ in 0..64 {", DECISIONS, "at most a mebibyte"),
+    ("crates/coap_sockets/src/server_wire.rt", "for _ in 0..64 {", DECISIONS, "at most a mebibyte"),
     ("crates/coap_sockets/src/door.rt", "WRITES_BEFORE_READS: usize = 8;", DECISIONS, "more than eight ready sockets"),
     ("crates/directory_core/src/attributes.rt", "MAX_ATTRIBUTES: usize = 64;", DECISIONS, "at most 64 attributes"),
     ("tests/mutants/mutants.py", "MOST_IN_GATE = 50", TESTING, "at most 50 mutants"),

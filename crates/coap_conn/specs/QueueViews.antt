@@ -1,6 +1,6 @@
 -- Defined by this project: the value of an `OutQueue` in contracts.
 use Rattle.coap_conn.specs.QueueValue.{QueueValue, IsQueue}
-use Rattle.coap_conn.specs.declared.queue.OutQueue.TheInside.{Inside}
+use Rattle.coap_conn.specs.declared.out_queue.OutQueue.TheInside.{Inside}
 
 -- The value of an `OutQueue`.
 abbrev pub queue_value : Inside → QueueValue

@@ -17,11 +17,11 @@ mod csm;
 pub mod laws;
 mod limits;
 mod link;
-mod messages;
+mod signals;
 mod outstanding;
 mod pending;
 mod phase;
-mod queue;
+mod out_queue;
 mod reason;
 mod ring;
 
@@ -31,5 +31,5 @@ pub use phase::{
     Due, Full, NotOutstanding, Phase, Reject, Reply, RequestFault, RespondFault, Role, SendFault,
     Verdict,
 };
-pub use queue::{OutQueue, first_part};
+pub use out_queue::{OutQueue, first_part};
 pub use reason::Reason;

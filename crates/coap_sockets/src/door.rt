@@ -18,15 +18,15 @@ use crate::durations::{at_most, left_of, left_until, second};
 use crate::io_results::{AcceptError, ListenError, accept_fault, listen_error_of};
 use crate::keepalive::keep_alive;
 use crate::readiness::Readiness;
+use crate::server_wire::{SharedReadiness, SocketWire};
 use crate::troubles::DoorTroubles;
 use crate::woken::Woken;
-use coap_io::{Door, Got, READ_SIZE, Ready, Wait, Wire};
+use coap_io::{Door, Wait};
 use mio::net::{TcpListener, TcpStream};
 use mio::{Events, Interest, Poll, Token};
 use std::alloc::{AllocError, Global};
 use std::cell::Cell;
-use std::io::Read;
-use std::net::{Net, Shutdown, SocketAddr};
+use std::net::{Net, SocketAddr};
 use std::rc::Rc;
 use std::time::Duration;
 use std::{io, time};
@@ -72,9 +72,6 @@ impl From<AllocError> for ListenFault {
     }
 }
 
-/// Readiness of a wire's socket, which the wire and the listener share.
-type Shared = Rc<Cell<Readiness>>;
-
 /// Numbers of failed system calls of a listener, which the listener and a log share.
 type Troubles = Rc<Cell<DoorTroubles>>;
 
@@ -85,92 +82,6 @@ const LISTENER: Token = Token(usize::MAX);
 /// peer, which costs more than the write if the peer is another process on the same machine. The sockets after these
 /// are therefore all read first, and then written together.
 const WRITES_BEFORE_READS: usize = 8;
-
-/// One accepted connection. Its socket is closed when it is dropped.
-pub struct SocketWire {
-    stream: TcpStream,
-    readiness: Shared,
-    peer: SocketAddr,
-    place: usize,
-}
-
-impl SocketWire {
-    /// Returns the address of the peer, as the system reported it when it accepted the connection.
-    pub fn peer(&self) -> SocketAddr
-        ensures { result ≡ self.now.peer }
-    {
-        self.peer
-    }
-}
-
-// The system resets a connection that is closed with unread bytes, and the peer may then lose the last bytes written.
-// So the socket is first shut down for writing, and the bytes received so far are read and discarded.
-impl Drop for SocketWire {
-    fn drop(self) {
-        let SocketWire {
-            mut stream,
-            readiness: _,
-            peer: _,
-            place: _,
-        } = self;
-        let _ = stream.shutdown(Shutdown::Write);
-        give_up(&mut stream);
-    }
-}
-
-/// Reads the bytes received so far and discards them, at most a mebibyte.
-fn give_up<S: Read>(stream: &mut S) {
-    let mut bytes = [0; READ_SIZE];
-    for _ in 0..64 {
-        match stream.read(&mut bytes) {
-            Ok(0) => return,
-            Ok(_) => {}
-            Err(_) => return,
-        }
-    }
-}
-
-impl Wire for SocketWire {
-    // A socket does not record the bytes that it transferred.
-    ghost given = { λ _. None };
-
-    ghost written = { λ _. None };
-
-    fn read(&mut self, buffer: &mut [u8]) -> Got {
-        let mut readiness = self.readiness.get();
-        let got = readiness.read(&mut self.stream, buffer);
-        self.readiness.set(readiness);
-        got
-    }
-
-    fn write(&mut self, bytes: &[u8]) -> Got {
-        let mut readiness = self.readiness.get();
-        let got = readiness.write(&mut self.stream, bytes);
-        self.readiness.set(readiness);
-        got
-    }
-}
-
-impl Ready for SocketWire {
-    // The readiness of a socket is stored in the cell that the wire and the listener share.
-    ghost readable = { λ _. None };
-
-    ghost writable = { λ _. None };
-
-    fn may_read(&self) -> bool {
-        self.readiness.get().readable
-    }
-
-    fn may_write(&self) -> bool {
-        self.readiness.get().writable
-    }
-
-    fn place(&self) -> Option<usize>
-        ensures { result ≡ Some self.now.place }
-    {
-        Some(self.place)
-    }
-}
 
 /// Listener of a server at one address.
 ///
@@ -183,7 +94,7 @@ pub struct SocketDoor<'a, R> {
     listener: TcpListener,
     poll: Poll,
     events: Events,
-    slots: Vec<Shared>,
+    slots: Vec<SharedReadiness>,
     /// Places of the wires that had events.
     woken: Woken,
     /// `true` if a client may be waiting at the listening socket.
@@ -381,7 +292,7 @@ fn no_troubles(alloc: Global) -> Result<Troubles, AllocError> {
 }
 
 /// Returns `count` places that no wire shares yet.
-fn slots(alloc: Global, count: usize) -> Result<Vec<Shared>, AllocError>
+fn slots(alloc: Global, count: usize) -> Result<Vec<SharedReadiness>, AllocError>
     ensures { IfOk result (λ slots. length slots.items ≡ count) }
 {
     let mut slots = Vec::with_capacity(alloc, count)?;

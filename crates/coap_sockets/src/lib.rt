@@ -23,12 +23,14 @@ mod durations;
 mod io_results;
 mod keepalive;
 mod readiness;
+mod server_wire;
 mod troubles;
 mod woken;
 
 pub use client_wire::{ClientWire, ConnectFault};
 pub use clock::{RunClock, SystemClock};
-pub use door::{ListenFault, SocketDoor, SocketWire};
+pub use door::{ListenFault, SocketDoor};
 pub use io_results::{ConnectError, ListenError};
 pub use readiness::Readiness;
+pub use server_wire::SocketWire;
 pub use troubles::DoorTroubles;

@@ -10,7 +10,7 @@ ghost use Rattle.coap_conn.specs.Prelude.{send, response_refusal, room_refusal};
 ghost use Rattle.coap_conn.specs.Calls as call;
 
 use super::Link;
-use crate::messages::bare_of;
+use crate::signals::bare_of;
 use crate::pending::{PendingEntry, Responder, request_in};
 use crate::phase::{Full, Reply, RespondFault};
 use crate::reason::Reason;

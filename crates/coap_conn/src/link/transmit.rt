@@ -11,7 +11,7 @@ ghost use Rattle.coap_conn.specs.Verdicts as verdict;
 ghost use Rattle.coap_conn.specs.Calls as call;
 
 use super::Link;
-use crate::messages::{
+use crate::signals::{
     abort_text, abort_with, announce, announcement_size, bad_csm_number, bare_of, pong_to,
     queue_release,
 };

@@ -1,7 +1,7 @@
 use Rattle.std.proofs.Common.{rules, ◌≡◌, length, ap, arith}
 use Rattle.coap_conn.specs.Prelude.{Message, spelling, first_csm}
 use Rattle.coap_conn.proofs.SmallLemmas.{first_csm_small, first_csm_bytes_small}
-use Rattle.coap_conn.proofs.messages.announce_first.Goals as goal
+use Rattle.coap_conn.proofs.signals.announce_first.Goals as goal
 
 pub put_compact-requires : goal.put_compact-requires
 put_compact-requires c =

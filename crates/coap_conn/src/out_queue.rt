@@ -3,7 +3,7 @@
 ghost use Rattle.std.specs.Prelude.{◌≡◌, ◌≤◌, ◌++◌, IfOk, [], ⊤, length, drop, if◌then◌else◌};
 ghost use Rattle.coap_conn.specs.Prelude.{sem, follows_so, none, spelling, front_spelling, IsQueue, IsNextPart};
 ghost use Rattle.coap_conn.specs.Prelude.{free_of, fits as message_fits};
-ghost use Rattle.coap_conn.specs.contracts.queue.OutQueue.{the_row};
+ghost use Rattle.coap_conn.specs.contracts.out_queue.OutQueue.{the_row};
 ghost use Rattle.coap_conn.specs.Prelude.{BASE_MESSAGE_SIZE, LARGEST_QUEUE};
 
 use crate::ring::contiguous;

@@ -8,7 +8,7 @@ ghost use Rattle.coap_conn.specs.Prelude.{bytes_of, csm_with as csm_of, own_csm,
 ghost use Rattle.coap_conn.specs.Prelude.{first_csm, release, free_of};
 
 use crate::csm::{CUSTODY, EXTENDED_TOKEN_LENGTH, MAX_MESSAGE_SIZE};
-use crate::queue::OutQueue;
+use crate::out_queue::OutQueue;
 use crate::reason::Reason;
 use coap_wire::{Code, MessageBuilder, ShortBuilder, Token, TokenRef, UintBytes, uint_bytes};
 

@@ -1,7 +1,7 @@
 use Rattle.std.proofs.Common.{rules, ◌≡◌, length, ap, arith}
 use Rattle.coap_conn.specs.Prelude.{Message, spelling, release}
 use Rattle.coap_conn.proofs.SmallLemmas.{release_small, release_bytes_small}
-use Rattle.coap_conn.proofs.messages.queue_release.Goals as goal
+use Rattle.coap_conn.proofs.signals.queue_release.Goals as goal
 
 pub put_compact-requires : goal.put_compact-requires
 put_compact-requires c =
