@@ -5,9 +5,9 @@ use Rattle.coap_server_engine.specs.values.ServerAnswers.{written_refusal}
 use Rattle.coap_server_engine.specs.values.Servers.{new_server, server_written}
 use Rattle.coap_server_engine.specs.world.Shows.{Shows}
 use Rattle.coap_model.specs.Configs.{ConfigValues}
-use Rattle.coap_server_output.specs.Reports.{KeepsReported, Reports}
-use Rattle.coap_server_output.specs.declared.polled_server.PolledServer.{PolledServer}
-use Rattle.coap_server_output.proofs.ReportLemmas.{keeps_handle, keeps_new, keeps_none}
+use Rattle.coap_server_polled.specs.Reports.{KeepsReported, Reports}
+use Rattle.coap_server_polled.specs.declared.polled_server.PolledServer.{PolledServer}
+use Rattle.coap_server_polled.proofs.ReportLemmas.{keeps_handle, keeps_new, keeps_none}
 use Rattle.c_calls.specs.ServerCalls.{IsWritten}
 
 -- A `written` that succeeds, on the server `x` of the handle.

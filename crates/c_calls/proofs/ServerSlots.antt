@@ -12,7 +12,7 @@ use denote.Struct.Owning.{shape}
 use denote.Struct.Struct.{within}
 use Rattle.std.specs.declared.option.Option.{Option}
 use Rattle.c_handle.proofs.Slots.{handle_val}
-use Rattle.coap_server_output.specs.declared.polled_server.PolledServer.{PolledServer}
+use Rattle.coap_server_polled.specs.declared.polled_server.PolledServer.{PolledServer}
 use Rattle.c_calls.specs.Slots.{server_slot}
 use Rattle.c_calls.specs.contracts.server_handle.ServerHandle as handle
 

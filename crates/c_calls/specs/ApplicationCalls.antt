@@ -6,7 +6,7 @@ use Rattle.coap_path.specs.Applications.{ApplicationsValue}
 use Rattle.coap_path.specs.Refusals.{entry_refusal, with_entry}
 use Rattle.coap_server_engine.specs.values.Servers.{config_with, new_server}
 use Rattle.coap_server_engine.specs.world.Shows.{Shows}
-use Rattle.coap_server_output.specs.declared.polled_server.PolledServer.{PolledServer}
+use Rattle.coap_server_polled.specs.declared.polled_server.PolledServer.{PolledServer}
 use Rattle.c_calls.specs.Numbers.{entry_code}
 use Rattle.c_calls.specs.PathTexts.{text_path, methods_named}
 use Rattle.c_calls.specs.Results.{OnHandle, AtPath, Answers}

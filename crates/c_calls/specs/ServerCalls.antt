@@ -19,8 +19,8 @@ use Rattle.coap_server_engine.specs.values.Servers.{server_announced, server_dro
 use Rattle.coap_server_engine.specs.values.ServerDeadlines.{OnlyTimePasses, next_deadline}
 use Rattle.coap_server_session.specs.values.Deadlines.{IsBefore}
 use Rattle.coap_server_engine.specs.world.Shows.{Shows}
-use Rattle.coap_server_output.specs.Reports.{HasNoOutput, Yields}
-use Rattle.coap_server_output.specs.declared.polled_server.PolledServer.{PolledServer}
+use Rattle.coap_server_polled.specs.Reports.{HasNoOutput, Yields}
+use Rattle.coap_server_polled.specs.declared.polled_server.PolledServer.{PolledServer}
 use Rattle.c_calls.specs.Numbers.{open_code, written_code, store_code, release_code, announce_code, handled_code}
 use Rattle.c_calls.specs.Numbers.{handled_reason, phase_code, phase_reason, response_code, reply_code}
 use Rattle.c_calls.specs.Loans.{HasBytes, HaveBytes, LendsFrame}

@@ -3,8 +3,8 @@ use base.Fml.{Fml}
 use denote.RawPtr.{Ptr}
 use Rattle.std.specs.declared.option.Option.{Option}
 use Rattle.c_handle.specs.Slots.{slot_owns}
-use Rattle.coap_server_output.specs.contracts.polled_server.PolledServer as server
-use Rattle.coap_server_output.specs.declared.polled_server.PolledServer.{PolledServer}
+use Rattle.coap_server_polled.specs.contracts.polled_server.PolledServer as server
+use Rattle.coap_server_polled.specs.declared.polled_server.PolledServer.{PolledServer}
 
 -- The handle of a server owns the box of the server.
 abbrev pub server_slot : Ptr → Option PolledServer → Fml

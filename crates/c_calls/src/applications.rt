@@ -2,7 +2,7 @@
 
 ghost use Rattle.std.specs.Prelude.{◌≡◌, None};
 ghost use Rattle.c_calls.specs.ApplicationCalls.{IsAdded, IsCreated, IsMadeFor};
-ghost use Rattle.coap_server_output.specs.Reports.{KeepsReported};
+ghost use Rattle.coap_server_polled.specs.Reports.{KeepsReported};
 
 use crate::applications_handle::ApplicationsHandle;
 use crate::numbers::{BAD_DEADLINE, EMPTY, MEMORY, NOT_A_PATH, OCCUPIED, SUCCESS, entry_number};
@@ -11,7 +11,7 @@ use crate::server_handle::ServerHandle;
 use crate::settings::{Settings, configured};
 use coap_path::Applications;
 use coap_server_engine::Server;
-use coap_server_output::PolledServer;
+use coap_server_polled::PolledServer;
 use std::alloc::Global;
 
 /// Makes an empty list of entries, if the handle is empty.

@@ -1,7 +1,7 @@
 //! The calls by which a program learns which connection has output, and when a `tick` is needed, for C.
 
 ghost use Rattle.c_calls.specs.ServerCalls.{IsNextDeadline, IsNextOutput, yielded_by};
-ghost use Rattle.coap_server_output.specs.Reports.{Reports};
+ghost use Rattle.coap_server_polled.specs.Reports.{Reports};
 
 use crate::numbers::{EMPTY, NO_MORE, SUCCESS};
 use crate::server_handle::ServerHandle;

@@ -2,7 +2,7 @@
 
 ghost use Rattle.c_calls.specs.PathTexts.{text_path, listed_path, format_named};
 ghost use Rattle.c_calls.specs.ServerCalls.{IsPut, IsRemoved, HasState};
-ghost use Rattle.coap_server_output.specs.Reports.{KeepsReported};
+ghost use Rattle.coap_server_polled.specs.Reports.{KeepsReported};
 
 use crate::numbers::{EMPTY, NO_SUCH, NOT_A_PATH, SUCCESS, store_number};
 use crate::paths::{format_of, number_of_format, path_at, path_in};

@@ -6,7 +6,7 @@ ghost use Rattle.c_calls.specs.ServerCalls.{IsMade, IsOpened, IsTaken, IsTookByt
 ghost use Rattle.c_calls.specs.ServerCalls.{IsEnded, IsReleased, IsDropped, IsAnnouncedTo, HasParts, HasStatus};
 ghost use Rattle.c_calls.specs.ServerCalls.{IsQuietTake, IsTakenOn, ShowsStatus};
 ghost use Rattle.coap_server_engine.specs.Prelude.{AddsAffected, AreSettled, LiesAt, server_taken};
-ghost use Rattle.coap_server_output.specs.Reports.{KeepsReported};
+ghost use Rattle.coap_server_polled.specs.Reports.{KeepsReported};
 
 use crate::numbers::{
     BACKWARDS, EMPTY, MEMORY, NO_SUCH, OCCUPIED, SUCCESS, announce_number, handled_numbers,
@@ -17,7 +17,7 @@ use crate::settings::{Settings, configured};
 use c_handle::{Parts, Span, span_of, span_within};
 use coap_model::{Status, TakeFault};
 use coap_server_engine::{ConnIndex, IndexSet, Server};
-use coap_server_output::PolledServer;
+use coap_server_polled::PolledServer;
 use std::alloc::Global;
 
 /// Result of a `take`.

@@ -4,12 +4,12 @@ ghost use Rattle.std.specs.Prelude.{◌≡◌, None, Some};
 ghost use Rattle.std.specs.Option.{MatchOption};
 ghost use Rattle.std.specs.Coded.{coded_option};
 ghost use Rattle.std.specs.declared.option.Option.{Option};
-ghost use Rattle.coap_server_output.specs.declared.polled_server.PolledServer.{PolledServer as Polled};
-ghost use Rattle.coap_server_output.specs.contracts.polled_server.PolledServer.{the_row as server_row};
+ghost use Rattle.coap_server_polled.specs.declared.polled_server.PolledServer.{PolledServer as Polled};
+ghost use Rattle.coap_server_polled.specs.contracts.polled_server.PolledServer.{the_row as server_row};
 ghost use Rattle.c_calls.specs.Slots.{server_slot};
 
 use c_handle::BoxParts;
-use coap_server_output::PolledServer;
+use coap_server_polled::PolledServer;
 use std::alloc::Global;
 use std::marker::Model;
 use std::mem::replace;

@@ -17,19 +17,19 @@ mod csm;
 pub mod laws;
 mod limits;
 mod link;
-mod signals;
+mod out_queue;
 mod outstanding;
 mod pending;
 mod phase;
-mod out_queue;
 mod reason;
 mod ring;
+mod signals;
 
 pub use limits::{LimitFault, Limits, LimitsBuilder};
 pub use link::Link;
+pub use out_queue::{OutQueue, first_part};
 pub use phase::{
     Due, Full, NotOutstanding, Phase, Reject, Reply, RequestFault, RespondFault, Role, SendFault,
     Verdict,
 };
-pub use out_queue::{OutQueue, first_part};
 pub use reason::Reason;

@@ -11,11 +11,11 @@ mod transmit;
 
 use crate::csm::BASE_TOKEN;
 use crate::limits::Limits;
-use crate::signals::announce_first;
+use crate::out_queue::OutQueue;
 use crate::outstanding::Outstanding;
 use crate::pending::{PendingEntry, next_of};
 use crate::phase::{Phase, Role};
-use crate::out_queue::OutQueue;
+use crate::signals::announce_first;
 use coap_wire::BASE_MESSAGE_SIZE;
 use std::alloc::{AllocError, Global};
 use std::marker::Model;

@@ -10,10 +10,10 @@ ghost use Rattle.coap_conn.specs.Prelude.{send, response_refusal, room_refusal};
 ghost use Rattle.coap_conn.specs.Calls as call;
 
 use super::Link;
-use crate::signals::bare_of;
 use crate::pending::{PendingEntry, Responder, request_in};
 use crate::phase::{Full, Reply, RespondFault};
 use crate::reason::Reason;
+use crate::signals::bare_of;
 use coap_wire::option_numbers::OBSERVE;
 use coap_wire::{Code, MessageRef, Token, parse};
 

@@ -8,9 +8,9 @@ ghost use Rattle.coap_conn.specs.Prelude.{link_after, may_forget};
 ghost use Rattle.coap_conn.specs.Calls as call;
 
 use super::Link;
-use crate::signals::ping_to;
 use crate::outstanding::{Outstanding, cancel_in, has_entry_in, may_cancel_in, remove_entry_in};
 use crate::phase::{NotOutstanding, Phase, RequestFault};
+use crate::signals::ping_to;
 use coap_wire::{Builder, MessageBuilder, Token, TokenRef, copy_of, uint_bytes};
 
 impl Link {

@@ -11,12 +11,12 @@ ghost use Rattle.coap_conn.specs.Verdicts as verdict;
 ghost use Rattle.coap_conn.specs.Calls as call;
 
 use super::Link;
+use crate::phase::{Phase, Reply, SendFault, Verdict};
+use crate::reason::Reason;
 use crate::signals::{
     abort_text, abort_with, announce, announcement_size, bad_csm_number, bare_of, pong_to,
     queue_release,
 };
-use crate::phase::{Phase, Reply, SendFault, Verdict};
-use crate::reason::Reason;
 use coap_wire::{Code, CompactBuilder, MessageBuilder, ShortBuilder, TokenRef, uint_bytes};
 
 /// Size in bytes of a Release.

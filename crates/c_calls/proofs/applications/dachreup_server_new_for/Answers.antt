@@ -1,5 +1,5 @@
 use Rattle.std.proofs.Common.{ap, ◌∙◌}
-use Rattle.coap_server_output.specs.declared.polled_server.PolledServer.{PolledServer}
+use Rattle.coap_server_polled.specs.declared.polled_server.PolledServer.{PolledServer}
 use Rattle.c_calls.proofs.ServerLemmas.{keeps_back, keeps_empty, keeps_made}
 use Rattle.c_calls.proofs.applications.dachreup_server_new_for.Goals as goal
 

@@ -1,5 +1,5 @@
 use Rattle.std.proofs.Common.{◌∙◌, refl, arith}
-use Rattle.coap_server_output.proofs.ReportLemmas.{quiet_keeps, take_keeps}
+use Rattle.coap_server_polled.proofs.ReportLemmas.{quiet_keeps, take_keeps}
 use Rattle.c_calls.proofs.QuietLemmas.{taken_nothing, taken_quiet, taken_whole}
 use Rattle.c_calls.proofs.server.take_at.Goals as goal
 

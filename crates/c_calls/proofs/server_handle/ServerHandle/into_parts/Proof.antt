@@ -31,7 +31,7 @@ use Rattle.std_alloc.proofs.ResultValues.{and_tt}
 use Rattle.std_alloc.specs.Box.Ownership.{box_owns}
 use Rattle.c_handle.proofs.Slots.{handle_val, handle_good, pointer_good, slot_out}
 use Rattle.c_handle.proofs.Values.{both, Parts, al, parts_good, parts_in}
-use Rattle.coap_server_output.specs.contracts.polled_server.PolledServer as server
+use Rattle.coap_server_polled.specs.contracts.polled_server.PolledServer as server
 use Rattle.c_calls.proofs.ServerSlots.{Handle, handle_out}
 use Rattle.c_calls.specs.contracts.server_handle.ServerHandle.into_parts as f
 use Rattle.c_calls.proofs.server_handle.ServerHandle.into_parts.Statement.{statement}

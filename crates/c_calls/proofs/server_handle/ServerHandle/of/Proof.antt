@@ -24,7 +24,7 @@ use Rattle.std.proofs.alloc.Calls.{Goes-blank}
 use Rattle.std.proofs.raw_atomic.Walks.{proved_at, leaves}
 use Rattle.c_handle.proofs.Slots.{handle_val}
 use Rattle.c_handle.proofs.Values.{both, Parts, parts_good, parts_out}
-use Rattle.coap_server_output.specs.contracts.polled_server.PolledServer as server
+use Rattle.coap_server_polled.specs.contracts.polled_server.PolledServer as server
 use Rattle.c_calls.specs.Slots.{server_slot}
 use Rattle.c_calls.proofs.ServerSlots.{handle_in, handle_of}
 use Rattle.c_calls.specs.contracts.server_handle.ServerHandle.of as f

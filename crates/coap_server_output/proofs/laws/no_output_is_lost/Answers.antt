@@ -1,5 +1,0 @@
-use Rattle.coap_server_output.proofs.RunLemmas.{no_output_lost, others_report}
-use Rattle.coap_server_output.proofs.laws.no_output_is_lost.Goals as goal
-
-pub returns : goal.returns
-returns c = record { yielded = no_output_lost; others = others_report }
