@@ -22,18 +22,6 @@ pub record IsSearched (x : PolledServer) (at : ℕ) (y : PolledServer) : Type 0 
   pub kept : (i : ℕ) → IsOutside x.due.words i → IsOutside y.due.words i
   pub left : (i : ℕ) → IsOutside y.due.words i → IsOutside x.due.words i ⊎ IsQuietAt i x.engine
 
-pub search_begins : (x : PolledServer) (end at : ℕ) → end ≡ length x.engine.sessions → at ≤ end
-    → ((i : ℕ) → 0 ≤ i → i < at → IsOutside x.due.words i)
-    → (at < end → at < 256 → bit_of x.due.words at ≡ 1) → IsSearched x at x
-search_begins x end at counted within between found = record {
-  within = omega (arith, within, counted);
-  engine = refl;
-  passed = λ i less. between i (omega arith) less;
-  found = λ less small. found (omega (arith, less, counted)) small;
-  kept = λ i outside. outside;
-  left = λ i outside. inl outside;
-}
-
 -- An index is removed from the set `y`, which gives the set `z`.
 pub record IsRemoved (at : ℕ) (y z : List ℕ) : Type 0 where
   pub small : at < 256

@@ -20,10 +20,6 @@ use Rattle.coap_server_engine.proofs.values.WorkLemmas.{keeps_others}
 use Rattle.coap_server_polled.specs.declared.polled_server.PolledServer.{PolledServer}
 use Rattle.coap_server_polled.specs.Reports.{IsReported, KeepsReported}
 
--- A connection that was reported, and whose output is the same.
-abbrev StaysReported : ℕ → PolledServer → PolledServer → Type 0
-StaysReported id x y = IsReported id x × (waiting_at id y.engine ≡ waiting_at id x.engine)
-
 -- ---- the same server
 
 pub keeps_same : (x y : PolledServer) → y ≡ x → KeepsReported (Some x) (Some y)

@@ -15,7 +15,7 @@ use Rattle.std.proofs.lemmas.List.{length-map}
 use Rattle.coap_store.specs.Store as store
 use Rattle.coap_path.specs.contracts.path.PathKeyPartialEq.TheImpl as key_eq
 use Rattle.coap_path.proofs.PathLemmas.{key_equality}
-use Rattle.coap_store.proofs.ListingLemmas.{IsFirstAt, resources_found, resources_put, resources_set, resources_removed}
+use Rattle.coap_store.proofs.ListingLemmas.{IsFirstAt, resources_found, resources_put, resources_removed}
 use Rattle.coap_store.proofs.ListingLemmas.{texts_created, first_at, first_within}
 
 -- The comparison of keys in the map.
@@ -93,10 +93,6 @@ module _ (entries : List (Path × Resource)) (path : Path) (i : ℕ)
     (at : position (key_test path) (keys_of entries) ≡ Some i) where
   pub found_within : i < length entries
   found_within = first_within (key_test path) entries i (first_at (key_test path) entries i at)
-
-  pub set_list : (r : Resource)
-      → resources_in (set_value_at entries i r) ≡ put_at (resources_in entries) path (representation r)
-  set_list r = resources_set key_test key_equality entries path i r (first_at (key_test path) entries i at)
 
   pub removed_list : resources_in (remove entries i) ≡ removed_at (resources_in entries) path
   removed_list = resources_removed key_test key_equality entries path i (first_at (key_test path) entries i at)

@@ -240,16 +240,6 @@ module _ (eq : Path → Path → Bool) (same : (p q : Path) → eq p q ≡ same_
         | false ↦ ap (λ (rs : List store.Resource). resource_at e ∷ rs) (resources_put es path r)
       ])
 
-  pub resources_set : (entries : List (Path × Resource)) (path : Path) (i : ℕ) (r : Resource)
-      → IsFirstAt (eq path) entries i
-      → resources_in (set_value_at entries i r) ≡ put_at (resources_in entries) path (representation r)
-  unfolding resources_in put_at
-  resources_set [] path i r first = absurd first
-  resources_set (e ∷ es) path zero r first = let is = sym (same path e.0) ∙ first in rw is refl
-  resources_set (e ∷ es) path (suc i) r first =
-      let other = sym (same path e.0) ∙ first.0 in
-      rw other (ap (λ (rs : List store.Resource). resource_at e ∷ rs) (resources_set es path i r first.1))
-
   pub resources_removed : (entries : List (Path × Resource)) (path : Path) (i : ℕ) → IsFirstAt (eq path) entries i
       → resources_in (remove entries i) ≡ removed_at (resources_in entries) path
   unfolding resources_in removed_at

@@ -11,10 +11,6 @@ take_sum : (n m : ℕ) (s : List ℕ) → take (n + m) s ≡ take n s ++ take m 
 take_sum n m s =
     sym (take-append-drop n (take (n + m) s)) ∙ (λ i. take-take n (n + m) s (omega arith) i ++ drop-take n m s i)
 
--- Bytes with the same front have the same shorter front.
-pub shorter_front : (t u : List ℕ) (m n : ℕ) → m ≤ n → take n t ≡ take n u → take m t ≡ take m u
-shorter_front t u m n le same = sym (take-take m n t le) ∙ ap (λ (s : List ℕ). take m s) same ∙ take-take m n u le
-
 pub length_written : (xs new : List ℕ) (a k : ℕ) → length new ≡ k → a + k ≤ length xs
     → length (put_mid a k xs new) ≡ length xs
 length_written xs new a k count within =
