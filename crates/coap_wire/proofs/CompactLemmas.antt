@@ -1,19 +1,12 @@
 -- The encoded options of a `CompactBuilder`.
-use Rattle.std.proofs.Common.{◌≡◌, ℕ, ◌+◌, ◌-◌, ◌≤◌, List, [], ◌∷◌, ◌++◌, length, sym, ap, subst, ◌∙◌, arith}
+use Rattle.std.proofs.Common.{◌≡◌, ℕ, ◌+◌, ◌≤◌, List, [], ◌∷◌, ◌++◌, length, sym, ap, subst, ◌∙◌, arith}
 use Rattle.std.proofs.lemmas.List.{append-nil, length-append}
-use Rattle.std.proofs.lemmas.Grind.{common_steps}
-use Rattle.std.proofs.lemmas.Bool.Decides.{nat_tests}
 use Rattle.coap_wire.specs.Prelude.{AllByRecursion, CoapOption, AreOrdered, last_number, HasOptionForm, IsOptionBytes}
-use Rattle.coap_wire.specs.Prelude.{option_spelling, options_spelling, options_read, options_in, option_form}
-use Rattle.coap_wire.specs.Prelude.{IsEncoding}
+use Rattle.coap_wire.specs.Prelude.{option_spelling, options_spelling, options_read, options_in, IsEncoding}
 use Rattle.coap_wire.proofs.OptionLists.{options_spelling-append, last_number-push, ordered-push, forms-push}
 use Rattle.coap_wire.proofs.SpellingLaws.{options_are_spelled}
 use Rattle.coap_wire.proofs.BodySteps.{body_end}
 use Rattle.coap_wire.proofs.BodyLaws.{body_again}
-
--- A nibble has at most 2 extension bytes.
-extension_bound : (n : ℕ) → length (option_form n).1 ≤ 2
-extension_bound n = grind (arith, nat_tests, common_steps)
 
 -- Decoding the encoding of options returns the options.
 pub read_again : (os : List CoapOption) → AreOrdered 0 os → AllByRecursion HasOptionForm os
@@ -89,14 +82,3 @@ module _ (bytes new : List ℕ) (last : ℕ) (o : CoapOption) (is : IsEncoding b
     ap length new_is,
     length-append bytes (option_spelling last o),
   )
-
--- An encoded option has at most 5 bytes besides its value.
-pub option_size_bound : (base : ℕ) (o : CoapOption) → length (option_spelling base o) ≤ 5 + length o.value
-option_size_bound base o =
-    omega (
-      arith,
-      extension_bound (o.number - base),
-      extension_bound (length o.value),
-      length-append (option_form (o.number - base)).1 ((option_form (length o.value)).1 ++ o.value),
-      length-append (option_form (length o.value)).1 o.value,
-    )

@@ -5,6 +5,7 @@ pub mod UintLaws
 pub mod BodySteps
 pub mod NumberLaws
 pub mod FormLaws
+pub mod HeadSizes
 pub mod SpellingLaws
 pub mod SizeLaws
 pub mod BuiltLemmas

@@ -44,7 +44,7 @@ pub use Rattle.coap_wire.specs.Size.{StatesLengths, code_and_extension}
 pub use Rattle.coap_wire.specs.Spelling.{Spells, body_spelling, HasSpelling, HasOptionForm, option_spelling}
 pub use Rattle.coap_wire.specs.Spelling.{options_spelling, payload_bytes, head_spelling, IsHeadAndBody, IsOneOption}
 pub use Rattle.coap_wire.specs.Spelling.{IsOptionBytes, IsOptionHead}
-pub use Rattle.coap_wire.specs.Spelling.{payload_marker}
+pub use Rattle.coap_wire.specs.Spelling.{payload_marker, option_head_spelling}
 unfoldable pub use Rattle.coap_wire.specs.Spelling.{spelling, front_spelling}
 pub use Rattle.coap_wire.specs.Stream.{Stream, SplitsAs, stream_then, sized_split_on, split_on, EndsWith, Format}
 pub use Rattle.coap_wire.specs.Stream.{IsFormatFault, OfFrame, SpellEach, Splits, StreamFault, frame_then, continued}

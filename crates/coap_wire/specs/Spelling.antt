@@ -59,6 +59,12 @@ pub record Spells (s : List ℕ) (m : Message) : Type 0 where
 
 -- ---- the only encoding, as a function
 
+-- The head of an option whose value has `n` bytes: the first byte and both extensions. The delta counts from `base`.
+abbrev pub option_head_spelling : (base number n : ℕ) → List ℕ
+option_head_spelling base number n =
+    (16 * (option_form (number - base)).0 + (option_form n).0)
+    ∷ ((option_form (number - base)).1 ++ (option_form n).1)
+
 -- The encoding of the option `o`, whose delta counts from `base`.
 abbrev pub option_spelling : ℕ → CoapOption → List ℕ
 option_spelling base o =

@@ -134,9 +134,23 @@ fn option_head(first: u8, after: &[u8]) -> Result<(u32, u32, &[u8]), FormatFault
     Ok((delta, length, rest))
 }
 
-/// Returns the option with this first byte, and the bytes after it. The option number is `base` plus the delta.
+/// Decodes an option (RFC 7252 section 3.1). Returns the option, and the bytes after it.
+///
+/// `first` is the first byte of the option, and `after` the bytes that follow this byte. The option number is the delta
+/// plus `base`: the number of the option before this one, or 0 if this is the first one. Before the call, the caller
+/// compares `first` with `PAYLOAD_MARKER`, which begins no option.
+///
+/// # Errors
+///
+/// The first that applies:
+///
+/// - `OptionDelta`: the nibble of the delta is 15. The payload marker has this nibble too.
+/// - `OptionLength`: the nibble of the length is 15.
+/// - `OptionCut`: the bytes end before both extensions are complete.
+/// - `OptionNumber`: the option number is above 65,535.
+/// - `OptionCut`: the bytes end before the value is complete.
 #[tactic(auto, unfolding(crate::specs::Reading::option_at))]
-pub(crate) fn read_option(
+pub fn read_option(
     base: u16,
     first: u8,
     after: &[u8],
@@ -155,9 +169,19 @@ pub(crate) fn read_option(
     Ok((OptionRef { number, value }, rest))
 }
 
-/// Returns the payload of a body, after reading all options, or the first error of the body.
+/// Returns the payload of a body, which is empty if the body ends after the options (RFC 7252 section 3).
+///
+/// A body is the part of a frame after the token: the encoded options, the payload marker and the payload. The call
+/// decodes each option.
+///
+/// # Errors
+///
+/// The first error of the body:
+///
+/// - `EmptyPayload`: no byte follows the payload marker.
+/// - The error of a malformed option, as `read_option` returns it.
 #[inline(always)]
-pub(crate) fn payload_of(body: &[u8]) -> Result<&[u8], FormatFault>
+pub fn payload_of(body: &[u8]) -> Result<&[u8], FormatFault>
     ensures { GivesPayload result (body_at 0 body.now) }
 {
     let mut base = 0;

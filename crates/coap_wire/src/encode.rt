@@ -2,8 +2,9 @@
 
 ghost use Rattle.std.specs.Prelude.{◌≡◌, ℕ, ◌+◌, ◌-◌, ◌*◌, ◌≤◌, ◌<◌, List, ◌∷◌, ◌++◌, length};
 ghost use Rattle.coap_wire.specs.Prelude.{AllByRecursion, AreOrdered, greatest_token, greatest_length};
-ghost use Rattle.coap_wire.specs.Prelude.{MAX_EXTENDED_LENGTH, HasOptionForm, option_spelling, options_spelling};
-ghost use Rattle.coap_wire.specs.Prelude.{payload_marker, head_spelling, length_form, coap_option, coap_options};
+ghost use Rattle.coap_wire.specs.Prelude.{MAX_EXTENDED_LENGTH, HasOptionForm, option_head_spelling, option_spelling};
+ghost use Rattle.coap_wire.specs.Prelude.{options_spelling, payload_marker, head_spelling, length_form, coap_option};
+ghost use Rattle.coap_wire.specs.Prelude.{coap_options};
 
 use crate::code::Code;
 use crate::form::{
@@ -37,10 +38,18 @@ pub(crate) fn head_size(token: usize, body: u64) -> u64
     2 + length_extension_size(body) + option_extension_size(token as u32) + token as u64
 }
 
-/// Writes a head: the first byte, the extension of the length, the code, the extension of the token length, and the
-/// token. `body` is the length of the options, the marker and the payload.
+/// Writes the head of a message (RFC 8323 section 3.2, RFC 8974 section 2.1). A head has at most 72 bytes: the first
+/// byte, the extension of the length, the code, that of the token length, and the token.
+///
+/// The caller writes the body next. `body` is its length: that of the options, the payload marker and the payload.
+///
+/// # Preconditions
+///
+/// - The token has at most 64 bytes.
+/// - `body` is at most 4,295,033,100, the largest length that can be encoded.
+/// - The sink has space for the head.
 #[inline(always)]
-pub(crate) fn write_head<S: Sink>(out: &mut S, code: Code, token: &[u8], body: u64)
+pub fn write_head<S: Sink>(out: &mut S, code: Code, token: &[u8], body: u64)
     requires token { length token.now ≤ greatest_token }
     requires body { body ≤ greatest_length }
     requires room { length (head_spelling code token.now body) ≤ S.space out.old }
@@ -139,6 +148,34 @@ fn write_length<S: Sink>(out: &mut S, body: u64, nibble: u8)
     write_length_extension(out, body);
 }
 
+/// Writes the head of an option: the first byte, the extension of the delta, and the extension of the length (RFC 7252
+/// section 3.1). The head has at most 5 bytes.
+///
+/// The caller writes the value next. `count` is its length. The delta is the difference of `number` and `base`: the
+/// number of the option before this one, or 0 if this is the first one.
+///
+/// # Preconditions
+///
+/// - `number` is not below `base`.
+/// - `count` is at most 65,804, the largest length of a value.
+/// - The sink has space for the head.
+#[inline(always)]
+pub fn write_option_head<S: Sink>(out: &mut S, base: u16, number: u16, count: u32)
+    requires ordered { base ≤ number }
+    requires short { count ≤ MAX_EXTENDED_LENGTH }
+    requires room { length (option_head_spelling base number count) ≤ S.space out.old }
+    ensures appended { S.contents out.new ≡ S.contents out.old ++ option_head_spelling base number count }
+    ensures less_room { S.space out.new + length (option_head_spelling base number count) ≡ S.space out.old }
+    // The head and a value of this length are the encoding of the option.
+    ensures completed { (value : List ℕ) → length value ≡ count → option_head_spelling base number count ++ value
+        ≡ option_spelling base (record { number = number; value = value }) }
+{
+    let delta = u32::from(number - base);
+    out.push(option_nibble(delta) * 16 + option_nibble(count));
+    write_option_extension(out, delta);
+    write_option_extension(out, count);
+}
+
 /// Writes an option. The delta is the difference of its number and `base`.
 #[inline(always)]
 pub(crate) fn write_option<S: Sink>(out: &mut S, base: u16, number: u16, value: &[u8])
@@ -157,9 +194,7 @@ pub(crate) fn write_option<S: Sink>(out: &mut S, base: u16, number: u16, value: 
         out.push(delta as u8 * 16 + count as u8);
         return append_short(out, value);
     }
-    out.push(option_nibble(delta) * 16 + option_nibble(count));
-    write_option_extension(out, delta);
-    write_option_extension(out, count);
+    write_option_head(out, base, number, count);
     out.append(value);
 }
 

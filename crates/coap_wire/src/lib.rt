@@ -5,6 +5,8 @@
 //!   `CheckedOptions` iterate over its options.
 //! - `FrameRef` is a frame with its layout, as `coap_frame` returns it. Its `parse` does not read the head again.
 //! - `Builder` and `CompactBuilder` encode a message into a `Sink`.
+//! - `read_option` and `payload_of` decode options that are not in a frame. `write_head` and `write_option_head` encode
+//!   the parts of a message that a caller writes itself.
 //! - `declared` returns the size that the first bytes of a frame declare, or reports an invalid token length. `outline`
 //!   also returns the layout of the frame.
 //! - `Token`, `Code`, `kind` (the table of options), `uint_value` and `uint_bytes` are the parts of messages. Sizes
@@ -48,12 +50,13 @@ pub use builder::{Builder, MessageBuilder};
 pub use code::Code;
 pub use compact::{CompactBuilder, SHORT_OPTIONS, ShortBuilder};
 pub use declaration::Declared;
-pub use encode::append_short;
+pub use decode::{payload_of, read_option};
+pub use encode::{append_short, write_head, write_option_head};
 pub use fault::{BuildFault, FormatFault, FrameFault};
 pub use frame::FrameRef;
 pub use layout::{FrameLayout, Outline};
 pub use message::{MessageRef, parse};
-pub use option::OptionRef;
+pub use option::{OptionRef, PAYLOAD_MARKER};
 pub use option_table::{OptionKind, kind};
 pub use options::Options;
 pub use recognition::{CheckedOption, CheckedOptions, RecognisedOptions};

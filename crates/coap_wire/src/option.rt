@@ -1,7 +1,7 @@
 //! An option of a message (RFC 7252 section 3.1).
 
 /// Byte between the options and the payload (RFC 7252 section 3).
-pub(crate) const PAYLOAD_MARKER: u8 = 0xff;
+pub const PAYLOAD_MARKER: u8 = 0xff;
 
 /// Option with a borrowed value: part of a frame that was read, or bytes that a builder encodes.
 #[derive(Clone, Copy, Default)]

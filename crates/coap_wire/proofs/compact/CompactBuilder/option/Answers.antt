@@ -1,6 +1,7 @@
 use Rattle.std.proofs.Common.{◌≡◌, List, length, ap, ◌∙◌, arith}
 use Rattle.coap_wire.specs.Prelude.{CoapOption, Message, HasOptionForm, last_number, options_spelling, with_option}
-use Rattle.coap_wire.proofs.CompactLemmas.{added, encoded_more, longer, option_size_bound}
+use Rattle.coap_wire.proofs.CompactLemmas.{added, encoded_more, longer}
+use Rattle.coap_wire.proofs.HeadSizes.{option_size_bound}
 use Rattle.coap_wire.proofs.compact.CompactBuilder.option.Goals as goal
 
 pub invariant_of-self : goal.invariant_of-self
