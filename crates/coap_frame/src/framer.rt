@@ -418,8 +418,8 @@ fn advance_in_buffer(
     (taken, status)
 }
 
-/// Returns the frame that a call of `next` or `next_frame` completed: the framer's copy (`split_frame`) if the frame
-/// was split, otherwise the bytes that the call took.
+/// Returns the frame that a call of `next` or `next_frame` completed. A split frame is the framer's copy
+/// (`split_frame`), and any other frame is in the bytes that the call took.
 pub fn frame_of<'a>(split: &'a [u8], taken: &'a [u8]) -> &'a [u8]
     ensures { result.now ≡ frame_back split.now taken.now }
 {
