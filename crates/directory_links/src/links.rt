@@ -46,6 +46,7 @@ impl<'a> Iterator for Attributes<'a> {
 
     ghost remaining = { item_count (λ rest. rest) };
 
+    #[tactic(auto, using(crate::proofs::AttributeSteps::attributes_is))]
     fn next(&mut self) -> Option<AttributeRef<'a>> {
         let (first, after) = self.rest.split_first()?;
         if *first != b';' {
@@ -60,6 +61,7 @@ impl<'a> Iterator for Attributes<'a> {
 }
 
 /// Returns the bytes after the attributes at the front.
+#[tactic(auto, using(crate::proofs::AttributeSteps::attributes_is))]
 pub(crate) fn after_attributes(text: &[u8]) -> Result<&[u8], SyntaxFault>
     ensures { GivesRest result (attributes_at text.now) }
 {
@@ -156,6 +158,7 @@ impl<'a> Iterator for Links<'a> {
 
     ghost remaining = { item_count (λ rest. rest) };
 
+    #[tactic(auto, using(crate::proofs::LinkSteps::link_steps))]
     fn next(&mut self) -> Option<LinkRef<'a>> {
         if self.rest.is_empty() {
             return None;
@@ -176,6 +179,7 @@ impl<'a> Iterator for Links<'a> {
 }
 
 /// Reads all links.
+#[tactic(auto, using(crate::proofs::LinkSteps::link_steps))]
 fn check_links(text: &[u8]) -> Result<(), SyntaxFault>
     ensures { GivesLinks result (links_of text.now) }
 {
@@ -205,6 +209,7 @@ fn check_links(text: &[u8]) -> Result<(), SyntaxFault>
 ///     assert!(&rt; link.target() == b"/sensors/temp".as_slice());
 /// }
 /// ```
+#[tactic(auto, using(crate::proofs::ParseLaws::parsed), unfolding(crate::specs::Reading::links_from))]
 pub fn parse(text: &[u8]) -> Result<Links<'_>, LinkFault>
     // The result are links if and only if the text writes these links.
     ensures found { IfOk result (λ links. Writes text.now links) }

@@ -37,6 +37,7 @@ fn read_token(text: &[u8]) -> Result<(&[u8], &[u8]), SyntaxFault>
 }
 
 /// Returns the number of bytes before the quote that ends a quoted string.
+#[tactic(auto, using(crate::proofs::QuotedLemmas::quoted_steps))]
 fn length_in_quotes(text: &[u8]) -> Result<usize, SyntaxFault>
     ensures value { lefts result ≡ quoted_length false text.now }
     ensures within { IfOk result (λ n. n < length text.now) }

@@ -34,6 +34,7 @@ impl LinkText {
     /// # Errors
     ///
     /// - `LinkFault`: the text is not in link format, as for `parse`.
+    #[tactic(auto, using(crate::proofs::ParseLaws::from_ok))]
     pub fn check(bytes: Vec<u8>) -> Result<LinkText, LinkFault>
         ensures { GivesAt result (links_from bytes.items) }
     {
@@ -93,6 +94,7 @@ impl Model for AttributeText {
 
 impl AttributeText {
     /// Creates a text of no attributes, and allocates nothing.
+    #[tactic(auto, using(crate::proofs::AttributeSteps::attributes_is))]
     pub fn new(alloc: Global) -> AttributeText
         ensures { result ≡ [] }
     {
@@ -110,6 +112,7 @@ impl AttributeText {
     /// # Preconditions
     ///
     /// - A link can have the attribute (RFC 6690 section 2).
+    #[tactic(auto, using(crate::proofs::AttributeTextLaws::appended))]
     pub fn with(self, attribute: &AttributeRef) -> Result<AttributeText, AllocError>
         requires { is_attribute (attribute_of attribute.now) ≡ true }
         ensures { IfOk result (λ t. t ≡ self ++ attribute_of attribute.now ∷ []) }
@@ -121,6 +124,7 @@ impl AttributeText {
     }
 
     /// Returns an iterator over the attributes.
+    #[tactic(auto, using(crate::proofs::AttributeTextLaws::each_attribute))]
     pub fn attributes(&self) -> Attributes<'_>
         ensures all { result ≡ self.now }
         ensures each { list_all is_attribute result ≡ true }
