@@ -1,11 +1,8 @@
-pub mod ServerSlots
 pub mod ServerLemmas
 pub mod LoanLemmas
 pub mod QuietLemmas
 pub mod PathLemmas
 pub mod ListedLemmas
-pub mod ClientSlots
-pub mod ApplicationsSlots
 pub mod MessageLemmas
 pub mod WritingLemmas
 pub mod EventLemmas

@@ -18,15 +18,12 @@ use Rattle.coap_wire.specs.declared.layout.Outline.{Outline}
 use Rattle.coap_wire.specs.declared.layout.Outline.TheVariants.{Unknown, BadToken, Known}
 use Rattle.coap_wire.specs.Prelude.{AreBytes}
 use Rattle.coap_wire.proofs.BodySteps.{ok_is}
+use Rattle.coap_wire.proofs.BuiltLemmas.{marker_then_payload}
 use Rattle.coap_wire.proofs.HeadLaws.{head_again}
 use Rattle.coap_wire.proofs.LayoutLaws.{laid_out_parts, parts_of, head_unknown, head_bad_token, head_other_size}
 use Rattle.coap_wire.proofs.NumberLaws.{AreBytes-drop}
 use Rattle.coap_wire.proofs.ReadingLaws.{message_spelled}
 use Rattle.coap_wire.proofs.SpellingLaws.{option_spelled_as, options_spelled_as}
-
-pub length-payload_bytes : (p : List ℕ) → length (payload_bytes p) ≡ length (payload_marker p) + length p
-length-payload_bytes [] = refl
-length-payload_bytes (b ∷ bs) = omega arith
 
 -- The message of a frame `f`, at the positions of its layout.
 pub record IsPlaced (f : List ℕ) (l : FrameLayout) (m : Message) : Type 0 where
@@ -67,7 +64,8 @@ parts_count f l m p =
       p.within,
       length-drop (l.token_at + l.token_length) f,
       length-append (options_spelling 0 m.options) (payload_bytes m.payload),
-      length-payload_bytes m.payload,
+      ap length (marker_then_payload m.payload),
+      length-append (payload_marker m.payload) m.payload,
     )
 
 -- The options at their place.

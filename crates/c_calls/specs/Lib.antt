@@ -1,6 +1,3 @@
-pub mod Slots
-pub mod ClientSlots
-pub mod ApplicationsSlots
 pub mod Numbers
 pub mod Settings
 pub mod PathTexts

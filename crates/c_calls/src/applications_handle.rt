@@ -6,7 +6,7 @@ ghost use Rattle.std.specs.Coded.{coded_option};
 ghost use Rattle.std.specs.declared.option.Option.{Option};
 ghost use Rattle.coap_path.specs.Applications.{ApplicationsValue};
 ghost use Rattle.coap_path.specs.contracts.applications.Applications.{the_row as applications_row};
-ghost use Rattle.c_calls.specs.ApplicationsSlots.{applications_slot};
+ghost use Rattle.c_handle.specs.Slots.{slot_owns};
 
 use c_handle::BoxParts;
 use coap_path::Applications;
@@ -25,7 +25,7 @@ pub struct ApplicationsHandle {
 }
 
 impl Model for ApplicationsHandle {
-    ghost also_owns = { λ h. applications_slot h.at h.value };
+    ghost also_owns = { λ h. slot_owns applications_row h.at h.value };
 }
 
 impl ApplicationsHandle {

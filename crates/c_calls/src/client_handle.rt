@@ -6,7 +6,7 @@ ghost use Rattle.std.specs.Coded.{coded_option};
 ghost use Rattle.std.specs.declared.option.Option.{Option};
 ghost use Rattle.coap_client_engine.specs.ClientValues.{ClientValue};
 ghost use Rattle.coap_client_engine.specs.contracts.client.Client.{the_row as client_row};
-ghost use Rattle.c_calls.specs.ClientSlots.{client_slot};
+ghost use Rattle.c_handle.specs.Slots.{slot_owns};
 
 use c_handle::BoxParts;
 use coap_client_engine::Client;
@@ -24,7 +24,7 @@ pub struct ClientHandle {
 }
 
 impl Model for ClientHandle {
-    ghost also_owns = { λ h. client_slot h.at h.value };
+    ghost also_owns = { λ h. slot_owns client_row h.at h.value };
 }
 
 impl ClientHandle {

@@ -4,9 +4,12 @@
 //!   handle that a C program keeps of a `PolledServer`. `client.rt` and `client_handle.rt` are the same for `Client`,
 //!   and `applications.rt` and `applications_handle.rt` for `Applications`. `events.rt` has the event of a client, and
 //!   `requests.rt` requests and URIs.
-//! - `messages.rt` has the calls on messages, which have no handle. `option_reading.rt` decodes options, and
-//!   `option_writing.rt` encodes them.
-//! - `numbers.rt` has the numbers that the calls return, `settings.rt` a configuration, and `paths.rt` paths as text.
+//! - `messages.rt` has the calls on messages, which have no handle. `coap_wire` decodes and encodes their parts.
+//! - `numbers.rt` has the numbers that the calls return, `settings.rt` a configuration, `paths.rt` paths as text, and
+//!   `bytes.rt` the copying into a buffer.
+//!
+//! The three files of handles and their proofs differ in names alone. They cannot be one: an export accepts no generic
+//! struct, and `rt ci` accepts no `impl` block that a macro wrote.
 //!
 //! The contract of an export is that of the engine's call over the value of the handle (`specs/ServerCalls.antt`,
 //! `specs/ApplicationCalls.antt`, `specs/ClientCalls.antt`). Those of the calls on messages are in
@@ -16,13 +19,12 @@
 
 mod applications;
 mod applications_handle;
+mod bytes;
 mod client;
 mod client_handle;
 mod events;
 mod messages;
 mod numbers;
-mod option_reading;
-mod option_writing;
 mod paths;
 mod polling;
 mod requests;

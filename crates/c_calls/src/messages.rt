@@ -1,27 +1,33 @@
 //! The calls on messages, for C. They have no handle.
 
-ghost use Rattle.std.specs.Prelude.{◌≡◌, Ok, length as len, drop};
+ghost use Rattle.std.specs.Prelude.{◌≡◌, Ok, length as len, drop, is_some};
 ghost use Rattle.coap_wire.specs.Spelling.{payload_marker};
 ghost use Rattle.coap_wire.specs.Layout.{IsLaidOut};
 ghost use Rattle.coap_wire.specs.Reading.{message_of};
 ghost use Rattle.c_calls.specs.Messages as spec;
 
+use crate::bytes::{bytes_from, put};
 use crate::numbers::{
     NO_MORE, NO_ROOM, NOT_A_PATH, OPTION_MALFORMED, OPTION_NUMBER, OPTION_ORDER, OPTION_TOO_LONG,
     SUCCESS, WRITE_CODE, WRITE_OPTIONS, WRITE_TOKEN, WRITE_TOO_LARGE, format_number,
 };
-use crate::option_reading::{PAYLOAD_MARKER, are_options, bytes_from, read_option};
-use crate::option_writing::{message_head, option_head, put};
 use crate::paths::write_path;
+use arrayvec::ArrayVec;
 use c_handle::{Span, span_within};
 use coap_store::request_path;
 use coap_wire::{
-    FormatFault, FrameLayout, LARGEST_MESSAGE, MAX_EXTENDED_LENGTH, MessageRef, Outline, outline,
-    parse,
+    Code, FormatFault, FrameLayout, LARGEST_MESSAGE, MAX_EXTENDED_LENGTH, MessageRef, Outline,
+    PAYLOAD_MARKER, outline, parse, payload_of, read_option, write_head, write_option_head,
 };
 
 /// Largest length of a token.
 const MAX_TOKEN: usize = 64;
+
+/// Largest length of the head of a message.
+const MESSAGE_HEAD: usize = 72;
+
+/// Largest length of the head of an option.
+const OPTION_HEAD: usize = 5;
 
 /// A message, as spans of its frame.
 #[repr(C)]
@@ -125,7 +131,8 @@ pub extern "C" fn dachreup_raw_option_write(
     if value.len() > MAX_EXTENDED_LENGTH {
         return OPTION_TOO_LONG;
     }
-    let head = option_head(*last as u16, next, value.len() as u32);
+    let mut head = ArrayVec::<u8, OPTION_HEAD>::new();
+    write_option_head(&mut head, *last as u16, next, value.len() as u32);
     if options.len().saturating_sub(*length) < head.len() + value.len() {
         return NO_ROOM;
     }
@@ -166,16 +173,26 @@ pub extern "C" fn dachreup_raw_message_write(
     if body > LARGEST_MESSAGE {
         return WRITE_TOO_LARGE;
     }
-    let head = message_head(code, token.len() as u32, body as u32);
-    if buffer.len() < head.len() + token.len() + body {
+    let mut head = ArrayVec::<u8, MESSAGE_HEAD>::new();
+    write_head(&mut head, Code::new(code), token, body as u64);
+    if buffer.len() < head.len() + body {
         return NO_ROOM;
     }
     let at = put(buffer, 0, &head);
-    let at = put(buffer, at, token);
     let at = put(buffer, at, options);
     let at = put(buffer, at, marker);
     *length = put(buffer, at, payload);
     SUCCESS
+}
+
+/// Returns `true` if the bytes are encoded options and nothing else.
+fn are_options(bytes: &[u8]) -> bool
+    ensures { result ≡ is_some (spec.coded_options bytes.now) }
+{
+    match payload_of(bytes) {
+        Ok(payload) => payload.is_empty(),
+        Err(_) => false,
+    }
 }
 
 /// Returns the parts of the message that a frame encodes.

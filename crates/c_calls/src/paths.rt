@@ -5,8 +5,8 @@ ghost use Rattle.std.specs.Prelude.{if◌then◌else◌, true, false, Some};
 ghost use Rattle.c_calls.specs.PathTexts.{text_segments, text_path, format_named, format_number, methods_named};
 ghost use Rattle.c_calls.specs.PathTexts.{listed_segments, listed_path, slashed, IsPathWritten};
 
+use crate::bytes::put;
 use crate::numbers::{NO_ROOM, NOT_A_PATH, SUCCESS};
-use crate::option_writing::put;
 use arrayvec::ArrayVec;
 use coap_path::PathKey;
 use coap_text::split_once;

@@ -4,8 +4,8 @@ ghost use Rattle.std.specs.Prelude.{◌≡◌, option_map};
 ghost use Rattle.c_calls.specs.RequestTexts as spec;
 ghost use Rattle.coap_request.specs.RequestViews.{extras_value};
 
+use crate::bytes::put;
 use crate::numbers::{NO_ROOM, SUCCESS, URI_URL, target_number};
-use crate::option_writing::put;
 use crate::paths::format_of;
 use coap_request::{Extras, Method, Target};
 use std::alloc::Global;

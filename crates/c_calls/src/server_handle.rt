@@ -6,7 +6,7 @@ ghost use Rattle.std.specs.Coded.{coded_option};
 ghost use Rattle.std.specs.declared.option.Option.{Option};
 ghost use Rattle.coap_server_polled.specs.declared.polled_server.PolledServer.{PolledServer as Polled};
 ghost use Rattle.coap_server_polled.specs.contracts.polled_server.PolledServer.{the_row as server_row};
-ghost use Rattle.c_calls.specs.Slots.{server_slot};
+ghost use Rattle.c_handle.specs.Slots.{slot_owns};
 
 use c_handle::BoxParts;
 use coap_server_polled::PolledServer;
@@ -24,7 +24,7 @@ pub struct ServerHandle {
 }
 
 impl Model for ServerHandle {
-    ghost also_owns = { λ h. server_slot h.at h.value };
+    ghost also_owns = { λ h. slot_owns server_row h.at h.value };
 }
 
 impl ServerHandle {

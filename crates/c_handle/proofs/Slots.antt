@@ -1,19 +1,22 @@
 -- Steps of the proofs about handles. Assumes `Logic`.
-use Rattle.std.proofs.Common.{◌≡◌, ℕ, List, ◌∷◌, refl, lit<}
+use Rattle.std.proofs.Common.{◌≡◌, ℕ, List, [], ◌∷◌, ◌++◌, refl, subst, lit<}
 use mathlib.Core.Bool.{true, ◌&&◌}
 use lib.Dec.{T}
 use seplogic.Ra.Ura.{Ura}
 use mir.Raw.{raw as bare}
 use mir.Syntax.{ty_ptr}
-use mir.Val.{Val, vstruct, vcons, vnil, has_ty, WT}
+use mir.Val.{Val, vstruct, vcons, vnil, of_list, has_ty, WT}
 use base.Logic.{SProp, ent, guard, via, snd∗, guard_i}
+use base.Fml.{Fml, feq, fsep, fex}
 use base.Fraction.{full_share}
 use types.Logic.{Logic, sem}
-use types.Kit.{Item, Goal, Seq, ‵, given, ◌$◌, drop, fpick, use1, learn}
+use types.Kit.{Item, Goal, Seq, Step, step, ‵, given, ◌$◌, drop, fsplit, fjoin, fpick, fpack, feq_i, feq_l, use1, learn}
 use contract.Monad.{fact_use}
-use denote.RattleType.{RattleType}
+use denote.RattleType.{RattleType, Valss, flat, owns}
+use denote.Builtin.{RawPtr}
 use denote.Memory.{lone}
 use denote.RawPtr.{Ptr, block_ptr, null_ptr, ptr_val, lies_at, Testable}
+use denote.Steps.{nothing}
 use Rattle.std.specs.declared.alloc.Global.{Global}
 use Rattle.std.specs.declared.option.Option.{Option}
 use Rattle.std.specs.declared.option.Option.TheVariants.{None, Some}
@@ -58,3 +61,28 @@ module _ (R : RattleType) {M : Type 1} {𝓤 : Ura M} {𝓛 : Logic 𝓤} {K : T
   slot_out t a (block_ptr b o) (Some x) none one =
       use1 𝓛 (given (Testable (block_ptr b o)) (‵ (box_owns chunk R (block_ptr b o) x)))
       (tested 𝓛 R a (block_ptr b o) x) $ learn t (λ ok. one b o x refl refl ok)
+
+-- The formula under the ∃ of a handle: its one field has the machine values `vss`.
+abbrev handle_within : Ptr → List Val → Valss (RawPtr ∷ []) → Fml
+handle_within at vs vss =
+    fsep (feq (List Val) vs (vstruct (of_list (flat (RawPtr ∷ []) vss)) ∷ [])) (owns (RawPtr ∷ []) (at, tt) vss)
+
+-- A handle with this address and these machine values, which owns `owned`: `own_val` of each type of handles.
+abbrev pub handle_owns : Ptr → List Val → Fml → Fml
+handle_owns at vs owned = fsep (fex (Valss (RawPtr ∷ [])) (handle_within at vs)) owned
+
+module _ {M : Type 1} {𝓤 : Ura M} {𝓛 : Logic 𝓤} {K : Type 0} {Γ : List (Item 𝓤)} {G : Goal 𝓤 𝓛.H} where
+  -- A handle is made of its address and of what it owns.
+  pub handle_in : K → (at : Ptr) (owned : Fml)
+      → Step K 𝓛 (‵ (handle_owns at (handle_val at ∷ []) owned) ∷ Γ) G (‵ owned ∷ Γ) G
+  handle_in t at owned = step (λ s. let v : Val = handle_val at in
+      nothing t $ feq_i t (List Val) (ptr_val at ∷ []) (ptr_val at ∷ []) refl $ fjoin t
+      $ feq_i t (List Val) (v ∷ []) (v ∷ []) refl $ fjoin t $
+      fpack t (Valss (RawPtr ∷ [])) (handle_within at (v ∷ [])) (ptr_val at ∷ [], tt) $ fjoin t $ s)
+
+  -- A handle is taken apart into its address and what it owns.
+  pub handle_out : K → (at : Ptr) (owned : Fml) (vs : List Val) → (vs ≡ handle_val at ∷ [] → Seq K 𝓛 (‵ owned ∷ Γ) G)
+      → Seq K 𝓛 (‵ (handle_owns at vs owned) ∷ Γ) G
+  handle_out t at owned vs k =
+      fsplit t $ fpick t (λ vss. fsplit t $ feq_l t (λ ev. fsplit t $ feq_l t (λ ep. drop t $ k
+      (subst (λ (ps : List Val). vs ≡ vstruct (of_list (ps ++ [])) ∷ []) ep ev))))

@@ -15,8 +15,7 @@ use denote.Steps.{nothing}
 use denote.Triple.Walked.{walk_of}
 use Rattle.std.specs.declared.option.Option.TheVariants.{None}
 use Rattle.std.proofs.raw_atomic.Walks.{proved_at, leaves}
-use Rattle.c_handle.proofs.Slots.{handle_val}
-use Rattle.c_calls.proofs.ApplicationsSlots.{handle_in, handle_of}
+use Rattle.c_handle.proofs.Slots.{handle_val, handle_in}
 use Rattle.c_calls.specs.contracts.applications_handle.ApplicationsHandle.empty as f
 use Rattle.c_calls.proofs.applications_handle.ApplicationsHandle.empty.Statement.{statement}
 use Rattle.c_calls.proofs.applications_handle.ApplicationsHandle.empty.Code as code
@@ -31,7 +30,7 @@ empty_spec 𝓤 𝓛 𝓜 𝓡 wired =
     ∵ split ! $
     enter ! 𝓣.C 𝓣.Λ code.function [] Post $ alloc_all ! (λ l. pass_all ! refl tt $
     sets ! (agg ! (and_then ! (lit ! tt) (no_more !))) refl (tt, (record { fits = lit< tt }, tt)) $
-    nothing ! $ handle_in ! null_ptr None
+    nothing ! $ handle_in ! null_ptr ftrue
     $ use0 𝓛 (raw (fact 𝓤 (None ≡ None))) (fact_i 𝓤 (None ≡ None) (emp 𝓤) refl) $ nothing ! $
     returns ! (look_at ! 0 refl) $ free_all ! refl $ keep ! (3 ∷ 0 ∷ 2 ∷ 1 ∷ [])
-    $ by ! (leaves 𝓛 En tt c z (handle_val null_ptr) (handle_of null_ptr None) tt tt)))
+    $ by ! (leaves 𝓛 En tt c z (handle_val null_ptr) (record { at = null_ptr; value = None }) tt tt)))

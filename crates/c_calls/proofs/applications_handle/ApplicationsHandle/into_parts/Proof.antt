@@ -29,10 +29,11 @@ use Rattle.std.proofs.option.Made.{Some-of, none_of}
 use Rattle.std.proofs.raw_atomic.Walks.{proved_at, leaves}
 use Rattle.std_alloc.proofs.ResultValues.{and_tt}
 use Rattle.std_alloc.specs.Box.Ownership.{box_owns}
-use Rattle.c_handle.proofs.Slots.{handle_val, handle_good, pointer_good, slot_out}
+use Rattle.c_handle.specs.Slots.{slot_owns}
+use Rattle.c_handle.proofs.Slots.{handle_val, handle_good, handle_out, pointer_good, slot_out}
 use Rattle.c_handle.proofs.Values.{both, Parts, al, parts_good, parts_in}
 use Rattle.coap_path.specs.contracts.applications.Applications as applications
-use Rattle.c_calls.proofs.ApplicationsSlots.{Handle, handle_out}
+use Rattle.c_calls.specs.contracts.applications_handle.ApplicationsHandle as handle
 use Rattle.c_calls.specs.contracts.applications_handle.ApplicationsHandle.into_parts as f
 use Rattle.c_calls.proofs.applications_handle.ApplicationsHandle.into_parts.Statement.{statement}
 use Rattle.c_calls.proofs.applications_handle.ApplicationsHandle.into_parts.Code as code
@@ -49,9 +50,9 @@ into_parts_spec 𝓤 𝓛 𝓜 𝓡 wired =
     let LZ = heap_laws.the_row_laws in
     let P : RattleType = Parts R Z LZ ghosts in
     let hs : Stays En.signature.params En.kept =
-    (stay_dropped (plain (λ _. Handle)) yes, (stay_dropped (plain (λ _. Z)) yes, tt)) in
+    (stay_dropped (plain (λ _. handle.the_row)) yes, (stay_dropped (plain (λ _. Z)) yes, tt)) in
     proved_at 𝓛 En hs c 𝓜 𝓡 (
-      Goes-blank 𝓛 0 (plain (λ _. Handle)) yes (λ κs x w. tt),
+      Goes-blank 𝓛 0 (plain (λ _. handle.the_row)) yes (λ κs x w. tt),
       (Goes-blank 𝓛 0 (plain (λ _. Z)) yes (λ κs x w. tt), tt),
     ) f.Key.name fn (code.unfolded 𝓤 H 𝓜 𝓡 wired) (λ z are.
     let κs = z.0.0 in
@@ -63,7 +64,8 @@ into_parts_spec 𝓤 𝓛 𝓜 𝓡 wired =
     qed 𝓛 ((‵ ftrue ⊛ ‵ (owns (types_at En.signature.params κs) z.0.3 z.0.4)) ∷ raw ((c κs z.0.3).requires z.1) ∷ [])
     ∵ split ! $ move ! (1 ∷ []) $ fsplit ! $ move ! (1 ∷ []) $ fsplit ! $
     -- [the allocator; no more; the handle]
-    handle_tells (al R Z LZ ghosts) ! a z.0.4.1.0 (λ h ea fits. move ! (2 ∷ []) $ handle_out ! d z.0.4.0 (λ ev.
+    handle_tells (al R Z LZ ghosts) ! a z.0.4.1.0 (λ h ea fits. move ! (2 ∷ []) $
+    handle_out ! d.at (slot_owns R d.at d.value) z.0.4.0 (λ ev.
     -- [the slot; the allocator; no more]
     let start : (p : Ptr) → d.at ≡ p → ent 𝓤 (Run (handle_val p ∷ h ∷ [])) (Run (z.0.4.0 ++ (z.0.4.1.0 ++ []))) =
     λ p is. let us = ev ∙ ap (λ (q : Ptr). handle_val q ∷ []) is in

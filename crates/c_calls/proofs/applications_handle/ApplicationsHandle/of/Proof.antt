@@ -22,11 +22,10 @@ use Rattle.std.proofs.alloc.Global.TheLaws as heap_laws
 use Rattle.std.specs.contracts.impls.GlobalAllocator.TheImpl.{ghosts}
 use Rattle.std.proofs.alloc.Calls.{Goes-blank}
 use Rattle.std.proofs.raw_atomic.Walks.{proved_at, leaves}
-use Rattle.c_handle.proofs.Slots.{handle_val}
+use Rattle.c_handle.specs.Slots.{slot_owns}
+use Rattle.c_handle.proofs.Slots.{handle_val, handle_in}
 use Rattle.c_handle.proofs.Values.{both, Parts, parts_good, parts_out}
 use Rattle.coap_path.specs.contracts.applications.Applications as applications
-use Rattle.c_calls.specs.ApplicationsSlots.{applications_slot}
-use Rattle.c_calls.proofs.ApplicationsSlots.{handle_in, handle_of}
 use Rattle.c_calls.specs.contracts.applications_handle.ApplicationsHandle.of as f
 use Rattle.c_calls.proofs.applications_handle.ApplicationsHandle.of.Statement.{statement}
 use Rattle.c_calls.proofs.applications_handle.ApplicationsHandle.of.Code as code
@@ -59,8 +58,8 @@ of_spec 𝓤 𝓛 𝓜 𝓡 wired =
     sets ! (of_opd ! (get_in ! (fld ! refl (stop !)) (sub ! 0 refl (whole !)))) refl (tt, tt)
     $ sets ! (of_opd ! (get ! refl)) refl (tt, tt)
     $ sets ! (agg ! (and_then ! (get ! refl) (no_more !))) refl (tt, (tt, tt)) $
-    use1 𝓛 (‵ (applications_slot p (Some d.value))) (id⊢ 𝓤 _) $ handle_in ! p (Some d.value) $
+    use1 𝓛 (‵ (slot_owns R p (Some d.value))) (id⊢ 𝓤 _) $ handle_in ! p (slot_owns R p (Some d.value)) $
     use0 𝓛 (raw (fact 𝓤 (Some d.value ≡ Some d.value))) (fact_i 𝓤 (Some d.value ≡ Some d.value) (emp 𝓤) refl)
     $ nothing ! $ nothing ! $ fjoin ! $
     returns ! (look_at ! 0 refl) $ free_all ! refl $ keep ! (5 ∷ 0 ∷ 2 ∷ 1 ∷ [])
-    $ by ! (leaves 𝓛 En hs c z (handle_val p) (handle_of p (Some d.value)) (tt, tt) (tt, tt)))))
+    $ by ! (leaves 𝓛 En hs c z (handle_val p) (record { at = p; value = Some d.value }) (tt, tt) (tt, tt)))))
