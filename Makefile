@@ -32,8 +32,8 @@ bin/coap-explain bin/coap-directory &: $(SOURCES)
 lib: bin/libdachreup.a bin/dachreup.pc
 
 bin/libdachreup.a: $(SOURCES) install/library/build install/library/allocator.c
-	tests/build c_calls
-	install/library/build crates/c_calls/out/libc_calls.a bin
+	tests/build c_api
+	install/library/build crates/c_api/out/libc_api.a bin
 
 bin/dachreup.pc: install/library/dachreup.pc.in VERSION
 	@mkdir -p bin

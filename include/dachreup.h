@@ -5,7 +5,7 @@
  * no clock and starts no thread. It needs these functions of the C library: malloc, realloc and free (or those of the
  * program: see MEMORY), memcpy, memmove and memset.
  *
- * Each exported call is proved to do what its contract states (crates/c_calls). Not proved: the inline functions of
+ * Each exported call is proved to do what its contract states (crates/c_api). Not proved: the inline functions of
  * this header, and what the C program does. The header is for C99 or later, and for C++98 or later.
  *
  * WHAT THE PROGRAM MUST GUARANTEE

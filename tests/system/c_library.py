@@ -4,8 +4,8 @@
     tests/system/c_library.py bin/coap-server bin/coap-client [bin/libdachreup.a]
     tests/system/c_library.py --archive     only builds the archive
 
-Without an archive, bin/libdachreup.a is built from crates/c_calls over the libraries that the proofs left in
-out/rlib. The data of this proof of c_calls go to out/incremental, if that is missing, so that its mutants need not
+Without an archive, bin/libdachreup.a is built from crates/c_api over the libraries that the proofs left in
+out/rlib. The data of this proof of c_api go to out/incremental, if that is missing, so that its mutants need not
 prove it again. The programs are compiled as strict C11 without warnings, and run with AddressSanitizer and
 UndefinedBehaviorSanitizer, and under valgrind. The sanitizers see each allocation and each leak of the library, but not
 its own loads and stores; valgrind sees those too. The constants of the header are those of the specs. Recorded streams

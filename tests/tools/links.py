@@ -36,7 +36,7 @@ PATH = re.compile(rf"(?:{FOLDERS})/[\w./-]*\w/?")
 ANY = {"CRATE", "FILE", "FOLDER", "FUNCTION", "LAYER", "MODULE", "NAME", "TYPE"}
 
 # Folders whose files are made, and not committed.
-MADE = ("bench/out", "crates/c_calls/out")
+MADE = ("bench/out", "crates/c_api/out")
 
 # Texts with the links and paths that are wrong in them, for a document docs/A.md with the heading `The first: one`.
 SAMPLES = [

@@ -1,6 +1,6 @@
 //! A box taken apart into its address and its allocator, and put together again.
 //!
-//! A program in another language keeps such an address between two calls (`c_calls`). `BoxParts` owns what the box
+//! A program in another language keeps such an address between two calls (`c_api`). `BoxParts` owns what the box
 //! owned, and contracts see its value.
 #![tactic(auto)]
 

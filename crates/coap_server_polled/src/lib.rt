@@ -4,7 +4,7 @@
 //!   it was reported. It has the calls that change a `Server`, and `next_output`.
 //! - `laws` has the theorem that no output is lost.
 //!
-//! The contracts name the definitions of `specs/Reports.antt`. The crate performs no I/O. `c_calls` passes the calls on
+//! The contracts name the definitions of `specs/Reports.antt`. The crate performs no I/O. `c_api` passes the calls on
 //! to programs in C. Continue with `polled_server.rt`.
 #![tactic(auto)]
 

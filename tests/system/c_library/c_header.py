@@ -54,18 +54,18 @@ def spec_numbers():
         return pathlib.Path(f"{ROOT}/crates/{file}").read_text(encoding="utf-8")
     found = [(f"{name}.{variant}", int(number), (f"{PREFIXES[name]}{snake(variant)}", snake(variant)))
              for name, variant, number in re.findall(r"^(\w+)_code \(?\w+\.(\w+)[^=\n]*= (\d+)$",
-                                                     text("c_calls/specs/Numbers.antt"), re.M)]
+                                                     text("c_api/specs/Numbers.antt"), re.M)]
     found += [(f"reason.{variant}", int(number), (f"REASON_{snake(variant)}",))
               for variant, number in re.findall(r"^reason_number \(?(\w+)[^=\n]*= (\d+)$",
                                                 text("coap_conn/specs/Reasons.antt"), re.M)]
     found += [(f"event.{variant}", int(number), (f"EVENT_{snake(variant)}",))
               for variant, number in re.findall(r"^ShowsEvent \(Some \(?event\.(\w+).*? =\s+Is\w+ (\d) ",
-                                                text("c_calls/specs/ClientEvents.antt"), re.M)]
+                                                text("c_api/specs/ClientEvents.antt"), re.M)]
     found += [(f"option.{name}", int(number), (f"NUMBER_{name.upper()}",))
               for name, number in re.findall(r"^(\w+) = (\d+)$", text("coap_wire/specs/OptionNumbers.antt"), re.M)]
     found += [(f"method.{variant}", int(number), (snake(variant),))
               for number, variant in re.findall(r"n == (\d) then Some method\.(\w+)",
-                                                text("c_calls/specs/RequestTexts.antt"))]
+                                                text("c_api/specs/RequestTexts.antt"))]
     return [it for it in found if it[0] not in UNNAMED]
 
 

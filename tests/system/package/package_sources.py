@@ -9,7 +9,7 @@ from package_files import LIBRARY, NAME, PROGRAMS, version
 from workspace import ROOT, crates, listed
 
 # The crates of each package.
-CRATES = {NAME: ["program_server", "program_client", "program_explain", "program_directory"], LIBRARY: ["c_calls"]}
+CRATES = {NAME: ["program_server", "program_client", "program_explain", "program_directory"], LIBRARY: ["c_api"]}
 
 # Maintainer scripts with their arguments, and the calls that they make on a machine with systemd. None starts or
 # restarts the server.

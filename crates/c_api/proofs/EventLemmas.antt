@@ -1,0 +1,78 @@
+-- The numbers of tokens, and the frames of events.
+use Rattle.std.proofs.Common.{◌≡◌, ℕ, ◌+◌, ◌-◌, ◌*◌, ◌≤◌, Bool, true, false, List, [], ◌∷◌, ◌++◌, length, Option, Some}
+use Rattle.std.proofs.Common.{None, Result, Ok, Err, sym, ap, ◌∙◌, arith}
+use Rattle.std.specs.Prelude.{fold}
+use Rattle.std.proofs.lemmas.Bool.Decides.{nat_tests}
+use Rattle.std.proofs.lemmas.List.Sums.{fold-append}
+use Rattle.coap_wire.specs.Message.{Message}
+use Rattle.coap_wire.specs.Recognition.{first_critical}
+use Rattle.coap_wire.specs.Uint.{uint_of}
+use Rattle.coap_wire.specs.declared.fault.FormatFault.{FormatFault}
+use Rattle.coap_client_engine.specs.ClientValues.{ClientEventValue, response_event, Response, Notification}
+use Rattle.coap_client_engine.specs.EventViews.{received_event}
+use Rattle.coap_client_engine.specs.declared.client.Received.{Received}
+use Rattle.coap_client_engine.specs.declared.client.Received.TheVariants as received
+use Rattle.c_api.specs.ClientEvents.{token_number}
+
+-- ---- tokens
+
+shifted : (k : ℕ) (low : List ℕ) → length low ≡ 4 → fold (λ n b. 256 * n + b) k low ≡ k * 4294967296 + uint_of low
+shifted k [] is = absurd (omega (arith, is))
+shifted k (a ∷ []) is = absurd (omega (arith, is))
+shifted k (a ∷ b ∷ []) is = absurd (omega (arith, is))
+shifted k (a ∷ b ∷ c ∷ []) is = absurd (omega (arith, is))
+shifted k (a ∷ b ∷ c ∷ d ∷ []) is = omega arith
+shifted k (a ∷ b ∷ c ∷ d ∷ e ∷ es) is = absurd (omega (arith, is))
+
+-- A number in two parts, of which the second has 4 bytes unless the first is empty.
+pub uint_in_two : (high low : List ℕ) → length high ≡ length high + length low - 4
+    → uint_of (high ++ low) ≡ uint_of high * 4294967296 + uint_of low
+uint_in_two [] low is = omega arith
+uint_in_two (x ∷ xs) low is =
+    fold-append (λ n b. 256 * n + b) 0 (x ∷ xs) low ∙ shifted (uint_of (x ∷ xs)) low (omega (arith, is))
+
+pub token_short : (bytes : List ℕ) → length bytes ≤ 8 → token_number bytes ≡ uint_of bytes
+token_short bytes short = grind (arith, nat_tests)
+
+-- ---- the frames of responses
+
+event_of_response : (n m : Message) (token : List ℕ) (last : Bool) (critical : Option ℕ)
+    → response_event n token last critical ≡ Response m → n ≡ m
+event_of_response n m token last (Some number) is = absurd cc
+event_of_response n m token true None is = cc
+event_of_response n m token false None is = absurd cc
+
+event_of_notification : (n m : Message) (token : List ℕ) (last : Bool) (critical : Option ℕ)
+    → response_event n token last critical ≡ Notification m → n ≡ m
+event_of_notification n m token last (Some number) is = absurd cc
+event_of_notification n m token true None is = absurd cc
+event_of_notification n m token false None is = cc
+
+some_event : (e f : ClientEventValue) → Some e ≡ Some f → e ≡ f
+some_event e f is = cc
+
+-- The frame of a response has its message.
+pub received_response : (h : Received) (read : Result Message FormatFault) (m : Message)
+    → Some (Response m) ≡ received_event h read → read ≡ Ok m
+received_response received.Nothing read m is = absurd cc
+received_response received.Ready read m is = absurd cc
+received_response (received.Answer last) (Ok n) m is =
+    ap Ok (event_of_response n m n.token last (first_critical n.options) (some_event _ _ (sym is)))
+received_response (received.Answer last) (Err e) m is = absurd cc
+received_response (received.Pong custody) (Ok n) m is = absurd cc
+received_response (received.Pong custody) (Err e) m is = absurd cc
+received_response received.Stranger read m is = absurd cc
+received_response (received.Stopped why) read m is = absurd cc
+
+-- So does that of a notification.
+pub received_notification : (h : Received) (read : Result Message FormatFault) (m : Message)
+    → Some (Notification m) ≡ received_event h read → read ≡ Ok m
+received_notification received.Nothing read m is = absurd cc
+received_notification received.Ready read m is = absurd cc
+received_notification (received.Answer last) (Ok n) m is =
+    ap Ok (event_of_notification n m n.token last (first_critical n.options) (some_event _ _ (sym is)))
+received_notification (received.Answer last) (Err e) m is = absurd cc
+received_notification (received.Pong custody) (Ok n) m is = absurd cc
+received_notification (received.Pong custody) (Err e) m is = absurd cc
+received_notification received.Stranger read m is = absurd cc
+received_notification (received.Stopped why) read m is = absurd cc
