@@ -16,7 +16,7 @@ use Rattle.coap_log.specs.declared.limit.Admission.TheVariants.{LeftOut, Line, A
 -- The line is this text after a time and the name of a program, as in 2026-11-27T05:18:31.042Z coap-server: TEXT.
 abbrev pub IsDated : List ℕ → ℕ → List ℕ → List ℕ → Type 0
 IsDated program nanos text line =
-    (time : List ℕ) × IsTimeText nanos time
+    (time : List ℕ) × IsTimeText 3 nanos time
     × (line ≡ appended LINE_LENGTH [] (time ++ codes " " ++ program ++ codes ": " ++ text))
 
 -- The text of a report of lines left out.

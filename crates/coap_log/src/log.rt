@@ -145,7 +145,7 @@ fn dated(now: Duration, program: &Line, text: &Line) -> Line
     ensures { IsDated program.now (as_nanos now) text.now result }
 {
     let mut line = Line::new();
-    append_time(&mut line, now);
+    append_time(&mut line, now, 3);
     line.text(" ");
     line.line(program);
     line.text(": ");

@@ -16,12 +16,14 @@ use std::time::Duration;
 /// Last nanosecond of the year 9999, after the start of 1970.
 const LAST_TIME: u128 = 253_402_300_799_999_999_999;
 
-/// Appends a time to a line, in UTC with milliseconds, as in `2026-11-27T05:18:31.042Z` (RFC 3339). The time counts
-/// from the start of 1970. A time after the year 9999 is written as the last one of that year.
-pub fn append_time(line: &mut Line, time: Duration)
-    ensures { (text : List ℕ) × IsTimeText (as_nanos time) text × (line.new ≡ appended LINE_LENGTH line.old text) }
+/// Appends a time to a line, in UTC, as in `2026-11-27T05:18:31.042Z` (RFC 3339). The time counts from the start of
+/// 1970. A time after the year 9999 is written as the last one of that year. The fraction of the second has this number
+/// of digits, at most 9. With 0 it is left out.
+pub fn append_time(line: &mut Line, time: Duration, digits: u8)
+    ensures { (text : List ℕ) × IsTimeText digits (as_nanos time) text
+        × (line.new ≡ appended LINE_LENGTH line.old text) }
 {
-    append_moment(line, moment_of(time));
+    append_moment(line, moment_of(time), digits);
 }
 
 /// Returns the date and the time of day in UTC.
@@ -32,18 +34,18 @@ fn moment_of(time: Duration) -> DateTime
 }
 
 /// Appends a date and a time of day in UTC.
-fn append_moment(line: &mut Line, moment: DateTime)
-    ensures { line.new ≡ appended LINE_LENGTH line.old (moment_text moment) }
+fn append_moment(line: &mut Line, moment: DateTime, digits: u8)
+    ensures { line.new ≡ appended LINE_LENGTH line.old (moment_text digits moment) }
 {
-    line.text(text_of(moment).as_str());
+    line.text(text_of(moment, digits).as_str());
     line.text("Z");
 }
 
 /// Returns a date and a time of day as text, without a time zone.
-fn text_of(moment: DateTime) -> ArrayString<32>
-    ensures { result.bytes ≡ local_text moment }
+fn text_of(moment: DateTime, digits: u8) -> ArrayString<32>
+    ensures { result.bytes ≡ local_text digits moment }
 {
     DateTimePrinter::new()
-        .precision(Some(3))
+        .precision(Some(digits))
         .datetime_text(moment)
 }

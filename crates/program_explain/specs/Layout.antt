@@ -1,15 +1,13 @@
 -- Defined by this project: the lines of an explanation.
-use Rattle.std.specs.Prelude.{◌≡◌, ℕ, ◌*◌, Bool, true, false, List, [], ◌++◌, nat_le, nat_lt, pos, Option, Some, None}
+use Rattle.std.specs.Prelude.{◌≡◌, ℕ, ◌*◌, Bool, true, false, List, [], ◌++◌, nat_le, nat_lt, Option, Some, None}
 use Rattle.std.specs.Prelude.{codes, decimal, if◌then◌else◌}
-use Rattle.jiff_core.specs.DateTime.{civil_nanos}
-use Rattle.jiff_core.specs.declared.civil.datetime.DateTime.{DateTime}
-use Rattle.jiff_fmt.specs.Text.{datetime_text}
 use Rattle.coap_conn.specs.declared.reason.Reason.{Reason}
 use Rattle.coap_print.specs.Texts.{escaped_text}
 use Rattle.coap_print.specs.Lines.{appended}
 use Rattle.coap_print.specs.Descriptions.{representation_text}
 use Rattle.coap_print.specs.declared.line.TheConstants.{LINE_LENGTH}
 use Rattle.coap_log.specs.Taps.{TapValue}
+use Rattle.coap_log.specs.Times.{IsTimeText}
 use Rattle.coap_log.specs.Connections.{counts_text, tap_text}
 use Rattle.program_server_common.specs.Reasons.{reason_text}
 use Rattle.program_explain.specs.declared.layout.Way.{Way}
@@ -109,21 +107,13 @@ comment_line text = line_of (escaped_text text)
 abbrev pub last_second : ℕ
 last_second = 253_402_300_799
 
--- The date and the time of day are those of a second after the start of 1970, in UTC.
-abbrev pub IsDateOf : ℕ → DateTime → Type 0
-IsDateOf seconds date = civil_nanos date ≡ pos (seconds * 1_000_000_000)
+-- The line of a second, with its date and time of day in parentheses, as in (2026-11-23T19:07:33Z), or without them.
+abbrev pub IsSecondLine : Bool → ℕ → List ℕ → Type 0
+IsSecondLine true seconds line =
+    (date : List ℕ) × IsTimeText 0 (seconds * 1_000_000_000) date
+    × (line ≡ line_of (codes "        time " ++ decimal seconds ++ codes " (" ++ date ++ codes ")"))
+IsSecondLine false seconds line = line ≡ line_of (codes "        time " ++ decimal seconds)
 
--- A date and a time of day in parentheses, as in (2026-11-23T19:07:33Z).
-abbrev pub date_text : DateTime → List ℕ
-date_text date = codes " (" ++ escaped_text (datetime_text false 84 (Some 0) date) ++ codes "Z)"
-
--- The text after the number of a second: its date and time of day, if its year has at most four digits.
-abbrev pub IsDatePart : Bool → ℕ → List ℕ → Type 0
-IsDatePart true seconds text = (date : DateTime) × IsDateOf seconds date × (text ≡ date_text date)
-IsDatePart false seconds text = text ≡ []
-
--- The line of a time of the server, in seconds.
+-- The line of a time of the server, in seconds. It has a date if its year has at most four digits.
 abbrev pub IsTimeLine : ℕ → List ℕ → Type 0
-IsTimeLine seconds line =
-    (text : List ℕ) × IsDatePart (nat_le seconds last_second) seconds text
-    × (line ≡ line_of (codes "        time " ++ decimal seconds ++ text))
+IsTimeLine seconds line = IsSecondLine (nat_le seconds last_second) seconds line

@@ -4,19 +4,18 @@
 //! with blanks, except for comments.
 #![tactic(auto, using(coap_print::proofs::LineLaws::pieces))]
 
-ghost use Rattle.std.specs.Prelude.{◌≡◌, ◌≤◌, [], true, nat_le, ℕ, List};
+ghost use Rattle.std.specs.Prelude.{◌≡◌, true, nat_le};
 ghost use Rattle.coap_print.specs.Texts.{is_text};
 ghost use Rattle.coap_print.specs.Lines.{appended};
 ghost use Rattle.coap_print.specs.declared.line.TheConstants.{LINE_LENGTH};
 ghost use Rattle.program_explain.specs.Layout as spec;
 
 use coap_conn::Reason;
-use coap_log::{Tap, append_counts, append_message};
+use coap_log::{Tap, append_counts, append_message, append_time};
 use coap_model::ConnId;
 use coap_print::{Line, describe_representation};
-use jiff_core::civil::DateTime;
-use jiff_fmt::temporal::DateTimePrinter;
 use program_server_common::text_of;
+use std::time::Duration;
 
 /// Direction of a message.
 #[derive(Clone, Copy)]
@@ -194,8 +193,8 @@ pub(crate) fn comment_line(text: &[u8]) -> Line
     line
 }
 
-/// Returns the line about the time of the server, in seconds. The date and the time of day follow, in UTC. They are
-/// left out if the number, counted from the start of 1970, is a time after the year 9999.
+/// Returns the line about the time of the server, in seconds. The date and the time of day follow in parentheses, in
+/// UTC. They are left out if the number, counted from the start of 1970, is a time after the year 9999.
 pub(crate) fn time_line(seconds: u64) -> Line
     ensures { spec.IsTimeLine seconds result }
 {
@@ -203,7 +202,9 @@ pub(crate) fn time_line(seconds: u64) -> Line
     line.text("        time ");
     line.number(seconds);
     if has_date(seconds) {
-        append_date(&mut line, date_of(seconds));
+        line.text(" (");
+        append_time(&mut line, Duration::from_secs(seconds), 0);
+        line.text(")");
     }
     line
 }
@@ -213,24 +214,4 @@ fn has_date(seconds: u64) -> bool
     ensures { result ≡ nat_le seconds spec.last_second }
 {
     seconds <= LAST_SECOND
-}
-
-/// Returns the date and the time of day of a second, in UTC.
-fn date_of(seconds: u64) -> DateTime
-    requires { seconds ≤ spec.last_second }
-    ensures { spec.IsDateOf seconds result }
-{
-    DateTime::from_nanosecond_in_range(i128::from(seconds) * 1_000_000_000)
-}
-
-/// Appends a date and a time of day in parentheses.
-fn append_date(line: &mut Line, date: DateTime)
-    ensures { line.new ≡ appended LINE_LENGTH line.old (spec.date_text date) }
-{
-    line.text(" (");
-    let text = DateTimePrinter::new()
-        .precision(Some(0))
-        .datetime_text(date);
-    line.escaped(text.as_str().as_bytes());
-    line.text("Z)");
 }

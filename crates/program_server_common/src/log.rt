@@ -1,13 +1,13 @@
 //! The log of a serving server: warnings, connections and messages, up to a level.
 
-ghost use Rattle.std.specs.Prelude.{◌≡◌, ◌≤◌, length, take};
+ghost use Rattle.std.specs.Prelude.{◌≡◌};
 ghost use Rattle.program_server_common.specs.ConnectionEnds.{end_text};
 ghost use Rattle.program_server_common.specs.Refusals.{is_refusal};
 
 use crate::text_of;
 use coap_conn::Reason;
 use coap_log::{
-    COUNTED, DESCRIBED, LineWriter, Log, Stderr, Tap, append_counts, describe_head, head_code,
+    COUNTED, DESCRIBED, LineWriter, Log, Stderr, Tap, append_counts, append_message, head_code,
 };
 use coap_model::{Config, ConnId, Handled};
 use coap_print::{Line, LogLevel};
@@ -355,20 +355,8 @@ fn log_message(
     if log.is_on(level) {
         let mut line = Line::new();
         line.line(front);
-        describe_head(&mut line, described(tap.head()), tap.size());
+        append_message(&mut line, tap);
         log.line(level, now, &line);
-    }
-}
-
-/// Returns the first bytes of a message, at most 2,048.
-fn described(head: &[u8]) -> &[u8]
-    ensures bytes { result.now ≡ take DESCRIBED head.now }
-    ensures few { length result.now ≤ DESCRIBED }
-{
-    if head.len() <= DESCRIBED {
-        head
-    } else {
-        &head[..DESCRIBED]
     }
 }
 

@@ -51,7 +51,8 @@ fn method(matches: &ArgMatches<'_>) -> Result<Method, BadValue>
     }
 }
 
-/// Numbers of content formats by their full names.
+/// Numbers of content formats by their full names. The list is separate from that of `coap_print`, which has more names
+/// for logs: a name that is added there changes no option.
 const FORMATS: &[(&str, u16)] = &[
     ("text/plain", 0),
     ("application/link-format", 40),

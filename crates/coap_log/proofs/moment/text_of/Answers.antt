@@ -5,4 +5,4 @@ use Rattle.coap_log.proofs.moment.text_of.Goals as goal
 pub returns : goal.returns
 returns c =
     c.datetime_text.ensures ∙ ap (λ (o : Bool × ℕ × Option ℕ). datetime_text o.0 o.1 o.2 c.args.moment)
-    (c.precision.ensures ∙ ap (λ (o : Bool × ℕ × Option ℕ). (o.0, o.1, Some 3)) c.new.ensures)
+    (c.precision.ensures ∙ ap (λ (o : Bool × ℕ × Option ℕ). (o.0, o.1, Some c.args.digits)) c.new.ensures)
