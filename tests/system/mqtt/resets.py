@@ -6,6 +6,7 @@ import re
 import signal
 import struct
 import termios
+import time
 
 from gateway_checks import run
 from gateways import CONTENT, GET, PREFIX, PUT, Gateway, Setting, soon
@@ -15,19 +16,31 @@ from rows import HARNESS
 
 def check_reset(checks, program):
     """Checks that the requests before a reset are processed, also more than one buffer of them."""
+    # A gateway that was stopped for 5 seconds leaves the broker. On a busy machine the check begins anew then.
+    is_in_time = any(is_reset_in_time(checks, program) for _ in range(10))
+    checks.same("stopped for less than 4 seconds", is_in_time, True)
+
+
+def is_reset_in_time(checks, program):
+    """Makes the checks of check_reset. Returns false, after the first one, if the gateway was stopped for too long."""
     with Setting(program, 1, words=["--pending", "256", "--max-message", "1152", "--max-sent", "1152"]) as setting:
         gateway, (other,) = setting.gateways[0], setting.peers()
         with gateway.peer() as peer:
             checks.same("a request", peer.code(GET, "time"), CONTENT)
+            stopped = time.monotonic()
             gateway.process.send_signal(signal.SIGSTOP)
             for at in range(50):
                 peer.send(PUT, f"{PREFIX}/{at}", payload=bytes(900))
-            checks.same("the system of the gateway has all bytes", soon(lambda: unacknowledged(peer.socket), 0), 0)
+            has_all = soon(lambda: unacknowledged(peer.socket), 0) == 0
             reset(peer.socket)
             gateway.process.send_signal(signal.SIGCONT)
-        found = soon(lambda: [other.code(GET, f"{PREFIX}/{at}") for at in range(50)], 50 * [CONTENT], 5)
+            if time.monotonic() > stopped + 4:
+                return False
+        checks.same("the system of the gateway has all bytes", has_all, True)
+        found = soon(lambda: [other.code(GET, f"{PREFIX}/{at}") for at in range(50)], 50 * [CONTENT])
         checks.same("writes before a reset", found.count(CONTENT), 50)
         checks.same("the connection has ended", gateway.says(" ended"), True)
+    return True
 
 
 def unacknowledged(connection):
