@@ -1,19 +1,26 @@
 -- Lists of calls: their bytes, their steps, the connection after them, and which calls are accepted.
-use Rattle.std.proofs.Common.{◌≡◌, ℕ, ◌-◌, ◌<◌, ◌≤◌, List, [], ◌∷◌, ◌++◌, length, map, Option, Some, None, refl, sym}
-use Rattle.std.proofs.Common.{ap, subst, ◌∙◌, append_assoc, arith}
+use Rattle.std.proofs.Common.{◌≡◌, ℕ, ◌-◌, ◌<◌, ◌≤◌, Bool, true, List, [], ◌∷◌, ◌++◌, length, map, None, refl, sym}
+use Rattle.std.proofs.Common.{ap, ◌∙◌, append_assoc, arith}
 use Rattle.coap_client_engine.specs.Prelude.{flat_map, Message, Unfinished, prefix_kind, StreamFault, Stream, split}
 use Rattle.coap_client_engine.specs.Prelude.{sized_split, sizes_first, constant_size, stream_after}
 use Rattle.coap_client_engine.specs.Prelude.{continued, split_on, framing, LimitValues, History, new_history, Client}
 use Rattle.coap_client_engine.specs.Prelude.{ClientCall, Took, ClientStep, Handles, taken_by, stream_in, new_fault}
 use Rattle.coap_client_engine.specs.Prelude.{size_by, size_in, sizes_in, beyond, AllByRecursion, KeepsSize}
 use Rattle.coap_client_engine.specs.Prelude.{steps_by, later_steps, steps_of, after_steps, client_after, IsAccepted}
-use Rattle.coap_client_engine.specs.Prelude.{AreAcceptedAfter, AreAccepted}
+use Rattle.coap_client_engine.specs.Prelude.{AreAcceptedAfter, AreAccepted, Faults, Requests, Cancels, Pings, Forgets}
+use Rattle.coap_client_engine.specs.Prelude.{Releases, Announces, Writes, Ends, reject_of, link_of, release_refusal}
+use Rattle.coap_client_engine.specs.Prelude.{announce_refusal, may_announce, is_open}
+use Rattle.std.proofs.lemmas.Bool.{cond_both}
 use Rattle.std.proofs.lemmas.Bool.Decides.{nat_tests}
 use Rattle.std.proofs.lemmas.List.{append-nil, length-append}
 use Rattle.std.proofs.lemmas.List.Concat.{flat_map-append}
 use Rattle.std.proofs.Math.Seq.{drop-length, drop-append_seam}
 use Rattle.coap_wire.proofs.StreamSteps.{unfinished_empty, split_unfinished, split_is, split_same_to}
 use Rattle.coap_wire.proofs.SizesLaws.{first_always, went_on, left_unfinished}
+use Rattle.coap_conn.specs.Calls as call
+use Rattle.coap_conn.specs.Calls.{Call, call_effect}
+use Rattle.coap_conn.specs.History.{with_deed}
+use Rattle.coap_conn.proofs.AskingLaws.{none_where}
 use Rattle.coap_client_engine.specs.ClientWorld as client
 use Rattle.coap_frame.proofs.FrontLaws.{added_by, added_whole}
 
@@ -22,9 +29,7 @@ use Rattle.coap_frame.proofs.FrontLaws.{added_by, added_whole}
 -- The bytes of one more call.
 pub taken_with_call : (calls : List ClientCall) (c : ClientCall)
     → flat_map taken_by (calls ++ c ∷ []) ≡ flat_map taken_by calls ++ taken_by c
-taken_with_call calls c =
-    flat_map-append taken_by calls (c ∷ [])
-    ∙ ap (λ (t : List ℕ). flat_map taken_by calls ++ t) (append-nil (taken_by c))
+taken_with_call calls c = simp (flat_map-append, append-nil)
 
 -- ---- sizes
 
@@ -90,10 +95,7 @@ read_before M calls c =
 -- A call without bytes keeps the stream.
 pub stream_stays : (M : ℕ) (calls : List ClientCall) (c : ClientCall) → taken_by c ≡ []
     → stream_in M (calls ++ c ∷ []) ≡ stream_in M calls
-stream_stays M calls c none =
-    read_before M calls c
-    ∙ ap (sized_split (sizes_in M calls)) (ap (λ (t : List ℕ). flat_map taken_by calls ++ t) none
-    ∙ append-nil (flat_map taken_by calls))
+stream_stays M calls c none = read_before M calls c ∙ rw (none, append-nil)
 
 -- Accepted bytes continue the stream with the current size.
 pub stream_by : (M : ℕ) (calls : List ClientCall) (c : ClientCall)
@@ -122,24 +124,18 @@ stream_rest_unfinished M calls none =
 size_kept : (M : ℕ) (calls : List ClientCall) → AllByRecursion KeepsSize calls → size_in M calls ≡ M
 unfolding size_in
 size_kept M [] keeps = refl
-size_kept M (c ∷ calls) keeps = ap (λ (N : ℕ). size_in N calls) (keeps.0 M) ∙ size_kept M calls keeps.1
+size_kept M (c ∷ calls) keeps = rw (keeps.0 M) (size_kept M calls keeps.1)
 
 sizes_kept : (M : ℕ) (calls : List ClientCall) → AllByRecursion KeepsSize calls → sizes_in M calls ≡ constant_size M
 unfolding sizes_in
 sizes_kept M [] keeps = refl
 sizes_kept M (c ∷ calls) keeps =
-    ap (λ (N : ℕ). sizes_first (length (taken_by c)) M (sizes_in N calls)) (keeps.0 M)
-    ∙ ap (sizes_first (length (taken_by c)) M) (sizes_kept M calls keeps.1)
-    ∙ first_always (length (taken_by c)) M
+    rw (keeps.0 M, sizes_kept M calls keeps.1) (first_always (length (taken_by c)) M)
 
 -- The size of the limits applies to all bytes.
 pub unannounced : (M : ℕ) (calls : List ClientCall) → AllByRecursion KeepsSize calls
     → (size_in M calls ≡ M) × (stream_in M calls ≡ split M (flat_map taken_by calls))
-unannounced M calls keeps = (
-  size_kept M calls keeps,
-  ap (λ (sizes : ℕ → ℕ). sized_split sizes (flat_map taken_by calls)) (sizes_kept M calls keeps)
-      ∙ sym (split_is M (flat_map taken_by calls)),
-)
+unannounced M calls keeps = (size_kept M calls keeps, rw (sizes_kept M calls keeps) (sym (split_is M _)))
 
 -- ---- steps
 
@@ -154,20 +150,13 @@ client_steps_then h (s ∷ ss) ts = client_steps_then (client.step h s) ss ts
 pub later_call_steps_more : (M : ℕ) (a calls more : List ClientCall)
     → later_steps M a (calls ++ more) ≡ later_steps M a calls ++ later_steps M (a ++ calls) more
 unfolding later_steps
-later_call_steps_more M a [] more = ap (λ (b : List ClientCall). later_steps M b more) (sym (append-nil a))
-later_call_steps_more M a (c ∷ calls) more =
-    ap (λ (t : List ClientStep). steps_by M a c ++ t) (later_call_steps_more M (a ++ c ∷ []) calls more)
-    ∙ sym
-    (append_assoc (steps_by M a c) (later_steps M (a ++ c ∷ []) calls) (later_steps M ((a ++ c ∷ []) ++ calls) more))
-    ∙ ap (λ (b : List ClientCall). (steps_by M a c ++ later_steps M (a ++ c ∷ []) calls) ++ later_steps M b more)
-    (append_assoc a (c ∷ []) calls)
+later_call_steps_more M a [] more = rw append-nil
+later_call_steps_more M a (c ∷ calls) more = simp (append_assoc, later_call_steps_more M (a ++ c ∷ []) calls more)
 
 pub steps_with_call : (M : ℕ) (calls : List ClientCall) (c : ClientCall)
     → steps_of M (calls ++ c ∷ []) ≡ steps_of M calls ++ steps_by M calls c
 unfolding steps_of later_steps
-steps_with_call M calls c =
-    later_call_steps_more M [] calls (c ∷ [])
-    ∙ ap (λ (t : List ClientStep). later_steps M [] calls ++ t) (append-nil (steps_by M calls c))
+steps_with_call M calls c = later_call_steps_more M [] calls (c ∷ []) ∙ simp append-nil
 
 -- ---- the connection
 
@@ -181,25 +170,58 @@ pub client_more : (limits : LimitValues) (tokens : ℕ) (calls : List ClientCall
     → client_after limits tokens (calls ++ c ∷ [])
     ≡ after_steps (client_after limits tokens calls) (steps_by limits.max_message calls c)
 unfolding client_after
-client_more limits tokens calls c =
-    ap (after_steps (new_history Client limits tokens)) (steps_with_call limits.max_message calls c)
-    ∙ client_steps_then (new_history Client limits tokens) (steps_of limits.max_message calls)
-    (steps_by limits.max_message calls c)
+client_more limits tokens calls c = rw steps_with_call (client_steps_then _ _ _)
 
 -- The history after a call that makes no step, or one step.
 pub client_same : (limits : LimitValues) (tokens : ℕ) (calls : List ClientCall) (c : ClientCall)
     → steps_by limits.max_message calls c ≡ []
     → client_after limits tokens (calls ++ c ∷ []) ≡ client_after limits tokens calls
 unfolding after_steps
-client_same limits tokens calls c none =
-    client_more limits tokens calls c ∙ ap (after_steps (client_after limits tokens calls)) none
+client_same limits tokens calls c none = client_more limits tokens calls c ∙ rw none
 
 pub client_step : (limits : LimitValues) (tokens : ℕ) (calls : List ClientCall) (c : ClientCall) (s : ClientStep)
     → steps_by limits.max_message calls c ≡ s ∷ []
     → client_after limits tokens (calls ++ c ∷ []) ≡ client.step (client_after limits tokens calls) s
 unfolding after_steps
-client_step limits tokens calls c s one =
-    client_more limits tokens calls c ∙ ap (after_steps (client_after limits tokens calls)) one
+client_step limits tokens calls c s one = client_more limits tokens calls c ∙ rw one
+
+-- The call on the link that a step makes.
+abbrev pub step_call : ClientStep → Call
+step_call (Handles m) = call.Handle m
+step_call (Faults fault) = call.Reject (reject_of fault)
+step_call (Requests m observe) = call.Request m observe
+step_call (Cancels token m) = call.Cancel token m
+step_call (Pings custody) = call.Ping custody
+step_call (Forgets token) = call.Forget token
+step_call Releases = call.Release
+step_call (Announces size) = call.Announce size
+step_call (Writes n) = call.Written n
+step_call (Ends cut) = call.End cut
+
+-- Says that a step has an effect.
+abbrev pub Acts : History → ClientStep → Type 0
+Acts h Releases = (release_refusal (link_of h) ≡ None) × (is_open h.phase ≡ true)
+Acts h (Announces size) = (announce_refusal (link_of h) size ≡ None) × (may_announce (link_of h) size ≡ true)
+Acts h s = (call_effect (link_of h) (step_call s)).so ≡ true
+
+-- The history after the effect of a step.
+abbrev pub stepped : History → ClientStep → History
+stepped h s = with_deed h (call_effect (link_of h) (step_call s)).deed
+
+-- What holds of a history and of the effect of a step holds after the step.
+pub step_so : (h : History) (s : ClientStep) (P : History → Type 0) → P h → (Acts h s → P (stepped h s))
+    → P (client.step h s)
+unfolding client.step
+step_so h Releases P stays acts =
+    cond_both _ _ h P (λ none. cond_both _ _ h P (λ may. acts (none_where _ none, may)) (λ _. stays)) (λ _. stays)
+step_so h (Announces size) P stays acts =
+    cond_both _ _ h P (λ none. cond_both _ _ h P (λ may. acts (none_where _ none, may)) (λ _. stays)) (λ _. stays)
+step_so h s P stays acts = cond_both _ _ h P acts (λ _. stays)
+
+-- No step decreases the number of the last token.
+pub step_tokens : (h : History) (s : ClientStep) → h.tokens ≤ (client.step h s).tokens
+unfolding client.step
+step_tokens h s = grind arith
 
 -- ---- accepted calls
 
@@ -207,13 +229,9 @@ accepted_after_calls : (limits : LimitValues) (tokens : ℕ) (a calls : List Cli
     → AreAcceptedAfter limits tokens a calls → IsAccepted limits tokens (a ++ calls) c
     → AreAcceptedAfter limits tokens a (calls ++ c ∷ [])
 unfolding AreAcceptedAfter
-accepted_after_calls limits tokens a [] c before last =
-    (subst (λ (b : List ClientCall). IsAccepted limits tokens b c) (append-nil a) last, tt)
-accepted_after_calls limits tokens a (d ∷ calls) c before last = (
-  before.0,
-  accepted_after_calls limits tokens (a ++ d ∷ []) calls c before.1
-      (subst (λ (b : List ClientCall). IsAccepted limits tokens b c) (sym (append_assoc a (d ∷ []) calls)) last),
-)
+accepted_after_calls limits tokens a [] c before last = (rw append-nil at last, tt)
+accepted_after_calls limits tokens a (d ∷ calls) c before last =
+    (before.0, accepted_after_calls limits tokens (a ++ d ∷ []) calls c before.1 (rw append_assoc last))
 
 -- The empty list of calls is accepted.
 pub accepted_no_call : (limits : LimitValues) (tokens : ℕ) → AreAccepted limits tokens []
@@ -232,9 +250,9 @@ by_later_calls : (limits : LimitValues) (tokens : ℕ) (P : List ClientCall → 
     → (a calls : List ClientCall) → AreAccepted limits tokens a → P a
     → AreAcceptedAfter limits tokens a calls → P (a ++ calls)
 unfolding AreAcceptedAfter
-by_later_calls limits tokens P go a [] before holds all = subst P (sym (append-nil a)) holds
+by_later_calls limits tokens P go a [] before holds all = rw append-nil holds
 by_later_calls limits tokens P go a (c ∷ calls) before holds all =
-    subst P (append_assoc a (c ∷ []) calls) (by_later_calls limits tokens P go (a ++ c ∷ []) calls
+    rw append_assoc at (by_later_calls limits tokens P go (a ++ c ∷ []) calls
     (accepted_with_call limits tokens a c before all.0) (go a c before all.0 holds) all.1)
 
 pub by_calls : (limits : LimitValues) (tokens : ℕ) (P : List ClientCall → Type 0) → P []
@@ -251,29 +269,13 @@ pub record AddsTo (M : ℕ) (calls : List ClientCall) (bytes : List ℕ) (added 
   pub steps : steps_by M calls (Took bytes) ≡ map Handles added.messages ++ new_fault None added.fault
   pub stream : stream_in M (calls ++ Took bytes ∷ []) ≡ stream_after (stream_in M calls).messages added
 
--- The added steps, if the stream before has no fault.
-steps_beyond_added : (before after added : Stream) → before.fault ≡ None → after ≡ stream_after before.messages added
-    → beyond before after ≡ map Handles added.messages ++ new_fault None added.fault
-steps_beyond_added before after added none is =
-    ap (beyond before) is
-    ∙ ap (λ (ms : List Message). map Handles ms ++ new_fault before.fault added.fault)
-    (drop-append_seam before.messages added.messages)
-    ∙ ap (λ (f : Option StreamFault). map Handles added.messages ++ new_fault f added.fault) none
-
 pub take_adds : (M : ℕ) (calls : List ClientCall) (bytes : List ℕ) (added : Stream) → (stream_in M calls).fault ≡ None
     → split (size_in M calls) ((stream_in M calls).rest ++ bytes) ≡ added → AddsTo M calls bytes added
 unfolding steps_by
 take_adds M calls bytes added none is =
-    let before : Stream = stream_in M calls in
-    let after : stream_in M (calls ++ Took bytes ∷ []) ≡ stream_after before.messages added =
-    stream_goes_on M calls bytes
-    ∙ ap (λ (f : Option StreamFault). continued before f (split (size_in M calls) (before.rest ++ bytes))) none
-    ∙ ap (stream_after before.messages) is
-    in
-    record {
-      steps = steps_beyond_added (stream_in M calls) (stream_in M (calls ++ Took bytes ∷ [])) added none after;
-      stream = after;
-    }
+    let after : stream_in M (calls ++ Took bytes ∷ []) ≡ stream_after (stream_in M calls).messages added =
+    stream_goes_on M calls bytes ∙ rw (none, is) in
+    record { steps = rw (after, none, drop-append_seam); stream = after }
 
 -- Bytes that are accepted in full add what the framer finds in them, if the stream has no fault.
 pub adds_whole : (M : ℕ) (calls : List ClientCall) (bytes : List ℕ) → (stream_in M calls).fault ≡ None
@@ -286,15 +288,12 @@ adds_whole M calls bytes none all =
 -- ---- no bytes
 
 -- The empty slice makes no step and keeps the stream, with or without a fault.
-pub nothing_beyond_itself : (s : Stream) (fault : Option StreamFault) → s.fault ≡ fault → beyond s s ≡ []
-nothing_beyond_itself s None e = rw (drop-length s.messages) (rw e refl)
-nothing_beyond_itself s (Some fault) e = rw (drop-length s.messages) (rw e refl)
+pub nothing_beyond_itself : (s : Stream) → beyond s s ≡ []
+nothing_beyond_itself s = grind (arith, drop-length)
 
 pub empty_take_stream : (M : ℕ) (calls : List ClientCall) → stream_in M (calls ++ Took [] ∷ []) ≡ stream_in M calls
 empty_take_stream M calls = stream_stays M calls (Took []) refl
 
 pub empty_take_steps : (M : ℕ) (calls : List ClientCall) → steps_by M calls (Took []) ≡ []
 unfolding steps_by
-empty_take_steps M calls =
-    ap (beyond (stream_in M calls)) (empty_take_stream M calls)
-    ∙ nothing_beyond_itself (stream_in M calls) (stream_in M calls).fault refl
+empty_take_steps M calls = rw empty_take_stream (nothing_beyond_itself (stream_in M calls))

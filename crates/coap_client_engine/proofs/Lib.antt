@@ -9,8 +9,6 @@ pub mod TokenLaws
 pub mod ForgetLaws
 pub mod HandledLaws
 pub mod FitLaws
-pub mod StandLemmas
 pub mod RunTraceLaws
-pub mod TakenLemmas
 pub mod RunLemmas
 mod LineRules

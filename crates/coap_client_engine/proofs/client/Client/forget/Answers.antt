@@ -1,7 +1,8 @@
-use Rattle.coap_client_engine.proofs.ClientShown.{forgotten_here}
+use Rattle.std.proofs.Common.{arith}
+use Rattle.coap_client_engine.specs.Prelude.{Forgot}
+use Rattle.coap_client_engine.proofs.ClientShown.{ok_shown}
 use Rattle.coap_client_engine.proofs.client.Client.forget.Goals as goal
 
 pub returns-clause-shows : goal.returns-clause-shows
 returns-clause-shows c =
-    forgotten_here c.forget.result c.args.self.now c.self.inside.framer.kept c.self.inside.link c.forget.new.self
-    c.args.token.now.items c.self.view_is c.forget.ensures.answer c.forget.ensures.after
+    ok_shown c.forget.result c.args.self.now _ (Forgot c.args.token.now.items) (grind arith) (grind arith)

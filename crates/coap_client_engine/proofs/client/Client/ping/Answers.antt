@@ -1,7 +1,8 @@
-use Rattle.coap_client_engine.proofs.ClientShown.{pinged_here}
+use Rattle.std.proofs.Common.{arith}
+use Rattle.coap_client_engine.specs.Prelude.{Pinged}
+use Rattle.coap_client_engine.proofs.ClientShown.{ok_shown}
 use Rattle.coap_client_engine.proofs.client.Client.ping.Goals as goal
 
 pub returns-clause-shows : goal.returns-clause-shows
 returns-clause-shows c =
-    pinged_here c.ping.result c.args.self.now c.self.inside.framer.kept c.self.inside.link c.ping.new.self
-    c.args.custody c.self.view_is c.ping.ensures.answer c.ping.ensures.after
+    ok_shown c.ping.result c.args.self.now _ (Pinged c.args.custody) (grind arith) (grind arith)

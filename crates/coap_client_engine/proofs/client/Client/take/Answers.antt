@@ -8,8 +8,7 @@ pub returns-then-not-takes : goal.returns-then-not-takes
 returns-then-not-takes c =
     let v = c.args.self.now in
     let p = c.args.piece.now in
-    let none = takes_none c.self.inside v p c.self.invariant c.self.view_is
-    (ap client_takes (sym c.self.view_is) ∙ sym c.takes.ensures ∙ c.if-not-takes.true) in
+    let none = takes_none c.self.inside v p c.self.invariant c.self.view_is (grind arith) in
     let count = ap (λ (t : ClientTakeOutcome). t.count) (sym none) in
     let event = ap (λ (t : ClientTakeOutcome). t.event) (sym none) in (
       (refl, (λ _. tt), c.self.view_is ∙ ap (λ (t : ClientTakeOutcome). t.client) (sym none)),
@@ -19,7 +18,7 @@ returns-then-not-takes c =
         within = omega arith;
         event = event;
         takes = took_takes v p 0 count;
-        reported = took_reported v p 0 None count event;
+        reported = λ tokens calls shows. took_reported v p 0 count tokens calls shows None event;
         shows = took_shown v p 0 count;
       },
     )
@@ -35,25 +34,24 @@ returns c =
     let p = c.args.piece.now in
     let takes = ap client_takes (sym c.self.view_is) ∙ sym c.takes.ensures ∙ c.if-not-takes.false in
     let all = takes_framed c.self.inside v p c.self.invariant c.self.view_is takes in
-    let given =
-    c.frame_of.ensures ∙ ap (λ spent. frame_back spent (take c.take_in-bytes.result.0 p)) c.split_frame.ensures in
-    let count = c.take_in-bytes.ensures.count ∙ framed_count c.self.inside.framer c.self.inside.link p
-    ∙ ap (λ (t : ClientTakeOutcome). t.count) (sym all) in
-    let event = ap (λ frame. received_event c.take_in-bytes.result.1 (message_of frame)) given
-    ∙ c.take_in-bytes.ensures.reported ∙ ap (λ (t : ClientTakeOutcome). t.event) (sym all) in (
+    let taken = c.take_in-bytes.ensures in
+    let count = taken.count ∙ framed_count c.self.inside.framer c.self.inside.link p ∙ ap (λ (t : ClientTakeOutcome). t.count) (sym all) in
+    let event = ap (λ frame. received_event c.take_in-bytes.result.1 (message_of frame))
+    (c.frame_of.ensures ∙ ap (λ spent. frame_back spent (take c.take_in-bytes.result.0 p)) c.split_frame.ensures)
+    ∙ taken.reported ∙ ap (λ (t : ClientTakeOutcome). t.event) (sym all) in (
       (
         refl,
         (λ _. tt),
         took_client c.self.inside v p c.self.invariant c.self.view_is c.take_in-bytes.new.framer
-            c.take_in-bytes.new.link c.take_in-bytes.ensures.framer c.take_in-bytes.ensures.link takes,
+            c.take_in-bytes.new.link taken.framer taken.link takes,
       ),
       record {
         writes_back = tt;
         count = count;
-        within = c.take_in-bytes.ensures.within;
+        within = taken.within;
         event = event;
         takes = took_takes v p c.take_in-bytes.result.0 count;
-        reported = took_reported v p c.take_in-bytes.result.0 _ count event;
+        reported = λ tokens calls shows. took_reported v p c.take_in-bytes.result.0 count tokens calls shows _ event;
         shows = took_shown v p c.take_in-bytes.result.0 count;
       },
     )
