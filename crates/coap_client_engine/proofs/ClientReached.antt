@@ -1,16 +1,16 @@
 -- Properties of a client after accepted calls, and the state of the client after one more call.
-use Rattle.std.proofs.Common.{◌≡◌, ℕ, ◌≤◌, Bool, true, false, cond, List, [], ◌∷◌, ◌++◌, length, map, take, Some, None}
-use Rattle.std.proofs.Common.{Option, Result, Ok, Err, refl, sym, ap, ◌∙◌, arith}
+use Rattle.std.proofs.Common.{◌≡◌, ℕ, ◌≤◌, Bool, true, false, List, [], ◌∷◌, ◌++◌, length, take, Some, None}
+use Rattle.std.proofs.Common.{Result, Ok, Err, refl, sym, ap, ◌∙◌, arith}
 use Rattle.coap_client_engine.specs.Prelude.{nat_le, Message, message_of, StreamFault, OfFrame, Format, Stream}
 use Rattle.coap_client_engine.specs.Prelude.{frame_then, fault_bytes, FormatFault, Framing, FrameEventValue, Nothing}
 use Rattle.coap_client_engine.specs.Prelude.{AFrame, AFault, framing, Client, LimitValues, takes_messages, reject_of}
-use Rattle.coap_client_engine.specs.Prelude.{History, IsHistory, new_history, after, link_of, LinkValue, free_in}
+use Rattle.coap_client_engine.specs.Prelude.{History, IsHistory, after, link_of, LinkValue, free_in}
 use Rattle.coap_client_engine.specs.Prelude.{link_after, request_of, cancel_of, ClientValue, ClientTakeOutcome}
 use Rattle.coap_client_engine.specs.Prelude.{taking_rejected, taking_read, taking_found, taking, is_cut, ClientCall}
 use Rattle.coap_client_engine.specs.Prelude.{announce_refusal, send_refusal, cancelling_refusal, ping_refusal, Took}
 use Rattle.coap_client_engine.specs.Prelude.{may_forget, release_refusal, Sent, Cancelled, Pinged, Forgot, Released}
-use Rattle.coap_client_engine.specs.Prelude.{Announced, Wrote, Ended, ClientStep, Handles, Faults, size_by, size_in}
-use Rattle.coap_client_engine.specs.Prelude.{stream_in, taken_by, new_fault, steps_by, after_steps, client_after}
+use Rattle.coap_client_engine.specs.Prelude.{Announced, Wrote, Ended, ClientStep, size_by, size_in}
+use Rattle.coap_client_engine.specs.Prelude.{stream_in, taken_by, steps_by, after_steps, client_after}
 use Rattle.coap_client_engine.specs.Prelude.{handles, takes, event_by, event_of, IsAccepted, AreAccepted, kept_after}
 use Rattle.coap_client_engine.specs.Prelude.{client_of}
 use Rattle.std.proofs.lemmas.Bool.{and_parts}
@@ -23,7 +23,7 @@ use Rattle.coap_client_engine.specs.ClientWorld as client
 use Rattle.coap_frame.proofs.FrontLaws.{front, front_whole, added_by, added_front, front_kept}
 use Rattle.coap_client_engine.proofs.ClientSteps.{size_with_call, stream_stays, stream_first, stream_rest_unfinished}
 use Rattle.coap_client_engine.proofs.ClientSteps.{client_first, client_same, client_more, by_calls, AddsTo}
-use Rattle.coap_client_engine.proofs.ClientSteps.{take_adds, empty_take_stream, empty_take_steps}
+use Rattle.coap_client_engine.proofs.ClientSteps.{take_adds, steps_added, empty_take_stream, empty_take_steps}
 
 -- ---- steps
 
@@ -116,12 +116,12 @@ left h rest = client_shown h (kept_after h rest)
 -- The result of a `take`, given the steps and the stream that its bytes add to a history.
 record IsTaken (h : History) (taken : ClientTakeOutcome) (n : ℕ) (added : Stream) : Type 0 where
   count : taken.count ≡ n
-  event : taken.event ≡ event_by h (map Handles added.messages ++ new_fault None added.fault)
-  client : taken.client ≡ left (after_steps h (map Handles added.messages ++ new_fault None added.fault)) added.rest
-  is_history : IsHistory (after_steps h (map Handles added.messages ++ new_fault None added.fault))
-  live : takes_messages (after_steps h (map Handles added.messages ++ new_fault None added.fault)).phase ≡ true
+  event : taken.event ≡ event_by h (steps_added added)
+  client : taken.client ≡ left (after_steps h (steps_added added)) added.rest
+  is_history : IsHistory (after_steps h (steps_added added))
+  live : takes_messages (after_steps h (steps_added added)).phase ≡ true
       → added.fault ≡ None
-  size : (after_steps h (map Handles added.messages ++ new_fault None added.fault)).own_max ≡ h.own_max
+  size : (after_steps h (steps_added added)).own_max ≡ h.own_max
 
 module _ (h : History) (is : IsHistory h) (live : takes_messages h.phase ≡ true) (kept bytes : List ℕ) where
   taken_fault : (n : ℕ) (fault : StreamFault) (rest : List ℕ)
@@ -249,7 +249,7 @@ module _ (limits : LimitValues) (tokens : ℕ) (calls : List ClientCall) (before
         (front_kept size_before calls_stream.rest piece)
 
     found_after : client_after limits tokens (after_take taken)
-        ≡ after_steps h (map Handles added.messages ++ new_fault None added.fault)
+        ≡ after_steps h (steps_added added)
     found_after = client_more limits tokens calls (Took taken) ∙ rw found_adds.steps
 
     found_reached : CallsReach limits tokens (after_take taken)

@@ -1,8 +1,8 @@
 -- If the clauses of a call hold for the value of a client, `ClientShows` holds for the client after the call.
-use Rattle.std.proofs.Common.{◌≡◌, ℕ, List, [], ◌∷◌, ◌++◌, take, Option, Some, None, Result, Ok, Err, ap, subst, sym, refl}
+use Rattle.std.proofs.Common.{◌≡◌, ℕ, List, [], ◌∷◌, ◌++◌, take, Option, Result, Ok, Err, ap, subst, sym, refl}
 use Rattle.std.proofs.Common.{◌∙◌}
-use Rattle.coap_client_engine.specs.Prelude.{IfOk, OnOk, Client, LimitValues, LinkValue, link_of, ClientValue, taking}
-use Rattle.coap_client_engine.specs.Prelude.{ClientEventValue, new_client, ClientCall, Took, Wrote, client_after, takes}
+use Rattle.coap_client_engine.specs.Prelude.{OnOk, Client, LimitValues, LinkValue, link_of, ClientValue, taking}
+use Rattle.coap_client_engine.specs.Prelude.{ClientEventValue, new_client, ClientCall, Took, client_after, takes}
 use Rattle.coap_client_engine.specs.Prelude.{event_of, IsAccepted, AreAccepted, client_of, ClientShows}
 use Rattle.coap_conn.proofs.LinkLemmas.{new_shown}
 use Rattle.coap_client_engine.proofs.ClientSteps.{stream_first, client_first, accepted_no_call, accepted_with_call}

@@ -1,9 +1,9 @@
 -- Lists of calls: their bytes, their steps, the connection after them, and which calls are accepted.
-use Rattle.std.proofs.Common.{◌≡◌, ℕ, ◌-◌, ◌<◌, ◌≤◌, Bool, true, List, [], ◌∷◌, ◌++◌, length, map, None, refl, sym}
+use Rattle.std.proofs.Common.{◌≡◌, ℕ, ◌-◌, ◌<◌, ◌≤◌, true, List, [], ◌∷◌, ◌++◌, length, map, None, refl, sym}
 use Rattle.std.proofs.Common.{ap, ◌∙◌, append_assoc, arith}
-use Rattle.coap_client_engine.specs.Prelude.{flat_map, Message, Unfinished, prefix_kind, StreamFault, Stream, split}
+use Rattle.coap_client_engine.specs.Prelude.{flat_map, Unfinished, prefix_kind, Stream, split}
 use Rattle.coap_client_engine.specs.Prelude.{sized_split, sizes_first, constant_size, stream_after}
-use Rattle.coap_client_engine.specs.Prelude.{continued, split_on, framing, LimitValues, History, new_history, Client}
+use Rattle.coap_client_engine.specs.Prelude.{split_on, framing, LimitValues, History, new_history, Client}
 use Rattle.coap_client_engine.specs.Prelude.{ClientCall, Took, ClientStep, Handles, taken_by, stream_in, new_fault}
 use Rattle.coap_client_engine.specs.Prelude.{size_by, size_in, sizes_in, beyond, AllByRecursion, KeepsSize}
 use Rattle.coap_client_engine.specs.Prelude.{steps_by, later_steps, steps_of, after_steps, client_after, IsAccepted}
@@ -264,9 +264,13 @@ by_calls limits tokens P first go calls all =
 
 -- ---- the stream and the steps of a take
 
+-- The steps of a stream that bytes add, if the stream before has no fault.
+abbrev pub steps_added : Stream → List ClientStep
+steps_added added = map Handles added.messages ++ new_fault None added.fault
+
 -- The steps of a `take` and the stream after it, given the stream that its bytes add.
 pub record AddsTo (M : ℕ) (calls : List ClientCall) (bytes : List ℕ) (added : Stream) : Type 0 where
-  pub steps : steps_by M calls (Took bytes) ≡ map Handles added.messages ++ new_fault None added.fault
+  pub steps : steps_by M calls (Took bytes) ≡ steps_added added
   pub stream : stream_in M (calls ++ Took bytes ∷ []) ≡ stream_after (stream_in M calls).messages added
 
 pub take_adds : (M : ℕ) (calls : List ClientCall) (bytes : List ℕ) (added : Stream) → (stream_in M calls).fault ≡ None

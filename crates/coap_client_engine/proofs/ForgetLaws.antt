@@ -1,5 +1,5 @@
 -- A forgotten token is never outstanding again: later tokens have larger numbers.
-use Rattle.std.proofs.Common.{◌≡◌, ℕ, ◌+◌, ◌<◌, ◌≤◌, ◌⊎◌, Bool, true, false, List, [], ◌∷◌, ◌++◌, filter, None, refl, sym, ap}
+use Rattle.std.proofs.Common.{◌≡◌, ℕ, ◌+◌, ◌<◌, ◌≤◌, ◌⊎◌, Bool, true, false, List, [], ◌∷◌, ◌++◌, filter, None, refl, sym}
 use Rattle.std.proofs.Common.{◌∙◌, arith, inl, inr}
 use Rattle.coap_client_engine.specs.Prelude.{list_any, Message, LimitValues, OutstandingValue, is_entry_of}
 use Rattle.coap_client_engine.specs.Prelude.{with_cancelled, asking_refusal, next_token, History, new_history, Client}

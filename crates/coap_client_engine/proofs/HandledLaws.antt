@@ -68,9 +68,9 @@ take_makes limits tokens calls bytes accepted all =
 
 -- ---- the processed messages are those that the bytes encode
 
-record AgreesWith (u : Stream) (h : History) : Type 0 where
-  handled : h.handled ≡ u.messages
-  stopped : (fault : StreamFault) → u.fault ≡ Some fault → h.phase ≡ Stopped (reject_reason (reject_of fault))
+pub record AgreesWith (u : Stream) (h : History) : Type 0 where
+  pub handled : h.handled ≡ u.messages
+  pub stopped : (fault : StreamFault) → u.fault ≡ Some fault → h.phase ≡ Stopped (reject_reason (reject_of fault))
 
 -- A call that accepts no bytes processes no message, and a stopped connection stays stopped.
 bare_agrees : (u : Stream) (h : History) (c : ClientCall) → Accepts (link_of h) c → AgreesWith u h
@@ -113,19 +113,9 @@ module _ (limits : LimitValues) (tokens : ℕ) where
     call_agrees c may =
         rw (bare_after limits tokens calls c may, bare_stream limits tokens calls c may) (bare_agrees _ _ c may is)
 
-agrees : (limits : LimitValues) (tokens : ℕ) (calls : List ClientCall) → AreAccepted limits tokens calls
+-- A fault in the bytes stops the connection.
+pub agrees : (limits : LimitValues) (tokens : ℕ) (calls : List ClientCall) → AreAccepted limits tokens calls
     → AgreesWith (stream_in limits.max_message calls) (client_after limits tokens calls)
 agrees limits tokens calls accepted =
-    by_calls limits tokens (λ cs. AgreesWith (stream_in limits.max_message cs) (client_after limits tokens cs))
-    (none_agrees limits tokens)
+    by_calls limits tokens (AgreesAfter limits tokens) (none_agrees limits tokens)
     (λ cs c all last before. call_agrees limits tokens cs all before c last) calls accepted
-
-pub handled_spelled : (limits : LimitValues) (tokens : ℕ) (calls : List ClientCall) → AreAccepted limits tokens calls
-    → (client_after limits tokens calls).handled ≡ (stream_in limits.max_message calls).messages
-handled_spelled limits tokens calls accepted = (agrees limits tokens calls accepted).handled
-
--- A fault in the bytes stops the connection.
-pub fault_stops : (limits : LimitValues) (tokens : ℕ) (calls : List ClientCall) (fault : StreamFault)
-    → AreAccepted limits tokens calls → (stream_in limits.max_message calls).fault ≡ Some fault
-    → (client_after limits tokens calls).phase ≡ Stopped (reject_reason (reject_of fault))
-fault_stops limits tokens calls fault accepted at = (agrees limits tokens calls accepted).stopped fault at

@@ -1,12 +1,12 @@
 -- The limits of a client hold: for pending and outstanding entries after any calls, for queued and buffered bytes after
 -- accepted calls.
-use Rattle.std.proofs.Common.{◌≡◌, ℕ, ◌+◌, ◌<◌, ◌≤◌, true, List, [], ◌∷◌, ◌++◌, length, drop, None, refl, ap, arith, not}
+use Rattle.std.proofs.Common.{◌≡◌, ℕ, ◌+◌, ◌<◌, ◌≤◌, List, [], ◌∷◌, ◌++◌, length, drop, None, refl, ap, arith}
 use Rattle.coap_client_engine.specs.Prelude.{Message, spelling, LimitValues, AreInRange, takes_messages, abort_of}
-use Rattle.coap_client_engine.specs.Prelude.{AllFit, OutstandingValue, cancelled_by, asking_refusal, ConnectionState}
+use Rattle.coap_client_engine.specs.Prelude.{AllFit, OutstandingValue, asking_refusal, ConnectionState}
 use Rattle.coap_client_engine.specs.Prelude.{react, ReactionResult, History, IsHistory, limit_now, state_now, asking_now}
 use Rattle.coap_client_engine.specs.Prelude.{waiting_of, bytes_of, PendingEntryValue, ClientCall, ClientStep, Took}
-use Rattle.coap_client_engine.specs.Prelude.{Handles, Faults, Requests, Cancels, Pings, Forgets, Releases, Announces}
-use Rattle.coap_client_engine.specs.Prelude.{Writes, release, link_of, is_entry_of, free_in, may_announce, own_csm}
+use Rattle.coap_client_engine.specs.Prelude.{Handles, Faults, Requests, Cancels, Pings, Releases, Announces}
+use Rattle.coap_client_engine.specs.Prelude.{Writes, release, link_of, free_in}
 use Rattle.coap_client_engine.specs.Prelude.{size_in, stream_in, steps_by, step, after_steps, client_after, IsAccepted}
 use Rattle.coap_client_engine.specs.Prelude.{AreAccepted, client_of}
 use Rattle.std.proofs.lemmas.Bool.Decides.{nat_tests}
@@ -72,20 +72,8 @@ module _ (limits : LimitValues) (h : History) (is : KeepsLimits limits h) where
     few = omega (arith, is.few, requested_no_more (state_now h) m);
   }
   effect_keeps (Requests m observe) acts = asked_keeps _ _ (none_where _ acts)
-  effect_keeps (Cancels token m) acts = record {
-    same = is.same;
-    none = is.none;
-    few = omega (arith, is.few, length-map h.outstanding (cancelled_by token));
-  }
   effect_keeps (Pings custody) acts = asked_keeps _ _ (none_where _ acts)
-  effect_keeps (Forgets token) acts = record {
-    same = is.same;
-    none = is.none;
-    few = omega (arith, is.few, count_left (λ e. not (is_entry_of token e)) h.outstanding);
-  }
-  effect_keeps (Announces size) acts = record { same = is.same; none = is.none; few = is.few }
-  effect_keeps (Writes n) acts = record { same = is.same; none = is.none; few = is.few }
-  effect_keeps s acts = record { same = is.same; none = refl; few = omega arith }
+  effect_keeps s acts = grind (arith, length-map, count_left)
 
 steps_keep_limits : (limits : LimitValues) (h : History) (ss : List ClientStep) → KeepsLimits limits h
     → KeepsLimits limits (after_steps h ss)

@@ -1,30 +1,28 @@
 -- The event that each step of a client's run adds to its trace.
-use Rattle.std.proofs.Common.{◌≡◌, ◌≢◌, ◌+◌, ◌<◌, ◌≤◌, ◌⊎◌, ℕ, max, Bool, true, false, cond, List, [], ◌∷◌, ◌++◌}
-use Rattle.std.proofs.Common.{length, take, drop, Option, Some, None, Result, Ok, Err, refl, sym, ap, inl, ◌∙◌, arith}
+use Rattle.std.proofs.Common.{◌≡◌, ◌≢◌, ◌<◌, ◌≤◌, ◌⊎◌, ℕ, max, Bool, true, false, cond, List, [], ◌∷◌, ◌++◌}
+use Rattle.std.proofs.Common.{length, take, drop, Option, Some, None, Result, Ok, Err, refl, ap, inl, ◌∙◌, arith}
 use Rattle.std.proofs.Common.{append_assoc}
-use Rattle.coap_client_engine.specs.Prelude.{◌==◌, IfOk, OnOk, option_map, LimitValues, LinkValue, TargetValue, ExtrasValue, Phase, RequestFault, NoRoom, WriteFailed, Got}
+use Rattle.coap_client_engine.specs.Prelude.{◌==◌, IfOk, OnOk, option_map, LimitValues, LinkValue, TargetValue, ExtrasValue, RequestFault, NoRoom, WriteFailed, Got}
 use Rattle.coap_client_engine.specs.Prelude.{Reason, AddsBytes, AddsCalls, bytes_passed, count_passed, ClientValue}
 use Rattle.coap_client_engine.specs.Prelude.{client_takes, taking, client_written, client_cancelled, send_refusal, Took}
-use Rattle.coap_client_engine.specs.Prelude.{Sent, Cancelled, Ended, End, ClientCall, ClientEventValue, client_of, takes, event_of}
+use Rattle.coap_client_engine.specs.Prelude.{Sent, Cancelled, Ended, End, ClientCall, client_of, takes, event_of}
 use Rattle.coap_client_engine.specs.Prelude.{steps_by, AreAccepted, ClientShows, may_take, must_send_request}
-use Rattle.coap_client_engine.specs.Prelude.{is_to_cancel, has_passed, timeout_status, watched, planned_extras}
+use Rattle.coap_client_engine.specs.Prelude.{is_to_cancel, watched, planned_extras}
 use Rattle.coap_client_engine.specs.Prelude.{client_asking, client_cancelling, token_asking, cancelled_at, ended_by}
 use Rattle.coap_client_engine.specs.Prelude.{refusal_text, event_status, event_first, event_output, event_errors}
 use Rattle.coap_client_engine.specs.Prelude.{calls_read, calls_written, client_read, stop_after, stop_written, RunTrace}
-use Rattle.coap_client_engine.specs.Prelude.{Begins, Turns, Reads, Calls, Refuses, GivesUp, Rests, default_limits}
-use Rattle.coap_client_engine.specs.Prelude.{calls_in, client_in, phase_in, event_in, token_in, turns_in, since_in}
-use Rattle.coap_client_engine.specs.Prelude.{is_overdue, is_cancel_due, status_stopped, stop_text, or_then, status_in}
-use Rattle.coap_client_engine.specs.Prelude.{has_looked, IsRequestedWhereDue, IsCancelledWhereDue, IsTakenUp, IsFresh}
-use Rattle.coap_client_engine.specs.Prelude.{IsResting, IsBetween, MayWrite, RunDevices, with_outlets, with_wire}
-use Rattle.coap_client_engine.specs.Prelude.{records, token_of, IsAtTrace, ExtendsTraceOn, IsRequested, IsTaken}
+use Rattle.coap_client_engine.specs.Prelude.{Turns, Reads, Calls, Refuses, GivesUp, Rests, default_limits}
+use Rattle.coap_client_engine.specs.Prelude.{calls_in, client_in, event_in, turns_in}
+use Rattle.coap_client_engine.specs.Prelude.{is_cancel_due, status_stopped, stop_text, or_then, status_in}
+use Rattle.coap_client_engine.specs.Prelude.{has_looked, IsRequestedWhereDue, IsTakenUp, IsFresh}
+use Rattle.coap_client_engine.specs.Prelude.{IsResting, IsBetween, MayWrite, RunDevices, with_outlets}
+use Rattle.coap_client_engine.specs.Prelude.{token_of, IsAtTrace, ExtendsTraceOn, IsRequested}
 use Rattle.coap_client_engine.specs.Prelude.{IsAfterRead, IsFinished, IsFlushed, most_turns, IsEnded, IsOutOfTurns}
-use Rattle.coap_client_engine.specs.Prelude.{IsClientRun, ClientPlan, Run, RunEnd, Cause, IsExplainedRun, cause_after}
+use Rattle.coap_client_engine.specs.Prelude.{ClientPlan, Run, RunEnd, IsExplainedRun, cause_after}
 use Rattle.coap_client_engine.specs.Prelude.{cause_stopped, event_cause, cause_refused, watched_cause}
 use Rattle.std.proofs.lemmas.Bool.{and_parts, eqb-true}
 use Rattle.std.proofs.lemmas.Bool.Decides.{nat_tests}
 use Rattle.std.proofs.lemmas.List.{append-nil, length-append, length-take-le, nil_from_length}
-use Rattle.coap_io.proofs.streams.DeviceLemmas.{no_calls, calls_then}
-use Rattle.coap_client_engine.specs.ClientValues as value
 use Rattle.coap_client_engine.specs.RunSteps.{asking_refusal, cancelling_refusal}
 use Rattle.coap_client_engine.specs.RunTrace.{Writes, is_late}
 use Rattle.coap_client_engine.proofs.ClientSteps.{stream_rest_unfinished}
@@ -108,36 +106,15 @@ pub record Watches (plan : ClientPlan) (now : RunDevices) (r r' : Run) (e : Opti
   pub reported : AddsBytes now.err e (cond (is_to_cancel r.cancelled r.first r.moment plan.observe)
       (refusal_text (cancelling_refusal r.client (token_of r) plan)) [])
 
--- A read of the wire, and the report of the stop to which it leads.
-pub record ReadsOn (now : RunDevices) (r r' : Run) (got : Got) (why : Option Reason) (now' : RunDevices)
+-- A read of the wire or a write to it, and the report of the stop to which it leads.
+pub record UsesWire (now now' : RunDevices) (r r' : Run) (got : Got) (read written : List ℕ) (why : Option Reason)
     : Type 0 where
-  pub none : (length r.rest == 0) ≡ true
-  pub count : length r'.rest ≡ count_passed got
-  pub client : r'.client ≡ client_read r.client got
   pub kept : (r'.token ≡ r.token) × (r'.started ≡ r.started) × (r'.moment ≡ r.moment) × (r'.first ≡ r.first)
       × (r'.cancelled ≡ r.cancelled)
-  pub gave : AddsBytes now.given now'.given r'.rest
-  pub wrote : AddsBytes now.written now'.written []
+  pub gave : AddsBytes now.given now'.given read
+  pub wrote : AddsBytes now.written now'.written written
   pub answered : AddsCalls now.answers now'.answers (got ∷ [])
   pub others : (now'.moments ≡ now.moments) × (now'.out ≡ now.out)
-  pub stop : why ≡ stop_after r'.client.link.phase got
-  pub cause : r'.cause ≡ cause_after r.cause (cause_stopped why)
-  pub reported : AddsBytes now.err now'.err (stop_text why)
-
--- A write to the wire, likewise.
-pub record WritesOn (now : RunDevices) (r r' : Run) (next : Option ℕ) (got : Got) (why : Option Reason)
-    (now' : RunDevices) : Type 0 where
-  pub some : r.client.link.waiting ≢ []
-  pub client : r'.client ≡ client_written r.client (count_passed got)
-  pub shows : (tokens : ℕ) (calls : List ClientCall) → ClientShows r.client tokens calls
-      → ClientShows r'.client tokens (calls ++ calls_written got)
-  pub kept : (r'.rest ≡ r.rest) × (r'.token ≡ r.token) × (r'.started ≡ r.started) × (r'.moment ≡ r.moment)
-      × (r'.first ≡ r.first) × (r'.cancelled ≡ r.cancelled)
-  pub wrote : AddsBytes now.written now'.written (bytes_passed r.client.link.waiting got)
-  pub gave : AddsBytes now.given now'.given []
-  pub answered : AddsCalls now.answers now'.answers (got ∷ [])
-  pub others : (now'.moments ≡ now.moments) × (now'.out ≡ now.out)
-  pub stop : why ≡ stop_written next got
   pub cause : r'.cause ≡ cause_after r.cause (cause_stopped why)
   pub reported : AddsBytes now.err now'.err (stop_text why)
 
@@ -148,124 +125,115 @@ pub on : {plan : ClientPlan} {start now : RunDevices} {r : Run} {P : RunTrace �
     (c : RunTrace) → IsAtTrace plan start now r c × (status_in c ≡ next) × P c → ExtendsTraceOn plan start now r P next
 on c is = record { trace = c; is_at = is.0; ends = is.1; holds = is.2 }
 
-module _ {plan : ClientPlan} {start now : RunDevices} {r : Run} {c : RunTrace} (is_at : IsAtTrace plan start now r c)
-  where
-    -- The client is the one of the trace, and accepted all calls.
-    client_is : r.client ≡ client_in c
-    client_is = is_at.shows.same ∙ ap (λ (l : LimitValues). client_of l 0 (calls_in c)) is_at.limits
+module _ {plan : ClientPlan} {start now : RunDevices} {r : Run} {c : RunTrace}
+    (is_at : IsAtTrace plan start now r c) where
+  -- The client is the one of the trace, and accepted all calls.
+  client_is : r.client ≡ client_in c
+  client_is = is_at.shows.same ∙ ap (λ (l : LimitValues). client_of l 0 (calls_in c)) is_at.limits
 
-    accepted : AreAccepted default_limits 0 (calls_in c)
-    accepted = rw is_at.limits at is_at.shows.accepted
+  accepted : AreAccepted default_limits 0 (calls_in c)
+  accepted = rw is_at.limits at is_at.shows.accepted
 
-    pub taken_up : may_take r.client r.rest r.token ≡ false → IsTakenUp c
-    taken_up shut = rw (client_is, is_at.rest, is_at.token) at (shut_so (λ t. t.items) r.client r.rest r.token shut)
+  pub taken_up : may_take r.client r.rest r.token ≡ false → IsTakenUp c
+  taken_up shut = rw (client_is, is_at.rest, is_at.token) at (shut_so (λ t. t.items) r.client r.rest r.token shut)
 
-    -- ---- a take
+  -- ---- a take
 
-    pub takes_one : may_take r.client r.rest r.token ≡ true → 1 ≤ (taking r.client r.rest).count
-    takes_one may =
-        let client = client_is in
-        let count = took_takes r.client r.rest _ refl 0 (calls_in c) is_at.shows in
-        let some = client_takes_some (calls_in c) r.rest accepted (grind arith) (grind (arith, nat_tests)) in
-        grind (arith, is_at.limits)
+  pub takes_one : may_take r.client r.rest r.token ≡ true → 1 ≤ (taking r.client r.rest).count
+  takes_one may =
+      let count = took_takes r.client r.rest _ refl 0 (calls_in c) is_at.shows in
+      let some = client_takes_some (calls_in c) r.rest accepted (grind (arith, client_is)) (grind (arith, nat_tests)) in
+      grind (arith, is_at.limits)
 
-    pub took : {r' : Run} {o e : Option (List ℕ)} → status_in c ≡ None → may_take r.client r.rest r.token ≡ true
-        → Takes plan now r r' o e → ExtendsTraceOn plan start (with_outlets o e now) r'
-        (λ t. (turns_in t ≡ turns_in c) × (has_looked t ≡ has_looked c) × MayWrite t)
-        (event_status (taking r.client r.rest).event)
-    took {r'} goes may step =
-        let client = client_is in
-        let count = took_takes r.client r.rest _ refl 0 (calls_in c) is_at.shows in
-        let event = took_reported r.client r.rest _ refl 0 (calls_in c) is_at.shows _ refl in
-        let shows = took_shown r.client r.rest _ refl 0 (calls_in c) is_at.shows in
-        let limits = taking_limits r.client r.rest in
-        let front = length-take-le _ r.rest step.within in
-        on (Calls c (Took (take (taking r.client r.rest).count r.rest))) (grind (arith, append_assoc))
+  pub took : {r' : Run} {o e : Option (List ℕ)} → status_in c ≡ None → may_take r.client r.rest r.token ≡ true
+      → Takes plan now r r' o e → ExtendsTraceOn plan start (with_outlets o e now) r'
+      (λ t. (turns_in t ≡ turns_in c) × (has_looked t ≡ has_looked c) × MayWrite t)
+      (event_status (taking r.client r.rest).event)
+  took {r'} goes may step =
+      let count = took_takes r.client r.rest _ refl 0 (calls_in c) is_at.shows in
+      let event = took_reported r.client r.rest _ refl 0 (calls_in c) is_at.shows _ refl in
+      let shows = took_shown r.client r.rest _ refl 0 (calls_in c) is_at.shows in
+      let limits = taking_limits r.client r.rest in
+      let front = length-take-le _ r.rest step.within in
+      on (Calls c (Took (take (taking r.client r.rest).count r.rest))) (grind (arith, client_is, append_assoc))
 
-    -- ---- a request
+  -- ---- a request
 
-    module _ {r' : Run} {e : Option (List ℕ)} (goes : status_in c ≡ None) (looked : has_looked c ≡ true)
-        (step : Asks plan now r r' e) where
-      asked_by : (asks : Bool) (refusal : Option RequestFault) → must_send_request r.client.link.phase r.token ≡ asks
-          → send_refusal r.client.link plan.method plan.target (planned_extras plan) ≡ refusal
-          → ExtendsTraceOn plan start (with_outlets now.out e now) r' (IsRequested (turns_in c))
-          (ended_by (asking_refusal r.client r.token plan))
-      asked_by false refusal asks is =
-          let client = client_is in
-          on c (grind (arith, append-nil))
-      asked_by true None asks is =
-          let call = Sent plan.method plan.target (planned_extras plan) in
-          let client = client_is in
-          let shows = call_shown r.client r'.client call is (grind arith) 0 (calls_in c) is_at.shows in
-          let limits = limits_by call r.client in
-          let none = silent r.client.link (calls_in c) call is in
-          on (Calls c call) (grind (arith, append-nil))
-      asked_by true (Some fault) asks is =
-          let client = client_is in
-          on (Refuses c fault) (grind (arith, append_assoc))
+  -- A call without an event.
+  called : (new : ClientValue) (call : ClientCall) → Accepts r.client.link call → new ≡ client_by call r.client
+      → ClientShows new 0 (calls_in c ++ call ∷ []) × (new.link.limits ≡ default_limits) × (event_in c call ≡ None)
+  called new call may is = (
+    call_shown r.client new call may is 0 (calls_in c) is_at.shows,
+    rw is (limits_by call r.client ∙ is_at.limits),
+    silent r.client.link (calls_in c) call may,
+  )
 
-      pub asked : ExtendsTraceOn plan start (with_outlets now.out e now) r' (IsRequested (turns_in c))
-          (ended_by (asking_refusal r.client r.token plan))
-      asked = asked_by _ _ refl refl
+  module _ {r' : Run} {e : Option (List ℕ)} (goes : status_in c ≡ None) (looked : has_looked c ≡ true)
+      (step : Asks plan now r r' e) where
+    asked_by : (asks : Bool) (refusal : Option RequestFault) → must_send_request r.client.link.phase r.token ≡ asks
+        → send_refusal r.client.link plan.method plan.target (planned_extras plan) ≡ refusal
+        → ExtendsTraceOn plan start (with_outlets now.out e now) r' (IsRequested (turns_in c))
+        (ended_by (asking_refusal r.client r.token plan))
+    asked_by false refusal asks is = on c (grind (arith, client_is, append-nil))
+    asked_by true None asks is =
+        let call = Sent plan.method plan.target (planned_extras plan) in
+        let made = called r'.client call is (grind arith) in
+        on (Calls c call) (grind (arith, client_is, append-nil))
+    asked_by true (Some fault) asks is = on (Refuses c fault) (grind (arith, client_is, append_assoc))
 
-    -- ---- a read and a write
+    pub asked : ExtendsTraceOn plan start (with_outlets now.out e now) r' (IsRequested (turns_in c))
+        (ended_by (asking_refusal r.client r.token plan))
+    asked = asked_by _ _ refl refl
 
-    pub read : {r' : Run} {got : Got} (why : Option Reason) {now' : RunDevices} → status_in c ≡ None → IsFresh c
-        → ReadsOn now r r' got why now'
-        → ExtendsTraceOn plan start now' r' (IsAfterRead (turns_in c)) (status_stopped why)
-    read {r'} {got} why goes fresh step =
-        let client = client_is in
-        let empty = nil_from_length r.rest (eqb-true (length r.rest) 0 step.none) in
-        let shows = read_shown r.client r'.client got (calls_in c) step.client is_at.shows in
-        on (Reads c got r'.rest) (grind (arith, append_assoc, append-nil))
+  -- ---- a read and a write
 
-    pub wrote : {r' : Run} {next : Option ℕ} {got : Got} {why : Option Reason} {now' : RunDevices}
-        → status_in c ≡ next → MayWrite c → (status_in c ≡ None → IsResting c) → WritesOn now r r' next got why now'
-        → ExtendsTraceOn plan start now' r' (IsFlushed (turns_in c)) (or_then next (status_stopped why))
-    wrote {r'} {next} {got} ends may rests step =
-        let client = client_is in
-        let shows = step.shows 0 (calls_in c) is_at.shows in
-        on (Writes c got) (grind (arith, append_assoc, append-nil))
+  pub read : {r' : Run} {now' : RunDevices} (got : Got) (why : Option Reason) → status_in c ≡ None → IsFresh c
+      → (length r.rest == 0) ≡ true → length r'.rest ≡ count_passed got → r'.client ≡ client_read r.client got
+      → why ≡ stop_after r'.client.link.phase got → UsesWire now now' r r' got r'.rest [] why
+      → ExtendsTraceOn plan start now' r' (IsAfterRead (turns_in c)) (status_stopped why)
+  read {r'} got why goes fresh none count client stop step =
+      let empty = nil_from_length r.rest (eqb-true (length r.rest) 0 none) in
+      let shows = read_shown r.client r'.client got (calls_in c) client is_at.shows in
+      on (Reads c got r'.rest) (grind (arith, client_is, append_assoc, append-nil))
 
-    -- ---- deadlines
+  pub wrote : {r' : Run} {now' : RunDevices} (next : Option ℕ) (got : Got) (why : Option Reason) → status_in c ≡ next
+      → MayWrite c → (status_in c ≡ None → IsResting c) → r.client.link.waiting ≢ [] → r'.rest ≡ r.rest
+      → r'.client ≡ client_written r.client (count_passed got)
+      → ((tokens : ℕ) (calls : List ClientCall) → ClientShows r.client tokens calls
+      → ClientShows r'.client tokens (calls ++ calls_written got)) → why ≡ stop_written next got
+      → UsesWire now now' r r' got [] (bytes_passed r.client.link.waiting got) why
+      → ExtendsTraceOn plan start now' r' (IsFlushed (turns_in c)) (or_then next (status_stopped why))
+  wrote next got why ends may rests some rest client shown stop step =
+      let shows = shown 0 (calls_in c) is_at.shows in
+      on (Writes c got) (grind (arith, client_is, append_assoc, append-nil))
 
-    module _ {r' : Run} {e : Option (List ℕ)} (goes : status_in c ≡ None) (looked : has_looked c ≡ true)
-        (taken : IsTakenUp c) (requested : IsRequestedWhereDue c) (step : Watches plan now r r' e) where
-      abbrev Due : Type 0
-      Due = ExtendsTraceOn plan start (with_outlets now.out e now) r' (IsFinished (turns_in c))
-          (watched r.cancelled r.first r.started r.moment plan (ended_by (cancelling_refusal r.client (token_of r) plan)))
+  -- ---- deadlines
 
-      cancels : is_cancel_due plan c ≡ true → (own : Option (List ℕ)) → token_of r ≡ own
-          → (refusal : Option RequestFault) → cancelling_refusal r.client own plan ≡ refusal → Due
-      cancels due None has refusal is =
-          let client = client_is in
-          on (Rests c) (grind (arith, append-nil))
-      cancels due (Some own) has None is =
-          let call = Cancelled own plan.target (planned_extras plan) in
-          let client = client_is in
-          let shows = call_shown r.client r'.client call is (grind arith) 0 (calls_in c) is_at.shows in
-          let limits = limits_by call r.client in
-          let none = silent r.client.link (calls_in c) call is in
-          let shut = cancelled_takes r.client own plan.target (planned_extras plan) in
-          on (Rests (Calls c call)) (grind (arith, append-nil, nat_tests))
-      cancels due (Some own) has (Some NoRoom) is =
-          let client = client_is in
-          on (Rests (Refuses c NoRoom)) (grind (arith, append-nil, append_assoc))
-      cancels due (Some own) has (Some fault) is =
-          let client = client_is in
-          on (Refuses c fault) (grind (arith, append_assoc))
+  module _ {r' : Run} {e : Option (List ℕ)} (goes : status_in c ≡ None) (looked : has_looked c ≡ true)
+      (taken : IsTakenUp c) (requested : IsRequestedWhereDue c) (step : Watches plan now r r' e) where
+    abbrev Due : Type 0
+    Due = ExtendsTraceOn plan start (with_outlets now.out e now) r' (IsFinished (turns_in c))
+        (watched r.cancelled r.first r.started r.moment plan (ended_by (cancelling_refusal r.client (token_of r) plan)))
 
-      watched_as : (due late : Bool) → is_cancel_due plan c ≡ due → is_late plan c ≡ late → Due
-      watched_as true late due is = cancels due (token_of r) refl _ refl
-      watched_as false true due late =
-          let client = client_is in
-          on (GivesUp c) (grind (arith, append-nil))
-      watched_as false false due late =
-          let client = client_is in
-          on (Rests c) (grind (arith, append-nil, nat_tests))
+    cancels : is_cancel_due plan c ≡ true → (own : Option (List ℕ)) → token_of r ≡ own
+        → (refusal : Option RequestFault) → cancelling_refusal r.client own plan ≡ refusal → Due
+    cancels due None has refusal is = on (Rests c) (grind (arith, client_is, append-nil))
+    cancels due (Some own) has None is =
+        let call = Cancelled own plan.target (planned_extras plan) in
+        let made = called r'.client call is (grind arith) in
+        let shut = cancelled_takes r.client own plan.target (planned_extras plan) in
+        on (Rests (Calls c call)) (grind (arith, client_is, append-nil, nat_tests))
+    cancels due (Some own) has (Some NoRoom) is =
+        on (Rests (Refuses c NoRoom)) (grind (arith, client_is, append-nil, append_assoc))
+    cancels due (Some own) has (Some fault) is = on (Refuses c fault) (grind (arith, client_is, append_assoc))
 
-      pub watched_on : Due
-      watched_on = watched_as _ _ refl refl
+    watched_as : (due late : Bool) → is_cancel_due plan c ≡ due → is_late plan c ≡ late → Due
+    watched_as true late due is = cancels due (token_of r) refl _ refl
+    watched_as false true due late = on (GivesUp c) (grind (arith, client_is, append-nil))
+    watched_as false false due late = on (Rests c) (grind (arith, client_is, append-nil, nat_tests))
+
+    pub watched_on : Due
+    watched_on = watched_as _ _ refl refl
 
 -- ---- results of the parts of an iteration
 
@@ -287,27 +255,27 @@ leads after led same so =
 
 -- ---- an iteration, and the end
 
-module _ {plan : ClientPlan} {start now : RunDevices} {r : Run} {c : RunTrace} (is_at : IsAtTrace plan start now r c)
-  where
-    pub turned : (moment later : ℕ) (moments : Option (List ℕ)) → status_in c ≡ None → IsBetween c
-        → later ≡ max r.moment moment → AddsCalls now.moments moments (moment ∷ [])
-        → IsAtTrace plan start (record now { moments = moments }) (record r { moment = later }) (Turns c moment)
-    turned moment later moments goes between same requested = grind (arith, append_assoc)
+module _ {plan : ClientPlan} {start now : RunDevices} {r : Run} {c : RunTrace}
+    (is_at : IsAtTrace plan start now r c) where
+  pub turned : (moment later : ℕ) (moments : Option (List ℕ)) → status_in c ≡ None → IsBetween c
+      → later ≡ max r.moment moment → AddsCalls now.moments moments (moment ∷ [])
+      → IsAtTrace plan start (record now { moments = moments }) (record r { moment = later }) (Turns c moment)
+  turned moment later moments goes between same requested = grind (arith, append_assoc)
 
-    pub explained : turns_in c ≤ most_turns → (end : RunEnd) → IsEnded c end.status ⊎ IsOutOfTurns c end.status
-        → end.cause ≡ r.cause → IsExplainedRun plan start now end
-    explained few end ends same =
-        let all = accepted is_at in
-        record {
-          run = record {
-            trace = c;
-            follows = is_at.follows;
-            accepted = all;
-            taken = trace_taken plan c is_at.follows;
-            queued = trace_queued plan c is_at.follows all;
-            reported = is_at.reported;
-            turns = few;
-            ends = ends;
-          };
-          cause = same ∙ is_at.cause;
-        }
+  pub explained : turns_in c ≤ most_turns → (end : RunEnd) → IsEnded c end.status ⊎ IsOutOfTurns c end.status
+      → end.cause ≡ r.cause → IsExplainedRun plan start now end
+  explained few end ends same =
+      let all = accepted is_at in
+      record {
+        run = record {
+          trace = c;
+          follows = is_at.follows;
+          accepted = all;
+          taken = trace_taken plan c is_at.follows;
+          queued = trace_queued plan c is_at.follows all;
+          reported = is_at.reported;
+          turns = few;
+          ends = ends;
+        };
+        cause = same ∙ is_at.cause;
+      }

@@ -1,6 +1,6 @@
 -- Properties of every trace of a run. The accepted bytes are a prefix of the input, and the written bytes are a prefix
 -- of the queued bytes.
-use Rattle.std.proofs.Common.{◌≡◌, ◌+◌, ◌≤◌, ℕ, List, [], ◌∷◌, ◌++◌, length, take, drop, refl, sym, ap, ◌∙◌}
+use Rattle.std.proofs.Common.{◌≡◌, ◌+◌, ◌≤◌, ℕ, List, [], ◌∷◌, ◌++◌, length, take, drop, refl, sym, ◌∙◌}
 use Rattle.std.proofs.Common.{append_assoc, arith}
 use Rattle.coap_client_engine.specs.Prelude.{flat_map, Message, spelling, LimitValues, History, IsHistory, bytes_of, Got}
 use Rattle.coap_client_engine.specs.Prelude.{Bytes, End, ClientPlan, ClientCall, Took, Wrote, Ended, ClientStep, after}

@@ -1,7 +1,7 @@
 -- The event of a `take`: the token of a response is that of its message, and the frame is found again for its second
 -- parse.
 use Rattle.std.proofs.Common.{◌≡◌, ℕ, Bool, cond, List, [], ◌∷◌, ◌++◌, take, Option, Some, None, refl, sym, arith}
-use Rattle.coap_client_engine.specs.Prelude.{Message, StreamPrefix, Unfinished, Whole, Faulty, prefix_kind, FramerValue}
+use Rattle.coap_client_engine.specs.Prelude.{Message, StreamPrefix, Whole, prefix_kind, FramerValue}
 use Rattle.coap_client_engine.specs.Prelude.{IsFramer, AFrame, split_frame, framing_at, framing, framing_of}
 use Rattle.coap_client_engine.specs.Prelude.{framer_after, frame_back, ConnectionState, live_reaction, react}
 use Rattle.coap_client_engine.specs.Prelude.{VerdictValue, Reaction, Reason, reports, aborts, csm_reaction}

@@ -1,25 +1,19 @@
 -- The framer and the link of a client treat an input slice as the definition `taking` says.
-use Rattle.std.proofs.Common.{◌≡◌, ℕ, Bool, true, false, cond, List, [], ◌++◌, take, Option, None, Result, Ok, Err}
+use Rattle.std.proofs.Common.{◌≡◌, ℕ, true, false, List, None}
 use Rattle.std.proofs.Common.{refl, sym, ap, arith, ◌∙◌}
-use Rattle.coap_client_engine.specs.Prelude.{Message, message_of, StreamPrefix, Unfinished, Whole, Faulty, prefix_kind}
-use Rattle.coap_client_engine.specs.Prelude.{FormatFault, FrameFault, FramerValue, IsFramer, Framing, FrameEventValue}
-use Rattle.coap_client_engine.specs.Prelude.{Nothing}
-use Rattle.coap_client_engine.specs.Prelude.{AFrame, AFault, framing_at, framing, framing_of, framer_after, frame_back}
-use Rattle.coap_client_engine.specs.Prelude.{LimitValues, AreInRange, takes_messages, reject_of_frame, reject_reason}
-use Rattle.coap_client_engine.specs.Prelude.{react, is_open, fits, limit_in, own_csm, sizes_of, link_after}
+use Rattle.coap_client_engine.specs.Prelude.{FramerValue, IsFramer, Framing, FrameEventValue}
+use Rattle.coap_client_engine.specs.Prelude.{framing, framing_of, framer_after}
+use Rattle.coap_client_engine.specs.Prelude.{LimitValues}
+use Rattle.coap_client_engine.specs.Prelude.{is_open, fits, limit_in, own_csm, sizes_of, link_after}
 use Rattle.coap_client_engine.specs.Prelude.{raise_refusal, with_size}
-use Rattle.coap_client_engine.specs.Prelude.{LinkValue, state_in, ClientValue, ClientEventValue, ClientTakeOutcome}
+use Rattle.coap_client_engine.specs.Prelude.{LinkValue, ClientValue}
 use Rattle.coap_client_engine.specs.Prelude.{client_takes}
-use Rattle.coap_client_engine.specs.Prelude.{verdict_event, taking_read, taking_found, taking, IsClient, received_event}
-use Rattle.coap_client_engine.specs.Prelude.{taking_framed, Inside, Received}
+use Rattle.coap_client_engine.specs.Prelude.{taking_found, taking, IsClient}
+use Rattle.coap_client_engine.specs.Prelude.{taking_framed, Inside}
 use Rattle.coap_frame.proofs.FramingLemmas.{framing_is_framer}
 use Rattle.coap_frame.proofs.RaiseLemmas.{raise_allowed, raised_is_framer}
 use Rattle.coap_conn.specs.Calls as call
-use Rattle.coap_conn.specs.declared.phase.Reject.TheVariants as reject
 use Rattle.coap_client_engine.specs.EventViews.{client_value}
-use Rattle.coap_client_engine.specs.declared.client.Received.TheVariants as received
-use Rattle.coap_client_engine.proofs.TakeLemmas.{frame_is_back}
-use Rattle.coap_conn.proofs.LinkLemmas.{stays_so}
 
 -- ---- the result of a slice
 

@@ -1,5 +1,4 @@
-use Rattle.std.proofs.Common.{ℕ, take, Ok, sym, ap, ◌∙◌, arith}
-use Rattle.coap_client_engine.specs.Prelude.{message_of, FramerValue, frame_back, framer_after, received_event}
+use Rattle.std.proofs.Common.{arith}
 use Rattle.coap_client_engine.proofs.TakeLemmas.{frame_is_back}
 use Rattle.coap_client_engine.proofs.client.take_in.Goals as goal
 use Rattle.coap_client_engine.proofs.client.take_in.Goals.{in-Ok-None, in-Err, in-Ok-Some+in-Err-parse}

@@ -3,7 +3,7 @@ use Rattle.coap_client_engine.proofs.LimitLaws.{last_size}
 use Rattle.coap_client_engine.proofs.laws.last_announced_size_applies.Goals as goal
 
 pub returns-clause-last : goal.returns-clause-last
-returns-clause-last c limits tokens calls accepted = last_size limits tokens calls accepted
+returns-clause-last c = last_size
 
 pub returns-clause-none : goal.returns-clause-none
-returns-clause-none c M calls keeps = unannounced M calls keeps
+returns-clause-none c = unannounced

@@ -2,4 +2,4 @@ use Rattle.coap_client_engine.proofs.FitLaws.{step_grows}
 use Rattle.coap_client_engine.proofs.laws.queued_messages_fit_limit.Goals as goal
 
 pub returns : goal.returns
-returns c h s = step_grows h s
+returns c = step_grows

@@ -2,4 +2,4 @@ use Rattle.coap_client_engine.proofs.TokenLaws.{tokens_once}
 use Rattle.coap_client_engine.proofs.laws.tokens_are_given_once.Goals as goal
 
 pub returns : goal.returns
-returns c limits tokens calls accepted = tokens_once limits tokens calls accepted
+returns c = tokens_once
