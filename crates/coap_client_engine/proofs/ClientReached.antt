@@ -1,18 +1,17 @@
 -- Properties of a client after accepted calls, and the state of the client after one more call.
-use Rattle.std.proofs.Common.{◌≡◌, ℕ, ◌≤◌, Bool, true, false, List, [], ◌∷◌, ◌++◌, length, take, Some, None}
-use Rattle.std.proofs.Common.{Result, Ok, Err, refl, sym, ap, ◌∙◌, arith}
+use Rattle.std.proofs.Common.{◌≡◌, ℕ, ◌≤◌, Bool, true, false, List, [], ◌∷◌, ◌++◌, length, take, Some, None, Result, Ok}
+use Rattle.std.proofs.Common.{Err, refl, sym, ap, ◌∙◌, arith}
 use Rattle.coap_client_engine.specs.Prelude.{nat_le, Message, message_of, StreamFault, OfFrame, Format, Stream}
 use Rattle.coap_client_engine.specs.Prelude.{frame_then, fault_bytes, FormatFault, Framing, FrameEventValue, Nothing}
 use Rattle.coap_client_engine.specs.Prelude.{AFrame, AFault, framing, Client, LimitValues, takes_messages, reject_of}
-use Rattle.coap_client_engine.specs.Prelude.{History, IsHistory, after, link_of, LinkValue, free_in}
-use Rattle.coap_client_engine.specs.Prelude.{link_after, request_of, cancel_of, ClientValue, ClientTakeOutcome}
-use Rattle.coap_client_engine.specs.Prelude.{taking_rejected, taking_read, taking_found, taking, is_cut, ClientCall}
-use Rattle.coap_client_engine.specs.Prelude.{announce_refusal, send_refusal, cancelling_refusal, ping_refusal, Took}
-use Rattle.coap_client_engine.specs.Prelude.{may_forget, release_refusal, Sent, Cancelled, Pinged, Forgot, Released}
-use Rattle.coap_client_engine.specs.Prelude.{Announced, Wrote, Ended, ClientStep, size_by, size_in}
-use Rattle.coap_client_engine.specs.Prelude.{stream_in, taken_by, steps_by, after_steps, client_after}
-use Rattle.coap_client_engine.specs.Prelude.{handles, takes, event_by, event_of, IsAccepted, AreAccepted, kept_after}
-use Rattle.coap_client_engine.specs.Prelude.{client_of}
+use Rattle.coap_client_engine.specs.Prelude.{History, IsHistory, after, link_of, LinkValue, free_in, link_after}
+use Rattle.coap_client_engine.specs.Prelude.{request_of, cancel_of, ClientValue, ClientTakeOutcome, taking_rejected}
+use Rattle.coap_client_engine.specs.Prelude.{taking_read, taking_found, taking, is_cut, ClientCall, announce_refusal}
+use Rattle.coap_client_engine.specs.Prelude.{send_refusal, cancelling_refusal, ping_refusal, Took, may_forget}
+use Rattle.coap_client_engine.specs.Prelude.{release_refusal, Sent, Cancelled, Pinged, Forgot, Released, Announced}
+use Rattle.coap_client_engine.specs.Prelude.{Wrote, Ended, ClientStep, size_by, size_in, stream_in, taken_by, steps_by}
+use Rattle.coap_client_engine.specs.Prelude.{after_steps, client_after, handles, takes, event_by, event_of, IsAccepted}
+use Rattle.coap_client_engine.specs.Prelude.{AreAccepted, kept_after, client_of}
 use Rattle.std.proofs.lemmas.Bool.{and_parts}
 use Rattle.std.proofs.lemmas.Bool.Decides.{nat_tests}
 use Rattle.std.proofs.lemmas.List.{nil_from_length, take_all}
@@ -22,8 +21,8 @@ use Rattle.coap_conn.proofs.LinkLemmas.{new_shown, shown_after}
 use Rattle.coap_client_engine.specs.ClientWorld as client
 use Rattle.coap_frame.proofs.FrontLaws.{front, front_whole, added_by, added_front, front_kept}
 use Rattle.coap_client_engine.proofs.ClientSteps.{size_with_call, stream_stays, stream_first, stream_rest_unfinished}
-use Rattle.coap_client_engine.proofs.ClientSteps.{client_first, client_same, client_more, by_calls, AddsTo}
-use Rattle.coap_client_engine.proofs.ClientSteps.{take_adds, steps_added, empty_take_stream, empty_take_steps}
+use Rattle.coap_client_engine.proofs.ClientSteps.{client_first, client_same, client_more, by_calls, AddsTo, take_adds}
+use Rattle.coap_client_engine.proofs.ClientSteps.{steps_added, empty_take_stream, empty_take_steps}
 
 -- ---- steps
 

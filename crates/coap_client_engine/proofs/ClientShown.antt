@@ -1,6 +1,5 @@
 -- If the clauses of a call hold for the value of a client, `ClientShows` holds for the client after the call.
-use Rattle.std.proofs.Common.{◌≡◌, ℕ, List, [], ◌∷◌, ◌++◌, take, Option, Result, Ok, Err, ap, subst, sym, refl}
-use Rattle.std.proofs.Common.{◌∙◌}
+use Rattle.std.proofs.Common.{◌≡◌, ℕ, List, [], ◌∷◌, ◌++◌, take, Option, Result, Ok, Err, ap, subst, sym, refl, ◌∙◌}
 use Rattle.coap_client_engine.specs.Prelude.{OnOk, Client, LimitValues, LinkValue, link_of, ClientValue, taking}
 use Rattle.coap_client_engine.specs.Prelude.{ClientEventValue, new_client, ClientCall, Took, client_after, takes}
 use Rattle.coap_client_engine.specs.Prelude.{event_of, IsAccepted, AreAccepted, client_of, ClientShows}

@@ -1,15 +1,14 @@
 -- Lists of calls: their bytes, their steps, the connection after them, and which calls are accepted.
-use Rattle.std.proofs.Common.{◌≡◌, ℕ, ◌-◌, ◌<◌, ◌≤◌, true, List, [], ◌∷◌, ◌++◌, length, map, None, refl, sym}
-use Rattle.std.proofs.Common.{ap, ◌∙◌, append_assoc, arith}
-use Rattle.coap_client_engine.specs.Prelude.{flat_map, Unfinished, prefix_kind, Stream, split}
-use Rattle.coap_client_engine.specs.Prelude.{sized_split, sizes_first, constant_size, stream_after}
-use Rattle.coap_client_engine.specs.Prelude.{split_on, framing, LimitValues, History, new_history, Client}
-use Rattle.coap_client_engine.specs.Prelude.{ClientCall, Took, ClientStep, Handles, taken_by, stream_in, new_fault}
-use Rattle.coap_client_engine.specs.Prelude.{size_by, size_in, sizes_in, beyond, AllByRecursion, KeepsSize}
-use Rattle.coap_client_engine.specs.Prelude.{steps_by, later_steps, steps_of, after_steps, client_after, IsAccepted}
-use Rattle.coap_client_engine.specs.Prelude.{AreAcceptedAfter, AreAccepted, Faults, Requests, Cancels, Pings, Forgets}
-use Rattle.coap_client_engine.specs.Prelude.{Releases, Announces, Writes, Ends, reject_of, link_of, release_refusal}
-use Rattle.coap_client_engine.specs.Prelude.{announce_refusal, may_announce, is_open}
+use Rattle.std.proofs.Common.{◌≡◌, ℕ, ◌-◌, ◌<◌, ◌≤◌, true, List, [], ◌∷◌, ◌++◌, length, map, None, refl, sym, ap, ◌∙◌}
+use Rattle.std.proofs.Common.{append_assoc, arith}
+use Rattle.coap_client_engine.specs.Prelude.{flat_map, Unfinished, prefix_kind, Stream, split, sized_split, sizes_first}
+use Rattle.coap_client_engine.specs.Prelude.{constant_size, stream_after, split_on, framing, LimitValues, History}
+use Rattle.coap_client_engine.specs.Prelude.{new_history, Client, ClientCall, Took, ClientStep, Handles, taken_by}
+use Rattle.coap_client_engine.specs.Prelude.{stream_in, new_fault, size_by, size_in, sizes_in, beyond, AllByRecursion}
+use Rattle.coap_client_engine.specs.Prelude.{KeepsSize, steps_by, later_steps, steps_of, after_steps, client_after}
+use Rattle.coap_client_engine.specs.Prelude.{IsAccepted, AreAcceptedAfter, AreAccepted, Faults, Requests, Cancels}
+use Rattle.coap_client_engine.specs.Prelude.{Pings, Forgets, Releases, Announces, Writes, Ends, reject_of, link_of}
+use Rattle.coap_client_engine.specs.Prelude.{release_refusal, announce_refusal, may_announce, is_open}
 use Rattle.std.proofs.lemmas.Bool.{cond_both}
 use Rattle.std.proofs.lemmas.Bool.Decides.{nat_tests}
 use Rattle.std.proofs.lemmas.List.{append-nil, length-append}

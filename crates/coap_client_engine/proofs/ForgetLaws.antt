@@ -1,6 +1,6 @@
 -- A forgotten token is never outstanding again: later tokens have larger numbers.
-use Rattle.std.proofs.Common.{◌≡◌, ℕ, ◌+◌, ◌<◌, ◌≤◌, ◌⊎◌, Bool, true, false, List, [], ◌∷◌, ◌++◌, filter, None, refl, sym}
-use Rattle.std.proofs.Common.{◌∙◌, arith, inl, inr}
+use Rattle.std.proofs.Common.{◌≡◌, ℕ, ◌+◌, ◌<◌, ◌≤◌, ◌⊎◌, Bool, true, false, List, [], ◌∷◌, ◌++◌, filter, None, refl}
+use Rattle.std.proofs.Common.{sym, ◌∙◌, arith, inl, inr}
 use Rattle.coap_client_engine.specs.Prelude.{list_any, Message, LimitValues, OutstandingValue, is_entry_of}
 use Rattle.coap_client_engine.specs.Prelude.{with_cancelled, asking_refusal, next_token, History, new_history, Client}
 use Rattle.coap_client_engine.specs.Prelude.{state_now, asking_now, link_of, may_forget, ClientCall, ClientStep, Forgot}
@@ -11,7 +11,8 @@ use Rattle.std.proofs.lemmas.List.Folds.{list_any-append}
 use Rattle.coap_conn.proofs.AskingLaws.{none_where}
 use Rattle.coap_conn.proofs.OutstandingLaws.{requested_kept, none_left, tokens_differ, token_left}
 use Rattle.coap_conn.proofs.ForgetLaws.{its_token, is_its_token}
-use Rattle.coap_client_engine.proofs.ClientSteps.{client_steps_then, later_call_steps_more, Acts, stepped, step_so, step_tokens}
+use Rattle.coap_client_engine.proofs.ClientSteps.{client_steps_then, later_call_steps_more, Acts, stepped, step_so}
+use Rattle.coap_client_engine.proofs.ClientSteps.{step_tokens}
 
 -- ---- the entries with a token
 

@@ -2,13 +2,12 @@
 -- accepted calls.
 use Rattle.std.proofs.Common.{◌≡◌, ℕ, ◌+◌, ◌<◌, ◌≤◌, List, [], ◌∷◌, ◌++◌, length, drop, None, refl, ap, arith}
 use Rattle.coap_client_engine.specs.Prelude.{Message, spelling, LimitValues, AreInRange, takes_messages, abort_of}
-use Rattle.coap_client_engine.specs.Prelude.{AllFit, OutstandingValue, asking_refusal, ConnectionState}
-use Rattle.coap_client_engine.specs.Prelude.{react, ReactionResult, History, IsHistory, limit_now, state_now, asking_now}
+use Rattle.coap_client_engine.specs.Prelude.{AllFit, OutstandingValue, asking_refusal, ConnectionState, react}
+use Rattle.coap_client_engine.specs.Prelude.{ReactionResult, History, IsHistory, limit_now, state_now, asking_now}
 use Rattle.coap_client_engine.specs.Prelude.{waiting_of, bytes_of, PendingEntryValue, ClientCall, ClientStep, Took}
-use Rattle.coap_client_engine.specs.Prelude.{Handles, Faults, Requests, Cancels, Pings, Releases, Announces}
-use Rattle.coap_client_engine.specs.Prelude.{Writes, release, link_of, free_in}
-use Rattle.coap_client_engine.specs.Prelude.{size_in, stream_in, steps_by, step, after_steps, client_after, IsAccepted}
-use Rattle.coap_client_engine.specs.Prelude.{AreAccepted, client_of}
+use Rattle.coap_client_engine.specs.Prelude.{Handles, Faults, Requests, Cancels, Pings, Releases, Announces, Writes}
+use Rattle.coap_client_engine.specs.Prelude.{release, link_of, free_in, size_in, stream_in, steps_by, step, after_steps}
+use Rattle.coap_client_engine.specs.Prelude.{client_after, IsAccepted, AreAccepted, client_of}
 use Rattle.std.proofs.lemmas.Bool.Decides.{nat_tests}
 use Rattle.std.proofs.lemmas.List.{length-append, length-drop, length-map}
 use Rattle.coap_wire.proofs.StreamSteps.{unfinished_below}

@@ -1,24 +1,22 @@
 -- The event that each step of a client's run adds to its trace.
-use Rattle.std.proofs.Common.{◌≡◌, ◌≢◌, ◌<◌, ◌≤◌, ◌⊎◌, ℕ, max, Bool, true, false, cond, List, [], ◌∷◌, ◌++◌}
-use Rattle.std.proofs.Common.{length, take, drop, Option, Some, None, Result, Ok, Err, refl, ap, inl, ◌∙◌, arith}
-use Rattle.std.proofs.Common.{append_assoc}
-use Rattle.coap_client_engine.specs.Prelude.{◌==◌, IfOk, OnOk, option_map, LimitValues, LinkValue, TargetValue, ExtrasValue, RequestFault, NoRoom, WriteFailed, Got}
-use Rattle.coap_client_engine.specs.Prelude.{Reason, AddsBytes, AddsCalls, bytes_passed, count_passed, ClientValue}
-use Rattle.coap_client_engine.specs.Prelude.{client_takes, taking, client_written, client_cancelled, send_refusal, Took}
-use Rattle.coap_client_engine.specs.Prelude.{Sent, Cancelled, Ended, End, ClientCall, client_of, takes, event_of}
+use Rattle.std.proofs.Common.{◌≡◌, ◌≢◌, ◌<◌, ◌≤◌, ◌⊎◌, ℕ, max, Bool, true, false, cond, List, [], ◌∷◌, ◌++◌, length}
+use Rattle.std.proofs.Common.{take, drop, Option, Some, None, Result, Ok, Err, refl, ap, inl, ◌∙◌, arith, append_assoc}
+use Rattle.coap_client_engine.specs.Prelude.{◌==◌, IfOk, OnOk, option_map, LimitValues, LinkValue, TargetValue}
+use Rattle.coap_client_engine.specs.Prelude.{ExtrasValue, RequestFault, NoRoom, WriteFailed, Got, Reason, AddsBytes}
+use Rattle.coap_client_engine.specs.Prelude.{AddsCalls, bytes_passed, count_passed, ClientValue, client_takes}
+use Rattle.coap_client_engine.specs.Prelude.{ClientTakeOutcome, taking, client_written, client_cancelled, send_refusal}
+use Rattle.coap_client_engine.specs.Prelude.{Took, Sent, Cancelled, Ended, End, ClientCall, client_of, takes, event_of}
 use Rattle.coap_client_engine.specs.Prelude.{steps_by, AreAccepted, ClientShows, may_take, must_send_request}
-use Rattle.coap_client_engine.specs.Prelude.{is_to_cancel, watched, planned_extras}
-use Rattle.coap_client_engine.specs.Prelude.{client_asking, client_cancelling, token_asking, cancelled_at, ended_by}
-use Rattle.coap_client_engine.specs.Prelude.{refusal_text, event_status, event_first, event_output, event_errors}
-use Rattle.coap_client_engine.specs.Prelude.{calls_read, calls_written, client_read, stop_after, stop_written, RunTrace}
-use Rattle.coap_client_engine.specs.Prelude.{Turns, Reads, Calls, Refuses, GivesUp, Rests, default_limits}
-use Rattle.coap_client_engine.specs.Prelude.{calls_in, client_in, event_in, turns_in}
-use Rattle.coap_client_engine.specs.Prelude.{is_cancel_due, status_stopped, stop_text, or_then, status_in}
-use Rattle.coap_client_engine.specs.Prelude.{has_looked, IsRequestedWhereDue, IsTakenUp, IsFresh}
-use Rattle.coap_client_engine.specs.Prelude.{IsResting, IsBetween, MayWrite, RunDevices, with_outlets}
-use Rattle.coap_client_engine.specs.Prelude.{token_of, IsAtTrace, ExtendsTraceOn, IsRequested}
-use Rattle.coap_client_engine.specs.Prelude.{IsAfterRead, IsFinished, IsFlushed, most_turns, IsEnded, IsOutOfTurns}
-use Rattle.coap_client_engine.specs.Prelude.{ClientPlan, Run, RunEnd, IsExplainedRun, cause_after}
+use Rattle.coap_client_engine.specs.Prelude.{is_to_cancel, watched, planned_extras, client_asking, client_cancelling}
+use Rattle.coap_client_engine.specs.Prelude.{token_asking, cancelled_at, ended_by, refusal_text, event_status}
+use Rattle.coap_client_engine.specs.Prelude.{event_first, event_output, event_errors, calls_read, calls_written}
+use Rattle.coap_client_engine.specs.Prelude.{client_read, stop_after, stop_written, RunTrace, Turns, Reads, Calls}
+use Rattle.coap_client_engine.specs.Prelude.{Refuses, GivesUp, Rests, default_limits, calls_in, client_in, event_in}
+use Rattle.coap_client_engine.specs.Prelude.{turns_in, is_cancel_due, status_stopped, stop_text, or_then, status_in}
+use Rattle.coap_client_engine.specs.Prelude.{has_looked, IsRequestedWhereDue, IsTakenUp, IsFresh, IsResting, IsBetween}
+use Rattle.coap_client_engine.specs.Prelude.{MayWrite, RunDevices, with_outlets, token_of, IsAtTrace, ExtendsTraceOn}
+use Rattle.coap_client_engine.specs.Prelude.{IsRequested, IsAfterRead, IsFinished, IsFlushed, most_turns, IsEnded}
+use Rattle.coap_client_engine.specs.Prelude.{IsOutOfTurns, ClientPlan, Run, RunEnd, IsExplainedRun, cause_after}
 use Rattle.coap_client_engine.specs.Prelude.{cause_stopped, event_cause, cause_refused, watched_cause}
 use Rattle.std.proofs.lemmas.Bool.{and_parts, eqb-true}
 use Rattle.std.proofs.lemmas.Bool.Decides.{nat_tests}
@@ -74,16 +72,29 @@ read_shown v new got calls is shows = rw (is, append-nil) shows
 
 -- ---- the steps of a run, as their contracts say
 
-pub record Takes (plan : ClientPlan) (now : RunDevices) (r r' : Run) (o e : Option (List ℕ)) : Type 0 where
-  pub client : r'.client ≡ (taking r.client r.rest).client
-  pub within : (taking r.client r.rest).count ≤ length r.rest
-  pub rest : r'.rest ≡ drop (taking r.client r.rest).count r.rest
-  pub kept : (r'.token ≡ r.token) × (r'.started ≡ r.started) × (r'.moment ≡ r.moment) × (r'.cancelled ≡ r.cancelled)
-  pub first : r'.first ≡ event_first (taking r.client r.rest).event r.first r.moment
-  pub cause : r'.cause ≡ cause_after r.cause (event_cause (taking r.client r.rest).event)
-  pub out : AddsBytes now.out o (event_output (taking r.client r.rest).event plan.newline)
-  pub err : AddsBytes now.err e (event_errors (taking r.client r.rest).event)
+-- The result of a `take` of the rest of the input.
+abbrev pub taken_of : Run → ClientTakeOutcome
+taken_of r = taking r.client r.rest
 
+-- True if the observation must be cancelled, and the error if that is refused.
+abbrev pub is_due : ClientPlan → Run → Bool
+is_due plan r = is_to_cancel r.cancelled r.first r.moment plan.observe
+
+abbrev pub refusal_of : ClientPlan → Run → Option RequestFault
+refusal_of plan r = cancelling_refusal r.client (token_of r) plan
+
+-- `Run::take`.
+pub record Takes (plan : ClientPlan) (now : RunDevices) (r r' : Run) (o e : Option (List ℕ)) : Type 0 where
+  pub client : r'.client ≡ (taken_of r).client
+  pub within : (taken_of r).count ≤ length r.rest
+  pub rest : r'.rest ≡ drop (taken_of r).count r.rest
+  pub kept : (r'.token ≡ r.token) × (r'.started ≡ r.started) × (r'.moment ≡ r.moment) × (r'.cancelled ≡ r.cancelled)
+  pub first : r'.first ≡ event_first (taken_of r).event r.first r.moment
+  pub cause : r'.cause ≡ cause_after r.cause (event_cause (taken_of r).event)
+  pub out : AddsBytes now.out o (event_output (taken_of r).event plan.newline)
+  pub err : AddsBytes now.err e (event_errors (taken_of r).event)
+
+-- `Run::send_request`.
 pub record Asks (plan : ClientPlan) (now : RunDevices) (r r' : Run) (e : Option (List ℕ)) : Type 0 where
   pub after : r'.client ≡ client_asking r.client r.token plan
   pub token : token_of r' ≡ token_asking r.client (token_of r) plan
@@ -93,18 +104,16 @@ pub record Asks (plan : ClientPlan) (now : RunDevices) (r r' : Run) (e : Option 
       ≡ cause_after r.cause (cause_refused None r.client.link.peer_max plan (asking_refusal r.client r.token plan))
   pub reported : AddsBytes now.err e (refusal_text (asking_refusal r.client r.token plan))
 
+-- `Run::check_deadlines`.
 pub record Watches (plan : ClientPlan) (now : RunDevices) (r r' : Run) (e : Option (List ℕ)) : Type 0 where
-  pub after : r'.client ≡ cond (is_to_cancel r.cancelled r.first r.moment plan.observe)
-      (client_cancelling r.client (token_of r) plan) r.client
-  pub cancelled : r'.cancelled ≡ cond (is_to_cancel r.cancelled r.first r.moment plan.observe)
-      (cancelled_at r.token (cancelling_refusal r.client (token_of r) plan) r.moment r.cancelled) r.cancelled
+  pub after : r'.client ≡ cond (is_due plan r) (client_cancelling r.client (token_of r) plan) r.client
+  pub cancelled : r'.cancelled ≡ cond (is_due plan r)
+      (cancelled_at r.token (refusal_of plan r) r.moment r.cancelled) r.cancelled
   pub kept : (r'.rest ≡ r.rest) × (r'.token ≡ r.token) × (r'.started ≡ r.started) × (r'.moment ≡ r.moment)
       × (r'.first ≡ r.first)
   pub cause : r'.cause ≡ cause_after r.cause (watched_cause r.cancelled r.first r.started r.moment plan
-      r.client.link.phase (cause_refused (token_of r) r.client.link.peer_max plan
-      (cancelling_refusal r.client (token_of r) plan)))
-  pub reported : AddsBytes now.err e (cond (is_to_cancel r.cancelled r.first r.moment plan.observe)
-      (refusal_text (cancelling_refusal r.client (token_of r) plan)) [])
+      r.client.link.phase (cause_refused (token_of r) r.client.link.peer_max plan (refusal_of plan r)))
+  pub reported : AddsBytes now.err e (cond (is_due plan r) (refusal_text (refusal_of plan r)) [])
 
 -- A read of the wire or a write to it, and the report of the stop to which it leads.
 pub record UsesWire (now now' : RunDevices) (r r' : Run) (got : Got) (read written : List ℕ) (why : Option Reason)
@@ -139,7 +148,7 @@ module _ {plan : ClientPlan} {start now : RunDevices} {r : Run} {c : RunTrace}
 
   -- ---- a take
 
-  pub takes_one : may_take r.client r.rest r.token ≡ true → 1 ≤ (taking r.client r.rest).count
+  pub takes_one : may_take r.client r.rest r.token ≡ true → 1 ≤ (taken_of r).count
   takes_one may =
       let count = took_takes r.client r.rest _ refl 0 (calls_in c) is_at.shows in
       let some = client_takes_some (calls_in c) r.rest accepted (grind (arith, client_is)) (grind (arith, nat_tests)) in
@@ -148,14 +157,14 @@ module _ {plan : ClientPlan} {start now : RunDevices} {r : Run} {c : RunTrace}
   pub took : {r' : Run} {o e : Option (List ℕ)} → status_in c ≡ None → may_take r.client r.rest r.token ≡ true
       → Takes plan now r r' o e → ExtendsTraceOn plan start (with_outlets o e now) r'
       (λ t. (turns_in t ≡ turns_in c) × (has_looked t ≡ has_looked c) × MayWrite t)
-      (event_status (taking r.client r.rest).event)
+      (event_status (taken_of r).event)
   took {r'} goes may step =
       let count = took_takes r.client r.rest _ refl 0 (calls_in c) is_at.shows in
       let event = took_reported r.client r.rest _ refl 0 (calls_in c) is_at.shows _ refl in
       let shows = took_shown r.client r.rest _ refl 0 (calls_in c) is_at.shows in
       let limits = taking_limits r.client r.rest in
       let front = length-take-le _ r.rest step.within in
-      on (Calls c (Took (take (taking r.client r.rest).count r.rest))) (grind (arith, client_is, append_assoc))
+      on (Calls c (Took (take (taken_of r).count r.rest))) (grind (arith, client_is, append_assoc))
 
   -- ---- a request
 
@@ -213,7 +222,7 @@ module _ {plan : ClientPlan} {start now : RunDevices} {r : Run} {c : RunTrace}
       (taken : IsTakenUp c) (requested : IsRequestedWhereDue c) (step : Watches plan now r r' e) where
     abbrev Due : Type 0
     Due = ExtendsTraceOn plan start (with_outlets now.out e now) r' (IsFinished (turns_in c))
-        (watched r.cancelled r.first r.started r.moment plan (ended_by (cancelling_refusal r.client (token_of r) plan)))
+        (watched r.cancelled r.first r.started r.moment plan (ended_by (refusal_of plan r)))
 
     cancels : is_cancel_due plan c ≡ true → (own : Option (List ℕ)) → token_of r ≡ own
         → (refusal : Option RequestFault) → cancelling_refusal r.client own plan ≡ refusal → Due

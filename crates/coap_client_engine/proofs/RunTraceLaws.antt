@@ -1,14 +1,14 @@
 -- Properties of every trace of a run. The accepted bytes are a prefix of the input, and the written bytes are a prefix
 -- of the queued bytes.
-use Rattle.std.proofs.Common.{◌≡◌, ◌+◌, ◌≤◌, ℕ, List, [], ◌∷◌, ◌++◌, length, take, drop, refl, sym, ◌∙◌}
-use Rattle.std.proofs.Common.{append_assoc, arith}
-use Rattle.coap_client_engine.specs.Prelude.{flat_map, Message, spelling, LimitValues, History, IsHistory, bytes_of, Got}
-use Rattle.coap_client_engine.specs.Prelude.{Bytes, End, ClientPlan, ClientCall, Took, Wrote, Ended, ClientStep, after}
-use Rattle.coap_client_engine.specs.Prelude.{Handles, Faults, link_of, waiting_of, taken_by, stream_in, steps_by, step}
-use Rattle.coap_client_engine.specs.Prelude.{after_steps, client_after, client_of, IsAccepted, AreAcceptedAfter, AreAccepted}
-use Rattle.coap_client_engine.specs.Prelude.{calls_read, calls_written, RunTrace, Begins, Turns, Reads, Calls, Refuses}
-use Rattle.coap_client_engine.specs.Prelude.{GivesUp, Rests, default_limits, calls_in, history_in, waiting_in, taken_in}
-use Rattle.coap_client_engine.specs.Prelude.{given_in, rest_in, written_in, IsPlanned, IsRunTrace}
+use Rattle.std.proofs.Common.{◌≡◌, ◌+◌, ◌≤◌, ℕ, List, [], ◌∷◌, ◌++◌, length, take, drop, refl, sym, ◌∙◌, append_assoc}
+use Rattle.std.proofs.Common.{arith}
+use Rattle.coap_client_engine.specs.Prelude.{flat_map, Message, spelling, LimitValues, History, IsHistory, bytes_of}
+use Rattle.coap_client_engine.specs.Prelude.{Got, Bytes, End, ClientPlan, ClientCall, Took, Wrote, Ended, ClientStep}
+use Rattle.coap_client_engine.specs.Prelude.{after, Handles, Faults, link_of, waiting_of, taken_by, stream_in, steps_by}
+use Rattle.coap_client_engine.specs.Prelude.{step, after_steps, client_after, client_of, IsAccepted, AreAcceptedAfter}
+use Rattle.coap_client_engine.specs.Prelude.{AreAccepted, calls_read, calls_written, RunTrace, Begins, Turns, Reads}
+use Rattle.coap_client_engine.specs.Prelude.{Calls, Refuses, GivesUp, Rests, default_limits, calls_in, history_in}
+use Rattle.coap_client_engine.specs.Prelude.{waiting_in, taken_in, given_in, rest_in, written_in, IsPlanned, IsRunTrace}
 use Rattle.std.proofs.lemmas.List.{append-nil, length-drop, length-take-le, take-append-drop, take-append-le}
 use Rattle.std.proofs.Math.Seq.{drop-append_seam, take-append-add}
 use Rattle.std.proofs.lemmas.List.Concat.{flat_map-append}
@@ -93,13 +93,16 @@ call_written : (calls : List ClientCall) (c : ClientCall) → AreAccepted defaul
     → (led_to (calls ++ c ∷ [])).written ≡ (led_to calls).written + wrote_by c
 unfolding IsAccepted
 call_written calls (Took bytes) all last = took_written calls bytes (take_makes default_limits 0 calls bytes all last)
-call_written calls c all may = rw (bare_after default_limits 0 calls c may) (bare_written (led_to calls) (stream_in default_limits.max_message calls).rest c may)
+call_written calls c all may =
+    rw (bare_after default_limits 0 calls c may)
+    (bare_written (led_to calls) (stream_in default_limits.max_message calls).rest c may)
 
 written_within : (calls : List ClientCall) (c : ClientCall) → IsHistory (led_to calls)
     → IsAccepted default_limits 0 calls c
     → (led_to calls).written + wrote_by c ≤ length (bytes_of (led_to calls).queued)
 unfolding IsAccepted
-written_within calls (Wrote n) is few = omega (arith, length-drop (led_to calls).written (bytes_of (led_to calls).queued))
+written_within calls (Wrote n) is few =
+    omega (arith, length-drop (led_to calls).written (bytes_of (led_to calls).queued))
 written_within calls c is may = omega arith
 
 -- A longer prefix in two parts.

@@ -1,12 +1,11 @@
 -- The event of a `take`: the token of a response is that of its message, and the frame is found again for its second
 -- parse.
 use Rattle.std.proofs.Common.{◌≡◌, ℕ, Bool, cond, List, [], ◌∷◌, ◌++◌, take, Option, Some, None, refl, sym, arith}
-use Rattle.coap_client_engine.specs.Prelude.{Message, StreamPrefix, Whole, prefix_kind, FramerValue}
-use Rattle.coap_client_engine.specs.Prelude.{IsFramer, AFrame, split_frame, framing_at, framing, framing_of}
-use Rattle.coap_client_engine.specs.Prelude.{framer_after, frame_back, ConnectionState, live_reaction, react}
-use Rattle.coap_client_engine.specs.Prelude.{VerdictValue, Reaction, Reason, reports, aborts, csm_reaction}
-use Rattle.coap_client_engine.specs.Prelude.{bad_csm_option, ping_reaction, release_reaction, pong_reaction}
-use Rattle.coap_client_engine.specs.Prelude.{request_reaction, response_reaction}
+use Rattle.coap_client_engine.specs.Prelude.{Message, StreamPrefix, Whole, prefix_kind, FramerValue, IsFramer, AFrame}
+use Rattle.coap_client_engine.specs.Prelude.{split_frame, framing_at, framing, framing_of, framer_after, frame_back}
+use Rattle.coap_client_engine.specs.Prelude.{ConnectionState, live_reaction, react, VerdictValue, Reaction, Reason}
+use Rattle.coap_client_engine.specs.Prelude.{reports, aborts, csm_reaction, bad_csm_option, ping_reaction}
+use Rattle.coap_client_engine.specs.Prelude.{release_reaction, pong_reaction, request_reaction, response_reaction}
 use Rattle.coap_frame.proofs.GivenLaws.{frame_taken}
 use Rattle.coap_conn.specs.Verdicts as verdict
 

@@ -1,15 +1,9 @@
 -- The framer and the link of a client treat an input slice as the definition `taking` says.
-use Rattle.std.proofs.Common.{◌≡◌, ℕ, true, false, List, None}
-use Rattle.std.proofs.Common.{refl, sym, ap, arith, ◌∙◌}
-use Rattle.coap_client_engine.specs.Prelude.{FramerValue, IsFramer, Framing, FrameEventValue}
-use Rattle.coap_client_engine.specs.Prelude.{framing, framing_of, framer_after}
-use Rattle.coap_client_engine.specs.Prelude.{LimitValues}
-use Rattle.coap_client_engine.specs.Prelude.{is_open, fits, limit_in, own_csm, sizes_of, link_after}
-use Rattle.coap_client_engine.specs.Prelude.{raise_refusal, with_size}
-use Rattle.coap_client_engine.specs.Prelude.{LinkValue, ClientValue}
-use Rattle.coap_client_engine.specs.Prelude.{client_takes}
-use Rattle.coap_client_engine.specs.Prelude.{taking_found, taking, IsClient}
-use Rattle.coap_client_engine.specs.Prelude.{taking_framed, Inside}
+use Rattle.std.proofs.Common.{◌≡◌, ℕ, true, false, List, None, refl, sym, ap, arith, ◌∙◌}
+use Rattle.coap_client_engine.specs.Prelude.{FramerValue, IsFramer, Framing, FrameEventValue, framing, framing_of}
+use Rattle.coap_client_engine.specs.Prelude.{framer_after, LimitValues, is_open, fits, limit_in, own_csm, sizes_of}
+use Rattle.coap_client_engine.specs.Prelude.{link_after, raise_refusal, with_size, LinkValue, ClientValue, client_takes}
+use Rattle.coap_client_engine.specs.Prelude.{taking_found, taking, IsClient, taking_framed, Inside}
 use Rattle.coap_frame.proofs.FramingLemmas.{framing_is_framer}
 use Rattle.coap_frame.proofs.RaiseLemmas.{raise_allowed, raised_is_framer}
 use Rattle.coap_conn.specs.Calls as call

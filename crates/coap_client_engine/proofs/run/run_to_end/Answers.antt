@@ -17,7 +17,8 @@ loop-preserved g c =
     let led = c.loop.invariant.runs in
     let turn = turned led.is_at c.now-in-loop.result c.max.result (g.C.Clock.moments c.now-in-loop.new.self) led.ends
     (led.holds.between led.ends) c.max.ensures c.now-in-loop.ensures in
-    let went = c.in_ok-status.ensures.runs _ (records None None None (g.C.Clock.moments c.now-in-loop.new.self) None None)
+    let went = c.in_ok-status.ensures.runs _
+    (records None None None (g.C.Clock.moments c.now-in-loop.new.self) None None)
     (Turns led.trace c.now-in-loop.result) turn led.ends tt in
     let works = or_parts _ _ c.in_ok-status.ensures.output in
     record {
@@ -31,7 +32,8 @@ returns-in-Some-clause-run g c =
     let led = c.loop.invariant.runs in
     let turn = turned led.is_at c.now-in-loop.result c.max.result (g.C.Clock.moments c.now-in-loop.new.self) led.ends
     (led.holds.between led.ends) c.max.ensures c.now-in-loop.ensures in
-    let went = c.in_ok-status.ensures.runs _ (records None None None (g.C.Clock.moments c.now-in-loop.new.self) None None)
+    let went = c.in_ok-status.ensures.runs _
+    (records None None None (g.C.Clock.moments c.now-in-loop.new.self) None None)
     (Turns led.trace c.now-in-loop.result) turn led.ends tt in
     explained went.is_at (omega (arith, went.holds.turns, led.holds.turns)) _
     (inl (went.ends ∙ c.in-Some.is, went.holds.written)) refl

@@ -35,7 +35,8 @@ returns c =
     let takes = ap client_takes (sym c.self.view_is) ∙ sym c.takes.ensures ∙ c.if-not-takes.false in
     let all = takes_framed c.self.inside v p c.self.invariant c.self.view_is takes in
     let taken = c.take_in-bytes.ensures in
-    let count = taken.count ∙ framed_count c.self.inside.framer c.self.inside.link p ∙ ap (λ (t : ClientTakeOutcome). t.count) (sym all) in
+    let count = taken.count ∙ framed_count c.self.inside.framer c.self.inside.link p
+    ∙ ap (λ (t : ClientTakeOutcome). t.count) (sym all) in
     let event = ap (λ frame. received_event c.take_in-bytes.result.1 (message_of frame))
     (c.frame_of.ensures ∙ ap (λ spent. frame_back spent (take c.take_in-bytes.result.0 p)) c.split_frame.ensures)
     ∙ taken.reported ∙ ap (λ (t : ClientTakeOutcome). t.event) (sym all) in (

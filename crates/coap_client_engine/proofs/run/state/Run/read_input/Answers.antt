@@ -15,5 +15,6 @@ returns-in-Some-clause-runs g c = λ plan start now trace is_at goes fresh.
 pub returns-in-None-clause-runs : goal.returns-in-None-clause-runs
 returns-in-None-clause-runs g c = λ plan start now trace is_at goes fresh.
     let got = c.read-got.ensures in
-    read is_at c.read-got.result None goes fresh (sym c.is_empty.ensures ∙ c.if-not-is_empty.false) got.count got.client
-    (c.in-None.ensures ∙ ap (λ (p : Phase). stop_after p c.read-got.result) c.phase.ensures) (search (rules, bytes_none))
+    read is_at c.read-got.result None goes fresh (sym c.is_empty.ensures ∙ c.if-not-is_empty.false) got.count
+    got.client (c.in-None.ensures ∙ ap (λ (p : Phase). stop_after p c.read-got.result) c.phase.ensures)
+    (search (rules, bytes_none))

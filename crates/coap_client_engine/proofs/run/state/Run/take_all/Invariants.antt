@@ -1,7 +1,6 @@
 use Rattle.std.proofs.Common.{◌≡◌, ◌+◌, ◌≤◌, None, false, length}
 use Rattle.coap_client_engine.specs.Prelude.{RunTrace, status_in, turns_in, RunDevices, with_outlets, IsAtTrace}
-use Rattle.coap_client_engine.specs.Prelude.{ExtendsTraceOn, IsReady}
-use Rattle.coap_client_engine.specs.Prelude.{IsRequested}
+use Rattle.coap_client_engine.specs.Prelude.{ExtendsTraceOn, IsReady, IsRequested}
 use Rattle.coap_client_engine.proofs.run.state.Run.take_all.Given as goal
 
 -- No outlet has failed, the run continues, and at least the counted number of bytes was processed.
