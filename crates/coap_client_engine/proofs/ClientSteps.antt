@@ -103,10 +103,6 @@ stream_by M calls c =
     read_before M calls c ∙ went_on (sizes_in M calls) (size_in M calls) (flat_map taken_by calls) (taken_by c)
     (sizes_within M calls) (sizes_now M calls)
 
-pub stream_goes_on : (M : ℕ) (calls : List ClientCall) (bytes : List ℕ)
-    → stream_in M (calls ++ Took bytes ∷ []) ≡ split_on (size_in M calls) (stream_in M calls) bytes
-stream_goes_on M calls bytes = stream_by M calls (Took bytes)
-
 -- The stream is empty before the first call.
 pub stream_first : (M : ℕ) → stream_in M [] ≡ record { messages = []; rest = []; fault = None }
 unfolding sizes_in
@@ -277,7 +273,7 @@ pub take_adds : (M : ℕ) (calls : List ClientCall) (bytes : List ℕ) (added : 
 unfolding steps_by
 take_adds M calls bytes added none is =
     let after : stream_in M (calls ++ Took bytes ∷ []) ≡ stream_after (stream_in M calls).messages added =
-    stream_goes_on M calls bytes ∙ rw (none, is) in
+    stream_by M calls (Took bytes) ∙ rw (none, is) in
     record { steps = rw (after, none, drop-append_seam); stream = after }
 
 -- Bytes that are accepted in full add what the framer finds in them, if the stream has no fault.

@@ -6,8 +6,7 @@ use Rattle.coap_client_engine.specs.Prelude.{steps_of, client_after, client_of}
 use Rattle.std.proofs.lemmas.List.{append-nil, map-append}
 use Rattle.std.proofs.Math.Seq.{drop-append_seam, drop-length}
 use Rattle.coap_client_engine.proofs.ClientSteps.{taken_with_call, size_with_call, sizes_with_take, read_before}
-use Rattle.coap_client_engine.proofs.ClientSteps.{stream_by, stream_goes_on, later_call_steps_more}
-use Rattle.coap_client_engine.proofs.ClientSteps.{nothing_beyond_itself}
+use Rattle.coap_client_engine.proofs.ClientSteps.{stream_by, later_call_steps_more, nothing_beyond_itself}
 
 -- ---- only the stream and the current size matter
 
@@ -97,9 +96,9 @@ unfolding steps_by
 piece_steps_by_parts M calls one other =
     rw (
       (taken_twice M calls one other).0,
-      stream_goes_on M (calls ++ Took one ∷ []) other,
+      stream_by M (calls ++ Took one ∷ []) (Took other),
       size_with_call M calls (Took one),
-      stream_goes_on M calls one,
+      stream_by M calls (Took one),
     )
     (beyond_two_pieces (size_in M calls) (stream_in M calls) _ one other refl)
 

@@ -113,7 +113,7 @@ module _ (limits : LimitValues) (tokens : ℕ) where
     call_agrees c may =
         rw (bare_after limits tokens calls c may, bare_stream limits tokens calls c may) (bare_agrees _ _ c may is)
 
--- A fault in the bytes stops the connection.
+-- The processed messages are those of the stream, and a fault in the bytes stops the connection.
 pub agrees : (limits : LimitValues) (tokens : ℕ) (calls : List ClientCall) → AreAccepted limits tokens calls
     → AgreesWith (stream_in limits.max_message calls) (client_after limits tokens calls)
 agrees limits tokens calls accepted =
