@@ -6,8 +6,9 @@ use Rattle.std.specs.List.{list_all, list_any, fold, ends_with, starts_with}
 use Rattle.std.specs.Option.{option_map_or}
 use Rattle.std.specs.Map.{lookup}
 use Rattle.std.specs.Cmp.Lexicographic.{pointwise}
-use Rattle.std.proofs.lemmas.Bool.{leb-true, le-leb, lt-leb, and_parts, and_left, and_right, eqb-true, cases_lt}
+use Rattle.std.proofs.lemmas.Bool.{or_from, leb-true, le-leb, lt-leb, and_parts, and_left, and_right, eqb-true, cases_lt}
 use Rattle.std.proofs.lemmas.Bool.{cases_order, not-true}
+use Rattle.std.proofs.lemmas.Bool.Decides.{nat_tests}
 use Rattle.directory_links.specs.Links.{AttributeValue, NoValue, ExtendedValue, TokenValue, QuotedValue, Attribute}
 use Rattle.directory_links.specs.Links.{Link}
 use Rattle.directory_registry.specs.Prelude.{CriterionValue, RegistrationValue, ListingValue, value_meets}
@@ -30,13 +31,7 @@ exact p = record { name = codes "ep"; pattern = p }
 
 value_unmet : (p : List ℕ) (h : ℕ) (t : List ℕ) → ends_with nat_eq p (codes "*") ≡ false
     → nat_eq (name_label t) h ≡ true → (h ≡ name_label p → ⊥) → value_meets (exact p) t ≡ false
-value_unmet p h t star e other =
-    ap (λ (b : Bool). cond b (starts_with nat_eq t (take (length p - 1) p)) (pointwise nat_eq t p)) star
-    ∙ by (pointwise nat_eq t p) refl
-  where
-    by : (b : Bool) → pointwise nat_eq t p ≡ b → pointwise nat_eq t p ≡ false
-    by true i = absurd (other (sym (eqb-true (name_label t) h e) ∙ ap name_label (same_list t p i)))
-    by false i = i
+value_unmet p h t star e other = grind (arith, star, e, other, same_list t p)
 
 given_unmet : (p : List ℕ) (h : ℕ) (v : AttributeValue) → ends_with nat_eq p (codes "*") ≡ false → has_label h v ≡ true
     → (h ≡ name_label p → ⊥) → given_value_meets (exact p) v ≡ false
@@ -47,23 +42,14 @@ given_unmet p h (QuotedValue t) star e other = value_unmet p h t star e other
 
 attribute_unmet : (p : List ℕ) (h : ℕ) (a : Attribute) → ends_with nat_eq p (codes "*") ≡ false → agrees h a ≡ true
     → (h ≡ name_label p → ⊥) → attribute_meets (exact p) a ≡ false
-attribute_unmet p h a star e other = by (is_endpoint_name a.name) e
-  where
-    by : (b : Bool) → cond b (has_label h a.value) true ≡ true
-        → cond b (given_value_meets (exact p) a.value) false ≡ false
-    by true i = given_unmet p h a.value star i other
-    by false i = refl
-
-or_false : (a b : Bool) → a ≡ false → b ≡ false → (a || b) ≡ false
-or_false true b e f = absurd (true≢false e)
-or_false false b e f = f
+attribute_unmet p h a star e other = grind (arith, e, λ (k : has_label h a.value ≡ true). given_unmet p h a.value star k other)
 
 attributes_unmet : (p : List ℕ) (h : ℕ) (list : List Attribute) → ends_with nat_eq p (codes "*") ≡ false
     → list_all (agrees h) list ≡ true → (h ≡ name_label p → ⊥) → list_any (attribute_meets (exact p)) list ≡ false
 attributes_unmet p h [] star e other = refl
 attributes_unmet p h (a ∷ list) star e other =
     let parts = and_parts (agrees h a) (list_all (agrees h) list) e in
-    or_false (attribute_meets (exact p) a) (list_any (attribute_meets (exact p)) list)
+    or_from (attribute_meets (exact p) a) (list_any (attribute_meets (exact p)) list)
     (attribute_unmet p h a star parts.0 other) (attributes_unmet p h list star parts.1 other)
 
 links_unmet : (p : List ℕ) (h : ℕ) (base : List ℕ) (ls : List Link) → ends_with nat_eq p (codes "*") ≡ false
@@ -71,51 +57,31 @@ links_unmet : (p : List ℕ) (h : ℕ) (base : List ℕ) (ls : List Link) → en
 links_unmet p h base [] star e other = refl
 links_unmet p h base (l ∷ ls) star e other =
     let parts = and_parts (link_agrees h l) (list_all (link_agrees h) ls) e in
-    or_false (link_meets (exact p) base l) (list_any (link_meets (exact p) base) ls)
+    or_from (link_meets (exact p) base l) (list_any (link_meets (exact p) base) ls)
     (attributes_unmet p h l.attributes star parts.0 other) (links_unmet p h base ls star parts.1 other)
 
 -- A criterion that asks for one name.
 exact_is : (c : CriterionValue) (p : List ℕ) → is_exact c ≡ true → c.pattern ≡ p
     → (c ≡ exact p) × (ends_with nat_eq p (codes "*") ≡ false)
 exact_is c p e i =
-    let parts = and_parts (pointwise nat_eq c.name (codes "ep")) (not (ends_with nat_eq c.pattern (codes "*"))) e in
-    let name = same_list c.name (codes "ep") parts.0 in (
-      (λ j. record { name = name j; pattern = i j }),
-      subst (λ (t : List ℕ). ends_with nat_eq t (codes "*") ≡ false) i
-          (not-true (ends_with nat_eq c.pattern (codes "*")) parts.1),
-    )
+    let parts = and_parts (pointwise nat_eq c.name (codes "ep")) _ e in
+    let name = same_list c.name (codes "ep") parts.0 in
+    (λ j. record { name = name j; pattern = i j }, rw i at (not-true _ parts.1))
 
 -- A test of all criteria fails where it fails at the one that asks for this name.
 all_fail : (test : CriterionValue → Bool) (p : List ℕ)
     → (ends_with nat_eq p (codes "*") ≡ false → test (exact p) ≡ false) → (cs : List CriterionValue)
     → exact_name cs ≡ Some p → list_all test cs ≡ false
 all_fail test p fails [] h = absurd cc
-all_fail test p fails (c ∷ cs) h = by (is_exact c) refl h (λ k. all_fail test p fails cs k)
-  where
-    by : (b : Bool) → is_exact c ≡ b → cond b (Some c.pattern) (exact_name cs) ≡ Some p
-        → (exact_name cs ≡ Some p → list_all test cs ≡ false) → (test c && list_all test cs) ≡ false
-    by true e i rest =
-        let pattern : c.pattern ≡ p = cc in
-        let this = exact_is c p e pattern in
-        and_left (test c) (list_all test cs) (ap test this.0 ∙ fails this.1)
-    by false e i rest = and_right (test c) (list_all test cs) (rest i)
+all_fail test p fails (c ∷ cs) h =
+    grind (arith, exact_is c p, fails, h, λ (k : exact_name cs ≡ Some p). all_fail test p fails cs k)
 
 -- Each `ep` of a registration has its label, unless this is 0.
 label_agrees : (r : RegistrationValue) → (registration_label r ≡ 0 → ⊥)
     → (list_all (agrees (registration_label r)) r.attributes && list_all (link_agrees (registration_label r)) r.links) ≡
     true
 unfolding label_with
-label_agrees r other =
-    by (list_all (agrees (first_label r.attributes)) r.attributes
-    && list_all (link_agrees (first_label r.attributes)) r.links) refl other
-  where
-    by : (b : Bool) → (list_all (agrees (first_label r.attributes)) r.attributes
-        && list_all (link_agrees (first_label r.attributes)) r.links) ≡ b
-        → (cond b (first_label r.attributes) 0 ≡ 0 → ⊥)
-        → (list_all (agrees (cond b (first_label r.attributes) 0)) r.attributes
-        && list_all (link_agrees (cond b (first_label r.attributes) 0)) r.links) ≡ true
-    by true e other = e
-    by false e other = absurd (other refl)
+label_agrees r other = grind (arith, other)
 
 not_selected_endpoint : (cs : List CriterionValue) (p : List ℕ) (r : RegistrationValue) → exact_name cs ≡ Some p
     → (registration_label r ≡ 0 → ⊥) → (registration_label r ≡ name_label p → ⊥) → is_selected_endpoint cs r ≡ false
@@ -123,7 +89,7 @@ not_selected_endpoint cs p r requested named other =
     let parts = and_parts (list_all (agrees (registration_label r)) r.attributes)
     (list_all (link_agrees (registration_label r)) r.links) (label_agrees r named) in
     all_fail (λ c. endpoint_meets c r || list_any (link_meets c r.base) r.links) p
-    (λ star. or_false (endpoint_meets (exact p) r) (list_any (link_meets (exact p) r.base) r.links)
+    (λ star. or_from (endpoint_meets (exact p) r) (list_any (link_meets (exact p) r.base) r.links)
     (attributes_unmet p (registration_label r) r.attributes star parts.0 other)
     (links_unmet p (registration_label r) r.base r.links star parts.1 other))
     cs requested
@@ -135,7 +101,7 @@ not_selected_link cs p r l requested named other own =
     let parts = and_parts (list_all (agrees (registration_label r)) r.attributes)
     (list_all (link_agrees (registration_label r)) r.links) (label_agrees r named) in
     all_fail (λ c. link_meets c r.base l || endpoint_meets c r) p
-    (λ star. or_false (link_meets (exact p) r.base l) (endpoint_meets (exact p) r)
+    (λ star. or_from (link_meets (exact p) r.base l) (endpoint_meets (exact p) r)
     (attributes_unmet p (registration_label r) l.attributes star own other)
     (attributes_unmet p (registration_label r) r.attributes star parts.0 other))
     cs requested
@@ -145,19 +111,15 @@ no_links : (cs : List CriterionValue) (p : List ℕ) (r : RegistrationValue) (ls
     → list_all (link_agrees (registration_label r)) ls ≡ true → fold (offered_link cs r) v ls ≡ v
 no_links cs p r [] v requested named other all = refl
 no_links cs p r (l ∷ ls) v requested named other all =
-    let parts = and_parts (link_agrees (registration_label r) l)
-    (list_all (link_agrees (registration_label r)) ls) all in
-    ap (λ (b : Bool). fold (offered_link cs r) (cond b (offered v (link_text (resolved_link r.base l))) v) ls)
-    (not_selected_link cs p r l requested named other parts.0) ∙ no_links cs p r ls v requested named other parts.1
+    let parts = and_parts (link_agrees (registration_label r) l) _ all in
+    rw (not_selected_link cs p r l requested named other parts.0) (no_links cs p r ls v requested named other parts.1)
 
 -- A registration with another label adds nothing to a lookup of one endpoint.
 pub counted_unmet : (endpoints : Bool) (cs : List CriterionValue) (p : List ℕ) (r : RegistrationValue)
     (v : ListingValue) → exact_name cs ≡ Some p → (registration_label r ≡ 0 → ⊥)
     → (registration_label r ≡ name_label p → ⊥) → counted endpoints cs v r ≡ v
 unfolding offered_endpoint offered_links
-counted_unmet true cs p r v requested named other =
-    ap (λ (b : Bool). cond b (offered v (link_text (endpoint_link r))) v)
-    (not_selected_endpoint cs p r requested named other)
+counted_unmet true cs p r v requested named other = rw (not_selected_endpoint cs p r requested named other)
 counted_unmet false cs p r v requested named other =
     no_links cs p r r.links v requested named other
     (and_parts (list_all (agrees (registration_label r)) r.attributes)
@@ -171,8 +133,7 @@ found_unmet endpoints cs p label ls e is requested found none any w =
     let there : is_labelled ls (registration_label (registration_of e.1.registration)) e.0 ≡ true =
     ap is_some found.label in
     counted_unmet endpoints cs p (registration_of e.1.registration) w requested
-    (λ i. true≢false (sym there ∙ ap (λ (l : ℕ). is_labelled ls l e.0) i ∙ any))
-    (λ i. true≢false (sym there ∙ ap (λ (l : ℕ). is_labelled ls l e.0) (i ∙ sym is) ∙ none))
+    (λ i. absurd (cc (there, any))) (λ i. absurd (cc (there, none, is)))
 
 -- ---- the entries from a number on
 
@@ -182,9 +143,7 @@ from_number n es = filter (λ e. nat_le n e.0) es
 
 pub from_all : (k : ℕ) (es : List (ℕ × Stored)) → Each (λ (e : ℕ × Stored). k ≤ e.0) es → from_number k es ≡ es
 from_all k [] all = refl
-from_all k (e ∷ es) all =
-    ap (λ (b : Bool). cond b (e ∷ from_number k es) (from_number k es)) (le-leb k e.0 all.0)
-    ∙ ap (λ (t : List (ℕ × Stored)). e ∷ t) (from_all k es all.1)
+from_all k (e ∷ es) all = rw (le-leb k e.0 all.0, from_all k es all.1)
 
 each_any : (es : List (ℕ × Stored)) → Each (λ (e : ℕ × Stored). 0 ≤ e.0) es
 each_any [] = tt
@@ -200,70 +159,27 @@ module _ {V : Type 0} (g : V → Stored → V) where
   abbrev pub visited : ℕ → List (ℕ × Stored) → V → V
   visited n es v = option_map_or (λ s. g v s) (lookup (is_number n) es) v
 
-  one_more : (k n : ℕ) (e : ℕ × Stored) (es : List (ℕ × Stored)) (v : V) (b c d : Bool) → nat_le k e.0 ≡ b
-      → nat_le (n + 1) e.0 ≡ c → is_number n e.0 ≡ d
-      → over v (cond b (e ∷ from_number k es) (from_number k es)) ≡ over
-      (option_map_or (λ s. g v s) (cond d (Some e.1) (lookup (is_number n) es)) v)
-      (cond c (e ∷ from_number (n + 1) es) (from_number (n + 1) es))
-      → over v (from_number k (e ∷ es)) ≡ over (visited n (e ∷ es) v) (from_number (n + 1) (e ∷ es))
-  one_more k n e es v b c d hb hc hd h =
-      ap (λ (x : Bool). over v (cond x (e ∷ from_number k es) (from_number k es))) hb ∙ h
-      ∙ sym (ap (λ (x : Bool).
-      over (option_map_or (λ s. g v s) (cond d (Some e.1) (lookup (is_number n) es)) v)
-      (cond x (e ∷ from_number (n + 1) es) (from_number (n + 1) es))) hc)
-      ∙ sym (ap (λ (x : Bool).
-      over (option_map_or (λ s. g v s) (cond x (Some e.1) (lookup (is_number n) es)) v)
-      (from_number (n + 1) (e ∷ es))) hd)
-
   -- The entries from `k` on are the one at `n`, and those after it, if the others before `n` add nothing.
   pub next_visited : (k n : ℕ) → k ≤ n → (es : List (ℕ × Stored)) → Ascends es
       → Each (λ (e : ℕ × Stored). k ≤ e.0 → e.0 < n → (w : V) → g w e.1 ≡ w) es → (v : V)
       → over v (from_number k es) ≡ over (visited n es v) (from_number (n + 1) es)
   next_visited k n h [] up nothing v = refl
   next_visited k n h (e ∷ es) up nothing v =
-      by (cases_order e.0 n) (cases_lt e.0 k) (λ w. next_visited k n h es up.1 nothing.1 w)
-    where
-      by : (e.0 ≡ n) ⊎ ((e.0 < n) ⊎ (n < e.0)) → (e.0 < k) ⊎ (k ≤ e.0)
-          → ((w : V) → over w (from_number k es) ≡ over (visited n es w) (from_number (n + 1) es))
-          → over v (from_number k (e ∷ es)) ≡ over (visited n (e ∷ es) v) (from_number (n + 1) (e ∷ es))
-      by (inl at) (inl below) rest = absurd (omega arith)
-      by (inl at) (inr from) rest =
-          one_more k n e es v true false true (le-leb k e.0 from) (lt-leb (n + 1) e.0 (omega arith))
-          (subst (λ (m : ℕ). is_number n m ≡ true) (sym at) (number_self n))
-          (ap (over (g v e.1)) (from_all k es
-          (each_map (λ (y : ℕ × Stored). e.0 < y.0) (λ (y : ℕ × Stored). k ≤ y.0) (λ y i. omega arith) es up.0)
-          ∙ sym (from_all (n + 1) es
-          (each_map (λ (y : ℕ × Stored). e.0 < y.0) (λ (y : ℕ × Stored). n + 1 ≤ y.0)
-          (λ y i. omega arith) es up.0))))
-      by (inr (inl before)) (inl below) rest =
-          one_more k n e es v false false false (lt-leb k e.0 below) (lt-leb (n + 1) e.0 (omega arith))
-          (number_other n e.0 (λ i. absurd (omega arith))) (rest v)
-      by (inr (inl before)) (inr from) rest =
-          one_more k n e es v true false false (le-leb k e.0 from) (lt-leb (n + 1) e.0 (omega arith))
-          (number_other n e.0 (λ i. absurd (omega arith)))
-          (ap (λ (w : V). over w (from_number k es)) (nothing.0 from before v) ∙ rest v)
-      by (inr (inr after)) (inl below) rest = absurd (omega arith)
-      by (inr (inr after)) (inr from) rest =
-          let none : lookup (is_number n) es ≡ None =
-          lookup_above n es (each_map (λ (y : ℕ × Stored). e.0 < y.0) (λ (y : ℕ × Stored). n < y.0)
-          (λ y i. omega arith) es up.0) in
-          one_more k n e es v true true false (le-leb k e.0 from) (le-leb (n + 1) e.0 (omega arith))
-          (number_other n e.0 (λ i. absurd (omega arith)))
-          (ap (λ (t : List (ℕ × Stored)). over v (e ∷ t))
-          (from_all k es (each_map (λ (y : ℕ × Stored). e.0 < y.0) (λ (y : ℕ × Stored). k ≤ y.0)
-          (λ y i. omega arith) es up.0)
-          ∙ sym (from_all (n + 1) es
-          (each_map (λ (y : ℕ × Stored). e.0 < y.0) (λ (y : ℕ × Stored). n + 1 ≤ y.0)
-          (λ y i. omega arith) es up.0)))
-          ∙ sym (ap (λ (o : Option Stored). over (option_map_or (λ s. g v s) o v) (e ∷ from_number (n + 1) es)) none))
+      let above = λ (m : ℕ) (i : m ≤ e.0 + 1). from_all m es (each_map _ _ (λ y j. omega arith) es up.0) in
+      grind (
+        arith,
+        nat_tests,
+        h,
+        λ (i : k ≤ e.0) (j : e.0 < n). nothing.0 i j v,
+        above k,
+        above (n + 1),
+        λ (i : n ≤ e.0). lookup_above n es (each_map _ _ (λ y j. omega arith) es up.0),
+        λ (i : e.0 < n). next_visited k n h es up.1 nothing.1 v,
+      )
 
   -- Entries that add nothing.
   pub none_visited : (k : ℕ) (es : List (ℕ × Stored)) → Each (λ (e : ℕ × Stored). k ≤ e.0 → (w : V) → g w e.1 ≡ w) es
       → (v : V) → over v (from_number k es) ≡ v
   none_visited k [] nothing v = refl
-  none_visited k (e ∷ es) nothing v = by (nat_le k e.0) refl (none_visited k es nothing.1 v)
-    where
-      by : (b : Bool) → nat_le k e.0 ≡ b → over v (from_number k es) ≡ v
-          → over v (cond b (e ∷ from_number k es) (from_number k es)) ≡ v
-      by true i rest = ap (λ (w : V). over w (from_number k es)) (nothing.0 (leb-true k e.0 i) v) ∙ rest
-      by false i rest = rest
+  none_visited k (e ∷ es) nothing v =
+      grind (arith, λ (i : k ≤ e.0). nothing.0 i v, none_visited k es nothing.1 v)

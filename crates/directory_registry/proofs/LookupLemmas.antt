@@ -42,26 +42,9 @@ one_more (b ∷ t) l links =
     ∙ append_assoc (b ∷ t) (44 ∷ []) (link_text l ++ more_links_text links)
 
 -- A text that is too long stays so.
-none_pushed : (limit : ℕ) (o : Option (List ℕ)) (bytes : List ℕ) → o ≡ None → pushed limit o bytes ≡ None
-none_pushed limit None bytes e = refl
-none_pushed limit (Some s) bytes e = absurd cc
-
 none_offered : (v : ListingValue) (bytes : List ℕ) → v.text ≡ None → (offered v bytes).text ≡ None
 unfolding offered begun with_bytes
-none_offered v bytes e = by (nat_eq v.skip 0) (nat_eq v.left 0)
-  where
-    next : ListingValue
-    next = record v { left = v.left - 1 }
-
-    by : (first last : Bool)
-        → (cond (cond first (cond last false true) false)
-        (with_bytes (cond first (cond last v (with_bytes next (separator v.text))) (record v { skip = v.skip - 1 }))
-        bytes) (cond first (cond last v (with_bytes next (separator v.text))) (record v { skip = v.skip - 1 }))).text ≡
-        None
-    by true true = e
-    by true false = none_pushed v.limit (pushed v.limit v.text (separator v.text)) bytes
-        (none_pushed v.limit v.text (separator v.text) e)
-    by false last = e
+none_offered v bytes e = grind (arith, e)
 
 none_stays : (links : List Link) (v : ListingValue) → v.text ≡ None → (after v links).text ≡ None
 none_stays [] v e = e
@@ -75,9 +58,7 @@ listing skip left capacity limit text =
 skipped : (k left capacity limit : ℕ) (text : Option (List ℕ)) (bytes : List ℕ)
     → offered (listing (suc k) left capacity limit text) bytes ≡ listing k left capacity limit text
 unfolding offered begun
-skipped k left capacity limit text bytes =
-    let less : suc k - 1 ≡ k = omega arith in
-    rw (ne_eqb (suc k) 0 (λ i. absurd (omega (arith, i)))) (λ i. listing (less i) left capacity limit text)
+skipped k left capacity limit text bytes = grind arith
 
 passed : (capacity limit : ℕ) (text : Option (List ℕ)) (bytes : List ℕ)
     → offered (listing zero zero capacity limit text) bytes ≡ listing zero zero capacity limit text
@@ -88,50 +69,28 @@ written : (n capacity limit : ℕ) (text : Option (List ℕ)) (bytes : List ℕ)
     → offered (listing zero (suc n) capacity limit text) bytes ≡ listing zero n capacity limit
     (pushed limit (pushed limit text (separator text)) bytes)
 unfolding offered begun with_bytes
-written n capacity limit text bytes =
-    let less : suc n - 1 ≡ n = omega arith in
-    rw (ne_eqb (suc n) 0 (λ i. absurd (omega (arith, i))))
-    (λ i. listing zero (less i) capacity limit (pushed limit (pushed limit text (separator text)) bytes))
+written n capacity limit text bytes = grind arith
 
 listing_text : (links : List Link) (skip left capacity limit : ℕ) (t out : List ℕ)
     → (after (listing skip left capacity limit (Some t)) links).text ≡ Some out
     → out ≡ joined t (take left (drop skip links))
 listing_text [] skip left capacity limit t out h =
     let same : out ≡ t = cc in
-    same ∙ no_links t ∙ ap (joined t) (sym (none_left left skip))
+    rw (same, none_left left skip) (no_links t)
 listing_text (l ∷ links) (suc k) left capacity limit t out h =
-    listing_text links k left capacity limit t out
-    (ap (λ (w : ListingValue). (after w links).text) (sym (skipped k left capacity limit (Some t) (link_text l)))
-    ∙ h)
+    grind (arith, h, skipped k left capacity limit (Some t) (link_text l),
+    listing_text links k left capacity limit t out)
 listing_text (l ∷ links) zero zero capacity limit t out h =
-    listing_text links zero zero capacity limit t out
-    (ap (λ (w : ListingValue). (after w links).text) (sym (passed capacity limit (Some t) (link_text l))) ∙ h)
+    grind (arith, h, passed capacity limit (Some t) (link_text l), listing_text links zero zero capacity limit t out)
 listing_text (l ∷ links) zero (suc n) capacity limit t out h =
-    by (nat_le (length (separator (Some t))) (limit - length t))
-    (nat_le (length (link_text l)) (limit - length (t ++ separator (Some t)))) refl
-    (λ k. listing_text links zero n capacity limit ((t ++ separator (Some t)) ++ link_text l) out k)
-    (ap (λ (w : ListingValue). (after w links).text) (sym (written n capacity limit (Some t) (link_text l))) ∙ h)
-  where
-    with_text : Option (List ℕ) → ListingValue
-    with_text text = listing zero n capacity limit text
-
-    long : (after (with_text None) links).text ≡ Some out → ⊥
-    long k =
-        let none : (after (with_text None) links).text ≡ None = none_stays links (with_text None) refl in
-        absurd cc
-
-    second_at : Bool → ListingValue
-    second_at b = with_text (cond b (Some ((t ++ separator (Some t)) ++ link_text l)) None)
-
-    by : (first second : Bool) → nat_le (length (link_text l)) (limit - length (t ++ separator (Some t))) ≡ second
-        → ((after (with_text (Some ((t ++ separator (Some t)) ++ link_text l))) links).text ≡ Some out
-        → out ≡ joined ((t ++ separator (Some t)) ++ link_text l) (take n links))
-        → (after (with_text (pushed limit (cond first (Some (t ++ separator (Some t))) None) (link_text l))) links).text
-        ≡ Some out → out ≡ joined t (l ∷ take n links)
-    by false second e rest k = absurd (long k)
-    by true true e rest k =
-        rest (ap (λ (b : Bool). (after (second_at b) links).text) (sym e) ∙ k) ∙ one_more t l (take n links)
-    by true false e rest k = absurd (long (ap (λ (b : Bool). (after (second_at b) links).text) (sym e) ∙ k))
+    grind (
+      arith,
+      written n capacity limit (Some t) (link_text l),
+      h,
+      one_more t l (take n links),
+      none_stays links (listing zero n capacity limit None) refl,
+      listing_text links zero n capacity limit ((t ++ separator (Some t)) ++ link_text l) out,
+    )
 
 pub text_of_links : (links : List Link) (v : ListingValue) (page : PageValue) (limit : ℕ) (out : List ℕ)
     → (after (started v page limit) links).text ≡ Some out → out ≡ links_text (part_of page links)
@@ -140,13 +99,11 @@ text_of_links links v page limit out h =
 
 -- The results of the first pages, and those of the next one.
 pub next_page : (n m : ℕ) (links : List Link) → take n links ++ take m (drop n links) ≡ take (n + m) links
-next_page zero m links =
-    let sum : m ≡ 0 + m = omega arith in
-    ap (λ (k : ℕ). take k links) sum
+next_page zero m links = grind arith
 next_page (suc n) m [] = none_left m zero ∙ sym (none_left (suc n + m) zero)
 next_page (suc n) m (l ∷ links) =
     let sum : suc (n + m) ≡ suc n + m = omega arith in
-    ap (λ (rest : List Link). l ∷ rest) (next_page n m links) ∙ ap (λ (k : ℕ). take k (l ∷ links)) sum
+    rw (next_page n m links, ← sum)
 
 pub pages : (links : List Link) (page count : ℕ)
     → take (page * count) links
@@ -159,31 +116,19 @@ endpoints_offered : (criteria : List CriterionValue) (rs : List RegistrationValu
     → fold (offered_endpoint criteria) v rs ≡ after v (map endpoint_link (filter (is_selected_endpoint criteria) rs))
 unfolding offered_endpoint
 endpoints_offered criteria [] v = refl
-endpoints_offered criteria (r ∷ rs) v = by (is_selected_endpoint criteria r) (λ w. endpoints_offered criteria rs w)
-  where
-    by : (b : Bool) → ((w : ListingValue)
-        → fold (offered_endpoint criteria) w rs ≡ after w
-        (map endpoint_link (filter (is_selected_endpoint criteria) rs)))
-        → fold (offered_endpoint criteria) (cond b (offered v (link_text (endpoint_link r))) v) rs ≡ after v
-        (map endpoint_link (cond b (r ∷ filter (is_selected_endpoint criteria) rs)
-        (filter (is_selected_endpoint criteria) rs)))
-    by true rest = rest (offered v (link_text (endpoint_link r)))
-    by false rest = rest v
+endpoints_offered criteria (r ∷ rs) v =
+    grind (arith, endpoints_offered criteria rs (offered v (link_text (endpoint_link r))), endpoints_offered criteria rs v)
 
 links_offered : (criteria : List CriterionValue) (r : RegistrationValue) (links : List Link) (v : ListingValue)
     → fold (offered_link criteria r) v links ≡ after v
     (map (resolved_link r.base) (filter (is_selected_link criteria r) links))
 links_offered criteria r [] v = refl
-links_offered criteria r (l ∷ links) v = by (is_selected_link criteria r l) (λ w. links_offered criteria r links w)
-  where
-    by : (b : Bool) → ((w : ListingValue)
-        → fold (offered_link criteria r) w links ≡ after w
-        (map (resolved_link r.base) (filter (is_selected_link criteria r) links)))
-        → fold (offered_link criteria r) (cond b (offered v (link_text (resolved_link r.base l))) v) links ≡ after v
-        (map (resolved_link r.base)
-        (cond b (l ∷ filter (is_selected_link criteria r) links) (filter (is_selected_link criteria r) links)))
-    by true rest = rest (offered v (link_text (resolved_link r.base l)))
-    by false rest = rest v
+links_offered criteria r (l ∷ links) v =
+    grind (
+      arith,
+      links_offered criteria r links (offered v (link_text (resolved_link r.base l))),
+      links_offered criteria r links v,
+    )
 
 after_both : (xs ys : List Link) (v : ListingValue) → after (after v xs) ys ≡ after v (xs ++ ys)
 after_both [] ys v = refl
@@ -193,25 +138,20 @@ resources_offered : (criteria : List CriterionValue) (rs : List RegistrationValu
     → fold (offered_links criteria) v rs ≡ after v (flat_map (links_of_registration criteria) rs)
 unfolding offered_links
 resources_offered criteria [] v = refl
-resources_offered criteria (r ∷ rs) v =
-    ap (λ (w : ListingValue). fold (offered_links criteria) w rs) (links_offered criteria r r.links v)
-    ∙ resources_offered criteria rs (after v (links_of_registration criteria r))
-    ∙ after_both (links_of_registration criteria r) (flat_map (links_of_registration criteria) rs) v
+resources_offered criteria (r ∷ rs) v = 
+    rw (links_offered criteria r r.links v, resources_offered criteria rs)
+    (after_both (links_of_registration criteria r) (flat_map (links_of_registration criteria) rs) v)
 
 pub endpoints_listed : (v : RegistryValue) (criteria : List CriterionValue) (l : ListingValue) (page : PageValue)
     (limit : ℕ) (text : List ℕ)
     → (fold (offered_endpoint criteria) (started l page limit) (registrations v)).text ≡ Some text
     → text ≡ links_text (part_of page (endpoints_found criteria v))
 endpoints_listed v criteria l page limit text h =
-    text_of_links (endpoints_found criteria v) l page limit text
-    (ap (λ (w : ListingValue). w.text) (sym (endpoints_offered criteria (registrations v) (started l page limit)))
-    ∙ h)
+    text_of_links (endpoints_found criteria v) l page limit text (rw endpoints_offered at h)
 
 pub resources_listed : (v : RegistryValue) (criteria : List CriterionValue) (l : ListingValue) (page : PageValue)
     (limit : ℕ) (text : List ℕ)
     → (fold (offered_links criteria) (started l page limit) (registrations v)).text ≡ Some text
     → text ≡ links_text (part_of page (resources_found criteria v))
 resources_listed v criteria l page limit text h =
-    text_of_links (resources_found criteria v) l page limit text
-    (ap (λ (w : ListingValue). w.text) (sym (resources_offered criteria (registrations v) (started l page limit)))
-    ∙ h)
+    text_of_links (resources_found criteria v) l page limit text (rw resources_offered at h)

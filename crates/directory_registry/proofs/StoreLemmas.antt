@@ -5,7 +5,7 @@ use Rattle.std.specs.Ordering.{nat_cmp}
 use Rattle.std.specs.Map.{lookup, set_value}
 use Rattle.std.specs.BTreeMap.{insert_entry}
 use Rattle.std.specs.Cmp.Lexicographic.{pointwise}
-use Rattle.std.proofs.lemmas.Bool.{ltb-true, ltb-false, eqb-true}
+use Rattle.std.proofs.lemmas.Bool.{both_ways, false_from_ne_true}
 use Rattle.indexmap.specs.IndexMap as listed
 use Rattle.directory_registry.specs.Prelude.{RegistrationValue, RegistryValue, found, place_of, registration_of}
 use Rattle.directory_registry.specs.Prelude.{registration_label, packed, next_location}
@@ -36,45 +36,12 @@ others_indexed key n next next' ns ns' ls ls' kept more e other h =
     record {
       number = i.number;
       below = omega arith;
-      key = kept.numbers e.1.key (by (same key e.1.key) refl) ∙ i.key;
+      key = kept.numbers e.1.key (false_from_ne_true _ (λ t. absurd (other (h.1 t)))) ∙ i.key;
       found = record {
         small = i.found.small;
-        label = kept.labels
-            (registration_label (registration_of e.1.registration)) e.0 i.found.small other ∙ i.found.label;
+        label = kept.labels _ e.0 i.found.small other ∙ i.found.label;
       };
     }
-  where
-    by : (b : Bool) → same key e.1.key ≡ b → same key e.1.key ≡ false
-    by true t = absurd (other (h.1 t))
-    by false t = t
-
-view_here : (hit : Bool) (key : List ℕ) (n : ℕ) (s old : Stored) (e : ℕ × Stored) (es : List (ℕ × Stored))
-    → s.key.items ≡ key → same key old.key ≡ true → is_number n e.0 ≡ hit → IsOnly key n e
-    → cond hit (Some e.1) (lookup (is_number n) es) ≡ Some old
-    → (lookup (is_number n) es ≡ Some old
-    → views (set_value (is_number n) es s) ≡ listed.insert_entry (pointwise nat_eq) (views es) key
-    (registration_of s.registration))
-    → views (cond hit ((e.0, s) ∷ es) (e ∷ set_value (is_number n) es s)) ≡ listed.insert_entry (pointwise nat_eq)
-    (views (e ∷ es)) key (registration_of s.registration)
-view_here true key n s old e es k o h only there rest =
-    let this : e.1 ≡ old = cc in
-    let match : same key e.1.key ≡ true = subst (λ (t : Stored). same key t.key ≡ true) (sym this) o in
-    let items : s.key.items ≡ e.1.key.items = k ∙ same_list key e.1.key.items match in
-    ap (λ (t : List ℕ). (t, registration_of s.registration) ∷ views es) items
-    ∙ sym (ap (λ (b : Bool).
-    cond b ((e.1.key.items, registration_of s.registration) ∷ views es)
-    ((e.1.key.items, registration_of e.1.registration) ∷ listed.insert_entry (pointwise nat_eq) (views es) key
-    (registration_of s.registration))) match)
-view_here false key n s old e es k o h only there rest =
-    ap (λ (t : List (List ℕ × RegistrationValue)). (e.1.key.items, registration_of e.1.registration) ∷ t) (rest there)
-    ∙ sym (ap (λ (b : Bool).
-    cond b ((e.1.key.items, registration_of s.registration) ∷ views es)
-    ((e.1.key.items, registration_of e.1.registration) ∷ listed.insert_entry (pointwise nat_eq) (views es) key
-    (registration_of s.registration))) (by (same key e.1.key) refl))
-  where
-    by : (b : Bool) → same key e.1.key ≡ b → same key e.1.key ≡ false
-    by true t = absurd (true≢false (sym (subst (λ (m : ℕ). is_number n m ≡ true) (only t) (number_self n)) ∙ h))
-    by false t = t
 
 -- The registration at a present number is replaced in its place.
 pub view_present : (key : List ℕ) (n : ℕ) (s old : Stored) → s.key.items ≡ key → same key old.key ≡ true
@@ -83,19 +50,22 @@ pub view_present : (key : List ℕ) (n : ℕ) (s old : Stored) → s.key.items �
     (registration_of s.registration)
 view_present key n s old k o [] only there = absurd cc
 view_present key n s old k o (e ∷ es) only there =
-    view_here (is_number n e.0) key n s old e es k o refl only.0 there (λ h. view_present key n s old k o es only.1 h)
+    grind (
+      arith,
+      k,
+      o,
+      there,
+      only.0,
+      number_self n,
+      same_list key e.1.key.items,
+      λ (h : lookup (is_number n) es ≡ Some old). view_present key n s old k o es only.1 h,
+    )
 
 -- A registration with a new key goes last.
 pub view_new : (key : List ℕ) (n : ℕ) (s : Stored) → s.key.items ≡ key → (es : List (ℕ × Stored)) → HasNone key es
     → views (es ++ (n, s) ∷ []) ≡ listed.insert_entry (pointwise nat_eq) (views es) key (registration_of s.registration)
-view_new key n s k [] none = ap (λ (t : List ℕ). (t, registration_of s.registration) ∷ []) k
-view_new key n s k (e ∷ es) none =
-    ap (λ (t : List (List ℕ × RegistrationValue)). (e.1.key.items, registration_of e.1.registration) ∷ t)
-    (view_new key n s k es none.1)
-    ∙ sym (ap (λ (b : Bool).
-    cond b ((e.1.key.items, registration_of s.registration) ∷ views es)
-    ((e.1.key.items, registration_of e.1.registration) ∷ listed.insert_entry (pointwise nat_eq) (views es) key
-    (registration_of s.registration))) none.0)
+view_new key n s k [] none = rw k refl
+view_new key n s k (e ∷ es) none = grind (arith, none.0, view_new key n s k es none.1)
 
 -- The location that a registration gets is that of the key, or the next one.
 pub data Placed (key : List ℕ) (n next : ℕ) (ns : List (Key × ℕ)) (es : List (ℕ × Stored)) : Type 0 where
@@ -130,13 +100,11 @@ placed v key n ns ls es view up all place = by (hit_or_none key es up)
 pub only_present : (key : List ℕ) (n next : ℕ) (ns : List (Key × ℕ)) (ls : List (ℕ × ℕ)) → lookup (same key) ns ≡ Some n
     → (e : ℕ × Stored) → Indexed next ns ls e → IsOnly key n e
 only_present key n next ns ls there e i match =
-    let items : key ≡ e.1.key.items = same_list key e.1.key.items match in
-    let number : lookup (same key) ns ≡ Some e.0 =
-    subst (λ (t : List ℕ). lookup (same t) ns ≡ Some e.0) (sym items) i.key in
-    cc
+    let at = rw (same_list key e.1.key.items match) at there in
+    cc (at, i.key)
 
 only_new : (key : List ℕ) (n : ℕ) (e : ℕ × Stored) → same key e.1.key ≡ false → IsOnly key n e
-only_new key n e none match = absurd (true≢false (sym match ∙ none))
+only_new key n e none match = absurd (both_ways _ none match)
 
 -- The registrations that contracts see after one was stored.
 pub stored_view : (key : List ℕ) (n next : ℕ) (s : Stored) (ns : List (Key × ℕ)) (ls : List (ℕ × ℕ))
@@ -176,28 +144,11 @@ stored_well key n next next' s ns ns' ls ls' es kept more new up all (New is las
     (λ i. let b : e.0 < next = h.0.below in absurd (omega arith)) h) es
     (each_both (Indexed next ns ls) (IsOnly key n) es all only)) new)
 
-next_below : (b c : Bool) (next n : ℕ) → nat_lt n next ≡ b → nat_eq n 18446744073709551615 ≡ c
-    → (n < next) ⊎ ((n ≡ next) × (n ≡ 18446744073709551615 → ⊥)) → n < cond b next (cond c n (n + 1))
-next_below true c next n e f h = ltb-true n next e
-next_below false true next n e f (inl h) = let i : next ≤ n = ltb-false n next e in absurd (omega arith)
-next_below false true next n e f (inr h) = absurd (h.1 (eqb-true n 18446744073709551615 f))
-next_below false false next n e f h = omega arith
-
-next_kept : (b c : Bool) (next n : ℕ) → nat_lt n next ≡ b → next ≤ cond b next (cond c n (n + 1))
-next_kept true c next n e = omega arith
-next_kept false true next n e = ltb-false n next e
-next_kept false false next n e = let i : next ≤ n = ltb-false n next e in omega arith
-
 -- The number of the next location after a registration is above those so far.
 pub next_above : (key : List ℕ) (n next : ℕ) (ns : List (Key × ℕ)) (ls : List (ℕ × ℕ)) (es : List (ℕ × Stored))
     → Each (Indexed next ns ls) es → Placed key n next ns es
     → (n < next_location next n) × (next ≤ next_location next n)
-next_above key n next ns ls es all place = (
-  next_below (nat_lt n next) (nat_eq n 18446744073709551615) next n refl refl (by place),
-  next_kept (nat_lt n next)
-      (nat_eq n 18446744073709551615) next n refl,
-)
-  where
-    by : Placed key n next ns es → (n < next) ⊎ ((n ≡ next) × (n ≡ 18446744073709551615 → ⊥))
-    by (Present old there match number) = inl (each_lookup (Indexed next ns ls) n es old all there).below
-    by (New is last none) = inr (is, last)
+next_above key n next ns ls es all (Present old there match number) =
+    let below : n < next = (each_lookup (Indexed next ns ls) n es old all there).below in
+    grind (arith, below)
+next_above key n next ns ls es all (New is last none) = grind (arith, is, last)

@@ -12,11 +12,13 @@ ghost use Rattle.directory_registry.specs.Prelude.{place_of};
 ghost use Rattle.directory_registry.specs.Prelude.{registered_at, expired, removed, attributed, updated};
 
 /// States that a registry never has an endpoint or a location twice, and that a new location is above all others.
+#[tactic(auto, using(crate::proofs::ReachedLemmas::distinct))]
 pub fn endpoints_and_locations_are_distinct()
     ensures { (v : RegistryValue) → Reached v → AreDistinct v.next v.entries }
 {}
 
 /// States that a registration is found at each time below its end, and at none from it on (RFC 9176 section 5).
+#[tactic(auto, using(crate::proofs::FoundLemmas::lives, crate::proofs::FoundLemmas::ends))]
 pub fn registrations_end_with_their_lifetimes()
     ensures before { (v : RegistryValue) (key : List ℕ) (r : RegistrationValue) (now : ℕ) →
         found v.entries key ≡ Some r → now < r.deadline → found (expired v now).entries key ≡ Some r }
@@ -26,6 +28,7 @@ pub fn registrations_end_with_their_lifetimes()
 
 /// States that the registration of an endpoint is its last one, and that a repeated registration keeps the location
 /// (RFC 9176 section 5).
+#[tactic(auto, using(crate::proofs::FoundLemmas::keeps_location, crate::proofs::FoundLemmas::is_last))]
 pub fn repeated_registrations_keep_the_location()
     ensures location { (v : RegistryValue) (key : List ℕ) (old : RegistrationValue) →
         found v.entries key ≡ Some old → place_of v key ≡ Some old.number }
@@ -35,6 +38,7 @@ pub fn repeated_registrations_keep_the_location()
 {}
 
 /// States that no call changes the registrations of other endpoints.
+#[tactic(auto, using(crate::proofs::FoundLemmas::others_registered, crate::proofs::FoundLemmas::others_updated, crate::proofs::FoundLemmas::others_attributed, crate::proofs::FoundLemmas::others_removed))]
 pub fn other_endpoints_stay()
     ensures registered { (v : RegistryValue) (key other : List ℕ) (r : RegistrationValue) →
         pointwise nat_eq other key ≡ false →
@@ -51,6 +55,7 @@ pub fn other_endpoints_stay()
 
 /// States that a lookup writes the links that its criteria select, in the order of the first registrations (RFC 9176
 /// section 6). If it asks for a page, it writes the links after those of the pages before it.
+#[tactic(auto, using(crate::proofs::LookupLemmas::endpoints_listed, crate::proofs::LookupLemmas::resources_listed, crate::proofs::LookupLemmas::pages))]
 pub fn lookups_list_the_selected_links()
     ensures endpoints { (v : RegistryValue) (criteria : List CriterionValue) (l : ListingValue) (page : PageValue)
         (limit : ℕ) (text : List ℕ) →

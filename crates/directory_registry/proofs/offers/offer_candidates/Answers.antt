@@ -6,53 +6,33 @@ use Rattle.directory_registry.proofs.CandidateLemmas.{from_number, from_zero, fo
 use Rattle.directory_registry.proofs.offers.offer_candidates.Goals as goal
 
 pub loop-number-init : goal.loop-number-init
-loop-number-init c = record {
-  within = omega arith;
-  so_far = ap (λ (es : List (ℕ × Stored)).
-      all_counted c.args.endpoints (criteria_of c.args.criteria.now) c.args.listing.now es)
-      (from_zero c.args.entries.now.entries);
-}
+loop-number-init c = record { within = omega arith; so_far = rw from_zero }
 
 pub loop-number-preserved : goal.loop-number-preserved
 loop-number-preserved c =
-    let before = c.in-Some.ensures.0 in
-    let least = c.in-Some.ensures.1 in
+    let found = c.in-Some.ensures in
     let cs = criteria_of c.args.criteria.now in
-    let nothing = each_map (IsFound c.args.labels.now.entries)
-    (λ (e : ℕ × Stored). c.loop-number.from ≤ e.0 → e.0 < c.in-Some.number → (w : ListingValue)
-    → counted c.args.endpoints cs w (registration_of e.1.registration) ≡ w)
-    (λ e f from less w. found_unmet c.args.endpoints cs c.args.name.now c.label_of_name-label.result
-    c.args.labels.now.entries e c.label_of_name-label.ensures.value c.requires.requested f (before e.0 from less).0
-    (before e.0 from less).1 w)
-    c.args.entries.now.entries c.requires.labelled in
-    let step = next_visited
-    (λ (w : ListingValue) (s : Stored). counted c.args.endpoints cs w (registration_of s.registration))
-    c.loop-number.from c.in-Some.number least.0 c.args.entries.now.entries
-    (ascends_from c.args.entries.now.entries c.requires.ordered) nothing c.loop-number.listing in
-    let from : c.from-from.result + 1 ≡ c.in-Some.number + 1 = omega (arith, c.from-from.ensures) in
+    let nothing = each_map _ (λ (e : ℕ × Stored). c.loop-number.from ≤ e.0 → e.0 < c.in-Some.number
+    → (w : ListingValue) → counted c.args.endpoints cs w (registration_of e.1.registration) ≡ w)
+    (λ e f from less. found_unmet c.args.endpoints cs _ _ _ e c.label_of_name-label.ensures.value c.requires.requested f
+    (found.0 e.0 from less).0 (found.0 e.0 from less).1)
+    _ c.requires.labelled in
     record {
-      within = omega (arith, c.from-from.ensures, least.1);
+      within = omega (arith, c.from-from.ensures, found.1);
       so_far =
-          ap (λ (n : ℕ). all_counted c.args.endpoints cs c.offer_at.new.listing
-          (from_number n c.args.entries.now.entries)) from
-          ∙ ap (λ (v : ListingValue).
-          all_counted c.args.endpoints cs v (from_number (c.in-Some.number + 1) c.args.entries.now.entries))
-          c.offer_at.ensures
-          ∙ sym step
-          ∙ c.loop-number.invariant.so_far;
+          rw (c.from-from.ensures, c.offer_at.ensures,
+          ← next_visited (λ w s. counted c.args.endpoints cs w (registration_of s.registration)) _ _ found.1.0 _
+          (ascends_from _ c.requires.ordered) nothing c.loop-number.listing) c.loop-number.invariant.so_far;
     }
 
 pub returns : goal.returns
 returns c =
     let before = c.in_default.ensures.0 in
     let cs = criteria_of c.args.criteria.now in
-    let nothing = each_map (IsFound c.args.labels.now.entries)
-    (λ (e : ℕ × Stored). c.loop-number.from ≤ e.0 → (w : ListingValue)
+    let nothing = each_map _ (λ (e : ℕ × Stored). c.loop-number.from ≤ e.0 → (w : ListingValue)
     → counted c.args.endpoints cs w (registration_of e.1.registration) ≡ w)
-    (λ e f from w. found_unmet c.args.endpoints cs c.args.name.now c.label_of_name-label.result
-    c.args.labels.now.entries e c.label_of_name-label.ensures.value c.requires.requested f (before e.0 from f.small).0
-    (before e.0 from f.small).1 w)
-    c.args.entries.now.entries c.requires.labelled in
-    sym (none_visited (λ (w : ListingValue) (s : Stored).
-    counted c.args.endpoints cs w (registration_of s.registration)) c.loop-number.from c.args.entries.now.entries
-    nothing c.loop-number.listing) ∙ c.loop-number.invariant.so_far
+    (λ e f from. found_unmet c.args.endpoints cs _ _ _ e c.label_of_name-label.ensures.value c.requires.requested f
+    (before e.0 from f.small).0 (before e.0 from f.small).1)
+    _ c.requires.labelled in
+    rw (none_visited (λ w s. counted c.args.endpoints cs w (registration_of s.registration)) _ _ nothing _) at
+    c.loop-number.invariant.so_far

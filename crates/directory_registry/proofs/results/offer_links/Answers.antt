@@ -5,7 +5,4 @@ use Rattle.directory_registry.proofs.results.offer_links.Goals as goal
 
 pub returns : goal.returns
 unfolding offered_links
-returns c =
-    ap (λ (left : List Link).
-    fold (offered_link (criteria_of c.args.criteria.now) (registration_of c.args.registration.now))
-    c.loop-link.listing left) (sym c.in-None.ensures.steps.0) ∙ c.loop-link.invariant.so_far
+returns c = rw c.in-None.ensures.steps.0 at c.loop-link.invariant.so_far

@@ -9,18 +9,11 @@ loop-attribute-preserved c =
       goes = tt;
       ends = tt;
       so_far =
-          one_attribute c.loop-attribute.listing c.push_attribute.new.listing c.args.base.now
-          (attribute_of c.in-Some.attribute) c.next.new.self c.push_attribute.ensures
-          ∙ ap (λ (left : List Attribute).
-          with_bytes c.loop-attribute.listing (attributes_text (map (resolved_attribute c.args.base.now) left)))
-          (sym c.in-Some.ensures.steps)
-          ∙ c.loop-attribute.invariant.so_far;
+          one_attribute _ _ c.args.base.now (attribute_of c.in-Some.attribute) c.next.new.self c.push_attribute.ensures
+          ∙ rw c.in-Some.ensures.steps at c.loop-attribute.invariant.so_far;
     }
 
 pub returns : goal.returns
 returns c =
     no_attribute c.loop-attribute.listing c.args.base.now
-    ∙ ap (λ (left : List Attribute).
-    with_bytes c.loop-attribute.listing (attributes_text (map (resolved_attribute c.args.base.now) left)))
-    (sym c.in-None.ensures.steps.0)
-    ∙ c.loop-attribute.invariant.so_far
+    ∙ rw c.in-None.ensures.steps.0 at c.loop-attribute.invariant.so_far

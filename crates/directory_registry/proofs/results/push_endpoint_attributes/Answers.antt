@@ -5,14 +5,7 @@ use Rattle.directory_registry.proofs.results.push_endpoint_attributes.Goals as g
 
 pub returns : goal.returns
 returns c =
-    c.push_attributes.ensures
-    ∙ ap (λ (list : List Attribute).
-    with_bytes c.push_attribute.new.listing (attributes_text (map (resolved_attribute c.deref-3.result.now) list)))
-    c.attributes.ensures.all
-    ∙ ap (λ (base : List ℕ).
-    with_bytes c.push_attribute.new.listing
-    (attributes_text (map (resolved_attribute base) c.args.registration.now.attributes))) c.deref-3.ensures.value
-    ∙ one_attribute c.args.listing.now c.push_attribute.new.listing c.args.registration.now.base.items
-    (record { name = codes "base"; value = QuotedValue c.args.registration.now.base.items })
-    c.args.registration.now.attributes
-    (rw (sym c.deref.ensures.value) c.push_attribute.ensures)
+    rw (c.push_attributes.ensures, c.attributes.ensures.all, c.deref-3.ensures.value)
+    (one_attribute _ _ c.args.registration.now.base.items
+    (record { name = codes "base"; value = QuotedValue c.args.registration.now.base.items }) _
+    (rw (← c.deref.ensures.value) c.push_attribute.ensures))

@@ -7,24 +7,10 @@ use Rattle.directory_registry.proofs.registry.Registry.attributes.Goals as goal
 pub returns-in_default-clause-all : goal.returns-in_default-clause-all
 unfolding registry_of
 returns-in_default-clause-all c =
-    let views = found_view c.self.inside.next c.self.inside.numbers.entries c.self.inside.labels.entries c.args.number
-    c.self.inside.entries.entries c.self.invariant.indexed in
-    ap (λ (o : Option Stored).
-    option_map (λ (r : RegistrationValue). r.attributes)
-    (option_map (λ (s : Stored). registration_of s.registration) o)) c.in_default.ensures.value
-    ∙ sym (ap (option_map (λ (r : RegistrationValue). r.attributes)) views)
-    ∙ ap (λ (v : RegistryValue).
-    option_map (λ (r : RegistrationValue). r.attributes) (found_at v.entries c.args.number)) c.self.view_is
+    rw (← c.self.view_is, found_view _ _ _ c.args.number _ c.self.invariant.indexed, ← c.in_default.ensures.value)
 
 pub returns-clause-all : goal.returns-clause-all
 unfolding registry_of
 returns-clause-all c =
-    let views = found_view c.self.inside.next c.self.inside.numbers.entries c.self.inside.labels.entries c.args.number
-    c.self.inside.entries.entries c.self.invariant.indexed in
-    ap Some c.attributes.ensures.all
-    ∙ ap (λ (o : Option Stored).
-    option_map (λ (r : RegistrationValue). r.attributes)
-    (option_map (λ (s : Stored). registration_of s.registration) o)) c.in-Some.ensures.value
-    ∙ sym (ap (option_map (λ (r : RegistrationValue). r.attributes)) views)
-    ∙ ap (λ (v : RegistryValue).
-    option_map (λ (r : RegistrationValue). r.attributes) (found_at v.entries c.args.number)) c.self.view_is
+    rw (← c.self.view_is, found_view _ _ _ c.args.number _ c.self.invariant.indexed, ← c.in-Some.ensures.value)
+    (ap Some c.attributes.ensures.all)

@@ -8,25 +8,11 @@ use Rattle.directory_registry.proofs.registry.Registry.list.Goals as goal
 
 pub returns-in_default : goal.returns-in_default
 unfolding registry_of
-returns-in_default c =
-    c.offer_all.ensures
-    ∙ fold_view (counted c.args.endpoints (criteria_of c.args.criteria.now)) c.args.listing.now
-    c.self.inside.entries.entries
-    ∙ ap (λ (v : RegistryValue).
-    fold (counted c.args.endpoints (criteria_of c.args.criteria.now)) c.args.listing.now (registrations v))
-    c.self.view_is
+returns-in_default c = rw (← c.self.view_is, ← fold_view) c.offer_all.ensures
 
 pub offer_candidates-requires-clause-labelled : goal.offer_candidates-requires-clause-labelled
-offer_candidates-requires-clause-labelled c =
-    each_map (Indexed c.self.inside.next c.self.inside.numbers.entries c.self.inside.labels.entries)
-    (IsFound c.self.inside.labels.entries) (λ e h. h.found) c.self.inside.entries.entries c.self.invariant.indexed
+offer_candidates-requires-clause-labelled c = each_map _ _ (λ e h. h.found) _ c.self.invariant.indexed
 
 pub returns : goal.returns
 unfolding registry_of
-returns c =
-    c.offer_candidates.ensures
-    ∙ fold_view (counted c.args.endpoints (criteria_of c.args.criteria.now)) c.args.listing.now
-    c.self.inside.entries.entries
-    ∙ ap (λ (v : RegistryValue).
-    fold (counted c.args.endpoints (criteria_of c.args.criteria.now)) c.args.listing.now (registrations v))
-    c.self.view_is
+returns c = rw (← c.self.view_is, ← fold_view) c.offer_candidates.ensures

@@ -8,44 +8,29 @@ use Rattle.directory_registry.proofs.registry.Registry.place.Goals as goal
 pub returns-in-Some : goal.returns-in-Some
 unfolding registry_of
 returns-in-Some c =
-    let is = number_is c.args.key.now.items c.self.inside.next c.self.inside.numbers.entries
-    c.self.inside.labels.entries c.self.inside.entries.entries
-    (ascends_from c.self.inside.entries.entries c.self.invariant.ordered) c.self.invariant.indexed in
-    subst (λ (v : RegistryValue). Some c.in-Some.number ≡ place_of v c.args.key.now.items) c.self.view_is
-    (place_there (registry_of c.self.inside) c.args.key.now.items c.in-Some.number
-    (is ∙ sym c.number_of.ensures ∙ c.in-Some.is))
+    let is = number_is c.args.key.now.items _ _ _ _ (ascends_from _ c.self.invariant.ordered) c.self.invariant.indexed in
+    rw (← c.self.view_is) (place_there (registry_of c.self.inside) _ _ (is ∙ sym c.number_of.ensures ∙ c.in-Some.is))
 
 pub returns-then-len-self : goal.returns-then-len-self
 unfolding registry_of
 returns-then-len-self c =
-    let is = number_is c.args.key.now.items c.self.inside.next c.self.inside.numbers.entries
-    c.self.inside.labels.entries c.self.inside.entries.entries
-    (ascends_from c.self.inside.entries.entries c.self.invariant.ordered) c.self.invariant.indexed in
-    subst (λ (v : RegistryValue). None ≡ place_of v c.args.key.now.items) c.self.view_is
-    (new_full (registry_of c.self.inside)
+    let is = number_is c.args.key.now.items _ _ _ _ (ascends_from _ c.self.invariant.ordered) c.self.invariant.indexed in
+    rw (← c.self.view_is) (new_full (registry_of c.self.inside)
     (omega (arith, length_view c.self.inside.entries.entries, c.len.ensures.len, c.if-len-self.true))
-    ∙ place_absent (registry_of c.self.inside) c.args.key.now.items (is ∙ sym c.number_of.ensures ∙ c.in_default.is))
+    ∙ place_absent (registry_of c.self.inside) _ (is ∙ sym c.number_of.ensures ∙ c.in_default.is))
 
 pub returns-then-self : goal.returns-then-self
 unfolding registry_of
 returns-then-self c =
-    let is = number_is c.args.key.now.items c.self.inside.next c.self.inside.numbers.entries
-    c.self.inside.labels.entries c.self.inside.entries.entries
-    (ascends_from c.self.inside.entries.entries c.self.invariant.ordered) c.self.invariant.indexed in
-    subst (λ (v : RegistryValue). None ≡ place_of v c.args.key.now.items) c.self.view_is
-    (new_last (registry_of c.self.inside)
-    (omega (arith, length_view c.self.inside.entries.entries, c.len.ensures.len, c.if-len-self.false))
-    c.if-self.true
-    ∙ place_absent (registry_of c.self.inside) c.args.key.now.items (is ∙ sym c.number_of.ensures ∙ c.in_default.is))
+    let is = number_is c.args.key.now.items _ _ _ _ (ascends_from _ c.self.invariant.ordered) c.self.invariant.indexed in
+    rw (← c.self.view_is) (new_last (registry_of c.self.inside)
+    (omega (arith, length_view c.self.inside.entries.entries, c.len.ensures.len, c.if-len-self.false)) c.if-self.true
+    ∙ place_absent (registry_of c.self.inside) _ (is ∙ sym c.number_of.ensures ∙ c.in_default.is))
 
 pub returns : goal.returns
 unfolding registry_of
 returns c =
-    let is = number_is c.args.key.now.items c.self.inside.next c.self.inside.numbers.entries
-    c.self.inside.labels.entries c.self.inside.entries.entries
-    (ascends_from c.self.inside.entries.entries c.self.invariant.ordered) c.self.invariant.indexed in
-    subst (λ (v : RegistryValue). Some c.self.inside.next ≡ place_of v c.args.key.now.items) c.self.view_is
-    (new_next (registry_of c.self.inside)
-    (omega (arith, length_view c.self.inside.entries.entries, c.len.ensures.len, c.if-len-self.false))
-    c.if-self.false
-    ∙ place_absent (registry_of c.self.inside) c.args.key.now.items (is ∙ sym c.number_of.ensures ∙ c.in_default.is))
+    let is = number_is c.args.key.now.items _ _ _ _ (ascends_from _ c.self.invariant.ordered) c.self.invariant.indexed in
+    rw (← c.self.view_is) (new_next (registry_of c.self.inside)
+    (omega (arith, length_view c.self.inside.entries.entries, c.len.ensures.len, c.if-len-self.false)) c.if-self.false
+    ∙ place_absent (registry_of c.self.inside) _ (is ∙ sym c.number_of.ensures ∙ c.in_default.is))
