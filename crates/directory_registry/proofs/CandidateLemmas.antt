@@ -1,13 +1,13 @@
 -- The registrations that a lookup of one endpoint reads.
-use Rattle.std.proofs.Common.{◌≡◌, ◌⊎◌, inl, inr, ℕ, ◌+◌, ◌-◌, ◌≤◌, ◌<◌, Bool, true, false, cond, not, ◌&&◌, ◌||◌, List}
-use Rattle.std.proofs.Common.{[], ◌∷◌, codes, take, length, filter, Option, Some, None, is_some, refl, ap, sym, subst}
-use Rattle.std.proofs.Common.{◌∙◌, arith, nat_eq, nat_le, true≢false}
-use Rattle.std.specs.List.{list_all, list_any, fold, ends_with, starts_with}
+use Rattle.std.proofs.Common.{◌≡◌, ℕ, ◌+◌, ◌≤◌, ◌<◌, Bool, true, false, ◌&&◌, ◌||◌, List}
+use Rattle.std.proofs.Common.{[], ◌∷◌, codes, filter, Some, is_some, refl, ap}
+use Rattle.std.proofs.Common.{arith, nat_eq, nat_le}
+use Rattle.std.specs.List.{list_all, list_any, fold, ends_with}
 use Rattle.std.specs.Option.{option_map_or}
 use Rattle.std.specs.Map.{lookup}
 use Rattle.std.specs.Cmp.Lexicographic.{pointwise}
-use Rattle.std.proofs.lemmas.Bool.{or_from, leb-true, le-leb, lt-leb, and_parts, and_left, and_right, eqb-true, cases_lt}
-use Rattle.std.proofs.lemmas.Bool.{cases_order, not-true}
+use Rattle.std.proofs.lemmas.Bool.{or_from, le-leb, and_parts}
+use Rattle.std.proofs.lemmas.Bool.{not-true}
 use Rattle.std.proofs.lemmas.Bool.Decides.{nat_tests}
 use Rattle.directory_links.specs.Links.{AttributeValue, NoValue, ExtendedValue, TokenValue, QuotedValue, Attribute}
 use Rattle.directory_links.specs.Links.{Link}
@@ -15,13 +15,13 @@ use Rattle.directory_registry.specs.Prelude.{CriterionValue, RegistrationValue, 
 use Rattle.directory_registry.specs.Prelude.{given_value_meets}
 use Rattle.directory_registry.specs.Prelude.{attribute_meets, link_meets, endpoint_meets, is_selected_link}
 use Rattle.directory_registry.specs.Prelude.{is_selected_endpoint}
-use Rattle.directory_registry.specs.Prelude.{offered, offered_link, offered_links, offered_endpoint, counted}
-use Rattle.directory_registry.specs.Prelude.{registration_of, link_text, resolved_link, endpoint_link}
-use Rattle.directory_registry.specs.Prelude.{name_label, has_label, is_endpoint_name, agrees, link_agrees, first_label}
+use Rattle.directory_registry.specs.Prelude.{offered_link, offered_links, offered_endpoint, counted}
+use Rattle.directory_registry.specs.Prelude.{registration_of}
+use Rattle.directory_registry.specs.Prelude.{name_label, has_label, agrees, link_agrees}
 use Rattle.directory_registry.specs.Prelude.{label_with, registration_label, is_exact, exact_name}
 use Rattle.directory_registry.specs.Prelude.{Each, is_number, is_labelled, IsFound}
 use Rattle.directory_registry.specs.declared.registration.Stored.{Stored}
-use Rattle.directory_registry.proofs.EntryLemmas.{number_self, number_other, same_list, each_map, Ascends, lookup_above}
+use Rattle.directory_registry.proofs.EntryLemmas.{same_list, each_map, Ascends, lookup_above}
 
 -- ---- criteria that are not met
 
@@ -42,7 +42,8 @@ given_unmet p h (QuotedValue t) star e other = value_unmet p h t star e other
 
 attribute_unmet : (p : List ℕ) (h : ℕ) (a : Attribute) → ends_with nat_eq p (codes "*") ≡ false → agrees h a ≡ true
     → (h ≡ name_label p → ⊥) → attribute_meets (exact p) a ≡ false
-attribute_unmet p h a star e other = grind (arith, e, λ (k : has_label h a.value ≡ true). given_unmet p h a.value star k other)
+attribute_unmet p h a star e other =
+    grind (arith, e, λ (k : has_label h a.value ≡ true). given_unmet p h a.value star k other)
 
 attributes_unmet : (p : List ℕ) (h : ℕ) (list : List Attribute) → ends_with nat_eq p (codes "*") ≡ false
     → list_all (agrees h) list ≡ true → (h ≡ name_label p → ⊥) → list_any (attribute_meets (exact p)) list ≡ false

@@ -1,21 +1,19 @@
 -- The list of the registrations, the labels and the earliest end after a change.
-use Rattle.std.proofs.Common.{◌≡◌, ◌||◌, ℕ, ◌≤◌, ◌<◌, Bool, true, false, cond, List, [], ◌∷◌, map, filter, Option, Some}
-use Rattle.std.proofs.Common.{None, option_map, refl, ap, sym, subst, ◌∙◌, arith, nat_eq, nat_le, nat_lt, true≢false}
+use Rattle.std.proofs.Common.{◌≡◌, ℕ, ◌≤◌, ◌<◌, Bool, true, List, [], ◌∷◌, map, filter, Option, Some}
+use Rattle.std.proofs.Common.{None, option_map, refl, ap, arith, nat_eq, nat_le, nat_lt}
 use Rattle.std.proofs.Common.{is_some}
 use Rattle.std.specs.List.{list_any, fold}
-use Rattle.std.specs.declared.cmp.Ordering.{Ordering}
-use Rattle.std.specs.declared.cmp.Ordering.TheVariants.{Less, Equal, Greater}
-use Rattle.std.specs.Ordering.{nat_cmp, match_ordering}
+use Rattle.std.specs.Ordering.{nat_cmp}
 use Rattle.std.specs.Map.{lookup, set_value, remove_entry}
 use Rattle.std.specs.BTreeMap.{insert_entry}
-use Rattle.std.proofs.lemmas.Bool.{cond_both, eqb-false, leb-true, le-leb, and_parts, and_from, lt-ltb, eq-eqb, ne_eqb}
+use Rattle.std.proofs.lemmas.Bool.{cond_both, eqb-false, le-leb}
 use Rattle.std.proofs.lemmas.Bool.Decides.{nat_tests}
 use Rattle.directory_registry.specs.Prelude.{RegistrationValue, found_at, registration_of, without_location}
 use Rattle.directory_registry.specs.Prelude.{with_change}
 use Rattle.directory_registry.specs.Prelude.{packed}
 use Rattle.directory_registry.specs.Prelude.{Each, is_number, without_label}
 use Rattle.directory_registry.specs.declared.registration.Stored.{Stored}
-use Rattle.directory_registry.proofs.EntryLemmas.{number_self, number_same, number_other, each_map, each_both}
+use Rattle.directory_registry.proofs.EntryLemmas.{each_map, each_both}
 use Rattle.directory_registry.proofs.EntryLemmas.{each_filter}
 use Rattle.directory_registry.proofs.EntryLemmas.{each_self, lookup_kept}
 use Rattle.directory_registry.proofs.RegistryLemmas.{Key, same, Indexed, views, all_after}
@@ -44,7 +42,8 @@ same_test next ns ls n e i = grind (arith, nat_tests, i.number)
 pub location_viewed : (next : ℕ) (ns : List (Key × ℕ)) (ls : List (ℕ × ℕ)) (n : ℕ) (es : List (ℕ × Stored))
     → Each (Indexed next ns ls) es → list_any (λ e. nat_eq e.1.number n) (views es) ≡ is_some (lookup (is_number n) es)
 location_viewed next ns ls n [] all = refl
-location_viewed next ns ls n (e ∷ es) all = grind (arith, same_test next ns ls n e all.0, location_viewed next ns ls n es all.1)
+location_viewed next ns ls n (e ∷ es) all =
+    grind (arith, same_test next ns ls n e all.0, location_viewed next ns ls n es all.1)
 
 pub found_view : (next : ℕ) (ns : List (Key × ℕ)) (ls : List (ℕ × ℕ)) (n : ℕ) (es : List (ℕ × Stored))
     → Each (Indexed next ns ls) es
@@ -55,7 +54,8 @@ found_view next ns ls n (e ∷ es) all = grind (arith, same_test next ns ls n e 
 pub removed_view : (next : ℕ) (ns : List (Key × ℕ)) (ls : List (ℕ × ℕ)) (n : ℕ) (es : List (ℕ × Stored))
     → Each (Indexed next ns ls) es → views (remove_entry (is_number n) es) ≡ without_location (views es) n
 removed_view next ns ls n [] all = refl
-removed_view next ns ls n (e ∷ es) all = grind (arith, same_test next ns ls n e all.0, removed_view next ns ls n es all.1)
+removed_view next ns ls n (e ∷ es) all =
+    grind (arith, same_test next ns ls n e all.0, removed_view next ns ls n es all.1)
 
 pub changed_view : (change : RegistrationValue → RegistrationValue) (next : ℕ) (ns : List (Key × ℕ)) (ls : List (ℕ × ℕ))
     (n : ℕ) (s old : Stored) → s.key ≡ old.key
@@ -130,7 +130,12 @@ pub after_there : (m n : ℕ) (old : Stored) (es : List (ℕ × Stored)) → all
     → lookup (is_number n) es ≡ Some old → m ≤ old.registration.deadline
 after_there m n old [] all h = absurd cc
 after_there m n old (e ∷ es) all h =
-    grind (arith, all, h, λ (k : all_after m es ≡ true) (i : lookup (is_number n) es ≡ Some old). after_there m n old es k i)
+    grind (
+      arith,
+      all,
+      h,
+      λ (k : all_after m es ≡ true) (i : lookup (is_number n) es ≡ Some old). after_there m n old es k i,
+    )
 
 -- The earliest end after a registration was removed.
 pub after_remove : (m n : ℕ) (es : List (ℕ × Stored)) → all_after m es ≡ true

@@ -1,11 +1,10 @@
 -- Lists of registrations by their numbers.
-use Rattle.std.proofs.Common.{◌≡◌, ℕ, ◌<◌, Bool, true, false, cond, List, [], ◌∷◌, ◌++◌, filter, Some, None, refl, ap}
-use Rattle.std.proofs.Common.{sym, subst, ◌∙◌, arith, nat_eq, true≢false}
+use Rattle.std.proofs.Common.{◌≡◌, ℕ, ◌<◌, Bool, true, false, List, [], ◌∷◌, ◌++◌, filter, Some, None, refl}
+use Rattle.std.proofs.Common.{sym, arith, nat_eq}
 use Rattle.std.specs.List.Sorted.{IsStrictlySortedBy}
 use Rattle.std.specs.List.{AllByRecursion}
-use Rattle.std.specs.declared.cmp.Ordering.{Ordering}
-use Rattle.std.specs.declared.cmp.Ordering.TheVariants.{Less, Equal, Greater}
-use Rattle.std.specs.Ordering.{nat_cmp, is_eq, match_ordering}
+use Rattle.std.specs.declared.cmp.Ordering.TheVariants.{Less}
+use Rattle.std.specs.Ordering.{nat_cmp}
 use Rattle.std.specs.Cmp.Lexicographic.{pointwise}
 use Rattle.std.specs.Map.{keys_of, lookup, set_value, remove_entry}
 use Rattle.std.specs.BTreeMap.{insert_entry}
@@ -118,7 +117,8 @@ module _ {X : Type 0} where
       → (es : List (ℕ × X)) → Ascends es → Each P es → Each Q (set_value (is_number n) es x)
   each_set P Q n x f q [] up all = tt
   each_set P Q n x f q (e ∷ es) up all =
-      cond_both (is_number n e.0) _ _ (Each Q) (λ k. (rw (← number_same n e.0 k) q, others P Q n f e es (number_same n e.0 k) up.0 all.1))
+      cond_both (is_number n e.0) _ _ (Each Q)
+      (λ k. (rw (← number_same n e.0 k) q, others P Q n f e es (number_same n e.0 k) up.0 all.1))
       (λ k. (f e (λ i. both_ways _ k (rw i (number_self e.0))) all.0, each_set P Q n x f q es up.1 all.1))
 
   -- A property of each entry after the one at a number was removed.
@@ -142,4 +142,5 @@ module _ {X : Type 0} where
 pub lookup_kept : {K X : Type 0} (test : K → Bool) (keep : X → Bool) (x : X) → keep x ≡ true → (es : List (K × X))
     → lookup test es ≡ Some x → lookup test (filter (λ e. keep e.1) es) ≡ Some x
 lookup_kept test keep x k [] h = h
-lookup_kept test keep x k (e ∷ es) h = grind (arith, k, h, λ (i : lookup test es ≡ Some x). lookup_kept test keep x k es i)
+lookup_kept test keep x k (e ∷ es) h =
+    grind (arith, k, h, λ (i : lookup test es ≡ Some x). lookup_kept test keep x k es i)

@@ -1,15 +1,12 @@
 -- Labels with numbers.
-use Rattle.std.proofs.Common.{◌≡◌, ℕ, ◌+◌, ◌≤◌, ◌<◌, ◌^◌, Bool, true, false, cond, List, Option, Some, refl, ap, ◌∙◌}
-use Rattle.std.proofs.Common.{arith, true≢false}
-use Rattle.std.specs.declared.cmp.Ordering.{Ordering}
-use Rattle.std.specs.declared.cmp.Ordering.TheVariants.{Less, Equal, Greater}
+use Rattle.std.proofs.Common.{◌≡◌, ℕ, ◌+◌, ◌≤◌, ◌<◌, ◌^◌, false, cond, List, Some, ap, ◌∙◌}
+use Rattle.std.proofs.Common.{arith}
 use Rattle.std.specs.Ordering.{nat_cmp, is_gt}
 use Rattle.std.specs.Map.{lookup}
 use Rattle.std.proofs.lemmas.Bool.{cond_both}
 use Rattle.std.proofs.lemmas.Bool.Decides.{nat_tests}
-use Rattle.directory_registry.specs.Prelude.{packed, is_number, IsFound, label_with, registration_label}
+use Rattle.directory_registry.specs.Prelude.{packed, is_number, IsFound, registration_label}
 use Rattle.directory_registry.specs.Prelude.{registration_of}
-use Rattle.directory_registry.specs.Prelude.{RegistrationValue, renewed}
 use Rattle.directory_registry.specs.declared.registration.Stored.{Stored}
 use Rattle.directory_registry.proofs.EntryLemmas.{number_same}
 use Rattle.directory_registry.proofs.RegistryLemmas.{packed_same}
@@ -44,9 +41,3 @@ labels_added label n ls ls' small up e f =
           ∙ cond_both (is_number (packed label n) q) _ _ (λ o. o ≡ Some e.0)
           (λ h. ap Some (packed_same label _ n e.0 small f.small (number_same _ _ h))) (λ h. f.label);
     }
-
--- The label does not change when a registration is renewed.
-pub label_renewed : (now : ℕ) (lifetime : Option ℕ) (base : Option (List ℕ)) (r : RegistrationValue)
-    → registration_label (renewed now lifetime base r) ≡ registration_label r
-unfolding label_with
-label_renewed now lifetime base r = refl

@@ -1,7 +1,6 @@
 -- Bytes that are appended in several parts.
-use Rattle.std.proofs.Common.{◌≡◌, ℕ, ◌-◌, ◌≤◌, ◌<◌, Bool, true, false, cond, List, [], ◌∷◌, ◌++◌, length, map, Option}
-use Rattle.std.proofs.Common.{Some, None, refl, ap, sym, ◌∙◌, arith, append_assoc, nat_le, nat_eq, codes}
-use Rattle.std.proofs.lemmas.Bool.{leb-true, leb-false, le-leb}
+use Rattle.std.proofs.Common.{◌≡◌, ℕ, true, false, List, [], ◌∷◌, ◌++◌, map, Option}
+use Rattle.std.proofs.Common.{Some, None, refl, ap, sym, arith, append_assoc, codes}
 use Rattle.std.proofs.lemmas.List.{length-append, append-nil}
 use Rattle.directory_registry.specs.Prelude.{ListingValue, pushed, with_bytes, Attribute, attributes_text}
 use Rattle.directory_registry.specs.Prelude.{attribute_text}

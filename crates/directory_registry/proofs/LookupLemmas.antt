@@ -1,13 +1,12 @@
 -- The text of the results of a lookup.
-use Rattle.std.proofs.Common.{◌≡◌, ℕ, suc, zero, ◌+◌, ◌-◌, ◌*◌, Bool, true, false, cond, List, [], ◌∷◌, ◌++◌, take}
-use Rattle.std.proofs.Common.{drop, length, map, filter, nat_eq, nat_le, Option, Some, None, refl, ap, sym, ◌∙◌, arith}
+use Rattle.std.proofs.Common.{◌≡◌, ℕ, suc, zero, ◌+◌, ◌*◌, cond, List, [], ◌∷◌, ◌++◌, take}
+use Rattle.std.proofs.Common.{drop, map, filter, nat_le, Option, Some, None, refl, sym, ◌∙◌, arith}
 use Rattle.std.proofs.Common.{append_assoc}
 use Rattle.std.specs.List.{flat_map, fold}
 use Rattle.std.proofs.lemmas.List.{append-nil}
-use Rattle.std.proofs.lemmas.Bool.{ne_eqb}
 use Rattle.directory_links.specs.Links.{Link, link_text, links_text, more_links_text}
 use Rattle.directory_registry.specs.Prelude.{ListingValue, PageValue, pushed, with_bytes, begun, offered, separator}
-use Rattle.directory_registry.specs.Prelude.{takes_item, started}
+use Rattle.directory_registry.specs.Prelude.{started}
 use Rattle.directory_registry.specs.Prelude.{CriterionValue, RegistrationValue, RegistryValue, registrations}
 use Rattle.directory_registry.specs.Prelude.{is_selected_endpoint, is_selected_link, endpoint_link, resolved_link}
 use Rattle.directory_registry.specs.Prelude.{offered_endpoint, offered_link, offered_links}
@@ -78,8 +77,12 @@ listing_text [] skip left capacity limit t out h =
     let same : out ≡ t = cc in
     rw (same, none_left left skip) (no_links t)
 listing_text (l ∷ links) (suc k) left capacity limit t out h =
-    grind (arith, h, skipped k left capacity limit (Some t) (link_text l),
-    listing_text links k left capacity limit t out)
+    grind (
+      arith,
+      h,
+      skipped k left capacity limit (Some t) (link_text l),
+      listing_text links k left capacity limit t out,
+    )
 listing_text (l ∷ links) zero zero capacity limit t out h =
     grind (arith, h, passed capacity limit (Some t) (link_text l), listing_text links zero zero capacity limit t out)
 listing_text (l ∷ links) zero (suc n) capacity limit t out h =
@@ -117,7 +120,11 @@ endpoints_offered : (criteria : List CriterionValue) (rs : List RegistrationValu
 unfolding offered_endpoint
 endpoints_offered criteria [] v = refl
 endpoints_offered criteria (r ∷ rs) v =
-    grind (arith, endpoints_offered criteria rs (offered v (link_text (endpoint_link r))), endpoints_offered criteria rs v)
+    grind (
+      arith,
+      endpoints_offered criteria rs (offered v (link_text (endpoint_link r))),
+      endpoints_offered criteria rs v,
+    )
 
 links_offered : (criteria : List CriterionValue) (r : RegistrationValue) (links : List Link) (v : ListingValue)
     → fold (offered_link criteria r) v links ≡ after v
@@ -138,7 +145,7 @@ resources_offered : (criteria : List CriterionValue) (rs : List RegistrationValu
     → fold (offered_links criteria) v rs ≡ after v (flat_map (links_of_registration criteria) rs)
 unfolding offered_links
 resources_offered criteria [] v = refl
-resources_offered criteria (r ∷ rs) v = 
+resources_offered criteria (r ∷ rs) v =
     rw (links_offered criteria r r.links v, resources_offered criteria rs)
     (after_both (links_of_registration criteria r) (flat_map (links_of_registration criteria) rs) v)
 

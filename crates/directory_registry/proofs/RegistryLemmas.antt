@@ -1,20 +1,19 @@
 -- The maps of the registrations agree with their list.
-use Rattle.std.proofs.Common.{◌≡◌, ◌⊎◌, inl, inr, ℕ, suc, ◌≤◌, ◌<◌, ◌^◌, Bool, true, false, cond, List, [], ◌∷◌, length}
-use Rattle.std.proofs.Common.{map, Option, Some, None, option_map, Result, Ok, Err, OnErr, refl, ap, sym, subst, ◌∙◌}
-use Rattle.std.proofs.Common.{arith, nat_eq, nat_le, nat_lt, true≢false}
+use Rattle.std.proofs.Common.{◌≡◌, ◌⊎◌, inl, inr, ℕ, suc, ◌≤◌, ◌<◌, ◌^◌, Bool, true, false, List, [], ◌∷◌, length}
+use Rattle.std.proofs.Common.{map, Option, Some, None, option_map, Result, Ok, Err, OnErr, refl, ap}
+use Rattle.std.proofs.Common.{arith, nat_eq, nat_le}
 use Rattle.std.specs.List.{list_all}
-use Rattle.std.specs.Option.{option_map_or}
 use Rattle.std.specs.Map.{lookup}
 use Rattle.std.specs.Cmp.Lexicographic.{pointwise}
-use Rattle.std.proofs.lemmas.Bool.{cases_Bool, lt-ltb, le-ltb, ne_eqb, eq-eqb}
+use Rattle.std.proofs.lemmas.Bool.{cases_Bool, lt-ltb, le-ltb, ne_eqb}
 use Rattle.arrayvec.specs.declared.array_vec.ArrayVec.{ArrayVec}
 use Rattle.directory_registry.specs.Prelude.{RegistrationValue, RegistryValue, found, place_of, new_place}
 use Rattle.directory_registry.specs.Prelude.{registration_of}
 use Rattle.directory_registry.specs.Prelude.{packed}
-use Rattle.directory_registry.specs.Prelude.{Each, is_number, IsIndexed, number_with, number_in}
+use Rattle.directory_registry.specs.Prelude.{Each, is_number, IsIndexed, number_in}
 use Rattle.directory_registry.specs.declared.registration.Stored.{Stored}
 use Rattle.directory_registry.proofs.EntryLemmas.{number_self, number_other, same_list, list_self, each_lookup, Ascends}
-use Rattle.directory_registry.proofs.EntryLemmas.{Above, lookup_above}
+use Rattle.directory_registry.proofs.EntryLemmas.{lookup_above}
 
 -- The key of an endpoint.
 abbrev pub Key : Type 0
@@ -90,7 +89,8 @@ other_way a b h = rw (same_list b a h) (list_self a)
 not_in : (key : List ℕ) (o : Option ℕ) (es : List (ℕ × Stored)) → HasNone key es → None ≡ number_in key o es
 not_in key None es none = refl
 not_in key (Some n) es none =
-    let not_here = λ (s : Stored) (h : lookup (is_number n) es ≡ Some s). each_lookup (λ (e : ℕ × Stored). same key e.1.key ≡ false) n es s none h in
+    let not_here = λ (s : Stored) (h : lookup (is_number n) es ≡ Some s). each_lookup
+    (λ (e : ℕ × Stored). same key e.1.key ≡ false) n es s none h in
     grind (arith, not_here, λ (s : Stored). other_way key s.key.items)
 
 -- The map of numbers has the number of the registration with a key.

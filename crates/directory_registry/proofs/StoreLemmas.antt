@@ -1,6 +1,6 @@
 -- The maps after a registration was stored, renewed or removed.
-use Rattle.std.proofs.Common.{◌≡◌, ◌⊎◌, inl, inr, ℕ, ◌+◌, ◌≤◌, ◌<◌, ◌^◌, Bool, true, false, cond, List, [], ◌∷◌, ◌++◌}
-use Rattle.std.proofs.Common.{Some, None, option_map, refl, ap, sym, subst, ◌∙◌, arith, nat_eq, nat_lt, true≢false}
+use Rattle.std.proofs.Common.{◌≡◌, ◌⊎◌, inl, inr, ℕ, ◌≤◌, ◌<◌, ◌^◌, true, false, List, [], ◌∷◌, ◌++◌}
+use Rattle.std.proofs.Common.{Some, None, option_map, refl, ap, sym, subst, ◌∙◌, arith, nat_eq}
 use Rattle.std.specs.Ordering.{nat_cmp}
 use Rattle.std.specs.Map.{lookup, set_value}
 use Rattle.std.specs.BTreeMap.{insert_entry}
@@ -8,7 +8,7 @@ use Rattle.std.specs.Cmp.Lexicographic.{pointwise}
 use Rattle.std.proofs.lemmas.Bool.{both_ways, false_from_ne_true}
 use Rattle.indexmap.specs.IndexMap as listed
 use Rattle.directory_registry.specs.Prelude.{RegistrationValue, RegistryValue, found, place_of, registration_of}
-use Rattle.directory_registry.specs.Prelude.{registration_label, packed, next_location}
+use Rattle.directory_registry.specs.Prelude.{packed, next_location}
 use Rattle.directory_registry.specs.Prelude.{Each, is_number}
 use Rattle.directory_registry.specs.declared.registration.Stored.{Stored}
 use Rattle.directory_registry.proofs.EntryLemmas.{number_self, same_list, each_map, each_both, each_lookup, each_set}

@@ -1,5 +1,4 @@
 use Rattle.std.proofs.Common.{arith}
-use Rattle.std.specs.Cmp.Lexicographic.{pointwise}
 use Rattle.directory_registry.proofs.JoinedLemmas.{equal_parts}
 use Rattle.directory_registry.proofs.criterion.joined_equals.Goals as goal
 

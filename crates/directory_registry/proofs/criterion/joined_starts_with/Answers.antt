@@ -1,6 +1,4 @@
-use Rattle.std.proofs.Common.{ap, ◌∙◌, length, take, drop, nat_eq, arith}
-use Rattle.std.specs.List.{starts_with}
-use Rattle.std.specs.Cmp.Lexicographic.{pointwise}
+use Rattle.std.proofs.Common.{arith}
 use Rattle.directory_registry.proofs.JoinedLemmas.{begins_both}
 use Rattle.directory_registry.proofs.criterion.joined_starts_with.Goals as goal
 

@@ -1,5 +1,3 @@
-use Rattle.std.proofs.Common.{sym, ◌∙◌, ap}
-use Rattle.directory_registry.specs.Prelude.{all_counted, criteria_of}
 use Rattle.directory_registry.proofs.offers.offer_all.Goals as goal
 
 pub returns : goal.returns

@@ -1,8 +1,8 @@
-use Rattle.std.proofs.Common.{◌≡◌, sym, ◌∙◌, ap, arith, List, ℕ, ◌+◌, ◌≤◌, ◌<◌}
-use Rattle.directory_registry.specs.Prelude.{all_counted, counted, criteria_of, registration_of, IsFound, ListingValue}
+use Rattle.std.proofs.Common.{◌≡◌, arith, ℕ, ◌≤◌, ◌<◌}
+use Rattle.directory_registry.specs.Prelude.{counted, criteria_of, registration_of, ListingValue}
 use Rattle.directory_registry.specs.declared.registration.Stored.{Stored}
 use Rattle.directory_registry.proofs.EntryLemmas.{each_map, ascends_from}
-use Rattle.directory_registry.proofs.CandidateLemmas.{from_number, from_zero, found_unmet, next_visited, none_visited}
+use Rattle.directory_registry.proofs.CandidateLemmas.{from_zero, found_unmet, next_visited, none_visited}
 use Rattle.directory_registry.proofs.offers.offer_candidates.Goals as goal
 
 pub loop-number-init : goal.loop-number-init
@@ -20,9 +20,12 @@ loop-number-preserved c =
     record {
       within = omega (arith, c.from-from.ensures, found.1);
       so_far =
-          rw (c.from-from.ensures, c.offer_at.ensures,
-          ← next_visited (λ w s. counted c.args.endpoints cs w (registration_of s.registration)) _ _ found.1.0 _
-          (ascends_from _ c.requires.ordered) nothing c.loop-number.listing) c.loop-number.invariant.so_far;
+          rw (
+            c.from-from.ensures,
+            c.offer_at.ensures,
+            ← next_visited (λ w s. counted c.args.endpoints cs w (registration_of s.registration)) _ _ found.1.0 _
+                (ascends_from _ c.requires.ordered) nothing c.loop-number.listing,
+          ) c.loop-number.invariant.so_far;
     }
 
 pub returns : goal.returns

@@ -1,5 +1,5 @@
-use Rattle.std.proofs.Common.{codes, sym, ◌∙◌, ap, List, ℕ, ◌∷◌}
-use Rattle.directory_registry.specs.Prelude.{resolved_value, value_of, value_text, attribute_of, with_bytes}
+use Rattle.std.proofs.Common.{sym, ◌∙◌}
+use Rattle.directory_registry.specs.Prelude.{attribute_of}
 use Rattle.directory_registry.proofs.ListingLemmas.{two_parts, anchor_text, other_text}
 use Rattle.directory_registry.proofs.results.push_attribute.Goals as goal
 

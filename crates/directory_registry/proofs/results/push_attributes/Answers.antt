@@ -1,5 +1,5 @@
-use Rattle.std.proofs.Common.{List, sym, ◌∙◌, ap, map}
-use Rattle.directory_registry.specs.Prelude.{Attribute, attribute_of, with_bytes, attributes_text, resolved_attribute}
+use Rattle.std.proofs.Common.{◌∙◌}
+use Rattle.directory_registry.specs.Prelude.{attribute_of}
 use Rattle.directory_registry.proofs.ListingLemmas.{one_attribute, no_attribute}
 use Rattle.directory_registry.proofs.results.push_attributes.Goals as goal
 

@@ -1,5 +1,4 @@
 use Rattle.std.proofs.Common.{append_assoc}
-use Rattle.directory_registry.specs.Prelude.{attributes_text, endpoint_link, registration_of, with_bytes}
 use Rattle.directory_registry.proofs.ListingLemmas.{two_parts}
 use Rattle.directory_registry.proofs.results.push_endpoint.Goals as goal
 

@@ -1,5 +1,5 @@
-use Rattle.std.proofs.Common.{sym, ◌∙◌, ap, codes, List, ℕ, map}
-use Rattle.directory_registry.specs.Prelude.{Attribute, QuotedValue, attributes_text, resolved_attribute, with_bytes}
+use Rattle.std.proofs.Common.{codes}
+use Rattle.directory_registry.specs.Prelude.{QuotedValue}
 use Rattle.directory_registry.proofs.ListingLemmas.{one_attribute}
 use Rattle.directory_registry.proofs.results.push_endpoint_attributes.Goals as goal
 

@@ -1,5 +1,4 @@
 use Rattle.std.proofs.Common.{append_assoc}
-use Rattle.directory_registry.specs.Prelude.{Attribute, resolved, resolved_attribute, attributes_text, with_bytes}
 use Rattle.directory_registry.proofs.ListingLemmas.{two_parts}
 use Rattle.directory_registry.proofs.results.push_link.Goals as goal
 

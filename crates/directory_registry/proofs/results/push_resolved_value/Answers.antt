@@ -1,5 +1,3 @@
-use Rattle.std.proofs.Common.{codes}
-use Rattle.directory_registry.specs.Prelude.{resolved}
 use Rattle.directory_registry.proofs.ListingLemmas.{two_parts}
 use Rattle.directory_registry.proofs.results.push_resolved_value.Goals as goal
 

@@ -1,4 +1,3 @@
-use Rattle.std.proofs.Common.{codes}
 use Rattle.directory_registry.proofs.ListingLemmas.{no_bytes, two_parts}
 use Rattle.directory_registry.proofs.results.push_value.Goals as goal
 

@@ -1,6 +1,5 @@
-use Rattle.std.proofs.Common.{◌≡◌, Option, Some, option_map, ap, sym, ◌∙◌}
-use Rattle.directory_registry.specs.Prelude.{registry_of, found_at, registration_of, RegistryValue, RegistrationValue}
-use Rattle.directory_registry.specs.declared.registration.Stored.{Stored}
+use Rattle.std.proofs.Common.{Some, ap}
+use Rattle.directory_registry.specs.Prelude.{registry_of}
 use Rattle.directory_registry.proofs.ChangeLemmas.{found_view}
 use Rattle.directory_registry.proofs.registry.Registry.attributes.Goals as goal
 

@@ -1,9 +1,7 @@
-use Rattle.std.proofs.Common.{◌≡◌, rules, sym, ◌∙◌, ap, subst, filter, List, ℕ}
+use Rattle.std.proofs.Common.{rules}
 use Rattle.indexmap.proofs.CallerLemmas.{filter-RetainsPairs}
-use Rattle.directory_registry.specs.Prelude.{registry_of, expired, RegistryValue, Each}
-use Rattle.directory_registry.specs.declared.registration.Stored.{Stored}
-use Rattle.directory_registry.proofs.RegistryLemmas.{views, Key, Indexed}
-use Rattle.directory_registry.proofs.ChangeLemmas.{none_ended, kept_view, kept_indexed, alive, is_there}
+use Rattle.directory_registry.specs.Prelude.{registry_of, expired}
+use Rattle.directory_registry.proofs.ChangeLemmas.{none_ended, kept_view, kept_indexed, alive}
 use Rattle.directory_registry.proofs.registry.Registry.expire.Goals as goal
 
 pub returns-then-now-self : goal.returns-then-now-self
@@ -13,7 +11,8 @@ returns-then-now-self c =
 
 pub invariant_of-self : goal.invariant_of-self
 invariant_of-self c =
-    let kept = filter-RetainsPairs _ (alive c.args.now) _ (λ k v b w g call. search rules) _ _ c.retain.ensures.filtered in
+    let kept = filter-RetainsPairs _ (alive c.args.now) _
+    (λ k v b w g call. search rules) _ _ c.retain.ensures.filtered in
     record {
       ordered = c.retain.ensures.ordered;
       indexed = rw (c.keep_numbers.ensures, c.keep_labels.ensures, kept)
@@ -24,5 +23,6 @@ invariant_of-self c =
 pub returns : goal.returns
 unfolding registry_of expired
 returns c =
-    let kept = filter-RetainsPairs _ (alive c.args.now) _ (λ k v b w g call. search rules) _ _ c.retain.ensures.filtered in
+    let kept = filter-RetainsPairs _ (alive c.args.now) _
+    (λ k v b w g call. search rules) _ _ c.retain.ensures.filtered in
     rw (← c.self.view_is, kept, kept_view)

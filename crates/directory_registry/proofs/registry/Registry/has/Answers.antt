@@ -1,5 +1,4 @@
-use Rattle.std.proofs.Common.{◌≡◌, sym, ◌∙◌, ap}
-use Rattle.directory_registry.specs.Prelude.{registry_of, has_location, RegistryValue}
+use Rattle.directory_registry.specs.Prelude.{registry_of}
 use Rattle.directory_registry.proofs.ChangeLemmas.{location_viewed}
 use Rattle.directory_registry.proofs.registry.Registry.has.Goals as goal
 

@@ -1,8 +1,5 @@
-use Rattle.std.proofs.Common.{◌∙◌, ap}
-use Rattle.std.specs.List.{fold}
-use Rattle.directory_registry.specs.Prelude.{registry_of, RegistryValue, counted, criteria_of, registrations, IsFound}
+use Rattle.directory_registry.specs.Prelude.{registry_of}
 use Rattle.directory_registry.proofs.EntryLemmas.{each_map}
-use Rattle.directory_registry.proofs.RegistryLemmas.{Indexed}
 use Rattle.directory_registry.proofs.ChangeLemmas.{fold_view}
 use Rattle.directory_registry.proofs.registry.Registry.list.Goals as goal
 

@@ -1,10 +1,8 @@
-use Rattle.std.proofs.Common.{◌≡◌, sym, ◌∙◌, ap, subst, is_some, Some, None, arith, ℕ, List, true}
-use Rattle.std.specs.Map.{lookup}
-use Rattle.directory_registry.specs.Prelude.{registry_of, removed, has_location, RegistryValue, is_number, packed, Each}
-use Rattle.directory_registry.specs.declared.registration.Stored.{Stored}
+use Rattle.std.proofs.Common.{sym, ◌∙◌, arith}
+use Rattle.directory_registry.specs.Prelude.{registry_of, removed, packed}
 use Rattle.directory_registry.proofs.EntryLemmas.{ascends_from, each_lookup, each_map, each_both, each_remove}
 use Rattle.directory_registry.proofs.EntryLemmas.{number_other}
-use Rattle.directory_registry.proofs.RegistryLemmas.{views, Indexed, all_after, packed_same}
+use Rattle.directory_registry.proofs.RegistryLemmas.{packed_same}
 use Rattle.directory_registry.proofs.StoreLemmas.{IsOnly, Kept, only_present, others_indexed}
 use Rattle.directory_registry.proofs.ChangeLemmas.{location_viewed, removed_view, absent_removal, after_remove}
 use Rattle.directory_registry.proofs.registry.Registry.remove.Goals as goal
@@ -12,15 +10,22 @@ use Rattle.directory_registry.proofs.registry.Registry.remove.Goals as goal
 pub returns-in_default-clause-found : goal.returns-in_default-clause-found
 unfolding registry_of
 returns-in_default-clause-found c =
-    rw (← c.self.view_is, location_viewed _ _ _ c.args.number _ c.self.invariant.indexed, ← c.remove.ensures.value,
-    c.in_default.is)
+    rw (
+      ← c.self.view_is,
+      location_viewed _ _ _ c.args.number _ c.self.invariant.indexed,
+      ← c.remove.ensures.value,
+      c.in_default.is,
+    )
 
 pub returns-in_default-clause-after : goal.returns-in_default-clause-after
 unfolding registry_of removed
 returns-in_default-clause-after c =
     let none = sym c.remove.ensures.value ∙ c.in_default.is in
-    rw (c.in_default.ensures.unchanged, ← c.self.view_is,
-    absent_removal _ _ _ c.args.number _ c.self.invariant.indexed none)
+    rw (
+      c.in_default.ensures.unchanged,
+      ← c.self.view_is,
+      absent_removal _ _ _ c.args.number _ c.self.invariant.indexed none,
+    )
 
 pub invariant_of-self-2 : goal.invariant_of-self-2
 invariant_of-self-2 c =
@@ -47,8 +52,12 @@ invariant_of-self-2 c =
 pub returns-clause-found : goal.returns-clause-found
 unfolding registry_of
 returns-clause-found c =
-    rw (← c.self.view_is, location_viewed _ _ _ c.args.number _ c.self.invariant.indexed, ← c.remove.ensures.value,
-    c.in-Some.is)
+    rw (
+      ← c.self.view_is,
+      location_viewed _ _ _ c.args.number _ c.self.invariant.indexed,
+      ← c.remove.ensures.value,
+      c.in-Some.is,
+    )
 
 pub returns-clause-after : goal.returns-clause-after
 unfolding registry_of removed

@@ -1,10 +1,10 @@
-use Rattle.std.proofs.Common.{◌≡◌, sym, ◌∙◌, ap, subst, is_some, Some, None, refl, arith, ℕ, ◌<◌, ◌^◌, List, true}
-use Rattle.std.specs.Map.{lookup, set_value}
-use Rattle.directory_registry.specs.Prelude.{registry_of, attributed, with_attributes, has_location, RegistryValue}
-use Rattle.directory_registry.specs.Prelude.{label_with, registration_label, registration_of, is_number, packed, Each}
+use Rattle.std.proofs.Common.{◌≡◌, sym, ◌∙◌, Some, refl, arith, ◌<◌, ◌^◌}
+use Rattle.std.specs.Map.{lookup}
+use Rattle.directory_registry.specs.Prelude.{registry_of, attributed, with_attributes}
+use Rattle.directory_registry.specs.Prelude.{registration_label, registration_of, is_number, packed}
 use Rattle.directory_registry.specs.declared.registration.Stored.{Stored}
 use Rattle.directory_registry.proofs.EntryLemmas.{ascends_from, each_lookup, each_set, number_other}
-use Rattle.directory_registry.proofs.RegistryLemmas.{any_err, views, Indexed, all_after, packed_same, packed_label}
+use Rattle.directory_registry.proofs.RegistryLemmas.{any_err, Indexed, packed_same, packed_label}
 use Rattle.directory_registry.proofs.ChangeLemmas.{location_viewed, changed_view, absent_change, forgot, after_change}
 use Rattle.directory_registry.proofs.ChangeLemmas.{after_there}
 use Rattle.directory_registry.proofs.registry.Registry.set_attributes.Goals as goal
@@ -17,9 +17,11 @@ returns-in_default-clause-found c =
 pub returns-in_default-clause-ok : goal.returns-in_default-clause-ok
 unfolding registry_of attributed
 returns-in_default-clause-ok c =
-    rw (← c.self.view_is,
-    absent_change (with_attributes c.args.attributes) _ _ _ c.args.number _ c.self.invariant.indexed
-    (sym c.in_default.ensures.value))
+    rw (
+      ← c.self.view_is,
+      absent_change (with_attributes c.args.attributes) _ _ _ c.args.number _ c.self.invariant.indexed
+          (sym c.in_default.ensures.value),
+    )
 
 pub returns-in_err-insert-clause-err : goal.returns-in_err-insert-clause-err
 unfolding registry_of
@@ -75,15 +77,19 @@ invariant_of-self-2 c =
           })
           new _ (ascends_from _ c.self.invariant.ordered) c.self.invariant.indexed);
       earliest = rw holds.0
-          (after_change c.self.inside.earliest c.self.inside.earliest c.args.number s _ c.self.invariant.earliest (omega arith)
+          (after_change c.self.inside.earliest c.self.inside.earliest c.args.number s _ c.self.invariant.earliest
+          (omega arith)
           (after_there _ c.args.number old _ c.self.invariant.earliest there));
     }
 
 pub returns-clause-found : goal.returns-clause-found
 unfolding registry_of
 returns-clause-found c =
-    rw (← c.self.view_is, location_viewed _ _ _ c.args.number _ c.self.invariant.indexed,
-    ← c.in-Some-get_mut.ensures.value)
+    rw (
+      ← c.self.view_is,
+      location_viewed _ _ _ c.args.number _ c.self.invariant.indexed,
+      ← c.in-Some-get_mut.ensures.value,
+    )
 
 pub returns-clause-ok : goal.returns-clause-ok
 unfolding registry_of attributed

@@ -1,13 +1,10 @@
-use Rattle.std.proofs.Common.{◌≡◌, ◌∙◌, sym, ap, subst, refl, arith, ℕ, ◌<◌, ◌^◌, List, Some, option_map, cond, true}
+use Rattle.std.proofs.Common.{◌∙◌, sym, ap, refl, arith, ◌<◌, ◌^◌, option_map}
 use Rattle.std.specs.Map.{lookup}
-use Rattle.std.specs.BTreeMap.{insert_entry}
-use Rattle.std.specs.Ordering.{nat_cmp}
 use Rattle.directory_registry.specs.Prelude.{registry_of, registered, registration_of, registration_label}
-use Rattle.directory_registry.specs.Prelude.{RegistryValue}
-use Rattle.directory_registry.specs.Prelude.{next_location, place_of, packed, is_number, Each}
+use Rattle.directory_registry.specs.Prelude.{next_location, packed, is_number}
 use Rattle.directory_registry.specs.declared.registration.Stored.{Stored}
 use Rattle.directory_registry.proofs.EntryLemmas.{ascends_from, each_map, number_other}
-use Rattle.directory_registry.proofs.RegistryLemmas.{any_err, views, Key, same, Indexed, all_after, packed_same}
+use Rattle.directory_registry.proofs.RegistryLemmas.{any_err, same, Indexed, packed_same}
 use Rattle.directory_registry.proofs.RegistryLemmas.{packed_label}
 use Rattle.directory_registry.proofs.StoreLemmas.{Kept, placed, next_above, stored_well, stored_view}
 use Rattle.directory_registry.proofs.ChangeLemmas.{forgot, after_insert}
@@ -31,7 +28,7 @@ invariant_of-self-in_err-old c =
       ordered = c.insert-2.ensures.ordered;
       indexed = rw (c.in_err-old.ensures.err, c.reserve.ensures.entries)
           (each_map _ _
-          (λ e i. record { number = i.number; below = i.below; key = i.key; found = added e i.found; })
+          (λ e i. record { number = i.number; below = i.below; key = i.key; found = added e i.found })
           _ c.self.invariant.indexed);
       earliest = rw c.in_err-old.ensures.err c.self.invariant.earliest;
     }

@@ -1,13 +1,12 @@
-use Rattle.std.proofs.Common.{◌≡◌, sym, ◌∙◌, ap, subst, is_some, Some, None, refl, arith, ℕ, List, option_map, true}
-use Rattle.std.specs.Map.{lookup, set_value}
-use Rattle.directory_registry.specs.Prelude.{registry_of, updated, renewed, has_location, RegistryValue}
+use Rattle.std.proofs.Common.{◌≡◌, sym, ◌∙◌, ap, subst, Some, refl, arith, ℕ, option_map}
+use Rattle.std.specs.Map.{lookup}
+use Rattle.directory_registry.specs.Prelude.{registry_of, updated, renewed}
 use Rattle.directory_registry.specs.Prelude.{RegistrationValue}
-use Rattle.directory_registry.specs.Prelude.{registration_label, registration_of, is_number, packed, Each}
+use Rattle.directory_registry.specs.Prelude.{registration_label, is_number, packed}
 use Rattle.directory_registry.specs.declared.registration.Stored.{Stored}
 use Rattle.directory_registry.proofs.EntryLemmas.{ascends_from, each_lookup, each_set}
-use Rattle.directory_registry.proofs.RegistryLemmas.{views, Indexed, all_after}
+use Rattle.directory_registry.proofs.RegistryLemmas.{views, Indexed}
 use Rattle.directory_registry.proofs.ChangeLemmas.{location_viewed, changed_view, absent_change, after_change}
-use Rattle.directory_registry.proofs.LabelLemmas.{label_renewed}
 use Rattle.directory_registry.proofs.registry.Registry.update.Goals as goal
 
 pub returns-in_default-clause-found : goal.returns-in_default-clause-found
