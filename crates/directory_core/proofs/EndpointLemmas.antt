@@ -1,11 +1,12 @@
 -- The attributes that name an endpoint.
+use Rattle.std.proofs.Common.{arith}
 use Rattle.std.proofs.Common.{◌≡◌, ◌⊎◌, inl, inr, ℕ, Bool, true, false, cond, not, ◌&&◌, ◌||◌, List, [], ◌∷◌, ◌++◌}
 use Rattle.std.proofs.Common.{length, map, filter, codes, nat_eq, nat_lt, Option, Some, None, is_some, is_none}
 use Rattle.std.proofs.Common.{refl, ap, sym, ◌∙◌, true≢false}
 use Rattle.std.specs.List.{list_all, list_any}
 use Rattle.std.specs.Str.{str_to_ascii_lowercase}
 use Rattle.std.specs.Cmp.Lexicographic.{pointwise}
-use Rattle.std.proofs.lemmas.Bool.{and_parts, or_left, or_right}
+use Rattle.std.proofs.lemmas.Bool.{and_parts, both_ways, cases_Bool, false_from_ne_true, or_left, or_right}
 use Rattle.std.proofs.lemmas.Cmp.{nat_list_eq_equiv}
 use Rattle.std.proofs.lemmas.List.{append-nil}
 use Rattle.std.proofs.lemmas.List.Elements.{filter-append}
@@ -19,81 +20,46 @@ use Rattle.directory_core.specs.Parameters.{has_allowed_name, is_own_name, parts
 use Rattle.directory_core.specs.Parameters.{given, has_name, merged, endpoint_type}
 use Rattle.directory_core.specs.Changes.{key_with}
 use Rattle.directory_core.specs.Endpoints.{attributes_named, quoted, IsNamed}
-use Rattle.directory_core.proofs.AttributeLemmas.{same_list}
+use Rattle.directory_core.proofs.AttributeLemmas.{same_list, IsParameter, param_cases}
 
 -- ---- the names of parameters
 
-param_cases : (name : List ℕ) → list_any (pointwise nat_eq name) parameter_names ≡ true
-    → (name ≡ codes "ep") ⊎ ((name ≡ codes "d") ⊎ ((name ≡ codes "lt") ⊎ (name ≡ codes "base")))
-param_cases name h = by (pointwise nat_eq name (codes "ep")) refl (pointwise nat_eq name (codes "d")) refl
-    (pointwise nat_eq name (codes "lt")) refl (pointwise nat_eq name (codes "base")) refl h
-  where
-    by : (ep : Bool) → pointwise nat_eq name (codes "ep") ≡ ep → (d : Bool) → pointwise nat_eq name (codes "d") ≡ d
-        → (lt : Bool) → pointwise nat_eq name (codes "lt") ≡ lt → (base : Bool)
-        → pointwise nat_eq name (codes "base") ≡ base
-        → (ep || (d || (lt || (base || false)))) ≡ true
-        → (name ≡ codes "ep") ⊎ ((name ≡ codes "d") ⊎ ((name ≡ codes "lt") ⊎ (name ≡ codes "base")))
-    by true e d f lt g base k h = inl (same_list name (codes "ep") e)
-    by false e true f lt g base k h = inr (inl (same_list name (codes "d") f))
-    by false e false f true g base k h = inr (inr (inl (same_list name (codes "lt") g)))
-    by false e false f false g true k h = inr (inr (inr (same_list name (codes "base") k)))
-    by false e false f false g false k h = absurd (true≢false (sym h))
-
 parameter_if_same : (name : List ℕ) → is_allowed_name name ≡ true → list_any (is_same_name name) parameter_names ≡ true
     → list_any (pointwise nat_eq name) parameter_names ≡ true
-parameter_if_same name allowed same =
-    by (list_any (pointwise nat_eq name) parameter_names) refl (is_parmname name)
-    (list_any (is_same_name name) parameter_names) (list_any (is_same_name name) own_names) same allowed
+parameter_if_same name allowed same = grind (arith, allowed, same)
+
+exact : (p : List ℕ) → is_same_name p p ≡ true
+    → ((name : List ℕ) → is_same_name name p ≡ true → list_any (is_same_name name) parameter_names ≡ true)
+    → ((name : List ℕ) → IsParameter name → is_same_name name p ≡ pointwise nat_eq name p) → (name : List ℕ)
+    → is_allowed_name name ≡ true → is_same_name name p ≡ pointwise nat_eq name p
+exact p self among each name allowed = by (cases_Bool (is_same_name name p))
   where
-    by : (parameter : Bool) → list_any (pointwise nat_eq name) parameter_names ≡ parameter → (named like own : Bool)
-        → like ≡ true → (parameter || (named && not (like || own))) ≡ true
-        → list_any (pointwise nat_eq name) parameter_names ≡ true
-    by true e named like own s h = e
-    by false e true true own s h = absurd (true≢false (sym h))
-    by false e false true own s h = absurd (true≢false (sym h))
-    by false e named false own s h = absurd (true≢false (sym s))
+    by : (is_same_name name p ≡ true) ⊎ (is_same_name name p ≡ false) → is_same_name name p ≡ pointwise nat_eq name p
+    by (inl e) = each name (param_cases name (parameter_if_same name allowed (among name e)))
+    by (inr e) = e ∙ sym (false_from_ne_true _ (λ h. both_ways _ e (rw (same_list name p h) self)))
 
 -- An allowed name that is the same but for the case of letters is the same.
 exact_ep : (name : List ℕ) → is_allowed_name name ≡ true
     → is_same_name name (codes "ep") ≡ pointwise nat_eq name (codes "ep")
-exact_ep name allowed = by (is_same_name name (codes "ep")) refl (pointwise nat_eq name (codes "ep")) refl
+exact_ep = exact (codes "ep") refl (λ name e. or_left (is_same_name name (codes "ep")) _ e) each
   where
-    at : is_same_name name (codes "ep") ≡ true
-        → (name ≡ codes "ep") ⊎ ((name ≡ codes "d") ⊎ ((name ≡ codes "lt") ⊎ (name ≡ codes "base")))
-        → true ≡ pointwise nat_eq name (codes "ep")
-    at e (inl i) = sym (ap (λ (n : List ℕ). pointwise nat_eq n (codes "ep")) i)
-    at e (inr (inl i)) = absurd (true≢false (sym e ∙ ap (λ (n : List ℕ). is_same_name n (codes "ep")) i))
-    at e (inr (inr (inl i))) = absurd (true≢false (sym e ∙ ap (λ (n : List ℕ). is_same_name n (codes "ep")) i))
-    at e (inr (inr (inr i))) = absurd (true≢false (sym e ∙ ap (λ (n : List ℕ). is_same_name n (codes "ep")) i))
-
-    by : (b : Bool) → is_same_name name (codes "ep") ≡ b → (t : Bool) → pointwise nat_eq name (codes "ep") ≡ t
-        → b ≡ pointwise nat_eq name (codes "ep")
-    by true e t f = at e (param_cases name
-        (parameter_if_same name allowed (or_left (is_same_name name (codes "ep")) _ e)))
-    by false e true f = absurd
-        (true≢false (sym (ap (λ (n : List ℕ). is_same_name n (codes "ep")) (same_list name (codes "ep") f)) ∙ e))
-    by false e false f = sym f
+    each : (name : List ℕ) → IsParameter name → is_same_name name (codes "ep") ≡ pointwise nat_eq name (codes "ep")
+    each name (inl i) = rw i refl
+    each name (inr (inl i)) = rw i refl
+    each name (inr (inr (inl i))) = rw i refl
+    each name (inr (inr (inr i))) = rw i refl
 
 exact_d : (name : List ℕ) → is_allowed_name name ≡ true
     → is_same_name name (codes "d") ≡ pointwise nat_eq name (codes "d")
-exact_d name allowed = by (is_same_name name (codes "d")) refl (pointwise nat_eq name (codes "d")) refl
+exact_d =
+    exact (codes "d") refl (λ name e. or_right (is_same_name name (codes "ep")) _
+    (or_left (is_same_name name (codes "d")) _ e)) each
   where
-    at : is_same_name name (codes "d") ≡ true
-        → (name ≡ codes "ep") ⊎ ((name ≡ codes "d") ⊎ ((name ≡ codes "lt") ⊎ (name ≡ codes "base")))
-        → true ≡ pointwise nat_eq name (codes "d")
-    at e (inl i) = absurd (true≢false (sym e ∙ ap (λ (n : List ℕ). is_same_name n (codes "d")) i))
-    at e (inr (inl i)) = sym (ap (λ (n : List ℕ). pointwise nat_eq n (codes "d")) i)
-    at e (inr (inr (inl i))) = absurd (true≢false (sym e ∙ ap (λ (n : List ℕ). is_same_name n (codes "d")) i))
-    at e (inr (inr (inr i))) = absurd (true≢false (sym e ∙ ap (λ (n : List ℕ). is_same_name n (codes "d")) i))
-
-    by : (b : Bool) → is_same_name name (codes "d") ≡ b → (t : Bool) → pointwise nat_eq name (codes "d") ≡ t
-        → b ≡ pointwise nat_eq name (codes "d")
-    by true e t f = at e (param_cases name
-        (parameter_if_same name allowed
-        (or_right (is_same_name name (codes "ep")) _ (or_left (is_same_name name (codes "d")) _ e))))
-    by false e true f = absurd
-        (true≢false (sym (ap (λ (n : List ℕ). is_same_name n (codes "d")) (same_list name (codes "d") f)) ∙ e))
-    by false e false f = sym f
+    each : (name : List ℕ) → IsParameter name → is_same_name name (codes "d") ≡ pointwise nat_eq name (codes "d")
+    each name (inl i) = rw i refl
+    each name (inr (inl i)) = rw i refl
+    each name (inr (inr (inl i))) = rw i refl
+    each name (inr (inr (inr i))) = rw i refl
 
 -- ---- the values of a parameter
 
@@ -108,30 +74,17 @@ values name (o ∷ os) = with_value (query_value name o) (values name os)
 
 none_of : (o : Option (List ℕ)) → is_some o ≡ false → o ≡ None
 none_of None e = refl
-none_of (Some x) e = absurd (true≢false e)
+none_of (Some x) e = absurd cc
 
 no_values : (p : List ℕ) (os : List CoapOption) → named p os ≡ None → values p os ≡ []
 no_values p [] h = refl
-no_values p (o ∷ os) h = by (query_value p o) h (λ k. no_values p os k)
-  where
-    by : (q : Option (List ℕ)) → first_value q (named p os) ≡ None → (named p os ≡ None → values p os ≡ [])
-        → with_value q (values p os) ≡ []
-    by None k rest = rest k
-    by (Some v) k rest = absurd cc
+no_values p (o ∷ os) h = grind (arith, h, no_values p os)
 
 one_value : (p : List ℕ) (os : List CoapOption) (v : List ℕ) → is_repeated p os ≡ false → named p os ≡ Some v
     → values p os ≡ v ∷ []
 one_value p [] v r h = absurd cc
-one_value p (o ∷ os) v r h = by (query_value p o) r h (λ s k. one_value p os v s k)
-  where
-    by : (q : Option (List ℕ)) → cond (is_some q) (is_some (named p os)) (is_repeated p os) ≡ false
-        → first_value q (named p os) ≡ Some v → (is_repeated p os ≡ false → named p os ≡ Some v → values p os ≡ v ∷ [])
-        → with_value q (values p os) ≡ v ∷ []
-    by None s k rest = rest s k
-    by (Some w) s k rest =
-        let same : w ≡ v = cc in
-        let none = no_values p os (none_of (named p os) s) in
-        (λ i. same i ∷ none i)
+one_value p (o ∷ os) v r h =
+    grind (arith, r, h, one_value p os v, no_values p os, none_of (named p os))
 
 module _ (p : List ℕ)
     (exact : (name : List ℕ) → is_allowed_name name ≡ true → is_same_name name p ≡ pointwise nat_eq name p)
@@ -160,29 +113,21 @@ module _ (p : List ℕ)
   option_named : (o : CoapOption) (list : List Attribute) (vs : List (List ℕ)) → has_allowed_name o ≡ true
       → attributes_named p list ≡ map (quoted p) vs
       → attributes_named p (with_first (option_given o) list) ≡ map (quoted p) (with_value (query_value p o) vs)
-  option_named o list vs allowed rest = by (nat_eq o.number 15) allowed
-    where
-      by : (query : Bool) → cond query (has_allowed_parts (split_query o.value)) true ≡ true
-          → attributes_named p (with_first (cond query (parts_given (split_query o.value)) None) list) ≡ map (quoted p)
-          (with_value (cond query (value_with p (split_query o.value)) None) vs)
-      by true a = parts_named (split_query o.value) list vs a rest
-      by false a = rest
+  option_named o list vs allowed rest =
+      grind (arith, allowed, rest, parts_named (split_query o.value) list vs)
 
   given_named : (os : List CoapOption) → list_all has_allowed_name os ≡ true
       → attributes_named p (given os) ≡ map (quoted p) (values p os)
   given_named [] allowed = refl
   given_named (o ∷ os) allowed =
-      let parts = and_parts (has_allowed_name o) (list_all has_allowed_name os) allowed in
+      let parts = and_parts (has_allowed_name o) _ allowed in
       option_named o (given os) (values p os) parts.0 (given_named os parts.1)
 
   -- The attributes of a registration have no other ones of this name.
   registered_named : (os : List CoapOption) → list_all has_allowed_name os ≡ true → is_same_name (codes "rt") p ≡ false
       → attributes_named p (given os ++ endpoint_type ∷ []) ≡ map (quoted p) (values p os)
   registered_named os allowed not_type =
-      filter-append (λ a. is_same_name a.name p) (given os) (endpoint_type ∷ [])
-      ∙ ap (λ (b : Bool). attributes_named p (given os) ++ cond b (endpoint_type ∷ []) []) not_type
-      ∙ append-nil (attributes_named p (given os))
-      ∙ given_named os allowed
+      simp (filter-append, not_type, append-nil) (given_named os allowed)
 
 -- ---- attributes that an update gives
 
@@ -190,58 +135,28 @@ not_named : (p name : List ℕ) (new : List Attribute) → is_same_name name p �
     → has_name new name ≡ false
 not_named p name [] same none = refl
 not_named p name (a ∷ new) same none =
-    by (is_same_name a.name name) refl (is_same_name a.name p) refl none (λ k. not_named p name new same k)
-  where
-    by : (hit : Bool) → is_same_name a.name name ≡ hit → (other : Bool) → is_same_name a.name p ≡ other
-        → cond other (a ∷ attributes_named p new) (attributes_named p new) ≡ []
-        → (attributes_named p new ≡ [] → has_name new name ≡ false)
-        → (hit || has_name new name) ≡ false
-    by hit e true f k rest = absurd cc
-    by true e false f k rest =
-        absurd (true≢false (sym same
-        ∙ sym (nat_list_eq_equiv.congr (str_to_ascii_lowercase a.name) (str_to_ascii_lowercase name)
-        (str_to_ascii_lowercase p) e) ∙ f))
-    by false e false f k rest = rest k
+    grind (
+      arith,
+      same,
+      none,
+      not_named p name new,
+      nat_list_eq_equiv.congr (str_to_ascii_lowercase a.name) (str_to_ascii_lowercase name) (str_to_ascii_lowercase p),
+    )
 
 module _ (p : List ℕ) (new : List Attribute) (none : attributes_named p new ≡ []) where
   kept_named : (old : List Attribute)
       → attributes_named p (filter (λ a. not (has_name new a.name)) old) ≡ attributes_named p old
   kept_named [] = refl
-  kept_named (a ∷ old) = by (is_same_name a.name p) refl (has_name new a.name) refl (kept_named old)
-    where
-      rest : List Attribute
-      rest = filter (λ (a : Attribute). not (has_name new a.name)) old
-
-      by : (same : Bool) → is_same_name a.name p ≡ same → (replaced : Bool) → has_name new a.name ≡ replaced
-          → attributes_named p rest ≡ attributes_named p old
-          → attributes_named p (cond (not replaced) (a ∷ rest) rest) ≡ cond same (a ∷ attributes_named p old)
-          (attributes_named p old)
-      by true e true f k = absurd (true≢false (sym f ∙ not_named p a.name new e none))
-      by true e false f k =
-          ap (λ (b : Bool). cond b (a ∷ attributes_named p rest) (attributes_named p rest)) e
-          ∙ ap (λ (l : List Attribute). a ∷ l) k
-      by false e true f k = k
-      by false e false f k = ap (λ (b : Bool). cond b (a ∷ attributes_named p rest) (attributes_named p rest)) e ∙ k
+  kept_named (a ∷ old) =
+      grind (arith, kept_named old, λ (e : is_same_name a.name p ≡ true). not_named p a.name new e none)
 
   pub merged_named : (old : List Attribute) → attributes_named p (merged old new) ≡ attributes_named p old
-  merged_named old =
-      filter-append (λ a. is_same_name a.name p) (filter (λ a. not (has_name new a.name)) old) new
-      ∙ ap (λ (l : List Attribute). attributes_named p (filter (λ a. not (has_name new a.name)) old) ++ l) none
-      ∙ append-nil (attributes_named p (filter (λ a. not (has_name new a.name)) old))
-      ∙ kept_named old
+  merged_named old = simp (filter-append, none, append-nil) (kept_named old)
 
 -- ---- an endpoint that is registered, and one that is updated
 
 key_parts : (sector name key : List ℕ) → key_in sector name ≡ Some key → key ≡ length sector ∷ sector ++ name
-key_parts sector name key h = by (nat_lt 63 (length sector)) (nat_lt 63 (length name)) (nat_eq (length name) 0) h
-  where
-    by : (long_sector long empty : Bool)
-        → cond long_sector None (cond long None (cond empty None (Some (length sector ∷ sector ++ name)))) ≡ Some key
-        → key ≡ length sector ∷ sector ++ name
-    by true l e k = absurd cc
-    by false true e k = absurd cc
-    by false false true k = absurd cc
-    by false false false k = cc
+key_parts sector name key h = grind (arith, h)
 
 pub registered_is_named : (os : List CoapOption) (key : List ℕ) → list_all has_allowed_name os ≡ true
     → repeats_parameter os ≡ false → key_with (named (codes "d") os) (named (codes "ep") os) ≡ Some key
@@ -285,11 +200,7 @@ none_given : (p : List ℕ)
     → is_own_name p ≡ false → (os : List CoapOption) → list_all has_allowed_name os ≡ true → is_none (named p os) ≡ true
     → attributes_named p (given os) ≡ []
 none_given p exact other os allowed none =
-    given_named p exact other os allowed ∙ ap (map (quoted p)) (no_values p os (by (named p os) none))
-  where
-    by : (o : Option (List ℕ)) → is_none o ≡ true → o ≡ None
-    by None h = refl
-    by (Some v) h = absurd (true≢false (sym h))
+    grind (arith, none, given_named p exact other os allowed, no_values p os)
 
 pub updated_is_named : (os : List CoapOption) (key : List ℕ) (old : List Attribute)
     → list_all has_allowed_name os ≡ true → (is_none (named (codes "ep") os) && is_none (named (codes "d") os)) ≡ true

@@ -2,12 +2,12 @@
 use Rattle.std.proofs.Common.{◌≡◌, ℕ, ◌+◌, ◌<◌, ◌≤◌, ◌^◌, Bool, true, false, cond, not, ◌&&◌, ◌||◌, List, [], ◌∷◌, ◌++◌}
 use Rattle.std.proofs.Common.{length, take, drop, map, filter, codes, nat_eq, nat_lt, nat_le, get_or, Option, Some}
 use Rattle.std.proofs.Common.{None, zero, suc}
-use Rattle.std.proofs.Common.{refl, ap, sym, ◌∙◌, arith, true≢false, drop-cons, add-one}
+use Rattle.std.proofs.Common.{inl, inr, refl, ap, sym, ◌∙◌, arith, true≢false, drop-cons, add-one}
 use Rattle.std.specs.List.{list_all, list_any, position, starts_with}
 use Rattle.std.specs.Option.{option_map_or}
 use Rattle.std.specs.Fmt.{decimal}
 use Rattle.std.specs.Int.Digits.{digits_of, AllBelowBase}
-use Rattle.std.proofs.lemmas.Bool.{and_parts, and_from, eqb-true, leb-true, le-leb}
+use Rattle.std.proofs.lemmas.Bool.{and_parts, and_from, cases_lt, eqb-true, ne_eqb}
 use Rattle.std.proofs.lemmas.Fmt.{decimal_digit, decimal-digits_of}
 use Rattle.std.proofs.lemmas.Int.Digits.{all_below_base_digits_of}
 use Rattle.std.proofs.lemmas.List.{append-nil, take-append-drop}
@@ -37,48 +37,33 @@ module _ {X : Type 0} (p : X → Bool) where
 
   pub all_filtered : (keep : X → Bool) (xs : List X) → list_all p xs ≡ true → list_all p (filter keep xs) ≡ true
   all_filtered keep [] h = refl
-  all_filtered keep (x ∷ xs) h =
-      let parts = and_parts (p x) (list_all p xs) h in
-      by (keep x) parts.0 (all_filtered keep xs parts.1)
-    where
-      by : (b : Bool) → p x ≡ true → list_all p (filter keep xs) ≡ true
-          → list_all p (cond b (x ∷ filter keep xs) (filter keep xs)) ≡ true
-      by true first rest = and_from (p x) (list_all p (filter keep xs)) first rest
-      by false first rest = rest
+  all_filtered keep (x ∷ xs) h = grind (arith, h, all_filtered keep xs)
 
 all_weaker : {X : Type 0} → (p q : X → Bool) → ((x : X) → p x ≡ true → q x ≡ true) → (xs : List X)
     → list_all p xs ≡ true → list_all q xs ≡ true
 all_weaker p q follows [] h = refl
-all_weaker p q follows (x ∷ xs) h =
-    let parts = and_parts (p x) (list_all p xs) h in
-    and_from (q x) (list_all q xs) (follows x parts.0) (all_weaker p q follows xs parts.1)
+all_weaker p q follows (x ∷ xs) h = grind (arith, h, follows x, all_weaker p q follows xs)
 
 all_mapped : {X Y : Type 0} → (p : X → Bool) (q : Y → Bool) (f : X → Y) → ((x : X) → p x ≡ true → q (f x) ≡ true)
     → (xs : List X) → list_all p xs ≡ true → list_all q (map f xs) ≡ true
 all_mapped p q f follows [] h = refl
-all_mapped p q f follows (x ∷ xs) h =
-    let parts = and_parts (p x) (list_all p xs) h in
-    and_from (q (f x)) (list_all q (map f xs)) (follows x parts.0) (all_mapped p q f follows xs parts.1)
+all_mapped p q f follows (x ∷ xs) h = grind (arith, h, follows x, all_mapped p q f follows xs)
 
 -- ---- characters of a URI
 
 is_char : (k c : ℕ) → is_target_char k ≡ true → nat_eq c k ≡ true → is_target_char c ≡ true
-is_char k c there e = ap is_target_char (eqb-true c k e) ∙ there
+is_char k c there e = rw (eqb-true c k e) there
+
+not_char : (k c : ℕ) → is_target_char k ≡ false → is_target_char c ≡ true → nat_eq c k ≡ false
+not_char k c none h = ne_eqb c k (λ i. absurd (cc (none, rw i at h)))
 
 slash_target : (c : ℕ) → nat_eq 47 c ≡ true → is_target_char c ≡ true
 unfolding is_target_char
-slash_target c e = ap is_target_char (sym (eqb-true 47 c e))
+slash_target c e = grind (arith, e)
 
 colon_target : (c : ℕ) → nat_eq c 58 ≡ true → is_target_char c ≡ true
 unfolding is_target_char
 colon_target c e = ap is_target_char (eqb-true c 58 e)
-
-not_char : (k c : ℕ) → is_target_char k ≡ false → is_target_char c ≡ true → nat_eq c k ≡ false
-not_char k c none h = by (nat_eq c k) refl
-  where
-    by : (b : Bool) → nat_eq c k ≡ b → nat_eq c k ≡ false
-    by true e = absurd (true≢false (sym h ∙ ap is_target_char (eqb-true c k e) ∙ none))
-    by false e = e
 
 scheme_target : (c : ℕ) → is_scheme_char c ≡ true → is_target_char c ≡ true
 unfolding is_target_char
@@ -99,19 +84,14 @@ scheme_target c h = by (nat_le 48 c && nat_le c 57) refl (nat_le 65 c && nat_le 
     by false d false u false l false p false m false o k = absurd (true≢false (sym k))
 
 authority_target : (c : ℕ) → is_authority_char c ≡ true → is_target_char c ≡ true
-authority_target c h =
-    (and_parts (is_target_char c) (not (nat_eq c 47) && (not (nat_eq c 63) && not (nat_eq c 35))) h).0
+authority_target c h = grind (arith, h)
 
 slashes_target : (r : List ℕ) → starts_with nat_eq r (codes "//") ≡ true
     → list_all is_authority_char (drop 2 r) ≡ true → list_all is_target_char r ≡ true
 slashes_target [] s h = refl
-slashes_target (a ∷ []) s h = absurd (true≢false (sym (and_parts (nat_eq 47 a) false s).1))
+slashes_target (a ∷ []) s h = grind (arith, s)
 slashes_target (a ∷ b ∷ r) s h =
-    let first = and_parts (nat_eq 47 a) (nat_eq 47 b && true) s in
-    let second = and_parts (nat_eq 47 b) true first.1 in
-    and_from (is_target_char a) (is_target_char b && list_all is_target_char r) (slash_target a first.0)
-    (and_from (is_target_char b) (list_all is_target_char r) (slash_target b second.0)
-    (all_weaker is_authority_char is_target_char authority_target r h))
+    grind (arith, s, slash_target a, slash_target b, all_weaker is_authority_char is_target_char authority_target r h)
 
 pub base_target : (b : List ℕ) → is_base b ≡ true → list_all is_target_char b ≡ true
 base_target b h = by (position (λ c. nat_eq c 58) b) refl h
@@ -139,24 +119,11 @@ base_target b h = by (position (λ c. nat_eq c 58) b) refl h
 
 -- ---- characters of a quoted string
 
+-- A character that is one of a list is above a bound of all.
 any_from : (low : ℕ) (c : ℕ) (cs : List ℕ) → list_all (λ x. nat_le low x) cs ≡ true
     → list_any (λ x. nat_eq x c) cs ≡ true → nat_le low c ≡ true
-any_from low c [] all h = absurd (true≢false (sym h))
-any_from low c (x ∷ cs) all h = by (nat_eq x c) refl h (λ k. any_from low c cs parts.1 k)
-  where
-    parts : (nat_le low x ≡ true) × (list_all (λ x. nat_le low x) cs ≡ true)
-    parts = and_parts (nat_le low x) (list_all (λ x. nat_le low x) cs) all
-
-    by : (b : Bool) → nat_eq x c ≡ b → (b || list_any (λ x. nat_eq x c) cs) ≡ true
-        → (list_any (λ x. nat_eq x c) cs ≡ true → nat_le low c ≡ true) → nat_le low c ≡ true
-    by true e k rest = ap (nat_le low) (sym (eqb-true x c e)) ∙ parts.0
-    by false e k rest = rest k
-
--- A byte that is at least 48 is at least 32, and so on.
-lower : (a b c : ℕ) → a ≤ b → nat_le b c ≡ true → nat_le a c ≡ true
-lower a b c less h =
-    let at = leb-true b c h in
-    le-leb a c (omega (arith, less, at))
+any_from low c [] all h = absurd cc
+any_from low c (x ∷ cs) all h = grind (arith, all, h, any_from low c cs)
 
 visible : (c : ℕ) → is_target_char c ≡ true → nat_le 32 c ≡ true
 unfolding is_target_char
@@ -169,9 +136,9 @@ visible c h =
     by : (a : Bool) → nat_le 48 c ≡ a → (a2 : Bool) → (b : Bool) → nat_le 65 c ≡ b → (b2 : Bool) → (d : Bool)
         → nat_le 97 c ≡ d → (d2 : Bool)
         → (((a && a2) || ((b && b2) || (d && d2))) || others) ≡ true → nat_le 32 c ≡ true
-    by true e a2 b f b2 d g d2 k = lower 32 48 c (omega arith) e
-    by false e a2 true f b2 d g d2 k = lower 32 65 c (omega arith) f
-    by false e a2 false f b2 true g d2 k = lower 32 97 c (omega arith) g
+    by true e a2 b f b2 d g d2 k = grind (arith, e)
+    by false e a2 true f b2 d g d2 k = grind (arith, f)
+    by false e a2 false f b2 true g d2 k = grind (arith, g)
     by false e a2 false f b2 false g d2 k = any_from 32 c (codes "-._~:/?#[]@!$&'()*+,;=%") refl k
 
 delete_free : (c : ℕ) → is_target_char c ≡ true → nat_eq c 127 ≡ false
@@ -204,19 +171,11 @@ quoted_uri b h = sym (ap (is_quoted_text false) (append-nil b)) ∙ quoted_after
 
 resolved_quoted : (base q : List ℕ) → list_all is_target_char base ≡ true → is_quoted_text false q ≡ true
     → is_quoted_text false (resolved base q) ≡ true
-resolved_quoted base q h k = by (is_relative q)
-  where
-    by : (b : Bool) → is_quoted_text false (cond b (base ++ q) q) ≡ true
-    by true = quoted_after base q h ∙ k
-    by false = k
+resolved_quoted base q h k = grind (arith, k, quoted_after base q h)
 
 resolved_target : (base t : List ℕ) → list_all is_target_char base ≡ true → list_all is_target_char t ≡ true
     → list_all is_target_char (resolved base t) ≡ true
-resolved_target base t h k = by (is_relative t)
-  where
-    by : (b : Bool) → list_all is_target_char (cond b (base ++ t) t) ≡ true
-    by true = all_joined is_target_char base t h k
-    by false = k
+resolved_target base t h k = grind (arith, k, all_joined is_target_char base t h k)
 
 value_resolved : (base : List ℕ) (v : AttributeValue) → list_all is_target_char base ≡ true → is_value v ≡ true
     → is_value (resolved_value base v) ≡ true
@@ -227,50 +186,32 @@ value_resolved base (QuotedValue q) h k = resolved_quoted base q h k
 
 attribute_resolved : (base : List ℕ) → list_all is_target_char base ≡ true → (a : Attribute) → is_attribute a ≡ true
     → is_attribute (resolved_attribute base a) ≡ true
-attribute_resolved base h a k = by (is_same_name a.name (codes "anchor"))
-  where
-    parts : (is_parmname a.name ≡ true) × (is_value a.value ≡ true)
-    parts = and_parts (is_parmname a.name) (is_value a.value) k
-
-    by : (b : Bool) → is_attribute (cond b (record { name = a.name; value = resolved_value base a.value }) a) ≡ true
-    by true =
-        and_from (is_parmname a.name) (is_value (resolved_value base a.value)) parts.0
-        (value_resolved base a.value h parts.1)
-    by false = k
+attribute_resolved base h a k = grind (arith, k, value_resolved base a.value h)
 
 link_resolved : (base : List ℕ) → list_all is_target_char base ≡ true → (l : Link) → is_link l ≡ true
     → is_link (resolved_link base l) ≡ true
 link_resolved base h l k =
-    let parts = and_parts (list_all is_target_char l.target) (list_all is_attribute l.attributes) k in
-    and_from (list_all is_target_char (resolved base l.target))
-    (list_all is_attribute (map (resolved_attribute base) l.attributes)) (resolved_target base l.target h parts.0)
-    (all_mapped is_attribute is_attribute (resolved_attribute base) (attribute_resolved base h) l.attributes parts.1)
+    grind (
+      arith,
+      k,
+      resolved_target base l.target h,
+      all_mapped is_attribute is_attribute (resolved_attribute base) (attribute_resolved base h) l.attributes,
+    )
 
 digit_target : (d : ℕ) → d < 10 → is_target_char (48 + d) ≡ true
 unfolding is_target_char
-digit_target d h = rw (le-leb 48 (48 + d) (omega arith), le-leb (48 + d) 57 (omega (arith, h))) refl
+digit_target d h = grind (arith, h)
 
 digits_target : (ds : List ℕ) → AllBelowBase 10 ds → list_all is_target_char (map (λ d. 48 + d) ds) ≡ true
 digits_target [] all = refl
-digits_target (d ∷ ds) all =
-    and_from (is_target_char (48 + d)) (list_all is_target_char (map (λ d. 48 + d) ds)) (digit_target d all.0)
-    (digits_target ds all.1)
-
-positive : (n : ℕ) → nat_eq n 0 ≡ false → 0 < n
-positive zero e = absurd (true≢false e)
-positive (suc n) e = omega arith
+digits_target (d ∷ ds) all = grind (arith, digit_target d all.0, digits_target ds all.1)
 
 number_target : (n : ℕ) → n < 2 ^ 64 → list_all is_target_char (decimal n) ≡ true
-number_target n h = by (nat_eq n 0) refl
-  where
-    by : (b : Bool) → nat_eq n 0 ≡ b → list_all is_target_char (decimal n) ≡ true
-    by true e =
-        let zero_is = eqb-true n 0 e in
-        ap (list_all is_target_char) (decimal_digit n (omega (arith, zero_is)))
-        ∙ and_from (is_target_char (48 + n)) true (digit_target n (omega (arith, zero_is))) refl
-    by false e =
-        ap (list_all is_target_char) (decimal-digits_of n (positive n e) h)
-        ∙ digits_target (digits_of 10 n) (all_below_base_digits_of 10 n (omega arith))
+number_target n h = elim (cases_lt 0 n) [
+  | inl more ↦ rw (decimal-digits_of n more h)
+      (digits_target (digits_of 10 n) (all_below_base_digits_of 10 n (omega arith)))
+  | inr none ↦ rw (decimal_digit n (omega arith)) (grind (arith, digit_target n (omega arith)))
+]
 
 base_named : is_parmname (codes "base") ≡ true
 unfolding is_name_char

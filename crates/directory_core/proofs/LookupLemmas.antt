@@ -21,7 +21,8 @@ use Rattle.directory_registry.specs.Registrations.{expired, removed}
 use Rattle.directory_registry.specs.Matching.{CriterionValue, is_selected_endpoint}
 use Rattle.directory_registry.specs.Lookups.{PageValue, ListingValue, started, endpoint_link}
 use Rattle.directory_registry.specs.Results.{endpoints_found, links_of_registration, resources_found, part_of}
-use Rattle.directory_registry.proofs.ReachedLemmas.{Entry, each_kept, each_without}
+use Rattle.directory_registry.proofs.EntryLemmas.{each_filter}
+use Rattle.directory_registry.proofs.ReachedLemmas.{Entry, each_without}
 use Rattle.directory_registry.proofs.LookupLemmas.{endpoints_listed, resources_listed}
 use Rattle.directory_core.specs.Requests.{named, is_repeated, repeats_parameter, lifetime_in}
 use Rattle.directory_core.specs.Parameters.{is_base, is_limited, endpoint_type}
@@ -45,42 +46,12 @@ use Rattle.directory_core.proofs.ReachedLemmas.{registering_kept, updating_kept,
 
 base_holds : (o : Option (List ℕ)) (base : List ℕ) → base_with o ≡ Some base → list_all is_target_char base ≡ true
 base_holds None base h = absurd cc
-base_holds (Some b) base h = by (is_base b) refl h
-  where
-    by : (is : Bool) → is_base b ≡ is → cond is (Some b) None ≡ Some base → list_all is_target_char base ≡ true
-    by true e k =
-        let same : b ≡ base = cc in
-        ap (list_all is_target_char) (sym same) ∙ base_target b e
-    by false e k = absurd cc
+base_holds (Some b) base h = grind (arith, h, base_target b)
 
 identified_base : (os : List CoapOption) (parts : List ℕ × ℕ × List ℕ) → identified os ≡ Ok parts
     → list_all is_target_char parts.2 ≡ true
 unfolding identified
-identified_base os parts h = by (has_link_format os) (repeats_parameter os) h
-  where
-    Goal : Type 0
-    Goal = list_all is_target_char parts.2 ≡ true
-
-    rest : Result (List ℕ × ℕ × List ℕ) Refusal
-    rest =
-        or_refused refusal.Endpoint (key_with (named (codes "d") os) (named (codes "ep") os)) >>= λ key.
-        or_refused refusal.Lifetime (lifetime_in (named (codes "lt") os)) >>= λ lifetime.
-        or_refused refusal.Base (base_with (named (codes "base") os)) >>= λ base.
-        Ok (key, lifetime, base)
-
-    by : (format twice : Bool) → cond format (cond twice (Err refusal.Repeated) rest) (Err refusal.Format) ≡ Ok parts
-        → Goal
-    by false twice k = absurd cc
-    by true true k = absurd cc
-    by true false k =
-        bound (or_refused refusal.Endpoint (key_with (named (codes "d") os) (named (codes "ep") os))) _ parts Goal k
-        (λ key i k2.
-        bound (or_refused refusal.Lifetime (lifetime_in (named (codes "lt") os))) _ parts Goal k2 (λ lifetime j k3.
-        bound (or_refused refusal.Base (base_with (named (codes "base") os))) _ parts Goal k3 (λ base l last.
-        let this = ap (λ (p : List ℕ × ℕ × List ℕ). p.2) (same_value _ parts last) in
-        ap (list_all is_target_char) (sym this)
-        ∙ base_holds (named (codes "base") os) base
-        (not_refused refusal.Base (base_with (named (codes "base") os)) base l))))
+identified_base os parts h = grind (arith, h, base_holds (named (codes "base") os))
 
 read_links : (r : Result (List Link) ℕ) (links : List Link) → refused refusal.Links r ≡ Ok links → r ≡ Ok links
 read_links (Ok given) links h = cc
@@ -89,48 +60,14 @@ read_links (Err e) links h = absurd cc
 links_hold : (payload : List ℕ) (links : List Link) → links_in payload ≡ Ok links → list_all is_link links ≡ true
 unfolding links_in
 links_hold payload links h =
-    bound (refused refusal.Links (links_from payload)) _ links (list_all is_link links ≡ true) h (λ read i last.
-    let same = (test_holds (list_all is_limited read) refusal.Target read links last).1 in
-    let writes = links_sound payload read (from_ok payload read (read_links (links_from payload) read i)) in
-    ap (list_all is_link) (sym same) ∙ writes.each)
+    let each = λ (read : List Link) (e : links_from payload ≡ Ok read).
+    (links_sound payload read (from_ok payload read e)).each in
+    grind (arith, h, each)
 
 renewal_base : (os : List CoapOption) (parts : Option ℕ × Option (List ℕ)) (base : List ℕ) → renewing os ≡ Ok parts
     → list_all is_target_char base ≡ true → list_all is_target_char (unwrap_or parts.1 base) ≡ true
 unfolding renewing
-renewal_base os parts base h before = by (is_repeated (codes "lt") os || is_repeated (codes "base") os) h
-  where
-    Goal : Type 0
-    Goal = list_all is_target_char (unwrap_or parts.1 base) ≡ true
-
-    rest : Result (Option ℕ × Option (List ℕ)) Refusal
-    rest =
-        renewed_lifetime (named (codes "lt") os) >>= λ lifetime.
-        renewed_base (named (codes "base") os) >>= λ base.
-        only_if (is_none (named (codes "ep") os) && is_none (named (codes "d") os)) refusal.Key (lifetime, base)
-
-    given : (o : Option (List ℕ)) (b : Option (List ℕ)) → renewed_base o ≡ Ok b
-        → list_all is_target_char (unwrap_or b base) ≡ true
-    given None b k =
-        let this : None ≡ b = cc in
-        subst (λ (x : Option (List ℕ)). list_all is_target_char (unwrap_or x base) ≡ true) this before
-    given (Some text) b k = is (is_base text) refl k
-      where
-        is : (t : Bool) → is_base text ≡ t → cond t (Ok (Some text)) (Err refusal.Base) ≡ Ok b
-            → list_all is_target_char (unwrap_or b base) ≡ true
-        is true e l =
-            let this : Some text ≡ b = cc in
-            subst (λ (x : Option (List ℕ)). list_all is_target_char (unwrap_or x base) ≡ true) this (base_target text e)
-        is false e l = absurd cc
-
-    by : (twice : Bool) → cond twice (Err refusal.Repeated) rest ≡ Ok parts → Goal
-    by true k = absurd cc
-    by false k =
-        bound (renewed_lifetime (named (codes "lt") os)) _ parts Goal k (λ lifetime i k2.
-        bound (renewed_base (named (codes "base") os)) _ parts Goal k2 (λ b j last.
-        let this = (test_holds (is_none (named (codes "ep") os) && is_none (named (codes "d") os)) refusal.Key
-        (lifetime, b) parts last).1 in
-        subst (λ (p : Option ℕ × Option (List ℕ)). list_all is_target_char (unwrap_or p.1 base) ≡ true) this
-        (given (named (codes "base") os) b j)))
+renewal_base os parts base h before = grind (arith, h, before, base_target)
 
 -- ---- registrations that can be written
 
@@ -167,78 +104,30 @@ record AreWritable (v : RegistryValue) : Type 0 where
 found_writable : (es : List Entry) (key : List ℕ) (r : RegistrationValue) → found es key ≡ Some r
     → Each IsWritableEntry es → IsWritable r
 found_writable [] key r there all = absurd cc
-found_writable (e ∷ es) key r there all = by (pointwise nat_eq key e.0) there (λ h. found_writable es key r h all.1)
-  where
-    by : (b : Bool) → cond b (Some e.1) (found es key) ≡ Some r → (found es key ≡ Some r → IsWritable r) → IsWritable r
-    by true h rest =
-        let this : e.1 ≡ r = cc in
-        subst IsWritable this all.0
-    by false h rest = rest h
+found_writable (e ∷ es) key r there all =
+    grind (arith, there, all.0, λ (h : found es key ≡ Some r). found_writable es key r h all.1)
 
 small_place : (v : RegistryValue) (key : List ℕ) (number : ℕ) → AreWritable v → place_of v key ≡ Some number
     → number < 2 ^ 64
 small_place v key number is h =
-    by (found v.entries key) refl (nat_lt (length v.entries) v.limit) (nat_eq v.next (2 ^ 64 - 1)) h
-  where
-    by : (o : Option RegistrationValue) → found v.entries key ≡ o → (room last : Bool)
-        → option_map_or (λ (r : RegistrationValue). Some r.number) o (cond room (cond last None (Some v.next)) None)
-        ≡ Some number → number < 2 ^ 64
-    by (Some r) e room last k =
-        let this : r.number ≡ number = cc in
-        subst (λ (n : ℕ). n < 2 ^ 64) this (found_writable v.entries key r e is.each).small
-    by None e false last k = absurd cc
-    by None e true true k = absurd cc
-    by None e true false k =
-        let this : v.next ≡ number = cc in
-        subst (λ (n : ℕ). n < 2 ^ 64) this is.next
-
-one_more : (n : ℕ) → n < 2 ^ 64 → nat_eq n (2 ^ 64 - 1) ≡ false → n + 1 < 2 ^ 64
-one_more n below e = by (nat_lt (n + 1) (2 ^ 64)) refl
-  where
-    by : (b : Bool) → nat_lt (n + 1) (2 ^ 64) ≡ b → n + 1 < 2 ^ 64
-    by true h = ltb-true (n + 1) (2 ^ 64) h
-    by false h =
-        let over = ltb-false (n + 1) (2 ^ 64) h in
-        absurd (eqb-false n (2 ^ 64 - 1) e (omega (arith, below, over)))
+    let small = λ (r : RegistrationValue) (e : found v.entries key ≡ Some r).
+    (found_writable v.entries key r e is.each).small in
+    grind (arith, h, is.next, small)
 
 small_next : (next number : ℕ) → next < 2 ^ 64 → number < 2 ^ 64 → next_location next number < 2 ^ 64
-small_next next number h k = by (nat_lt number next) (nat_eq number (2 ^ 64 - 1)) refl
-  where
-    by : (below last : Bool) → nat_eq number (2 ^ 64 - 1) ≡ last
-        → cond below next (cond last number (number + 1)) < 2 ^ 64
-    by true last e = h
-    by false true e = k
-    by false false e = one_more number k e
+small_next next number h k = grind (arith, h, k)
 
 registering_next : (v : RegistryValue) (now : ℕ) (m : Message) (x : ℕ × RegistryValue) → registering v now m ≡ Ok x
     → AreWritable v → x.1.next < 2 ^ 64
 unfolding registering registered
 registering_next v now m x h is =
-    bound (prepared now m) _ x Goal h (λ made i h2.
-    bound (or_refused refusal.Full (place_of v made.0)) _ x Goal h2 (λ number j last.
-    let this = ap (λ (y : ℕ × RegistryValue). y.1.next) (same_value _ x last) in
-    let place = not_refused refusal.Full (place_of v made.0) number j in
-    subst (λ (n : ℕ). n < 2 ^ 64) this (small_next v.next number is.next (small_place v made.0 number is place))))
-  where
-    Goal : Type 0
-    Goal = x.1.next < 2 ^ 64
+    let small = λ (key : List ℕ) (number : ℕ) (e : place_of v key ≡ Some number).
+    small_next v.next number is.next (small_place v key number is e) in
+    grind (arith, h, small)
 
 updating_next : (v : RegistryValue) (now number : ℕ) (m : Message) → v.next ≡ (updating v now number m).1.next
 unfolding updating updated attributed
-updating_next v now number m = by (nat_eq (length m.payload) 0) result
-  where
-    result : Result ((Option ℕ × Option (List ℕ)) × Option (List Attribute)) Refusal
-    result =
-        update_parts m.options >>= λ x.
-        attributes_after (attributes_at_location v number) x.1 >>= λ attributes.
-        Ok (x.0, attributes)
-
-    by : (empty : Bool) (r : Result ((Option ℕ × Option (List ℕ)) × Option (List Attribute)) Refusal)
-        → v.next ≡ (cond empty (updating_with v now number r) (Err refusal.Payload, v)).1.next
-    by false r = refl
-    by true (Err error) = refl
-    by true (Ok (times, None)) = refl
-    by true (Ok (times, Some attributes)) = refl
+updating_next v now number m = grind arith
 
 registering_writable : (v : RegistryValue) (now : ℕ) (m : Message) (x : ℕ × RegistryValue) → registering v now m ≡ Ok x
     → AreWritable v → AreWritable x.1
@@ -275,8 +164,7 @@ reached_writable =
     (λ v number is. record { next = is.next; each = each_without IsWritableEntry number v.entries is.each })
     (λ v now is. record {
       next = is.next;
-      each = each_kept IsWritableEntry
-          (λ e. nat_lt now e.1.deadline) v.entries is.each;
+      each = each_filter _ (λ e. nat_lt now e.1.deadline) v.entries is.each;
     })
     (λ limit. record { next = omega arith; each = tt })
 
@@ -286,25 +174,16 @@ endpoints_writable : (criteria : List CriterionValue) (es : List Entry) → Each
     → list_all is_link (map endpoint_link (filter (is_selected_endpoint criteria) (map (λ e. e.1) es))) ≡ true
 endpoints_writable criteria [] all = refl
 endpoints_writable criteria (e ∷ es) all =
-    by (is_selected_endpoint criteria e.1) (endpoints_writable criteria es all.1)
-  where
-    others : List RegistrationValue
-    others = filter (is_selected_endpoint criteria) (map (λ e. e.1) es)
-
-    by : (b : Bool) → list_all is_link (map endpoint_link others) ≡ true
-        → list_all is_link (map endpoint_link (cond b (e.1 ∷ others) others)) ≡ true
-    by true rest = and_from (is_link (endpoint_link e.1)) (list_all is_link (map endpoint_link others))
-        (endpoint_writable e.1 all.0) rest
-    by false rest = rest
+    grind (arith, endpoint_writable e.1 all.0, endpoints_writable criteria es all.1)
 
 resources_writable : (criteria : List CriterionValue) (es : List Entry) → Each IsWritableEntry es
     → list_all is_link (flat_map (links_of_registration criteria) (map (λ e. e.1) es)) ≡ true
 resources_writable criteria [] all = refl
 resources_writable criteria (e ∷ es) all =
-    ap (list_all is_link) (flat_map-cons (links_of_registration criteria) e.1 (map (λ e. e.1) es))
-    ∙ all_joined is_link (links_of_registration criteria e.1)
+    rw flat_map-cons
+    (all_joined is_link (links_of_registration criteria e.1)
     (flat_map (links_of_registration criteria) (map (λ e. e.1) es)) (links_writable criteria e.1 all.0)
-    (resources_writable criteria es all.1)
+    (resources_writable criteria es all.1))
 
 part_writable : (page : PageValue) (links : List Link) → list_all is_link links ≡ true
     → list_all is_link (part_of page links) ≡ true

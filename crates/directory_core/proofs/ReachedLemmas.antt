@@ -1,8 +1,10 @@
 -- Requests reach a registry that calls reach, in which each registration has the attributes that name its endpoint.
+use Rattle.std.proofs.Common.{arith}
 use Rattle.std.proofs.Common.{◌≡◌, ℕ, Bool, true, false, cond, ◌&&◌, ◌||◌, List, [], ◌∷◌, ◌++◌, length}
 use Rattle.std.proofs.Common.{codes, nat_eq, nat_lt, nat_le, Option, Some, None, is_none, option_map, Result, Ok, Err}
 use Rattle.std.proofs.Common.{refl, ap, sym, subst, ◌∙◌}
 use Rattle.std.specs.List.{list_all}
+use Rattle.std.proofs.lemmas.Bool.{cond_both}
 use Rattle.coap_wire.specs.Message.{CoapOption, Message}
 use Rattle.coap_wire.specs.Codes.{get, post, delete}
 use Rattle.directory_links.specs.Links.{Attribute, is_attribute}
@@ -14,7 +16,8 @@ use Rattle.directory_registry.specs.Registrations.{registered_at}
 use Rattle.directory_registry.specs.Reached.{Reached, AfterRegistration, AfterUpdate, AfterAttributes, AfterRemoval}
 use Rattle.directory_registry.specs.Reached.{AfterExpiry}
 use Rattle.directory_registry.specs.Reached as registry
-use Rattle.directory_registry.proofs.ReachedLemmas.{Entry, each_kept, each_without, each_registered}
+use Rattle.directory_registry.proofs.EntryLemmas.{each_filter}
+use Rattle.directory_registry.proofs.ReachedLemmas.{Entry, each_without, each_registered}
 use Rattle.directory_core.specs.Requests.{named, is_repeated, repeats_parameter, lifetime_in, segments, route_of}
 use Rattle.directory_core.specs.Parameters.{is_well_formed, has_allowed_name, given, merged, endpoint_type}
 use Rattle.directory_core.specs.Conditions.{has_link_format, conditions_hold}
@@ -43,32 +46,19 @@ module _ (Q : Entry → Type 0) where
       → Each Q es → Each Q (with_change (renewed now lifetime base) n es)
   renewed_kept now lifetime base n [] keeps all = tt
   renewed_kept now lifetime base n (e ∷ es) keeps all =
-      by (nat_eq e.1.number n) (renewed_kept now lifetime base n es keeps all.1)
-    where
-      by : (b : Bool) → Each Q (with_change (renewed now lifetime base) n es)
-          → Each Q (cond b ((e.0, renewed now lifetime base e.1) ∷ es)
-          (e ∷ with_change (renewed now lifetime base) n es))
-      by true rest = (keeps e.0 e.1 all.0, all.1)
-      by false rest = (all.0, rest)
+      cond_both (nat_eq e.1.number n) _ _ (Each Q) (λ k. (keeps e.0 e.1 all.0, all.1))
+      (λ k. (all.0, renewed_kept now lifetime base n es keeps all.1))
 
   attributed_kept : (attributes : List Attribute) (n : ℕ) (r : RegistrationValue) (es : List Entry)
       → ((key : List ℕ) → Q (key, r) → Q (key, with_attributes attributes r)) → found_at es n ≡ Some r
       → Each Q es → Each Q (with_change (with_attributes attributes) n es)
   attributed_kept attributes n r [] keeps there all = tt
   attributed_kept attributes n r (e ∷ es) keeps there all =
-      by (nat_eq e.1.number n) there (λ h. attributed_kept attributes n r es keeps h all.1)
-    where
-      by : (b : Bool) → cond b (Some e.1) (found_at es n) ≡ Some r
-          → (found_at es n ≡ Some r → Each Q (with_change (with_attributes attributes) n es))
-          → Each Q (cond b ((e.0, with_attributes attributes e.1) ∷ es)
-          (e ∷ with_change (with_attributes attributes) n es))
-      by true h rest =
-          let this : r ≡ e.1 = cc in (
-            subst (λ (x : RegistrationValue). Q (e.0, x) → Q (e.0, with_attributes attributes x)) this
-                (keeps e.0) all.0,
-            all.1,
-          )
-      by false h rest = (all.0, rest h)
+      cond_both (nat_eq e.1.number n) _ _ (Each Q)
+      (λ k.
+      let this : r ≡ e.1 = cc (rw k at there) in
+      (subst (λ x. Q (e.0, x) → Q (e.0, with_attributes attributes x)) this (keeps e.0) all.0, all.1))
+      (λ k. (all.0, attributed_kept attributes n r es keeps (rw k at there) all.1))
 
 -- ---- results that are no refusals
 
@@ -95,54 +85,17 @@ test_holds false e x y h = absurd cc
 identified_key : (os : List CoapOption) (parts : List ℕ × ℕ × List ℕ) → identified os ≡ Ok parts
     → (repeats_parameter os ≡ false) × (key_with (named (codes "d") os) (named (codes "ep") os) ≡ Some parts.0)
 unfolding identified
-identified_key os parts h = by (has_link_format os) (repeats_parameter os) refl h
-  where
-    Goal : Type 0
-    Goal = (repeats_parameter os ≡ false) × (key_with (named (codes "d") os) (named (codes "ep") os) ≡ Some parts.0)
-
-    rest : Result (List ℕ × ℕ × List ℕ) Refusal
-    rest =
-        or_refused refusal.Endpoint (key_with (named (codes "d") os) (named (codes "ep") os)) >>= λ key.
-        or_refused refusal.Lifetime (lifetime_in (named (codes "lt") os)) >>= λ lifetime.
-        or_refused refusal.Base (base_with (named (codes "base") os)) >>= λ base.
-        Ok (key, lifetime, base)
-
-    by : (format twice : Bool) → repeats_parameter os ≡ twice
-        → cond format (cond twice (Err refusal.Repeated) rest) (Err refusal.Format) ≡ Ok parts → Goal
-    by false twice e k = absurd cc
-    by true true e k = absurd cc
-    by true false e k =
-        bound (or_refused refusal.Endpoint (key_with (named (codes "d") os) (named (codes "ep") os))) _ parts Goal k
-        (λ key i k2.
-        bound (or_refused refusal.Lifetime (lifetime_in (named (codes "lt") os))) _ parts Goal k2 (λ lifetime j k3.
-        bound (or_refused refusal.Base (base_with (named (codes "base") os))) _ parts Goal k3 (λ base l last.
-        (e, not_refused refusal.Endpoint _ key i ∙ (let this : key ≡ parts.0 = cc in ap Some this)))))
+identified_key os parts h = grind (arith, h)
 
 attributes_given : (os : List CoapOption) (attributes : List Attribute) → attributes_in os ≡ Ok attributes
     → (list_all has_allowed_name os ≡ true) × (given os ≡ attributes)
 unfolding attributes_in
-attributes_given os attributes h = by (list_all is_well_formed os) (list_all has_allowed_name os) refl h
-  where
-    by : (well allowed : Bool) → list_all has_allowed_name os ≡ allowed
-        → cond well (cond allowed (limited (given os)) (Err refusal.Name)) (Err refusal.Query) ≡ Ok attributes
-        → (list_all has_allowed_name os ≡ true) × (given os ≡ attributes)
-    by false allowed e k = absurd cc
-    by true false e k = absurd cc
-    by true true e k = (e, (test_holds (nat_le (length (given os)) 64) refusal.Many (given os) attributes k).1)
+attributes_given os attributes h = grind (arith, h)
 
 pub attributes_valid : (os : List CoapOption) (attributes : List Attribute) → attributes_in os ≡ Ok attributes
     → list_all is_attribute attributes ≡ true
 unfolding attributes_in
-attributes_valid os attributes h = by (list_all is_well_formed os) refl (list_all has_allowed_name os) refl h
-  where
-    by : (well : Bool) → list_all is_well_formed os ≡ well → (allowed : Bool) → list_all has_allowed_name os ≡ allowed
-        → cond well (cond allowed (limited (given os)) (Err refusal.Name)) (Err refusal.Query) ≡ Ok attributes
-        → list_all is_attribute attributes ≡ true
-    by false w allowed e k = absurd cc
-    by true w false e k = absurd cc
-    by true w true e k =
-        let same = (test_holds (nat_le (length (given os)) 64) refusal.Many (given os) attributes k).1 in
-        sym (ap (list_all is_attribute) same) ∙ each_given os w e
+attributes_valid os attributes h = grind (arith, h, each_given os)
 
 -- ---- registrations
 
@@ -191,24 +144,7 @@ registering_kept Q v now m x holds h all =
 renewing_key : (os : List CoapOption) (parts : Option ℕ × Option (List ℕ)) → renewing os ≡ Ok parts
     → (is_none (named (codes "ep") os) && is_none (named (codes "d") os)) ≡ true
 unfolding renewing
-renewing_key os parts h = by (is_repeated (codes "lt") os || is_repeated (codes "base") os) h
-  where
-    Goal : Type 0
-    Goal = (is_none (named (codes "ep") os) && is_none (named (codes "d") os)) ≡ true
-
-    rest : Result (Option ℕ × Option (List ℕ)) Refusal
-    rest =
-        renewed_lifetime (named (codes "lt") os) >>= λ lifetime.
-        renewed_base (named (codes "base") os) >>= λ base.
-        only_if (is_none (named (codes "ep") os) && is_none (named (codes "d") os)) refusal.Key (lifetime, base)
-
-    by : (twice : Bool) → cond twice (Err refusal.Repeated) rest ≡ Ok parts → Goal
-    by true k = absurd cc
-    by false k =
-        bound (renewed_lifetime (named (codes "lt") os)) _ parts Goal k (λ lifetime i k2.
-        bound (renewed_base (named (codes "base") os)) _ parts Goal k2 (λ base j last.
-        (test_holds (is_none (named (codes "ep") os) && is_none (named (codes "d") os)) refusal.Key
-        (lifetime, base) parts last).0))
+renewing_key os parts h = grind (arith, h)
 
 changed_kept : (Q : Entry → Type 0) (v : RegistryValue) (number : ℕ) (new : List Attribute)
     (y : Option (List Attribute))
@@ -329,11 +265,9 @@ module _ (P : RegistryValue → Type 0)
     (begins : (limit : ℕ) → P (record { entries = []; next = 1; limit = limit })) where
   met : (exists : Bool) (d : DirectoryValue) (m : Message) (replied : Reply × DirectoryValue) → P d.registry
       → P replied.1.registry → P (if_holds exists d m replied).1.registry
-  met exists d m replied before after = by (conditions_hold exists m.options)
-    where
-      by : (b : Bool) → P (cond b replied (reply.Refused refusal.Condition, d)).1.registry
-      by true = after
-      by false = before
+  met exists d m replied before after =
+      cond_both (conditions_hold exists m.options) _ _ (λ (x : Reply × DirectoryValue). P x.1.registry) (λ h. after)
+      (λ h. before)
 
   created_kept : (d : DirectoryValue) (r : Result (ℕ × RegistryValue) Refusal)
       → ((x : ℕ × RegistryValue) → r ≡ Ok x → P x.1) → P d.registry → P (created d r).1.registry
@@ -410,7 +344,7 @@ unfolding expired removed
 reached_named =
     reached_kept (λ v. Each IsNamedEntry v.entries) registering_named updating_named
     (λ v number all. each_without IsNamedEntry number v.entries all)
-    (λ v now all. each_kept IsNamedEntry (λ e. nat_lt now e.1.deadline) v.entries all) (λ limit. tt)
+    (λ v now all. each_filter _ (λ e. nat_lt now e.1.deadline) v.entries all) (λ limit. tt)
 
 pub reached_registry : (d : DirectoryValue) → ReachedDirectory d → Reached d.registry
 reached_registry = reached_kept Reached registering_reached updating_reached AfterRemoval AfterExpiry registry.Begun
