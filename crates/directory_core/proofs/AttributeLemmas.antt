@@ -1,21 +1,19 @@
 -- The attributes of an endpoint.
 use Rattle.std.proofs.Common.{arith, ◌⊎◌, inl, inr}
-use Rattle.std.proofs.Common.{◌≡◌, ℕ, ◌≤◌, Bool, true, false, cond, not, ◌&&◌, ◌||◌, List, [], ◌∷◌, ◌++◌, length}
-use Rattle.std.proofs.Common.{filter, codes, nat_eq, nat_le, Option, Some, None, Ok, refl, ap, sym, ◌∙◌}
-use Rattle.std.proofs.Common.{true≢false}
+use Rattle.std.proofs.Common.{◌≡◌, ℕ, ◌≤◌, Bool, true, false, not, List, [], ◌∷◌, ◌++◌, length}
+use Rattle.std.proofs.Common.{filter, codes, nat_eq, Option, Some, None, Ok, refl, sym}
 use Rattle.std.specs.List.{list_all, list_any}
 use Rattle.std.specs.Cmp.Lexicographic.{pointwise}
 use Rattle.std.proofs.lemmas.Bool.{le-leb, and_parts}
 use Rattle.coap_wire.specs.Message.{CoapOption}
-use Rattle.directory_links.specs.Characters.{is_name_char, is_same_name}
-use Rattle.directory_links.specs.Links.{QuotedValue, Attribute, is_attribute, is_parmname, is_quoted_text}
-use Rattle.directory_core.specs.declared.refusal.Refusal.TheVariants.{Many}
+use Rattle.directory_links.specs.Characters.{is_name_char}
+use Rattle.directory_links.specs.Links.{Attribute, is_attribute, is_parmname, is_quoted_text}
 use Rattle.directory_core.specs.Requests.{split_query}
 use Rattle.directory_core.specs.Parameters.{is_plain_char, is_well_formed, are_well_formed_parts, is_allowed_name}
-use Rattle.directory_core.specs.Parameters.{has_allowed_name, has_allowed_parts, parameter_names, own_names}
-use Rattle.directory_core.specs.Parameters.{is_own_name, parts_given, option_given, with_first, given, has_name}
+use Rattle.directory_core.specs.Parameters.{has_allowed_name, has_allowed_parts, parameter_names}
+use Rattle.directory_core.specs.Parameters.{parts_given, option_given, with_first, given, has_name}
 use Rattle.directory_core.specs.Parameters.{merged, endpoint_type}
-use Rattle.directory_core.specs.Changes.{only_if, limited, attributes_in}
+use Rattle.directory_core.specs.Changes.{limited, attributes_in}
 
 -- ---- the limit
 

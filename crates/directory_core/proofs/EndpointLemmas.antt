@@ -1,7 +1,7 @@
 -- The attributes that name an endpoint.
 use Rattle.std.proofs.Common.{arith}
 use Rattle.std.proofs.Common.{◌≡◌, ◌⊎◌, inl, inr, ℕ, Bool, true, false, cond, not, ◌&&◌, ◌||◌, List, [], ◌∷◌, ◌++◌}
-use Rattle.std.proofs.Common.{length, map, filter, codes, nat_eq, nat_lt, Option, Some, None, is_some, is_none}
+use Rattle.std.proofs.Common.{length, map, filter, codes, nat_eq, Option, Some, None, is_some, is_none}
 use Rattle.std.proofs.Common.{refl, ap, sym, ◌∙◌, true≢false}
 use Rattle.std.specs.List.{list_all, list_any}
 use Rattle.std.specs.Str.{str_to_ascii_lowercase}
@@ -12,10 +12,10 @@ use Rattle.std.proofs.lemmas.List.{append-nil}
 use Rattle.std.proofs.lemmas.List.Elements.{filter-append}
 use Rattle.coap_wire.specs.Message.{CoapOption}
 use Rattle.directory_links.specs.Characters.{is_same_name}
-use Rattle.directory_links.specs.Links.{QuotedValue, Attribute, is_parmname}
-use Rattle.directory_core.specs.Requests.{split_query, value_with, query_value, first_value, named, is_repeated}
+use Rattle.directory_links.specs.Links.{QuotedValue, Attribute}
+use Rattle.directory_core.specs.Requests.{split_query, value_with, query_value, named, is_repeated}
 use Rattle.directory_core.specs.Requests.{repeats_parameter}
-use Rattle.directory_core.specs.Parameters.{key_in, parameter_names, own_names, is_allowed_name, has_allowed_parts}
+use Rattle.directory_core.specs.Parameters.{key_in, parameter_names, is_allowed_name, has_allowed_parts}
 use Rattle.directory_core.specs.Parameters.{has_allowed_name, is_own_name, parts_given, option_given, with_first}
 use Rattle.directory_core.specs.Parameters.{given, has_name, merged, endpoint_type}
 use Rattle.directory_core.specs.Changes.{key_with}

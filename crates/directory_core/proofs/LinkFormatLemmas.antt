@@ -1,7 +1,7 @@
 -- The links of a lookup can be written in link format.
-use Rattle.std.proofs.Common.{◌≡◌, ℕ, ◌+◌, ◌<◌, ◌≤◌, ◌^◌, Bool, true, false, cond, not, ◌&&◌, ◌||◌, List, [], ◌∷◌, ◌++◌}
+use Rattle.std.proofs.Common.{◌≡◌, ℕ, ◌+◌, ◌<◌, ◌^◌, Bool, true, false, ◌&&◌, ◌||◌, List, [], ◌∷◌, ◌++◌}
 use Rattle.std.proofs.Common.{length, take, drop, map, filter, codes, nat_eq, nat_lt, nat_le, get_or, Option, Some}
-use Rattle.std.proofs.Common.{None, zero, suc}
+use Rattle.std.proofs.Common.{None}
 use Rattle.std.proofs.Common.{inl, inr, refl, ap, sym, ◌∙◌, arith, true≢false, drop-cons, add-one}
 use Rattle.std.specs.List.{list_all, list_any, position, starts_with}
 use Rattle.std.specs.Option.{option_map_or}
@@ -13,12 +13,12 @@ use Rattle.std.proofs.lemmas.Int.Digits.{all_below_base_digits_of}
 use Rattle.std.proofs.lemmas.List.{append-nil, take-append-drop}
 use Rattle.std.proofs.lemmas.List.Folds.{list_all-append}
 use Rattle.std.proofs.lemmas.List.Quantifiers.{position-Some}
-use Rattle.directory_links.specs.Characters.{is_name_char, is_target_char, is_same_name}
+use Rattle.directory_links.specs.Characters.{is_name_char, is_target_char}
 use Rattle.directory_links.specs.Links.{AttributeValue, NoValue, ExtendedValue, TokenValue, QuotedValue, Attribute}
 use Rattle.directory_links.specs.Links.{Link}
 use Rattle.directory_links.specs.Links.{is_parmname, is_quoted_text, is_value, is_attribute, is_link}
 use Rattle.directory_registry.specs.Registrations.{RegistrationValue}
-use Rattle.directory_registry.specs.Matching.{CriterionValue, is_relative, resolved, location, is_selected_link}
+use Rattle.directory_registry.specs.Matching.{CriterionValue, resolved, location, is_selected_link}
 use Rattle.directory_registry.specs.Lookups.{resolved_value, resolved_attribute, resolved_link, endpoint_link}
 use Rattle.directory_registry.specs.Results.{links_of_registration}
 use Rattle.directory_core.specs.Parameters.{is_scheme_char, is_scheme, is_authority_char, is_authority, is_base}

@@ -1,15 +1,12 @@
 -- The text of a lookup in a reached directory is in link format.
-use Rattle.std.proofs.Common.{◌≡◌, ℕ, ◌+◌, ◌-◌, ◌<◌, ◌^◌, Bool, true, false, cond, ◌&&◌, ◌||◌, List, [], ◌∷◌, ◌++◌}
-use Rattle.std.proofs.Common.{length, drop, map, filter, nat_eq, nat_lt, nat_le, codes}
-use Rattle.std.proofs.Common.{Option, Some, None, unwrap_or, Result, Ok, Err, refl, ap, sym, subst, ◌∙◌, arith, is_none}
+use Rattle.std.proofs.Common.{◌≡◌, ℕ, ◌<◌, ◌^◌, true, false, List, [], ◌∷◌, ◌++◌}
+use Rattle.std.proofs.Common.{length, drop, map, filter, nat_lt, nat_le, codes}
+use Rattle.std.proofs.Common.{Option, Some, None, unwrap_or, Result, Ok, Err, refl, ap, sym, subst, ◌∙◌, arith}
 use Rattle.std.specs.List.{list_all, flat_map}
-use Rattle.std.specs.Option.{option_map_or}
-use Rattle.std.specs.Cmp.Lexicographic.{pointwise}
-use Rattle.std.proofs.lemmas.Bool.{and_from, eqb-false, ltb-true, ltb-false}
 use Rattle.std.proofs.lemmas.List.Concat.{flat_map-cons}
 use Rattle.coap_wire.specs.Message.{CoapOption, Message}
 use Rattle.directory_links.specs.Characters.{is_target_char}
-use Rattle.directory_links.specs.Links.{Attribute, Link, is_attribute, is_link, Writes}
+use Rattle.directory_links.specs.Links.{Link, is_attribute, is_link, Writes}
 use Rattle.directory_links.specs.Reading.{links_from}
 use Rattle.directory_links.proofs.ParseLaws.{from_ok}
 use Rattle.directory_links.proofs.SoundLaws.{links_sound}
@@ -24,22 +21,19 @@ use Rattle.directory_registry.specs.Results.{endpoints_found, links_of_registrat
 use Rattle.directory_registry.proofs.EntryLemmas.{each_filter}
 use Rattle.directory_registry.proofs.ReachedLemmas.{Entry, each_without}
 use Rattle.directory_registry.proofs.LookupLemmas.{endpoints_listed, resources_listed}
-use Rattle.directory_core.specs.Requests.{named, is_repeated, repeats_parameter, lifetime_in}
-use Rattle.directory_core.specs.Parameters.{is_base, is_limited, endpoint_type}
-use Rattle.directory_core.specs.Conditions.{has_link_format}
-use Rattle.directory_core.specs.declared.refusal.Refusal.{Refusal}
+use Rattle.directory_core.specs.Requests.{named}
+use Rattle.directory_core.specs.Parameters.{endpoint_type}
 use Rattle.directory_core.specs.declared.refusal.Refusal.TheVariants as refusal
-use Rattle.directory_core.specs.Changes.{◌>>=◌, or_refused, refused, only_if, key_with, base_with, identified}
+use Rattle.directory_core.specs.Changes.{refused, base_with, identified}
 use Rattle.directory_core.specs.Changes.{attributes_in, registered_attributes, links_in, prepared, registering}
-use Rattle.directory_core.specs.Changes.{renewed_lifetime, renewed_base, renewing, update_parts, attributes_after}
-use Rattle.directory_core.specs.Changes.{attributes_at_location, updating_with}
+use Rattle.directory_core.specs.Changes.{renewing}
 use Rattle.directory_core.specs.Changes.{updating, listed}
 use Rattle.directory_core.specs.Replies.{DirectoryValue}
 use Rattle.directory_core.specs.Endpoints.{ReachedDirectory}
 use Rattle.directory_core.proofs.AttributeLemmas.{each_joined, each_merged, type_attribute}
 use Rattle.directory_core.proofs.LinkFormatLemmas.{all_joined, all_split, base_target, IsWritable}
 use Rattle.directory_core.proofs.LinkFormatLemmas.{endpoint_writable, links_writable}
-use Rattle.directory_core.proofs.ReachedLemmas.{bound, not_refused, test_holds, same_value, attributes_valid}
+use Rattle.directory_core.proofs.ReachedLemmas.{bound, test_holds, same_value, attributes_valid}
 use Rattle.directory_core.proofs.ReachedLemmas.{registering_kept, updating_kept, reached_kept}
 
 -- ---- parts of requests

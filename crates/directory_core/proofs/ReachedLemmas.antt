@@ -1,8 +1,8 @@
 -- Requests reach a registry that calls reach, in which each registration has the attributes that name its endpoint.
 use Rattle.std.proofs.Common.{arith}
-use Rattle.std.proofs.Common.{◌≡◌, ℕ, Bool, true, false, cond, ◌&&◌, ◌||◌, List, [], ◌∷◌, ◌++◌, length}
+use Rattle.std.proofs.Common.{◌≡◌, ℕ, Bool, true, false, cond, ◌&&◌, List, [], ◌∷◌, ◌++◌, length}
 use Rattle.std.proofs.Common.{codes, nat_eq, nat_lt, nat_le, Option, Some, None, is_none, option_map, Result, Ok, Err}
-use Rattle.std.proofs.Common.{refl, ap, sym, subst, ◌∙◌}
+use Rattle.std.proofs.Common.{refl, ap, subst, ◌∙◌}
 use Rattle.std.specs.List.{list_all}
 use Rattle.std.proofs.lemmas.Bool.{cond_both}
 use Rattle.coap_wire.specs.Message.{CoapOption, Message}
@@ -18,18 +18,18 @@ use Rattle.directory_registry.specs.Reached.{AfterExpiry}
 use Rattle.directory_registry.specs.Reached as registry
 use Rattle.directory_registry.proofs.EntryLemmas.{each_filter}
 use Rattle.directory_registry.proofs.ReachedLemmas.{Entry, each_without, each_registered}
-use Rattle.directory_core.specs.Requests.{named, is_repeated, repeats_parameter, lifetime_in, segments, route_of}
-use Rattle.directory_core.specs.Parameters.{is_well_formed, has_allowed_name, given, merged, endpoint_type}
-use Rattle.directory_core.specs.Conditions.{has_link_format, conditions_hold}
+use Rattle.directory_core.specs.Requests.{named, repeats_parameter, segments, route_of}
+use Rattle.directory_core.specs.Parameters.{has_allowed_name, given, merged, endpoint_type}
+use Rattle.directory_core.specs.Conditions.{conditions_hold}
 use Rattle.directory_core.specs.declared.refusal.Refusal.{Refusal}
 use Rattle.directory_core.specs.declared.refusal.Refusal.TheVariants as refusal
 use Rattle.directory_core.specs.declared.reply.Reply.{Reply}
 use Rattle.directory_core.specs.declared.reply.Reply.TheVariants as reply
 use Rattle.directory_core.specs.declared.route.Route.{Route}
 use Rattle.directory_core.specs.declared.route.Route.TheVariants as route
-use Rattle.directory_core.specs.Changes.{◌>>=◌, or_refused, only_if, key_with, base_with, identified, limited}
+use Rattle.directory_core.specs.Changes.{◌>>=◌, or_refused, only_if, key_with, identified, limited}
 use Rattle.directory_core.specs.Changes.{attributes_in, registered_attributes, links_in, prepared, registering}
-use Rattle.directory_core.specs.Changes.{renewed_lifetime, renewed_base, renewing, update_parts, attributes_after}
+use Rattle.directory_core.specs.Changes.{renewing, update_parts, attributes_after}
 use Rattle.directory_core.specs.Changes.{attributed_if, updating_with, attributes_at_location, updating}
 use Rattle.directory_core.specs.Replies.{DirectoryValue, at_time, created, if_holds, registration_reply}
 use Rattle.directory_core.specs.Replies.{update_reply, removal_reply, location_reply, found_reply, lookup_reply}
