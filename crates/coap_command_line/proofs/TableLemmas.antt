@@ -4,7 +4,7 @@ use Rattle.std.proofs.Common.{append-nil}
 use Rattle.std.proofs.lemmas.List.{at_drop_more}
 use Rattle.coap_command_line.specs.Prelude.{App, Rule, Text, Bor, with_rule}
 use Rattle.coap_command_line.specs.CommandLines.{row_rule, with_rules}
-use Rattle.coap_command_line.specs.declared.arguments.commands.tables.Form.{Form}
+use Rattle.coap_command_line.specs.declared.arguments.tables.Form.{Form}
 
 pub no_more_rules : (app : App) → with_rules app [] ≡ app
 no_more_rules app = ap (λ all. record app { top = record app.top { rules = all } }) (append-nil app.top.rules)

@@ -15,7 +15,7 @@ use Rattle.coap_command_line.specs.declared.arguments.WordsFault.{WordsFault}
 use Rattle.coap_command_line.specs.declared.arguments.WordsFault.TheVariants as faults
 use Rattle.coap_command_line.specs.declared.arguments.directory.DirectoryPlan.{DirectoryPlan}
 use Rattle.coap_command_line.specs.declared.arguments.directory.DirectoryValues.{DirectoryValues}
-use Rattle.coap_command_line.specs.declared.arguments.reasons.tables.TheConstants.{DIRECTORY_VALUES}
+use Rattle.coap_command_line.specs.declared.arguments.tables.TheConstants.{DIRECTORY_VALUES}
 
 -- ---- the plan
 

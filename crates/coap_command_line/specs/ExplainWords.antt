@@ -11,7 +11,7 @@ use Rattle.coap_command_line.specs.Reasons.{ValueRow, given_for, row_in, row_tex
 use Rattle.coap_command_line.specs.declared.arguments.WordsFault.{WordsFault}
 use Rattle.coap_command_line.specs.declared.arguments.WordsFault.TheVariants as faults
 use Rattle.coap_command_line.specs.declared.arguments.explain.ExplainPlan.{ExplainPlan}
-use Rattle.coap_command_line.specs.declared.arguments.reasons.tables.TheConstants.{EXPLAIN_VALUES}
+use Rattle.coap_command_line.specs.declared.arguments.tables.TheConstants.{EXPLAIN_VALUES}
 
 -- ---- the plan
 

@@ -17,7 +17,7 @@ use Rattle.coap_command_line.specs.ServerWords.{server_app, lacks_record, record
 use Rattle.coap_command_line.specs.ClientWords.{client_app, uri_said}
 use Rattle.coap_command_line.specs.declared.arguments.WordsFault.{WordsFault}
 use Rattle.coap_command_line.specs.declared.arguments.WordsFault.TheVariants as faults
-use Rattle.coap_command_line.specs.declared.arguments.reasons.tables.TheConstants.{SERVER_VALUES, CLIENT_VALUES}
+use Rattle.coap_command_line.specs.declared.arguments.tables.TheConstants.{SERVER_VALUES, CLIENT_VALUES}
 
 -- The line of a text, cut to its maximum length.
 abbrev pub line_of : Text → Text

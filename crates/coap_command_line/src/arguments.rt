@@ -10,23 +10,24 @@ mod client;
 mod commands;
 pub(crate) mod directory;
 pub(crate) mod explain;
-mod help;
 mod option_values;
 mod reasons;
 mod server;
+mod tables;
 
 use clap::Error as UsageError;
 use clap::error::ErrorKind;
 use client::client_plan;
 use coap_print::Line;
 use coap_request::{ClientPlan, ServerPlan, TargetFault};
-use commands::{CLIENT, SERVER, matches_in};
-pub use help::VERSION;
+use commands::matches_in;
 use option_values::BadValue;
 use reasons::{client_line, server_line};
 use server::server_plan;
 use std::alloc::{AllocError, Global};
 use std::convert::AsStr;
+pub use tables::VERSION;
+use tables::{ABOUT_CLIENT, ABOUT_SERVER, CLIENT, SERVER};
 use thiserror::Error;
 
 /// Error of a command line. Its `Display` is the line for the user, without the program's name.
@@ -118,7 +119,7 @@ pub fn server_words<'a, S: AsStr>(alloc: Global, words: &'a [S]) -> Result<Serve
     ensures id_left { IfOk result (λ plan. plan.starts.ids + 1 < 2 ^ 64) }
     ensures limit { IfOk result (λ plan. 1 ≤ plan.record_limit) }
 {
-    let matches = match matches_in(alloc, "coap-server", help::SERVER, SERVER, words) {
+    let matches = match matches_in(alloc, "coap-server", ABOUT_SERVER, SERVER, words) {
         Ok(matches) => matches,
         Err(fault) => return Err(fault),
     };
@@ -149,7 +150,7 @@ pub fn server_words<'a, S: AsStr>(alloc: Global, words: &'a [S]) -> Result<Serve
 pub fn client_words<'a, S: AsStr>(alloc: Global, words: &'a [S]) -> Result<ClientPlan, WordsFault>
     ensures { IsClientPlan (map S.text words.entry.now) result }
 {
-    let matches = match matches_in(alloc, "coap-client", help::CLIENT, CLIENT, words) {
+    let matches = match matches_in(alloc, "coap-client", ABOUT_CLIENT, CLIENT, words) {
         Ok(matches) => matches,
         Err(fault) => return Err(fault),
     };
@@ -170,7 +171,7 @@ pub fn server_reason<'a, S: AsStr>(
     ensures { IfOk result
         (λ line. line ≡ option_map line_of (spec.server_reason (map S.text words.entry.now) fault.now)) }
 {
-    match matches_in(alloc, "coap-server", help::SERVER, SERVER, words) {
+    match matches_in(alloc, "coap-server", ABOUT_SERVER, SERVER, words) {
         Ok(matches) => server_line(alloc, &matches, fault),
         Err(WordsFault::Usage(_)) => Ok(None),
         Err(_) => Err(AllocError),
@@ -191,7 +192,7 @@ pub fn client_reason<'a, S: AsStr>(
     ensures { IfOk result
         (λ line. line ≡ option_map line_of (spec.client_reason (map S.text words.entry.now) fault.now)) }
 {
-    match matches_in(alloc, "coap-client", help::CLIENT, CLIENT, words) {
+    match matches_in(alloc, "coap-client", ABOUT_CLIENT, CLIENT, words) {
         Ok(matches) => Ok(client_line(&matches, fault)),
         Err(WordsFault::Usage(_)) => Ok(None),
         Err(_) => Err(AllocError),

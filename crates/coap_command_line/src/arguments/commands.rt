@@ -5,15 +5,12 @@ ghost use Rattle.coap_command_line.specs.Prelude.{app_of, fault_of, found_of, is
 ghost use Rattle.coap_command_line.specs.Prelude.{matches_of, rows_of, rule_of, IsTurnedDown};
 ghost use Rattle.coap_command_line.specs.CommandLines as spec;
 
-mod tables;
-
-use crate::arguments::{WordsFault, help};
+use crate::arguments::WordsFault;
+use crate::arguments::tables::{ArgumentRow, Form, VERSION};
 use clap::error::ErrorKind;
 use clap::{Arg, ArgAction, ArgMatches, Command};
 use std::alloc::{AllocError, Global};
 use std::convert::AsStr;
-use tables::{ArgumentRow, Form};
-pub(super) use tables::{CLIENT, DIRECTORY, EXPLAIN, SERVER};
 
 /// Creates the argument of a row.
 fn argument<'a>(alloc: Global, row: &ArgumentRow) -> Arg<'a>
@@ -40,7 +37,7 @@ fn bare<'a>(alloc: Global, name: &'a str, about: &'a str) -> Command<'a>
 {
     Command::new(alloc, name)
         .about(about)
-        .version(help::VERSION)
+        .version(VERSION)
         .no_binary_name(true)
 }
 

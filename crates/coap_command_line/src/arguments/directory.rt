@@ -6,11 +6,12 @@ ghost use Rattle.coap_command_line.specs.DirectoryWords.{IsDirectoryPlan, GivesD
 ghost use Rattle.coap_command_line.specs.DirectoryWords as spec;
 ghost use Rattle.coap_command_line.specs.Reasons.{line_of};
 
-use crate::arguments::commands::{DIRECTORY, matches_in};
+use crate::arguments::WordsFault;
+use crate::arguments::commands::matches_in;
 use crate::arguments::option_values::{BadValue, file_name, log, number};
 use crate::arguments::reasons::directory_line;
 use crate::arguments::server::{address, check_record, lacks_record};
-use crate::arguments::{WordsFault, help};
+use crate::arguments::tables::{ABOUT_DIRECTORY, DIRECTORY};
 use clap::ArgMatches;
 use coap_print::{Line, LogLevel};
 use std::alloc::{AllocError, Global};
@@ -125,7 +126,7 @@ pub fn directory_words<'a, S: AsStr>(
     ensures registrations { IfOk result (λ plan. (1 ≤ plan.registrations) × (plan.registrations ≤ 100000)) }
     ensures limit { IfOk result (λ plan. 1 ≤ plan.record_limit) }
 {
-    let matches = match matches_in(alloc, "coap-directory", help::DIRECTORY, DIRECTORY, words) {
+    let matches = match matches_in(alloc, "coap-directory", ABOUT_DIRECTORY, DIRECTORY, words) {
         Ok(matches) => matches,
         Err(fault) => return Err(fault),
     };
@@ -146,7 +147,7 @@ pub fn directory_reason<'a, S: AsStr>(
     ensures { IfOk result
         (λ line. line ≡ option_map line_of (spec.directory_reason (map S.text words.entry.now) fault.now)) }
 {
-    match matches_in(alloc, "coap-directory", help::DIRECTORY, DIRECTORY, words) {
+    match matches_in(alloc, "coap-directory", ABOUT_DIRECTORY, DIRECTORY, words) {
         Ok(matches) => Ok(directory_line(&matches, fault)),
         Err(WordsFault::Usage(_)) => Ok(None),
         Err(_) => Err(AllocError),

@@ -6,10 +6,11 @@ ghost use Rattle.coap_command_line.specs.ExplainWords.{IsExplainPlan, GivesExpla
 ghost use Rattle.coap_command_line.specs.ExplainWords as spec;
 ghost use Rattle.coap_command_line.specs.Reasons.{line_of};
 
-use crate::arguments::commands::{EXPLAIN, matches_in};
+use crate::arguments::WordsFault;
+use crate::arguments::commands::matches_in;
 use crate::arguments::option_values::{BadValue, number_within, text_of};
 use crate::arguments::reasons::explain_line;
-use crate::arguments::{WordsFault, help};
+use crate::arguments::tables::{ABOUT_EXPLAIN, EXPLAIN};
 use clap::ArgMatches;
 use coap_print::Line;
 use std::alloc::{AllocError, Global};
@@ -74,7 +75,7 @@ fn explain_plan(alloc: Global, matches: &ArgMatches<'_>) -> Result<ExplainPlan, 
 pub fn explain_words<'a, S: AsStr>(alloc: Global, words: &'a [S]) -> Result<ExplainPlan, WordsFault>
     ensures { IsExplainPlan (map S.text words.entry.now) result }
 {
-    let matches = match matches_in(alloc, "coap-explain", help::EXPLAIN, EXPLAIN, words) {
+    let matches = match matches_in(alloc, "coap-explain", ABOUT_EXPLAIN, EXPLAIN, words) {
         Ok(matches) => matches,
         Err(fault) => return Err(fault),
     };
@@ -95,7 +96,7 @@ pub fn explain_reason<'a, S: AsStr>(
     ensures { IfOk result
         (λ line. line ≡ option_map line_of (spec.explain_reason (map S.text words.entry.now) fault.now)) }
 {
-    match matches_in(alloc, "coap-explain", help::EXPLAIN, EXPLAIN, words) {
+    match matches_in(alloc, "coap-explain", ABOUT_EXPLAIN, EXPLAIN, words) {
         Ok(matches) => Ok(explain_line(&matches, fault)),
         Err(WordsFault::Usage(_)) => Ok(None),
         Err(_) => Err(AllocError),

@@ -8,18 +8,19 @@ ghost use Rattle.coap_command_line.specs.Reasons as spec;
 ghost use Rattle.coap_command_line.specs.ExplainWords.{explain_reason_in, explain_values};
 ghost use Rattle.coap_command_line.specs.DirectoryWords.{directory_reason_in, directory_values};
 
-mod tables;
 mod targets;
 
 use crate::arguments::WordsFault;
 use crate::arguments::applications::{EntryFault, applications};
 use crate::arguments::option_values::{is_used, number, text_of};
 use crate::arguments::server::{lacks_record, records_to_output};
+use crate::arguments::tables::{
+    CLIENT_VALUES, DIRECTORY_VALUES, ENTRY, EXPLAIN_VALUES, SERVER_VALUES, ValueRow,
+};
 use clap::ArgMatches;
 use coap_print::Line;
 use coap_wire::{BASE_MESSAGE_SIZE, LARGEST_SENT_MESSAGE};
 use std::alloc::{AllocError, Global};
-use tables::{CLIENT_VALUES, DIRECTORY_VALUES, ENTRY, EXPLAIN_VALUES, SERVER_VALUES, ValueRow};
 use targets::target_line;
 
 /// Returns the reason for an error of the server, from the options that `clap` found.
