@@ -1,143 +1,124 @@
--- Decoding a body step by step: the end, the marker, an option, an error.
-use Rattle.std.proofs.Common.{◌≡◌, ℕ, zero, suc, ◌+◌, ◌/◌, ◌%◌, ◌≤◌, Bool, true, false, cond, eqb, ltb, List, [], ◌∷◌}
-use Rattle.std.proofs.Common.{length, take, drop, Option, Some, None, Result, Ok, Err, refl, ap, subst, ◌∙◌, arith}
-use Rattle.coap_wire.specs.Prelude.{w16, from_be_bytes, CoapOption, FormatFault, OptionDelta, OptionLength}
-use Rattle.coap_wire.specs.Prelude.{OptionCut, OptionNumber, EmptyPayload, ◌>>=◌, one_byte_at, two_bytes_at, plus}
-use Rattle.coap_wire.specs.Prelude.{option_number_at, or_cut, both_at, option_head_at, value_at, option_at}
-use Rattle.coap_wire.specs.Prelude.{body_within, body_at}
-use Rattle.std.proofs.lemmas.Bool.{eq-eqb, ne_eqb}
+-- Decoding an option and a body step by step.
+use Rattle.std.proofs.Common.{◌≡◌, ◌≢◌, ℕ, zero, suc, ◌+◌, ◌/◌, ◌%◌, ◌<◌, ◌≤◌, cond, eqb, ltb, List, [], ◌∷◌, length}
+use Rattle.std.proofs.Common.{take, drop, Some, None, Result, Ok, Err, ◌⊎◌, inl, inr, refl, ap, ◌∙◌, arith}
+use Rattle.std.proofs.lemmas.Bool.{eq-eqb, ne_eqb, cases_eq}
+use Rattle.std.proofs.lemmas.Bool.Decides.{nat_tests}
 use Rattle.std.proofs.lemmas.List.{length-drop}
+use Rattle.coap_wire.specs.Prelude.{CoapOption, FormatFault, OptionDelta, OptionLength, OptionCut, OptionNumber}
+use Rattle.coap_wire.specs.Prelude.{EmptyPayload, ◌>>=◌, option_extension, option_number_at, option_head_at, option_at}
+use Rattle.coap_wire.specs.Prelude.{value_at, body_within, body_at}
+use Rattle.coap_wire.proofs.NumberLaws.{option_cases, option_number_rest, option_number_short}
 
 -- If both steps together succeed, the first one returned a value.
 pub bind_ok : {A B : Type 0} (r : Result A FormatFault) (f : A → Result B FormatFault) (y : B) → (r >>= f) ≡ Ok y
     → (x : A) × (r ≡ Ok x) × (f x ≡ Ok y)
 bind_ok (Ok x) f y e = (x, refl, e)
-bind_ok (Err d) f y e = absurd cc
-
--- Two continuations give the same result if they agree on the value of the first step.
-pub bind_same : {A B : Type 0} (r : Result A FormatFault) (f g : A → Result B FormatFault)
-    → ((x : A) → r ≡ Ok x → f x ≡ g x) → (r >>= f) ≡ (r >>= g)
-bind_same (Ok x) f g h = h x refl
-bind_same (Err d) f g h = refl
-
--- The extension is complete.
-pub or_cut_ok : (o : Option (ℕ × List ℕ)) (y : ℕ × List ℕ) → or_cut o ≡ Ok y → o ≡ Some y
-or_cut_ok None y e = absurd cc
-or_cut_ok (Some x) y e = cc
-
--- The values of two equal `Some` are equal.
-pub some_is : {A : Type 0} (x y : A) → Some x ≡ Some y → x ≡ y
-some_is x y e = cc
+bind_ok (Err d) f y e = cc
 
 -- The values of two equal `Ok` are equal.
 pub ok_is : {A : Type 0} (x y : A) → ◌≡◌ {A = Result A FormatFault} (Ok x) (Ok y) → x ≡ y
 ok_is x y e = cc
 
--- ---- the rest is not longer
+-- A step returns a value or an error.
+pub result_cases : {A : Type 0} (r : Result A FormatFault) → ((x : A) × (r ≡ Ok x)) ⊎ ((e : FormatFault) × (r ≡ Err e))
+result_cases (Ok x) = inl (x, refl)
+result_cases (Err e) = inr (e, refl)
 
-one_shorter : (k : ℕ) (s : List ℕ) (y : ℕ × List ℕ) → plus k (one_byte_at s) ≡ Some y → length y.1 ≤ length s
-unfolding one_byte_at
-one_shorter k [] y e = absurd cc
-one_shorter k (b ∷ s) y e =
-    let rest-is : s ≡ y.1 = ap (λ (p : ℕ × List ℕ). p.1) (some_is (b + k, s) y e) in
-    subst (λ (r : List ℕ). length r ≤ suc (length s)) rest-is (omega arith)
+-- ---- an option
 
-two_shorter_at : (k : ℕ) (t : Bool) (n : ℕ) (s : List ℕ) (y : ℕ × List ℕ)
-    → plus k (cond t None (Some (n, drop 2 s))) ≡ Some y → length y.1 ≤ length s
-two_shorter_at k true n s y e = absurd cc
-two_shorter_at k false n s y e =
-    let rest-is : drop 2 s ≡ y.1 = ap (λ (p : ℕ × List ℕ). p.1) (some_is (n + k, drop 2 s) y e) in
-    subst (λ (r : List ℕ). length r ≤ length s) rest-is (omega (arith, length-drop 2 s))
+-- What decoding an option returns: the delta or the length has nibble 15, or the extensions are incomplete, or the delta
+-- y.0 and the length z.0 are decoded, with z.1 left.
+pub data OptionKind (base b : ℕ) (s : List ℕ) : Type 0 where
+  BadDelta : b / 16 ≡ 15 → option_at base b s ≡ Err OptionDelta → OptionKind base b s
+  BadLength : b / 16 ≢ 15 → b % 16 ≡ 15 → option_at base b s ≡ Err OptionLength → OptionKind base b s
+  HeadCut : b / 16 ≢ 15 → b % 16 ≢ 15 → length s < option_extension (b / 16) + option_extension (b % 16)
+      → option_at base b s ≡ Err OptionCut → OptionKind base b s
+  Head : b / 16 ≢ 15 → b % 16 ≢ 15 → (y z : ℕ × List ℕ) → option_number_at (b / 16) s ≡ Some y
+      → option_number_at (b % 16) y.1 ≡ Some z
+      → option_extension (b / 16) + option_extension (b % 16) + length z.1 ≡ length s
+      → option_at base b s ≡ value_at (base + y.0) z.0 z.1 → OptionKind base b s
 
-two_shorter : (k : ℕ) (s : List ℕ) (y : ℕ × List ℕ) → plus k (two_bytes_at s) ≡ Some y → length y.1 ≤ length s
-unfolding two_bytes_at
-two_shorter k s y e = two_shorter_at k (ltb (length s) 2) (from_be_bytes w16 (take 2 s)) s y e
-
-number_shorter_at : (small one : Bool) (x : ℕ) (s : List ℕ) (y : ℕ × List ℕ)
-    → cond small (Some (x, s)) (cond one (plus 13 (one_byte_at s)) (plus 269 (two_bytes_at s))) ≡ Some y
-    → length y.1 ≤ length s
-number_shorter_at true one x s y e =
-    subst (λ (r : ℕ × List ℕ). length r.1 ≤ length s) (some_is (x, s) y e) (omega arith)
-number_shorter_at false true x s y e = one_shorter 13 s y e
-number_shorter_at false false x s y e = two_shorter 269 s y e
-
--- The bytes after an extension are at most as many as before.
-pub number_shorter : (x : ℕ) (s : List ℕ) (y : ℕ × List ℕ) → option_number_at x s ≡ Some y → length y.1 ≤ length s
-unfolding option_number_at
-number_shorter x s y e = number_shorter_at (ltb x 13) (eqb x 13) x s y e
-
-both_shorter : (x y : ℕ) (s : List ℕ) (h : ℕ × ℕ × List ℕ) → both_at x y s ≡ Ok h → length h.2 ≤ length s
-both_shorter x y s h e =
-    let a = bind_ok (or_cut (option_number_at x s))
-    (λ delta. or_cut (option_number_at y delta.1) >>= λ len. Ok (delta.0, len.0, len.1)) h e in
-    let b = bind_ok (or_cut (option_number_at y a.0.1)) (λ len. Ok (a.0.0, len.0, len.1)) h a.2 in
-    let first : length a.0.1 ≤ length s = number_shorter x s a.0 (or_cut_ok (option_number_at x s) a.0 a.1) in
-    let second : length b.0.1 ≤ length a.0.1 =
-    number_shorter y a.0.1 b.0 (or_cut_ok (option_number_at y a.0.1) b.0 b.1) in
-    let made : ℕ × ℕ × List ℕ = (a.0.0, b.0.0, b.0.1) in
-    subst (λ (k : ℕ × ℕ × List ℕ). length k.2 ≤ length s) (ok_is made h b.2) (omega arith)
-
-head_shorter_at : (d l : Bool) (x y : ℕ) (s : List ℕ) (h : ℕ × ℕ × List ℕ)
-    → cond d (Err OptionDelta) (cond l (Err OptionLength) (both_at x y s)) ≡ Ok h → length h.2 ≤ length s
-head_shorter_at true l x y s h e = absurd cc
-head_shorter_at false true x y s h e = absurd cc
-head_shorter_at false false x y s h e = both_shorter x y s h e
-
-head_shorter : (b : ℕ) (s : List ℕ) (h : ℕ × ℕ × List ℕ) → option_head_at b s ≡ Ok h → length h.2 ≤ length s
-unfolding option_head_at
-head_shorter b s h e = head_shorter_at (eqb (b / 16) 15) (eqb (b % 16) 15) (b / 16) (b % 16) s h e
-
-value_shorter_at : (great cut : Bool) (number n : ℕ) (s : List ℕ) (x : CoapOption × List ℕ) → cond great
-    (Err OptionNumber) (cond cut (Err OptionCut) (Ok (record { number = number; value = take n s }, drop n s))) ≡ Ok x
-    → length x.1 ≤ length s
-value_shorter_at true cut number n s x e = absurd cc
-value_shorter_at false true number n s x e = absurd cc
-value_shorter_at false false number n s x e =
-    let made : CoapOption × List ℕ = (record { number = number; value = take n s }, drop n s) in
-    subst (λ (y : CoapOption × List ℕ). length y.1 ≤ length s) (ok_is made x e) (omega (arith, length-drop n s))
+pub option_kind : (base b : ℕ) (s : List ℕ) → OptionKind base b s
+unfolding option_at option_head_at
+option_kind base b s =
+    elim (cases_eq (b / 16) 15) [
+      | inl same ↦ BadDelta same (rw (eq-eqb (b / 16) 15 same) refl)
+      | inr delta ↦ elim (cases_eq (b % 16) 15) [
+        | inl same ↦ BadLength delta same (rw (ne_eqb (b / 16) 15 delta, eq-eqb (b % 16) 15 same) refl)
+        | inr len ↦
+            let d = ne_eqb (b / 16) 15 delta in
+            let l = ne_eqb (b % 16) 15 len in
+            elim (option_cases (option_number_at (b / 16) s)) [
+              | inr none ↦
+                  HeadCut delta len (omega (arith, option_number_short (b / 16) s none)) (rw (d, l, none) refl)
+              | inl y ↦
+                  let k = option_number_rest (b / 16) s y.0 y.1 in
+                  let first = length-drop (option_extension (b / 16)) s in
+                  elim (option_cases (option_number_at (b % 16) y.0.1)) [
+                    | inr none ↦
+                        HeadCut delta len (omega (arith, k.0, ap length k.1, first, option_number_short (b % 16) y.0.1
+                        none)) (rw (d, l, y.1, none) refl)
+                    | inl z ↦
+                        let j = option_number_rest (b % 16) y.0.1 z.0 z.1 in
+                        let second = length-drop (option_extension (b % 16)) y.0.1 in
+                        Head delta len y.0 z.0 y.1 z.1
+                        (omega (arith, k.0, ap length k.1, first, j.0, ap length j.1, second))
+                        (rw (d, l, y.1, z.1) refl)
+                  ]
+            ]
+      ]
+    ]
 
 -- The bytes after an option are at most as many as before.
 pub option_shorter : (base b : ℕ) (s : List ℕ) (x : CoapOption × List ℕ)
     → option_at base b s ≡ Ok x → length x.1 ≤ length s
-unfolding option_at
 option_shorter base b s x e =
-    let a = bind_ok (option_head_at b s) (λ head. value_at (base + head.0) head.1 head.2) x e in
-    let first : length a.0.2 ≤ length s = head_shorter b s a.0 a.1 in
-    let second : length x.1 ≤ length a.0.2 =
-    value_shorter_at (ltb 65535 (base + a.0.0)) (ltb (length a.0.2) a.0.1) (base + a.0.0) a.0.1 a.0.2 x a.2 in
-    omega arith
+    elim (option_kind base b s) [
+      | BadDelta delta is ↦ cc
+      | BadLength delta len is ↦ cc
+      | HeadCut delta len cut is ↦ cc
+      | Head delta len y z first second width is ↦ grind (arith, nat_tests, length-drop z.0 z.1)
+    ]
 
--- ---- the limit of the recursion
+-- ---- a body
 
-body_within_same : (m n base : ℕ) (s : List ℕ) → length s ≤ m → length s ≤ n
-    → body_within m base s ≡ body_within n base s
+abbrev pub Body : Type 0
+Body = Result (List CoapOption × List ℕ) FormatFault
+
+-- One option, followed by the result for the bytes after it.
+abbrev pub option_then : CoapOption → Body → Body
+option_then o r = r >>= λ others. Ok (o ∷ others.0, others.1)
+
+-- The body that begins with the byte b, of which `read` decodes the bytes after the first option.
+abbrev pub body_turn : (ℕ → List ℕ → Body) → ℕ → ℕ → List ℕ → Body
+body_turn read base b s =
+    cond (eqb b 255) (cond (eqb (length s) 0) (Err EmptyPayload) (Ok ([], s)))
+    (option_at base b s >>= λ x. option_then x.0 (read x.0.number x.1))
+
+turn_same : (read other : ℕ → List ℕ → Body) (base b : ℕ) (s : List ℕ)
+    → ((n : ℕ) (t : List ℕ) → length t ≤ length s → read n t ≡ other n t)
+    → body_turn read base b s ≡ body_turn other base b s
+turn_same read other base b s h =
+    ap (cond (eqb b 255) (cond (eqb (length s) 0) (Err EmptyPayload) (Ok ([], s))))
+    (elim (result_cases (option_at base b s)) [
+      | inl x ↦ rw (x.1) (ap (option_then x.0.0) (h x.0.0.number x.0.1 (option_shorter base b s x.0 x.1)))
+      | inr bad ↦ rw (bad.1) refl
+    ])
+
+-- More turns than bytes give the same result.
+within_same : (m n base : ℕ) (s : List ℕ) → length s ≤ m → length s ≤ n → body_within m base s ≡ body_within n base s
 unfolding body_within
-body_within_same zero zero base s p q = refl
-body_within_same zero (suc n) base [] p q = refl
-body_within_same zero (suc n) base (b ∷ s) p q = absurd (omega arith)
-body_within_same (suc m) zero base [] p q = refl
-body_within_same (suc m) zero base (b ∷ s) p q = absurd (omega arith)
-body_within_same (suc m) (suc n) base [] p q = refl
-body_within_same (suc m) (suc n) base (b ∷ s) p q =
-    let again : (x : CoapOption × List ℕ) → option_at base b s ≡ Ok x
-    → body_within m x.0.number x.1 ≡ body_within n x.0.number x.1 =
-    λ x e. let shorter : length x.1 ≤ length s = option_shorter base b s x e in
-    body_within_same m n x.0.number x.1 (omega arith) (omega arith) in
-    let go : (x : CoapOption × List ℕ) → option_at base b s ≡ Ok x
-    → (body_within m x.0.number x.1 >>= λ others. Ok (x.0 ∷ others.0, others.1))
-    ≡ (body_within n x.0.number x.1 >>= λ others. Ok (x.0 ∷ others.0, others.1)) =
-    λ x e. ap (λ (r : Result (List CoapOption × List ℕ) FormatFault). r >>= λ others. Ok (x.0 ∷ others.0, others.1))
-    (again x e) in
-    ap (λ (r : Result (List CoapOption × List ℕ) FormatFault). cond (eqb b 255)
-    (cond (eqb (length s) 0) (Err EmptyPayload) (Ok ([], s))) r)
-    (bind_same (option_at base b s)
-    (λ first. body_within m first.0.number first.1 >>= λ others. Ok (first.0 ∷ others.0, others.1))
-    (λ first. body_within n first.0.number first.1 >>= λ others. Ok (first.0 ∷ others.0, others.1)) go)
+within_same m n base [] p q = refl
+within_same zero n base (b ∷ s) p q = absurd (omega arith)
+within_same (suc m) zero base (b ∷ s) p q = absurd (omega arith)
+within_same (suc m) (suc n) base (b ∷ s) p q =
+    turn_same (body_within m) (body_within n) base b s (λ k t h. within_same m n k t (omega arith) (omega arith))
 
--- The number of bytes is a sufficient limit of the recursion.
-pub body_enough : (turns base : ℕ) (s : List ℕ) → length s ≤ turns → body_within turns base s ≡ body_at base s
-unfolding body_at
-body_enough turns base s h = body_within_same turns (length s) base s h (omega arith)
+pub body_is : (base b : ℕ) (s : List ℕ) → body_at base (b ∷ s) ≡ body_turn (λ n t. body_at n t) base b s
+unfolding body_at body_within
+body_is base b s =
+    turn_same (body_within (length s)) (λ n t. body_within (length t) n t) base b s
+    (λ n t h. within_same (length s) (length t) n t h (omega arith))
 
 -- ---- the steps
 
@@ -147,29 +128,57 @@ unfolding body_at body_within
 body_end base = refl
 
 -- The payload follows the marker.
-pub body_marker : (base : ℕ) (s : List ℕ) → (length s ≡ 0 → ⊥) → body_at base (255 ∷ s) ≡ Ok ([], s)
-unfolding body_at body_within
-body_marker base s h = rw (ne_eqb (length s) 0 h) refl
-
--- No byte follows the marker.
-pub body_empty_payload : (base : ℕ) (s : List ℕ) → length s ≡ 0 → body_at base (255 ∷ s) ≡ Err EmptyPayload
-unfolding body_at body_within
-body_empty_payload base s h = rw (eq-eqb (length s) 0 h) refl
-
-body_step : (base b : ℕ) (s : List ℕ) → (b ≡ 255 → ⊥) → body_at base (b ∷ s) ≡ (option_at base b s
-    >>= λ first. body_within (length s) first.0.number first.1 >>= λ others. Ok (first.0 ∷ others.0, others.1))
-unfolding body_at body_within
-body_step base b s h = rw (ne_eqb b 255 h) refl
+pub body_marker : (base b : ℕ) (s : List ℕ) → body_at base (255 ∷ b ∷ s) ≡ Ok ([], b ∷ s)
+body_marker base b s = rw (body_is base 255 (b ∷ s)) (grind (arith, nat_tests))
 
 -- One option, followed by the others.
-pub body_option : (base b : ℕ) (s : List ℕ) (o : CoapOption) (rest : List ℕ) → (b ≡ 255 → ⊥)
-    → option_at base b s ≡ Ok (o, rest)
-    → body_at base (b ∷ s) ≡ (body_at o.number rest >>= λ others. Ok (o ∷ others.0, others.1))
-body_option base b s o rest h e =
-    let shorter : length rest ≤ length s = option_shorter base b s (o, rest) e in
-    body_step base b s h ∙ rw (e, body_enough (length s) o.number rest shorter) refl
+pub body_option : (base b : ℕ) (s : List ℕ) (x : CoapOption × List ℕ) → b ≢ 255 → option_at base b s ≡ Ok x
+    → body_at base (b ∷ s) ≡ option_then x.0 (body_at x.0.number x.1)
+body_option base b s x other e = rw (body_is, ne_eqb b 255 other, e) refl
 
 -- A malformed option.
-pub body_fault : (base b : ℕ) (s : List ℕ) (e : FormatFault) → (b ≡ 255 → ⊥) → option_at base b s ≡ Err e
+pub body_fault : (base b : ℕ) (s : List ℕ) (e : FormatFault) → b ≢ 255 → option_at base b s ≡ Err e
     → body_at base (b ∷ s) ≡ Err e
-body_fault base b s e h is = body_step base b s h ∙ rw is refl
+body_fault base b s e other is = rw (body_is, ne_eqb b 255 other, is) refl
+
+-- ---- induction
+
+-- What decoding a body returns.
+pub data ReadsBody : ℕ → List ℕ → Body → Type 0 where
+  AtEnd : (base : ℕ) → ReadsBody base [] (Ok ([], []))
+  NoPayload : (base : ℕ) → ReadsBody base (255 ∷ []) (Err EmptyPayload)
+  Payload : (base b : ℕ) (s : List ℕ) → ReadsBody base (255 ∷ b ∷ s) (Ok ([], b ∷ s))
+  Wrong : (base b : ℕ) (s : List ℕ) (e : FormatFault) → b ≢ 255 → option_at base b s ≡ Err e
+      → ReadsBody base (b ∷ s) (Err e)
+  One : (base b : ℕ) (s : List ℕ) (x : CoapOption × List ℕ) (r : List CoapOption × List ℕ) → b ≢ 255
+      → option_at base b s ≡ Ok x → ReadsBody x.0.number x.1 (Ok r) → ReadsBody base (b ∷ s) (Ok (x.0 ∷ r.0, r.1))
+  WrongLater : (base b : ℕ) (s : List ℕ) (x : CoapOption × List ℕ) (e : FormatFault) → b ≢ 255
+      → option_at base b s ≡ Ok x → ReadsBody x.0.number x.1 (Err e) → ReadsBody base (b ∷ s) (Err e)
+
+reads_then : (base b : ℕ) (s : List ℕ) (x : CoapOption × List ℕ) → b ≢ 255 → option_at base b s ≡ Ok x
+    → (r : Body) → ReadsBody x.0.number x.1 r → ReadsBody base (b ∷ s) (option_then x.0 r)
+reads_then base b s x other e (Ok r) k = One base b s x r other e k
+reads_then base b s x other e (Err d) k = WrongLater base b s x d other e k
+
+reads_marker : (base : ℕ) (s : List ℕ) → ReadsBody base (255 ∷ s) (body_at base (255 ∷ s))
+reads_marker base [] = rw body_is (NoPayload base)
+reads_marker base (b ∷ s) = rw body_marker (Payload base b s)
+
+reads_upto : (n base : ℕ) (s : List ℕ) → length s ≤ n → ReadsBody base s (body_at base s)
+reads_upto n base [] h = rw body_end (AtEnd base)
+reads_upto zero base (b ∷ s) h = absurd (omega arith)
+reads_upto (suc n) base (b ∷ s) h =
+    elim (cases_eq b 255) [
+      | inl marker ↦ rw marker (reads_marker base s)
+      | inr other ↦ elim (result_cases (option_at base b s)) [
+        | inr bad ↦ rw (body_fault base b s bad.0 other bad.1) (Wrong base b s bad.0 other bad.1)
+        | inl x ↦
+            let shorter = option_shorter base b s x.0 x.1 in
+            rw (body_option base b s x.0 other x.1)
+            (reads_then base b s x.0 other x.1 (body_at x.0.0.number x.0.1)
+            (reads_upto n x.0.0.number x.0.1 (omega arith)))
+      ]
+    ]
+
+pub reads_body : (base : ℕ) (s : List ℕ) → ReadsBody base s (body_at base s)
+reads_body base s = reads_upto (length s) base s (omega arith)

@@ -1,198 +1,215 @@
--- The theorems on the frames of a stream: the relation determines them, and the segmentation does not change them.
-use Rattle.std.proofs.Common.{◌≡◌, ℕ, ◌+◌, ◌≤◌, List, [], ◌∷◌, ◌++◌, length, drop, Option, Some, None, refl, sym, ap}
-use Rattle.std.proofs.Common.{subst, ◌∙◌, arith}
-use Rattle.coap_wire.specs.Prelude.{concat, AreBytes, IsFrame, FrameFault, IsFrameFault, IsUnfinished, StreamPrefix}
-use Rattle.coap_wire.specs.Prelude.{Unfinished, Whole, Faulty, prefix_kind, size_bytes, fault_bytes, Frames, Sizes}
-use Rattle.coap_wire.specs.Prelude.{sizes_after, size_for, size_after, sizes_of_rest, AreFrames, AreAtMost}
-use Rattle.coap_wire.specs.Prelude.{FramesEndWith, FollowsRest, FramedAs, with_frame, sized_frames, frames_gone_on}
-use Rattle.coap_wire.specs.Prelude.{frames_on}
-use Rattle.std.proofs.lemmas.List.{append-nil, append_assoc, take-append-drop, length-append, length-take}
+-- The theorems on the frames of a stream: `prefix_kind` agrees with the relations, and they determine the frames.
+use Rattle.std.proofs.Common.{◌≡◌, ℕ, zero, suc, ◌+◌, ◌<◌, ◌≤◌, List, [], ◌∷◌, ◌++◌, length, take, drop, Option, Some}
+use Rattle.std.proofs.Common.{None, inl, inr, refl, sym, ap, subst, ◌∙◌, arith}
+use Rattle.std.proofs.lemmas.Bool.{cases_lt}
+use Rattle.std.proofs.lemmas.Bool.Decides.{nat_tests}
+use Rattle.std.proofs.lemmas.List.{append-nil, append_assoc, length-append, length-take, take-append-drop, take_at, drop_at}
+use Rattle.coap_wire.specs.Prelude.{concat, AreBytes, IsFrame, HasBadToken, IsDeclaredSize, declared_of, FrameFault}
+use Rattle.coap_wire.specs.Prelude.{TooLarge, IsTooLarge, IsFrameFault, IsUnfinished, StreamPrefix, Unfinished, Whole}
+use Rattle.coap_wire.specs.Prelude.{Faulty, prefix_kind, size_bytes, fault_bytes, Frames, Sizes, sizes_after, size_for}
+use Rattle.coap_wire.specs.Prelude.{size_after, AreFrames, AreAtMost, FramesEndWith, FollowsRest, FramedAs, with_frame}
+use Rattle.coap_wire.specs.Prelude.{sized_frames}
+use Rattle.coap_wire.specs.Frames.{with_frames}
+use Rattle.coap_wire.specs.declared.fault.FrameFault.TheVariants.{TokenLength}
 use Rattle.coap_wire.proofs.NumberLaws.{AreBytes-tail}
-use Rattle.coap_wire.proofs.StreamSteps.{whole_parts, fault_bytes_more, rest_sizes, rest_is_all, sized_faulty_more}
-use Rattle.coap_wire.proofs.StreamSteps.{sized_whole_more, Holding, HoldsAfter, frames_from, frames_unfinished}
-use Rattle.coap_wire.proofs.StreamSteps.{frames_faulty, frames_whole, by_frames}
-use Rattle.coap_wire.proofs.StreamLaws.{AreBytes-front, whole_frame, fault_found, fault_bytes_again, fault_at_front}
-use Rattle.coap_wire.proofs.StreamLaws.{frame_at_front, size_after_none, size_after_one, size_for_fault}
-use Rattle.coap_wire.proofs.StreamLaws.{size_for_whole, unfinished_is, unfinished_again}
+use Rattle.coap_wire.proofs.HeadLaws.{bad_token_declared, size_declared, declares}
+use Rattle.coap_wire.proofs.StreamSteps.{size_bytes_some, stated_bytes, size_has_bytes, declared_more, begin_bad_token}
+use Rattle.coap_wire.proofs.StreamSteps.{begin_too_large, begin_whole, whole_parts, whole_itself, token_length_declared}
+use Rattle.coap_wire.proofs.StreamSteps.{too_large_declared, faulty_some, after_twice, after_none, size_for_more}
+use Rattle.coap_wire.proofs.StreamSteps.{Finds, Ends, Fails, Goes, finds, frames_unfinished, frames_faulty, frames_whole}
 
--- ---- more bytes of a stream
+-- The first part of a list of bytes has bytes only.
+pub AreBytes-front : (front bytes : List ℕ) → AreBytes (front ++ bytes) → AreBytes front
+AreBytes-front [] bytes fits i = omega arith
+AreBytes-front (b ∷ front) bytes fits zero = fits 0
+AreBytes-front (b ∷ front) bytes fits (suc i) = AreBytes-front front bytes (λ j. fits (suc j)) i
 
--- The rest is not longer than the stream.
-abbrev FramesAreWithin : Holding
-FramesAreWithin sizes s = length (sized_frames sizes s).rest ≤ length s
+-- ---- frames
 
-frames_within_step : (sizes : Sizes) (s : List ℕ) (b : StreamPrefix) → HoldsAfter FramesAreWithin sizes s
-    → prefix_kind (size_for sizes s) s ≡ b → FramesAreWithin sizes s
-frames_within_step sizes s Unfinished again e =
-    omega (arith, ap (λ (f : Frames). length f.rest) (frames_unfinished sizes s e))
-frames_within_step sizes s (Faulty fault) again e =
-    omega (arith, ap (λ (f : Frames). length f.rest) (frames_faulty sizes s fault e), length-take (size_bytes s) s)
-frames_within_step sizes s (Whole frame rest) again e =
-    let c = whole_parts (size_for sizes s) s frame rest e in
-    omega (
-      arith,
-      ap (λ (l : List ℕ). length l) c.bytes,
-      length-append frame rest,
-      again frame rest e,
-      ap (λ (f : Frames). length f.rest) (frames_whole sizes s frame rest e),
+-- A frame that `prefix_kind` finds is a frame.
+pub whole_frame : (M : ℕ) (s frame rest : List ℕ) → AreBytes s → prefix_kind M s ≡ Whole frame rest → IsFrame frame
+whole_frame M s frame rest fits e =
+    let size = (whole_parts M frame frame [] (whole_itself M s frame rest e)).declared in
+    rw size at (declares frame (AreBytes-front frame rest (rw (whole_parts M s frame rest e).bytes at fits)))
+
+-- `prefix_kind` finds a frame of at most M bytes.
+pub frame_begins : (M : ℕ) (frame rest : List ℕ) → IsFrame frame → length frame ≤ M
+    → prefix_kind M (frame ++ rest) ≡ Whole frame rest
+frame_begins M frame rest f small =
+    let size = declared_more frame rest (length frame) (size_declared frame (length frame) f) in
+    begin_whole M (frame ++ rest) (length frame) size small (omega (arith, length-append frame rest))
+    ∙ rw (take_at frame rest _ refl, drop_at frame rest _ refl) refl
+
+-- A frame has at least one byte.
+pub frame_some : (frame : List ℕ) → IsFrame frame → 1 ≤ length frame
+frame_some frame f = omega (arith, size_has_bytes frame (length frame) (size_declared frame (length frame) f))
+
+-- ---- errors
+
+-- The bytes that show an error end with the byte at which it is known.
+fault_size : (M : ℕ) (r more : List ℕ) (fault : FrameFault) → IsFrameFault M fault r → size_bytes (r ++ more) ≡ length r
+fault_size M r more TokenLength (inl none) = rw (none.1) (grind (arith, nat_tests))
+fault_size M r more TokenLength (inr long) = stated_bytes r more long.0 long.1 long.2
+fault_size M r more TooLarge f = stated_bytes r more f.1.token_length f.1.body_length f.1.lengths
+
+pub fault_bytes_again : (M : ℕ) (r more : List ℕ) (fault : FrameFault) → IsFrameFault M fault r
+    → fault_bytes (r ++ more) ≡ r
+fault_bytes_again M r more fault f = take_at r more (size_bytes (r ++ more)) (sym (fault_size M r more fault f))
+
+-- `prefix_kind` finds an error, whichever bytes follow those that show it.
+pub fault_begins : (M : ℕ) (r more : List ℕ) (fault : FrameFault) → IsFrameFault M fault r
+    → prefix_kind M (r ++ more) ≡ Faulty fault
+fault_begins M r more TokenLength f =
+    begin_bad_token M (r ++ more) (bad_token_declared (r ++ more) (r, more, refl, f))
+fault_begins M r more TooLarge f =
+    begin_too_large M (r ++ more) f.0 (size_declared (r ++ more) f.0 (r, more, refl, f.1)) f.2
+
+-- `fault_bytes` are the bytes that show an error that `prefix_kind` finds.
+pub fault_found : (M : ℕ) (s : List ℕ) (fault : FrameFault) → AreBytes s → prefix_kind M s ≡ Faulty fault
+    → IsFrameFault M fault (fault_bytes s)
+fault_found M s TokenLength fits e =
+    let bad : HasBadToken s = rw (token_length_declared M s e) at (declares s fits) in
+    let head = ap fault_bytes bad.2 ∙ fault_bytes_again M bad.0 bad.1 TokenLength bad.3 in
+    rw head (bad.3)
+fault_found M s TooLarge fits e =
+    let f = too_large_declared M s e in
+    let d : IsDeclaredSize s f.0 = rw f.1 at (declares s fits) in
+    let large : IsTooLarge M d.0 = (f.0, d.3, f.2) in
+    let head = ap fault_bytes d.2 ∙ fault_bytes_again M d.0 d.1 TooLarge large in
+    rw head large
+
+-- ---- unfinished frames
+
+-- If `prefix_kind` returns `Unfinished`, no prefix is a frame or shows an error.
+pub unfinished_is : (M : ℕ) (s : List ℕ) → prefix_kind M s ≡ Unfinished → IsUnfinished M s
+unfinished_is M s u p q is =
+    let v : prefix_kind M (p ++ q) ≡ Unfinished = rw is at u in (
+      λ f. elim (cases_lt M (length p)) [
+        | inl large ↦
+            let size = declared_more p q (length p) (size_declared p (length p) f) in
+            cc (begin_too_large M (p ++ q) (length p) size large)
+        | inr small ↦ cc (frame_begins M p q f small)
+      ],
+      λ fault f. cc (fault_begins M p q fault f),
     )
 
-frames_rest_within : (sizes : Sizes) (s : List ℕ) → length (sized_frames sizes s).rest ≤ length s
-frames_rest_within sizes s =
-    by_frames FramesAreWithin (λ at r again. frames_within_step at r (prefix_kind (size_for at r) r) again refl) sizes s
+-- If no prefix is a frame or shows an error, `prefix_kind` returns `Unfinished`.
+pub unfinished_again : (M : ℕ) (s : List ℕ) → AreBytes s → IsUnfinished M s → prefix_kind M s ≡ Unfinished
+unfinished_again M s fits u = go (prefix_kind M s) refl
+  where
+    go : (b : StreamPrefix) → prefix_kind M s ≡ b → prefix_kind M s ≡ Unfinished
+    go Unfinished e = e
+    go (Whole frame rest) e =
+        absurd ((u frame rest (whole_parts M s frame rest e).bytes).0 (whole_frame M s frame rest fits e))
+    go (Faulty fault) e =
+        absurd ((u (fault_bytes s) (drop (size_bytes s) s) (sym (take-append-drop (size_bytes s) s))).1 fault
+        (fault_found M s fault fits e))
 
--- One more frame before the others stays before them when more bytes follow.
-frame_on : (frame : List ℕ) (found others : Frames) (fault : Option FrameFault)
-    → frames_gone_on (with_frame frame found) fault others ≡ with_frame frame (frames_gone_on found fault others)
-frame_on frame found others None = refl
-frame_on frame found others (Some fault) = refl
+-- ---- the maximum sizes after frames
 
--- The frames of s, continued with t, are those of both together.
-abbrev FramesGoOn : List ℕ → Holding
-FramesGoOn t sizes s =
-    sized_frames sizes (s ++ t) ≡ frames_on (sizes_of_rest sizes s (sized_frames sizes s).rest) (sized_frames sizes s) t
+-- No frame comes before.
+pub size_after_none : (sizes : Sizes) (rest : List ℕ) → size_after sizes [] rest ≡ size_for sizes rest
+size_after_none sizes rest = ap (λ f. size_for f rest) (after_none sizes)
 
--- The result first, continued with t.
-abbrev frames_on_with : Sizes → List ℕ → List ℕ → Frames → Frames
-frames_on_with sizes s t first = frames_on (sizes_of_rest sizes s first.rest) first t
+-- One frame comes before the others.
+after_one : (sizes : Sizes) (frame : List ℕ) (frames : List (List ℕ))
+    → sizes_after (length (concat frames)) (sizes_after (length frame) sizes)
+    ≡ sizes_after (length (concat (frame ∷ frames))) sizes
+after_one sizes frame frames =
+    after_twice (length frame) (length (concat frames)) sizes
+    ∙ ap (λ n. sizes_after n sizes) (sym (length-append frame (concat frames)))
 
-frames_on_step : (t : List ℕ) (sizes : Sizes) (s : List ℕ) (b : StreamPrefix) → HoldsAfter (FramesGoOn t) sizes s
-    → prefix_kind (size_for sizes s) s ≡ b → FramesGoOn t sizes s
-frames_on_step t sizes s Unfinished again e =
-    ap (λ (f : Sizes). sized_frames f (s ++ t)) (sym (rest_is_all sizes s))
-    ∙ sym (ap (frames_on_with sizes s t) (frames_unfinished sizes s e))
-frames_on_step t sizes s (Faulty fault) again e =
-    frames_faulty sizes (s ++ t) fault (sized_faulty_more sizes s t fault e)
-    ∙ ap (λ (r : List ℕ). record { frames = []; rest = r; fault = Some fault })
-    (fault_bytes_more (size_for sizes s) s t fault e)
-    ∙ sym (ap (frames_on_with sizes s t) (frames_faulty sizes s fault e))
-frames_on_step t sizes s (Whole frame rest) again e =
-    let first : Frames = frames_from sizes frame rest in
-    let c = whole_parts (size_for sizes s) s frame rest e in
-    let all : length s ≡ length frame + length rest =
-    ap (λ (l : List ℕ). length l) c.bytes ∙ length-append frame rest in
-    let same =
-    rest_sizes sizes frame rest s first.rest all (frames_rest_within (sizes_after (length frame) sizes) rest) in
-    frames_whole sizes (s ++ t) frame (rest ++ t) (sized_whole_more sizes s t frame rest e)
-    ∙ ap (with_frame frame) (again frame rest e)
-    ∙ ap (λ (f : Sizes). with_frame frame (frames_on f first t)) same
-    ∙ sym (frame_on frame first (sized_frames (sizes_of_rest sizes s first.rest) (first.rest ++ t)) first.fault)
-    ∙ sym (ap (frames_on_with sizes s t) (frames_whole sizes s frame rest e))
-
--- The segmentation of a stream does not change its frames.
-pub frames_go_on : (sizes : Sizes) (s more : List ℕ) → sized_frames sizes (s ++ more)
-    ≡ frames_on (sizes_of_rest sizes s (sized_frames sizes s).rest) (sized_frames sizes s) more
-frames_go_on sizes s more =
-    by_frames (FramesGoOn more)
-    (λ at r again. frames_on_step more at r (prefix_kind (size_for at r) r) again refl) sizes s
+pub size_after_one : (sizes : Sizes) (frame : List ℕ) (frames : List (List ℕ)) (rest : List ℕ)
+    → size_after (sizes_after (length frame) sizes) frames rest ≡ size_after sizes (frame ∷ frames) rest
+size_after_one sizes frame frames rest = ap (λ f. size_for f rest) (after_one sizes frame frames)
 
 -- ---- the function satisfies the relation
 
-framed_unfinished : (sizes : Sizes) (s : List ℕ) → prefix_kind (size_for sizes s) s ≡ Unfinished
-    → FramedAs sizes s (record { frames = []; rest = s; fault = None })
-framed_unfinished sizes s u = record {
+-- The maximum for bytes that begin with an error is that for the bytes that show it.
+size_for_fault : (sizes : Sizes) (s : List ℕ) (fault : FrameFault) → prefix_kind (size_for sizes s) s ≡ Faulty fault
+    → size_for sizes s ≡ size_for sizes (fault_bytes s)
+size_for_fault sizes s fault e =
+    let n : ℕ = size_bytes s in
+    let some : 1 ≤ length s = faulty_some (size_for sizes s) s fault e in
+    let front : 1 ≤ length (take n s) = omega (arith, size_bytes_some s some, length-take n s) in
+    ap (size_for sizes) (sym (take-append-drop n s)) ∙ size_for_more sizes (take n s) (drop n s) front
+
+framed : (sizes : Sizes) (s : List ℕ) (found : Frames) → Finds sizes s found → AreBytes s → FramedAs sizes s found
+framed _ _ _ (Ends sizes s e) fits = record {
   more = [];
   whole = sym (append-nil s);
   each = tt;
   small = tt;
-  ended = subst (λ (M : ℕ). IsUnfinished M s) (sym (size_after_none sizes s)) (unfinished_is (size_for sizes s) s u);
+  ended = unfinished_is _ s (ap (λ f. prefix_kind (size_for f s) s) (after_none sizes) ∙ e);
   follows = refl;
 }
-
-framed_faulty : (sizes : Sizes) (s : List ℕ) (fault : FrameFault) → AreBytes s
-    → prefix_kind (size_for sizes s) s ≡ Faulty fault
-    → FramedAs sizes s (record { frames = []; rest = fault_bytes s; fault = Some fault })
-framed_faulty sizes s fault fits e = record {
+framed _ _ _ (Fails sizes s fault e) fits = record {
   more = drop (size_bytes s) s;
   whole = sym (take-append-drop (size_bytes s) s);
   each = tt;
   small = tt;
   ended =
-      subst (λ (M : ℕ). IsFrameFault M fault (fault_bytes s))
-      (sym (size_after_none sizes (fault_bytes s) ∙ size_for_fault sizes s fault e))
-      (fault_found (size_for sizes s) s fault fits e);
+      subst (λ M. IsFrameFault M fault (fault_bytes s))
+      (size_for_fault sizes s fault e ∙ sym (size_after_none sizes (fault_bytes s))) (fault_found _ s fault fits e);
   follows = tt;
 }
-
--- One more frame comes before those that are found.
-pub framed_whole : (sizes : Sizes) (frame rest : List ℕ) (found : Frames) → IsFrame frame
-    → length frame ≤ size_for sizes frame → FramedAs (sizes_after (length frame) sizes) rest found
-    → FramedAs sizes (frame ++ rest) (with_frame frame found)
-framed_whole sizes frame rest found is small others = record {
-  more = others.more;
-  whole =
-      ap (λ (l : List ℕ). frame ++ l) others.whole
-      ∙ sym (append_assoc frame (concat found.frames) (found.rest ++ others.more));
-  each = (is, others.each);
-  small = (small, others.small);
-  ended =
-      subst (λ (M : ℕ). FramesEndWith M found.rest found.fault)
-      (sym (size_after_one sizes frame found.frames found.rest)) others.ended;
-  follows = others.follows;
-}
-
--- If s has bytes only, the result of the function is a division of s into frames.
-abbrev FramesAreFound : Holding
-FramesAreFound sizes s = AreBytes s → FramedAs sizes s (sized_frames sizes s)
-
-framed_step : (sizes : Sizes) (s : List ℕ) (b : StreamPrefix) → HoldsAfter FramesAreFound sizes s
-    → prefix_kind (size_for sizes s) s ≡ b → FramesAreFound sizes s
-framed_step sizes s Unfinished again e fits =
-    subst (FramedAs sizes s) (sym (frames_unfinished sizes s e)) (framed_unfinished sizes s e)
-framed_step sizes s (Faulty fault) again e fits =
-    subst (FramedAs sizes s) (sym (frames_faulty sizes s fault e)) (framed_faulty sizes s fault fits e)
-framed_step sizes s (Whole frame rest) again e fits =
-    let c = whole_parts (size_for sizes s) s frame rest e in
-    let first : Frames = frames_from sizes frame rest in
-    let both : AreBytes (frame ++ rest) = subst (λ (l : List ℕ). AreBytes l) c.bytes fits in
-    let others : FramedAs (sizes_after (length frame) sizes) rest first =
-    again frame rest e (AreBytes-tail frame rest both) in
-    let small : length frame ≤ size_for sizes frame = omega (arith, c.small, size_for_whole sizes s frame rest e) in
-    let all : FramedAs sizes (frame ++ rest) (with_frame frame first) =
-    framed_whole sizes frame rest first (whole_frame (size_for sizes s) s frame rest fits e) small others in
-    subst (FramedAs sizes s) (sym (frames_whole sizes s frame rest e))
-    (subst (λ (l : List ℕ). FramedAs sizes l (with_frame frame first)) (sym c.bytes) all)
+framed _ _ _ (Goes sizes s frame rest found e f) fits =
+    let c = whole_parts _ s frame rest e in
+    let others = framed _ _ _ f (AreBytes-tail frame rest (rw c.bytes at fits)) in
+    let same = size_for_more sizes frame rest (omega (arith, c.some)) in
+    record {
+      more = others.more;
+      whole = cc (c.bytes, others.whole, append_assoc frame (concat found.frames) (found.rest ++ others.more));
+      each = (whole_frame _ s frame rest fits e, others.each);
+      small = (omega (arith, c.small, ap (size_for sizes) c.bytes), others.small);
+      ended =
+          subst (λ M. FramesEndWith M found.rest found.fault) (size_after_one sizes frame found.frames found.rest)
+          others.ended;
+      follows = others.follows;
+    }
 
 -- The result of the function satisfies the relation.
 pub frames_framed : (sizes : Sizes) (s : List ℕ) → AreBytes s → FramedAs sizes s (sized_frames sizes s)
-frames_framed sizes s =
-    by_frames FramesAreFound (λ at r again. framed_step at r (prefix_kind (size_for at r) r) again refl) sizes s
+frames_framed sizes s = framed sizes s (sized_frames sizes s) (finds sizes s)
 
 -- ---- the relation determines the result of the function
 
-frames_ending : (sizes : Sizes) (rest more : List ℕ) (fault : Option FrameFault) → AreBytes (rest ++ more)
+-- `prefix_kind` finds a frame of at most the maximum size.
+pub frame_at_front : (sizes : Sizes) (frame rest : List ℕ) → IsFrame frame → length frame ≤ size_for sizes frame
+    → prefix_kind (size_for sizes (frame ++ rest)) (frame ++ rest) ≡ Whole frame rest
+frame_at_front sizes frame rest f small =
+    rw (size_for_more sizes frame rest (frame_some frame f)) (frame_begins _ frame rest f small)
+
+-- Frames, followed by the frames of the other bytes.
+pub frames_front : (sizes : Sizes) (frames : List (List ℕ)) (s : List ℕ) → AreFrames frames → AreAtMost sizes frames
+    → sized_frames sizes (concat frames ++ s)
+    ≡ with_frames frames (sized_frames (sizes_after (length (concat frames)) sizes) s)
+frames_front sizes [] s each small = ap (λ f. sized_frames f s) (sym (after_none sizes))
+frames_front sizes (f ∷ fs) s each small =
+    ap (sized_frames sizes) (append_assoc f (concat fs) s)
+    ∙ frames_whole sizes (f ++ (concat fs ++ s)) f (concat fs ++ s) (frame_at_front sizes f _ each.0 small.0)
+    ∙ ap (with_frame f) (frames_front (sizes_after (length f) sizes) fs s each.1 small.1)
+    ∙ ap (λ g. with_frames (f ∷ fs) (sized_frames g s)) (after_one sizes f fs)
+
+-- The rest, and bytes that may follow it.
+pub frames_end : (sizes : Sizes) (rest more : List ℕ) (fault : Option FrameFault) → AreBytes (rest ++ more)
     → FramesEndWith (size_for sizes rest) rest fault → FollowsRest more fault
     → sized_frames sizes (rest ++ more) ≡ record { frames = []; rest = rest; fault = fault }
-frames_ending sizes rest more None fits ended follows =
-    let is : rest ++ more ≡ rest = ap (λ (l : List ℕ). rest ++ l) follows ∙ append-nil rest in
-    ap (sized_frames sizes) is
-    ∙ frames_unfinished sizes rest (unfinished_again (size_for sizes rest) rest (AreBytes-front rest more fits) ended)
-frames_ending sizes rest more (Some fault) fits ended follows =
-    frames_faulty sizes (rest ++ more) fault (fault_at_front sizes rest more fault ended)
-    ∙ ap (λ (r : List ℕ). record { frames = []; rest = r; fault = Some fault })
-    (fault_bytes_again (size_for sizes rest) rest more fault ended)
-
-frames_again : (sizes : Sizes) (frames : List (List ℕ)) (rest more : List ℕ) (fault : Option FrameFault)
-    → AreBytes (concat frames ++ (rest ++ more)) → AreFrames frames → AreAtMost sizes frames
-    → FramesEndWith (size_after sizes frames rest) rest fault → FollowsRest more fault
-    → sized_frames sizes (concat frames ++ (rest ++ more)) ≡ record { frames = frames; rest = rest; fault = fault }
-frames_again sizes [] rest more fault fits each small ended follows =
-    frames_ending sizes rest more fault fits
-    (subst (λ (M : ℕ). FramesEndWith M rest fault) (size_after_none sizes rest) ended) follows
-frames_again sizes (f ∷ fs) rest more fault fits each small ended follows =
-    let others = concat fs ++ (rest ++ more) in
-    let is : concat (f ∷ fs) ++ (rest ++ more) ≡ f ++ others = append_assoc f (concat fs) (rest ++ more) in
-    let tail : AreBytes others = AreBytes-tail f others (subst (λ (l : List ℕ). AreBytes l) is fits) in
-    let ends = subst (λ (M : ℕ). FramesEndWith M rest fault) (size_after_one sizes f fs rest) ended in
-    ap (sized_frames sizes) is
-    ∙ frames_whole sizes (f ++ others) f others (frame_at_front sizes f others each.0 small.0)
-    ∙ ap (with_frame f)
-    (frames_again (sizes_after (length f) sizes) fs rest more fault tail each.1 small.1 ends follows)
+frames_end sizes rest more None fits ended follows =
+    rw (follows, append-nil)
+    (frames_unfinished sizes rest (unfinished_again _ rest (AreBytes-front rest more fits) ended))
+frames_end sizes rest more (Some fault) fits ended follows =
+    let begins = fault_begins _ rest [] fault ended in
+    let some = faulty_some _ rest fault (rw append-nil at begins) in
+    frames_faulty sizes (rest ++ more) fault (rw (size_for_more sizes rest more some) (fault_begins _ rest more fault ended))
+    ∙ rw (fault_bytes_again (size_for sizes rest) rest more fault ended) refl
 
 -- Whatever satisfies the relation is the result of the function.
 pub framed_frames : (sizes : Sizes) (s : List ℕ) (other : Frames) → AreBytes s → FramedAs sizes s other
     → other ≡ sized_frames sizes s
 framed_frames sizes s other fits framed =
-    sym (ap (sized_frames sizes) framed.whole
-    ∙ frames_again sizes other.frames other.rest framed.more other.fault
-    (subst (λ (l : List ℕ). AreBytes l) framed.whole fits) framed.each framed.small framed.ended framed.follows)
+    let left = other.rest ++ framed.more in
+    let tail = AreBytes-tail (concat other.frames) left (rw framed.whole at fits) in
+    let end = frames_end _ other.rest framed.more other.fault tail framed.ended framed.follows in
+    sym (ap (sized_frames sizes) framed.whole ∙ frames_front sizes other.frames left framed.each framed.small
+    ∙ ap (with_frames other.frames) end ∙ rw append-nil refl)

@@ -1,208 +1,250 @@
 -- The head of a frame: decoding returns it if and only if the bytes encode it. `declared_of` agrees with `Declares`.
-use Rattle.std.proofs.Common.{◌≡◌, ◌≢◌, ℕ, ◌+◌, ◌-◌, ◌*◌, ◌/◌, ◌%◌, ◌<◌, ◌≤◌, List, [], ◌∷◌, ◌++◌, length, take, drop}
-use Rattle.std.proofs.Common.{Some, None, Ok, Err, ◌⊎◌, inl, inr, refl, sym, ap, subst, ◌∙◌, append_assoc, arith}
-use Rattle.std.proofs.lemmas.Bool.{eq-eqb, ne_eqb, lt-ltb, le-ltb, cases_lt, cases_eq}
+use Rattle.std.proofs.Common.{◌≡◌, ◌≢◌, ℕ, ◌+◌, ◌-◌, ◌*◌, ◌/◌, ◌%◌, ◌<◌, ◌≤◌, cond, eqb, ltb, List, [], ◌∷◌, ◌++◌, length}
+use Rattle.std.proofs.Common.{take, drop, get_or, Some, None, Result, Ok, Err, inl, inr, refl, sym, ap, ◌∙◌, arith}
+use Rattle.std.proofs.Common.{append_assoc, ◌⊎◌}
+use Rattle.std.proofs.lemmas.Bool.{eq-eqb, ne_eqb, lt-ltb, le-ltb, cases_eq, cases_lt}
+use Rattle.std.proofs.lemmas.Bool.Decides.{nat_tests}
 use Rattle.std.proofs.lemmas.List.{length-take, length-drop, length-append, take-append-drop, take_at, drop_at}
+use Rattle.std.proofs.lemmas.List.{drop_more, drop-drop, get_or-drop}
 use Rattle.coap_wire.specs.Prelude.{AreBytes, IsLengthForm, extension_of, IsOptionForm, option_extension}
 use Rattle.coap_wire.specs.Prelude.{greatest_token, code_and_extension, StatesLengths, IsDeclaredSize, IsFrame}
 use Rattle.coap_wire.specs.Prelude.{HasBadToken, Declares, IsHeadAndBody, IsFirstFault, Declared, Unknown, Size}
 use Rattle.coap_wire.specs.Prelude.{BadToken, FormatFault, TokenLength, NotOneFrame, length_at, option_number_at}
-use Rattle.coap_wire.specs.Prelude.{size_with, size_from, declared_of, Head, head_with, head_at_code, head_from}
-use Rattle.coap_wire.specs.Prelude.{head_at}
-use Rattle.coap_wire.proofs.FormLaws.{option_form_width, option_extension_some}
-use Rattle.coap_wire.proofs.NumberLaws.{option_cases, AreBytes-tail, AreBytes-drop, length_again, option_number_none}
-use Rattle.coap_wire.proofs.NumberLaws.{option_number_again, option_form_nibble, length_takes, option_number_takes}
-use Rattle.coap_wire.proofs.NumberLaws.{length_at_taken, option_number_length}
-use Rattle.coap_wire.proofs.BodySteps.{some_is, ok_is}
-use Rattle.coap_wire.proofs.BodyLaws.{ok_or_err, nibbles}
+use Rattle.coap_wire.specs.Prelude.{one_byte_at, two_bytes_at}
+use Rattle.coap_wire.specs.Prelude.{declared_of, Head, head_at_code, head_at, outline_of, FrameLayout, size_bytes}
+use Rattle.coap_wire.specs.declared.layout.Outline.TheVariants as outline
+use Rattle.coap_wire.proofs.FormLaws.{option_form_bound, option_form_width, length_form_bound}
+use Rattle.coap_wire.proofs.NumberLaws.{option_cases, AreBytes-tail, AreBytes-drop, length_again, option_number_again}
+use Rattle.coap_wire.proofs.NumberLaws.{length_takes, option_number_takes, length_rest, option_number_rest}
+use Rattle.coap_wire.proofs.NumberLaws.{length_short, option_number_short, length_more, option_number_more}
 
 -- ---- the lengths after the first byte
-
--- After the first byte b, decoding returns the length n of a body, with at_code left. After the code it returns the
--- length t of a token, with at_token left.
-pub record ReadsLengths (b : ℕ) (s : List ℕ) (t n : ℕ) : Type 0 where
-  pub at_code : List ℕ
-  pub at_token : List ℕ
-  pub nibble : b % 16 ≢ 15
-  pub body : length_at (b / 16) s ≡ Some (n, at_code)
-  pub token : option_number_at (b % 16) (drop 1 at_code) ≡ Some (t, at_token)
-
--- A byte of these lengths is missing.
-pub record IsCutHead (b : ℕ) (s : List ℕ) : Type 0 where
-  pub nibble : b % 16 ≢ 15
-  pub cut : (length_at (b / 16) s ≡ None)
-      ⊎ ((y : ℕ × List ℕ) × (length_at (b / 16) s ≡ Some y) × (option_number_at (b % 16) (drop 1 y.1) ≡ None))
-
--- The lengths are decoded, or the token length has nibble 15, or a byte is missing.
-abbrev pub HeadCases : ℕ → List ℕ → Type 0
-HeadCases b s = ((t n : ℕ) × ReadsLengths b s t n) ⊎ ((b % 16 ≡ 15) ⊎ IsCutHead b s)
-
-pub head_cases : (b : ℕ) (s : List ℕ) → HeadCases b s
-head_cases b s =
-    elim (cases_eq (b % 16) 15) [
-      | inl none ↦ inr (inl none)
-      | inr nibble ↦ elim (option_cases (length_at (b / 16) s)) [
-        | inl y ↦ elim (option_cases (option_number_at (b % 16) (drop 1 y.0.1))) [
-          | inl z ↦
-              inl (z.0.0, y.0.0, record { at_code = y.0.1; at_token = z.0.1; nibble = nibble; body = y.1; token = z.1 })
-          | inr none ↦ inr (inr (record { nibble = nibble; cut = inr (y.0, y.1, none) }))
-        ]
-        | inr none ↦ inr (inr (record { nibble = nibble; cut = inl none }))
-      ]
-    ]
-
--- The numbers of extension bytes of the two lengths.
-pub record HasWidths (b : ℕ) (s : List ℕ) (at_code at_token : List ℕ) : Type 0 where
-  pub body : length s ≡ extension_of (b / 16) + length at_code
-  pub token : length (drop 1 at_code) ≡ option_extension (b % 16) + length at_token
-
-pub widths : (b : ℕ) (s : List ℕ) (t n : ℕ) → (r : ReadsLengths b s t n) → HasWidths b s r.at_code r.at_token
-widths b s t n r = record {
-  body = length_at_taken (b / 16) s (n, r.at_code) r.body;
-  token = option_number_length (b % 16) (drop 1 r.at_code) (t, r.at_token) r.token;
-}
-
--- ---- the declared size
-
-pub declared_nothing : declared_of [] ≡ Unknown
-unfolding declared_of
-declared_nothing = refl
-
--- A token length of nibble 15 is invalid.
-pub declared_no_length : (b : ℕ) (s : List ℕ) → b % 16 ≡ 15 → declared_of (b ∷ s) ≡ BadToken
-unfolding declared_of
-declared_no_length b s h = rw (eq-eqb (b % 16) 15 h) refl
-
-declared_from : (b : ℕ) (s : List ℕ) → b % 16 ≢ 15 → declared_of (b ∷ s) ≡ size_from (b % 16) s (length_at (b / 16) s)
-unfolding declared_of
-declared_from b s h = rw (ne_eqb (b % 16) 15 h) refl
-
-pub declared_cut : (b : ℕ) (s : List ℕ) → IsCutHead b s → declared_of (b ∷ s) ≡ Unknown
-declared_cut b s c =
-    elim (c.cut) [
-      | inl none ↦ declared_from b s c.nibble ∙ ap (size_from (b % 16) s) none
-      | inr y ↦
-          declared_from b s c.nibble ∙ ap (size_from (b % 16) s) y.1
-          ∙ ap (size_with (1 + (length s - length y.0.1)) y.0.0 (drop 1 y.0.1)) y.2
-    ]
-
-declared_with : (b : ℕ) (s : List ℕ) (t n : ℕ) → (r : ReadsLengths b s t n)
-    → declared_of (b ∷ s) ≡ size_with (1 + (length s - length r.at_code)) n (drop 1 r.at_code) (Some (t, r.at_token))
-declared_with b s t n r =
-    declared_from b s r.nibble ∙ ap (size_from (b % 16) s) r.body
-    ∙ ap (size_with (1 + (length s - length r.at_code)) n (drop 1 r.at_code)) r.token
-
-size_of_token : (first n : ℕ) (later : List ℕ) (y : ℕ × List ℕ) → y.0 ≤ greatest_token
-    → size_with first n later (Some y) ≡ Size (first + 1 + (length later - length y.1) + y.0 + n)
-size_of_token first n later y h = rw (le-ltb greatest_token y.0 h) refl
-
-size_of_long_token : (first n : ℕ) (later : List ℕ) (y : ℕ × List ℕ) → greatest_token < y.0
-    → size_with first n later (Some y) ≡ BadToken
-size_of_long_token first n later y h = rw (lt-ltb greatest_token y.0 h) refl
 
 -- The size of a frame with this first byte, a token of t bytes and a body of n bytes.
 abbrev pub frame_size : ℕ → ℕ → ℕ → ℕ
 frame_size b t n = 1 + extension_of (b / 16) + 1 + option_extension (b % 16) + t + n
 
-pub declared_size : (b : ℕ) (s : List ℕ) (t n : ℕ) → ReadsLengths b s t n → t ≤ greatest_token
-    → declared_of (b ∷ s) ≡ Size (frame_size b t n)
-declared_size b s t n r short =
-    let w = widths b s t n r in
-    let same : 1 + (length s - length r.at_code) + 1 + (length (drop 1 r.at_code) - length r.at_token) + t + n
-    ≡ frame_size b t n = omega (arith, w.body, w.token) in
-    declared_with b s t n r
-    ∙ size_of_token (1 + (length s - length r.at_code)) n (drop 1 r.at_code) (t, r.at_token) short ∙ ap Size same
+-- The layout of a frame with this first byte and a token of t bytes.
+abbrev pub layout_by : ℕ → ℕ → FrameLayout
+layout_by b t = record {
+  code_at = 1 + extension_of (b / 16);
+  token_at = 1 + extension_of (b / 16) + 1 + option_extension (b % 16);
+  token_length = t;
+}
 
-pub declared_long : (b : ℕ) (s : List ℕ) (t n : ℕ) → ReadsLengths b s t n → greatest_token < t
-    → declared_of (b ∷ s) ≡ BadToken
-declared_long b s t n r long =
-    declared_with b s t n r
-    ∙ size_of_long_token (1 + (length s - length r.at_code)) n (drop 1 r.at_code) (t, r.at_token) long
+-- After the first byte b, the length y.0 of a body is decoded, and y.1 is left. After the code the length z.0 of a token
+-- is decoded, and z.1 is left. This determines what the bytes declare, their outline and their head.
+pub record ReadsLengths (b : ℕ) (s : List ℕ) (y z : ℕ × List ℕ) : Type 0 where
+  pub nibble : b % 16 ≢ 15
+  pub body : length_at (b / 16) s ≡ Some y
+  pub token : option_number_at (b % 16) (drop 1 y.1) ≡ Some z
+  pub width : length s ≡ extension_of (b / 16) + length y.1
+  pub token_width : length (drop 1 y.1) ≡ option_extension (b % 16) + length z.1
+  pub at_code : y.1 ≡ drop (1 + extension_of (b / 16)) (b ∷ s)
+  pub at_token : z.1 ≡ drop (1 + extension_of (b / 16) + 1 + option_extension (b % 16)) (b ∷ s)
+  pub above : option_extension (b % 16) ≤ z.0
+  pub declared : declared_of (b ∷ s) ≡ cond (ltb greatest_token z.0) BadToken (Size (frame_size b z.0 y.0))
+  pub outline : outline_of (b ∷ s)
+      ≡ cond (ltb greatest_token z.0) outline.BadToken (outline.Known (frame_size b z.0 y.0) (layout_by b z.0))
+  pub head : head_at (b ∷ s) ≡ cond (ltb greatest_token z.0) (Err TokenLength)
+      (cond (eqb (length (b ∷ s)) (frame_size b z.0 y.0))
+      (Ok (record { code = get_or y.1 0 0; token = take z.0 z.1; body = drop z.0 z.1 })) (Err NotOneFrame))
 
--- ---- stated lengths are decoded
+head_cut : (x n : ℕ) (s : List ℕ) → option_number_at x (drop 1 s) ≡ None → head_at_code x n s ≡ Err NotOneFrame
+head_cut x n [] none = refl
+head_cut x n (c ∷ s) none = rw none refl
 
--- The token length is decoded after the code.
-record ReadsToken (x t : ℕ) (s : List ℕ) : Type 0 where
-  later : List ℕ
-  is : option_number_at x (drop 1 s) ≡ Some (t, later)
+head_read : (x n before all : ℕ) (s : List ℕ) (z : ℕ × List ℕ) → option_number_at x (drop 1 s) ≡ Some z
+    → all ≡ 1 + before + length s → head_at_code x n s ≡ cond (ltb greatest_token z.0) (Err TokenLength)
+    (cond (eqb all (1 + before + 1 + option_extension x + z.0 + n))
+    (Ok (record { code = get_or s 0 0; token = take z.0 z.1; body = drop z.0 z.1 })) (Err NotOneFrame))
+unfolding option_number_at
+head_read x n before all [] z token all_is = grind (arith, nat_tests, option_number_rest x [] z token)
+head_read x n before all (c ∷ s) z token all_is =
+    let k = option_number_rest x s z token in
+    rw token (grind (arith, nat_tests, ap length k.1, length-drop (option_extension x) s))
 
-token_again : (x t code : ℕ) (extension more : List ℕ) → IsOptionForm x extension t
-    → ReadsToken x t (code_and_extension code extension ++ more)
-token_again x t code [] more form = record { later = drop 1 more; is = option_number_again x [] t (drop 1 more) form }
-token_again x t code (e ∷ es) more form = record { later = more; is = option_number_again x (e ∷ es) t more form }
+pub reads : (b : ℕ) (s : List ℕ) (y z : ℕ × List ℕ) → b % 16 ≢ 15 → length_at (b / 16) s ≡ Some y
+    → option_number_at (b % 16) (drop 1 y.1) ≡ Some z → ReadsLengths b s y z
+unfolding declared_of outline_of head_at
+reads b s y z nibble body token =
+    let x = extension_of (b / 16) in
+    let e = option_extension (b % 16) in
+    let k = length_rest (b / 16) s y body in
+    let l = option_number_rest (b % 16) (drop 1 y.1) z token in
+    let width : length s ≡ x + length y.1 = omega (arith, ap length k.1, length-drop x s) in
+    let at_code : y.1 ≡ drop (1 + x) (b ∷ s) = k.1 ∙ drop-drop x 1 (b ∷ s) in
+    record {
+      nibble = nibble;
+      body = body;
+      token = token;
+      width = width;
+      token_width = omega (arith, ap length l.1, length-drop e (drop 1 y.1));
+      at_code = at_code;
+      at_token = grind (arith, drop-drop e 1 y.1, drop-drop (1 + e) (1 + x) (b ∷ s));
+      above = l.2;
+      declared = rw (ne_eqb (b % 16) 15 nibble, body, token) (grind (arith, nat_tests));
+      outline = rw (ne_eqb (b % 16) 15 nibble, body, token) (grind (arith, nat_tests));
+      head = rw (ne_eqb (b % 16) 15 nibble, body)
+          (head_read (b % 16) y.0 x (length (b ∷ s)) y.1 z token (omega arith));
+    }
 
--- The first byte of stated lengths, and the bytes after it.
-abbrev first_of : {head : List ℕ} {t n : ℕ} → StatesLengths head t n → ℕ
-first_of h = 16 * h.length_nibble + h.token_nibble
+-- The token length has nibble 15, or a byte of the lengths is missing, or they are decoded.
+pub data HeadKind (b : ℕ) (s : List ℕ) : Type 0 where
+  NoLength : b % 16 ≡ 15 → declared_of (b ∷ s) ≡ BadToken → outline_of (b ∷ s) ≡ outline.BadToken
+      → head_at (b ∷ s) ≡ Err TokenLength → HeadKind b s
+  Cut : length (b ∷ s) < size_bytes (b ∷ s) → declared_of (b ∷ s) ≡ Unknown → outline_of (b ∷ s) ≡ outline.Unknown
+      → head_at (b ∷ s) ≡ Err NotOneFrame → HeadKind b s
+  Lengths : (y z : ℕ × List ℕ) → ReadsLengths b s y z → HeadKind b s
 
-abbrev after_stated : {head : List ℕ} {t n : ℕ} → StatesLengths head t n → List ℕ → List ℕ
-after_stated h more = (h.extension ++ code_and_extension h.code h.token_extension) ++ more
+pub head_kind : (b : ℕ) (s : List ℕ) → HeadKind b s
+unfolding declared_of outline_of head_at
+head_kind b s =
+    elim (cases_eq (b % 16) 15) [
+      | inl none ↦
+          let same = eq-eqb (b % 16) 15 none in
+          NoLength none (rw same refl) (rw same refl) (rw same refl)
+      | inr nibble ↦
+          let other = ne_eqb (b % 16) 15 nibble in
+          elim (option_cases (length_at (b / 16) s)) [
+            | inr none ↦
+                Cut (grind (arith, nat_tests, length_short (b / 16) s none)) (rw (other, none) refl)
+                (rw (other, none) refl) (rw (other, none) refl)
+            | inl y ↦ elim (option_cases (option_number_at (b % 16) (drop 1 y.0.1))) [
+              | inr none ↦
+                  let k = length_rest (b / 16) s y.0 y.1 in
+                  Cut (grind (arith, nat_tests, k.0, ap length k.1, option_number_short (b % 16) (drop 1 y.0.1) none,
+                  length-drop (extension_of (b / 16)) s, length-drop 1 y.0.1)) (rw (other, y.1, none) refl)
+                  (rw (other, y.1, none) refl) (rw (other, y.1) (head_cut (b % 16) y.0.0 y.0.1 none))
+              | inl z ↦ Lengths y.0 z.0 (reads b s y.0 z.0 nibble y.1 z.1)
+            ]
+          ]
+    ]
 
--- The lengths that the first bytes state are decoded.
+-- ---- forms of lengths are decoded
+
+reads_forms : (x y : ℕ) (e d : List ℕ) (n t : ℕ) (at_code at_token : List ℕ) → IsLengthForm x e n → IsOptionForm y d t
+    → drop 1 at_code ≡ d ++ at_token → ReadsLengths (16 * x + y) (e ++ at_code) (n, at_code) (t, at_token)
+reads_forms x y e d n t at_code at_token f g is =
+    let small : y < 15 = (option_form_bound y d t g).0 in
+    let above : (16 * x + y) / 16 ≡ x = omega arith in
+    let below : (16 * x + y) % 16 ≡ y = omega arith in
+    reads (16 * x + y) (e ++ at_code) (n, at_code) (t, at_token) (omega arith) (rw above (length_again x e n at_code f))
+    (rw (below, is) (option_number_again y d t at_token g))
+
+-- The bytes after the code and the extension of the token length.
+after_code : (code : ℕ) (d more : List ℕ) → (r : List ℕ) × (drop 1 (code_and_extension code d ++ more) ≡ d ++ r)
+after_code code [] more = (drop 1 more, refl)
+after_code code (e ∷ es) more = (more, refl)
+
+code_length : (code : ℕ) (d : List ℕ)
+    → length (code_and_extension code d) ≡ cond (eqb (length d) 0) 0 (1 + length d)
+code_length code [] = refl
+code_length code (e ∷ es) = grind (arith, nat_tests)
+
+-- The lengths that the first bytes state are decoded. The bytes that state them end with the byte at which the size is
+-- known.
 pub record ReadsStated (head more : List ℕ) (t n : ℕ) (h : StatesLengths head t n) : Type 0 where
   pub first : ℕ
   pub later : List ℕ
+  pub at_code : List ℕ
+  pub at_token : List ℕ
   pub bytes : head ++ more ≡ first ∷ later
-  pub read : ReadsLengths first later t n
+  pub read : ReadsLengths first later (n, at_code) (t, at_token)
   pub extension : length h.extension ≡ extension_of (first / 16)
   pub token_extension : length h.token_extension ≡ option_extension (first % 16)
-
--- The nibble determines the number of extension bytes.
-length_form_width : (x : ℕ) (e : List ℕ) (n : ℕ) → IsLengthForm x e n → length e ≡ extension_of x
-length_form_width x e n form =
-    omega (arith, length_at_taken x (e ++ []) (n, []) (length_again x e n [] form), length-append e [])
+  pub size : size_bytes (first ∷ later) ≡ length head
 
 pub stated_read : (head more : List ℕ) (t n : ℕ) → (h : StatesLengths head t n) → ReadsStated head more t n h
 stated_read head more t n h =
-    let x = h.length_nibble in
-    let y = h.token_nibble in
-    let small : y < 15 = option_form_nibble y h.token_extension t h.token_form in
-    let k = nibbles x y (omega (arith, small)) in
-    let at_code = code_and_extension h.code h.token_extension ++ more in
-    let token = token_again y t h.code h.token_extension more h.token_form in
-    let body : length_at x (after_stated h more) ≡ Some (n, at_code) =
-    ap (length_at x) (append_assoc h.extension (code_and_extension h.code h.token_extension) more)
-    ∙ length_again x h.extension n at_code h.length_form in
+    let first = 16 * h.length_nibble + h.token_nibble in
+    let front = code_and_extension h.code h.token_extension in
+    let after = after_code h.code h.token_extension more in
+    let r = reads_forms h.length_nibble h.token_nibble h.extension h.token_extension n t (front ++ more) after.0
+    h.length_form h.token_form after.1 in
+    let small : h.token_nibble < 15 = (option_form_bound h.token_nibble h.token_extension t h.token_form).0 in
+    let above : first / 16 ≡ h.length_nibble = omega arith in
+    let below : first % 16 ≡ h.token_nibble = omega arith in
+    let k = (length_form_bound h.length_nibble h.extension n h.length_form).2 in
+    let l = option_form_width h.token_nibble h.token_extension t h.token_form in
     record {
-      first = first_of h;
-      later = after_stated h more;
-      bytes = ap (λ (l : List ℕ). l ++ more) h.head;
-      read = record {
-        at_code = at_code;
-        at_token = token.later;
-        nibble = omega (arith, k.1, small);
-        body = rw (k.0) body;
-        token = rw (k.1) token.is;
-      };
-      extension = rw (k.0) (length_form_width x h.extension n h.length_form);
-      token_extension = rw (k.1) (option_form_width y h.token_extension t h.token_form);
+      first = first;
+      later = h.extension ++ (front ++ more);
+      at_code = front ++ more;
+      at_token = after.0;
+      bytes = rw (h.head, append_assoc) refl;
+      read = r;
+      extension = rw above k;
+      token_extension = rw below l;
+      size = grind (
+        arith,
+        nat_tests,
+        ap length h.head,
+        length-append h.extension front,
+        code_length h.code h.token_extension,
+      );
     }
+
+-- ---- what bytes declare
 
 -- A size that the first bytes state is declared.
 pub size_declared : (s : List ℕ) (n : ℕ) → IsDeclaredSize s n → declared_of s ≡ Size n
 size_declared s n d =
     let h = d.3 in
     let r = stated_read d.0 d.1 h.token_length h.body_length h.lengths in
-    let same : frame_size r.first h.token_length h.body_length ≡ n =
-    omega (arith, h.size, r.extension, r.token_extension) in
-    ap declared_of (d.2 ∙ r.bytes)
-    ∙ declared_size r.first r.later h.token_length h.body_length r.read h.short ∙ ap Size same
+    rw (d.2, r.bytes, r.read.declared) (grind (arith, nat_tests, h.short, h.size, r.extension, r.token_extension))
 
 -- An invalid token length that the first bytes state is declared.
 pub bad_token_declared : (s : List ℕ) → HasBadToken s → declared_of s ≡ BadToken
+unfolding declared_of
 bad_token_declared s bad =
     elim (bad.3) [
-      | inl none ↦
-          ap declared_of (bad.2 ∙ ap (λ (head : List ℕ). head ++ bad.1) none.1) ∙ declared_no_length none.0 bad.1 none.2
+      | inl none ↦ rw (bad.2, none.1) (rw (eq-eqb (none.0 % 16) 15 none.2) refl)
       | inr long ↦
           let r = stated_read bad.0 bad.1 long.0 long.1 long.2 in
-          ap declared_of (bad.2 ∙ r.bytes) ∙ declared_long r.first r.later long.0 long.1 r.read long.3
+          rw (bad.2, r.bytes) (r.read.declared ∙ rw (lt-ltb greatest_token long.0 long.3) refl)
     ]
+
+pub declared_nothing : declared_of [] ≡ Unknown
+unfolding declared_of
+declared_nothing = refl
 
 declares_unknown : (s : List ℕ) → declared_of s ≡ Unknown → Declares s Unknown
 declares_unknown s e = (λ bad. cc (bad_token_declared s bad, e), λ n d. cc (size_declared s n d, e))
 
 -- ---- decoded lengths are stated
+
+-- The forms of decoded lengths.
+record HasForms (b : ℕ) (s : List ℕ) (y z : ℕ × List ℕ) : Type 0 where
+  extension : List ℕ
+  token_extension : List ℕ
+  length_form : IsLengthForm (b / 16) extension y.0
+  token_form : IsOptionForm (b % 16) token_extension z.0
+  parts : s ≡ extension ++ y.1
+  token_parts : drop 1 y.1 ≡ token_extension ++ z.1
+  fits : AreBytes z.1
+  first : b ≡ 16 * (b / 16) + b % 16
+  width : length extension ≡ extension_of (b / 16)
+  token_width : length token_extension ≡ option_extension (b % 16)
+
+have_forms : (b : ℕ) (s : List ℕ) (y z : ℕ × List ℕ) → AreBytes (b ∷ s) → ReadsLengths b s y z → HasForms b s y z
+have_forms b s y z fits r =
+    let byte : b < 256 = fits 0 in
+    let k = length_takes (b / 16) s y (AreBytes-tail (b ∷ []) s fits) (omega arith) r.body in
+    let later = AreBytes-drop 1 y.1 (AreBytes-tail k.extension y.1 (rw k.parts at (AreBytes-tail (b ∷ []) s fits))) in
+    let l = option_number_takes (b % 16) (drop 1 y.1) z later (omega (arith, r.nibble)) r.token in
+    record {
+      extension = k.extension;
+      token_extension = l.extension;
+      length_form = k.form;
+      token_form = l.form;
+      parts = k.parts;
+      token_parts = l.parts;
+      fits = AreBytes-tail l.extension z.1 (rw l.parts at later);
+      first = omega arith;
+      width = (length_form_bound (b / 16) k.extension y.0 k.form).2;
+      token_width = option_form_width (b % 16) l.extension z.0 l.form;
+    }
 
 -- The code, and the bytes after the code and the extension.
 record HasCode (s extension : List ℕ) : Type 0 where
@@ -212,97 +254,70 @@ record HasCode (s extension : List ℕ) : Type 0 where
 
 code_before : (s extension later : List ℕ) → drop 1 s ≡ extension ++ later → HasCode s extension
 code_before s [] later h = record { code = 0; more = s; parts = refl }
-code_before [] (e ∷ es) later h = absurd cc
-code_before (c ∷ s) (e ∷ es) later h = record { code = c; more = later; parts = ap (λ (l : List ℕ). c ∷ l) h }
+code_before [] (e ∷ es) later h = cc
+code_before (c ∷ s) (e ∷ es) later h = record { code = c; more = later; parts = ap (λ l. c ∷ l) h }
 
 -- The bytes that state the lengths, and the bytes after them.
-pub record IsStated (b : ℕ) (s : List ℕ) (t n : ℕ) : Type 0 where
-  pub head : List ℕ
-  pub more : List ℕ
-  pub bytes : b ∷ s ≡ head ++ more
-  pub lengths : StatesLengths head t n
-  pub extension : length lengths.extension ≡ extension_of (b / 16)
-  pub token_extension : length lengths.token_extension ≡ option_extension (b % 16)
+record IsStated (b : ℕ) (s : List ℕ) (y z : ℕ × List ℕ) : Type 0 where
+  head : List ℕ
+  more : List ℕ
+  bytes : b ∷ s ≡ head ++ more
+  lengths : StatesLengths head z.0 y.0
+  size : frame_size b z.0 y.0 ≡ 1 + length lengths.extension + 1 + length lengths.token_extension + z.0 + y.0
 
-pub read_stated : (b : ℕ) (s : List ℕ) (t n : ℕ) → AreBytes (b ∷ s) → ReadsLengths b s t n → IsStated b s t n
-read_stated b s t n fits r =
-    let byte : b < 256 = fits 0 in
-    let split : b ≡ 16 * (b / 16) + b % 16 = omega arith in
-    let l = length_takes (b / 16) s (n, r.at_code) (AreBytes-tail (b ∷ []) s fits) (omega arith) r.body in
-    let k = option_number_takes (b % 16) (drop 1 r.at_code) (t, r.at_token) (AreBytes-drop 1 r.at_code l.rest_fits)
-    (omega (arith, r.nibble)) r.token in
-    let c = code_before r.at_code k.extension r.at_token k.parts in
-    let front = code_and_extension c.code k.extension in
+read_stated : (b : ℕ) (s : List ℕ) (y z : ℕ × List ℕ) → AreBytes (b ∷ s) → ReadsLengths b s y z → IsStated b s y z
+read_stated b s y z fits r =
+    let f = have_forms b s y z fits r in
+    let c = code_before y.1 f.token_extension z.1 f.token_parts in
     record {
-      head = b ∷ (l.extension ++ front);
+      head = b ∷ (f.extension ++ code_and_extension c.code f.token_extension);
       more = c.more;
-      bytes =
-          ap (λ (x : List ℕ). b ∷ x)
-          (l.parts ∙ ap (λ (x : List ℕ). l.extension ++ x) c.parts ∙ sym (append_assoc l.extension front c.more));
+      bytes = cc (f.parts, c.parts, append_assoc f.extension (code_and_extension c.code f.token_extension) c.more);
       lengths = record {
         length_nibble = b / 16;
-        extension = l.extension;
+        extension = f.extension;
         token_nibble = b % 16;
         code = c.code;
-        token_extension = k.extension;
-        length_form = l.form;
-        token_form = k.form;
-        head = ap (λ (x : ℕ). x ∷ (l.extension ++ front)) split;
+        token_extension = f.token_extension;
+        length_form = f.length_form;
+        token_form = f.token_form;
+        head = cc f.first;
       };
-      extension = length_form_width (b / 16) l.extension n l.form;
-      token_extension = option_form_width (b % 16) k.extension t k.form;
+      size = omega arith;
     }
-
-read_size : (b : ℕ) (s : List ℕ) (t n : ℕ) → AreBytes (b ∷ s) → ReadsLengths b s t n → t ≤ greatest_token
-    → IsDeclaredSize (b ∷ s) (frame_size b t n)
-read_size b s t n fits r short =
-    let i = read_stated b s t n fits r in (
-      i.head,
-      i.more,
-      i.bytes,
-      record {
-        token_length = t;
-        body_length = n;
-        lengths = i.lengths;
-        short = short;
-        size = omega (arith, i.extension, i.token_extension);
-      },
-    )
-
-pub read_bad_token : (b : ℕ) (s : List ℕ) (t n : ℕ) → AreBytes (b ∷ s) → ReadsLengths b s t n
-    → greatest_token < t → HasBadToken (b ∷ s)
-read_bad_token b s t n fits r long =
-    let i = read_stated b s t n fits r in
-    (i.head, i.more, i.bytes, inr (t, n, i.lengths, long))
-
-pub no_token_length : (b : ℕ) (s : List ℕ) → b % 16 ≡ 15 → HasBadToken (b ∷ s)
-no_token_length b s none = (b ∷ [], s, refl, inl (b, refl, none))
 
 -- The first bytes declare the result of `declared_of`.
 pub declares : (s : List ℕ) → AreBytes s → Declares s (declared_of s)
 declares [] fits = rw declared_nothing (declares_unknown [] declared_nothing)
 declares (b ∷ s) fits =
-    elim (head_cases b s) [
-      | inl r ↦ elim (cases_lt greatest_token r.0) [
-        | inl long ↦ rw (declared_long b s r.0 r.1 r.2 long) (read_bad_token b s r.0 r.1 fits r.2 long)
-        | inr short ↦ rw (declared_size b s r.0 r.1 r.2 short) (read_size b s r.0 r.1 fits r.2 short)
-      ]
-      | inr others ↦ elim others [
-        | inl none ↦ rw (declared_no_length b s none) (no_token_length b s none)
-        | inr cut ↦ rw (declared_cut b s cut) (declares_unknown (b ∷ s) (declared_cut b s cut))
-      ]
+    elim (head_kind b s) [
+      | NoLength none d o h ↦ rw d (b ∷ [], s, refl, inl (b, refl, none))
+      | Cut few d o h ↦ rw d (declares_unknown (b ∷ s) d)
+      | Lengths y z r ↦
+          let i = read_stated b s y z fits r in
+          elim (cases_lt greatest_token z.0) [
+            | inl long ↦
+                rw (r.declared, lt-ltb greatest_token z.0 long) (i.head, i.more, i.bytes, inr (z.0, y.0, i.lengths, long))
+            | inr short ↦ rw (r.declared, le-ltb greatest_token z.0 short) (i.head, i.more, i.bytes, record {
+              token_length = z.0;
+              body_length = y.0;
+              lengths = i.lengths;
+              short = short;
+              size = i.size;
+            })
+          ]
     ]
-
-unknown_only : (s : List ℕ) (d : Declared) → Declares s d → Declares s Unknown → d ≡ Unknown
-unknown_only s Unknown p q = refl
-unknown_only s (Size n) p q = absurd (q.1 n p)
-unknown_only s BadToken p q = absurd (q.0 p)
 
 -- The first bytes declare no other result.
 pub declared_only : (s : List ℕ) (d : Declared) → AreBytes s → Declares s d → d ≡ declared_of s
-declared_only s Unknown fits p = sym (unknown_only s (declared_of s) (declares s fits) p)
 declared_only s (Size n) fits p = sym (size_declared s n p)
 declared_only s BadToken fits p = sym (bad_token_declared s p)
+declared_only s Unknown fits p = go (declared_of s) (declares s fits)
+  where
+    go : (d : Declared) → Declares s d → Unknown ≡ d
+    go Unknown q = refl
+    go (Size n) q = absurd (p.1 n q)
+    go BadToken q = absurd (p.0 q)
 
 -- ---- the head
 
@@ -310,210 +325,79 @@ pub head_nothing : head_at [] ≡ Err NotOneFrame
 unfolding head_at
 head_nothing = refl
 
-pub head_no_length : (b : ℕ) (s : List ℕ) → b % 16 ≡ 15 → head_at (b ∷ s) ≡ Err TokenLength
-unfolding head_at
-head_no_length b s h = rw (eq-eqb (b % 16) 15 h) refl
-
-head_by : (b : ℕ) (s : List ℕ) → b % 16 ≢ 15 → head_at (b ∷ s) ≡ head_from (b % 16) (length_at (b / 16) s)
-unfolding head_at
-head_by b s h = rw (ne_eqb (b % 16) 15 h) refl
-
-cut_after : (x n : ℕ) (s : List ℕ) → option_number_at x (drop 1 s) ≡ None → head_at_code x n s ≡ Err NotOneFrame
-cut_after x n [] none = refl
-cut_after x n (c ∷ s) none = ap (head_with c n) none
-
-pub head_cut : (b : ℕ) (s : List ℕ) → IsCutHead b s → head_at (b ∷ s) ≡ Err NotOneFrame
-head_cut b s c =
-    elim (c.cut) [
-      | inl none ↦ head_by b s c.nibble ∙ ap (head_from (b % 16)) none
-      | inr y ↦ head_by b s c.nibble ∙ ap (head_from (b % 16)) y.1 ∙ cut_after (b % 16) y.0.0 y.0.1 y.2
-    ]
-
-head_read : (b : ℕ) (s : List ℕ) (t n : ℕ) (at_code at_token : List ℕ) (code : ℕ) → b % 16 ≢ 15
-    → length_at (b / 16) s ≡ Some (n, code ∷ at_code)
-    → option_number_at (b % 16) at_code ≡ Some (t, at_token) → head_at (b ∷ s) ≡ head_with code n (Some (t, at_token))
-head_read b s t n at_code at_token code nibble body token =
-    head_by b s nibble ∙ ap (head_from (b % 16)) body ∙ ap (head_with code n) token
-
-pub head_made : ℕ → ℕ → List ℕ → Head
-head_made code t s = record { code = code; token = take t s; body = drop t s }
-
-pub head_long : (code t n : ℕ) (s : List ℕ) → greatest_token < t → head_with code n (Some (t, s)) ≡ Err TokenLength
-head_long code t n s long = rw (lt-ltb greatest_token t long) refl
-
-pub head_made_is : (code t : ℕ) (s : List ℕ)
-    → head_made code t s ≡ record { code = code; token = take t s; body = drop t s }
-unfolding head_made
-head_made_is code t s = refl
-
-pub head_whole : (code t n : ℕ) (s : List ℕ) → t ≤ greatest_token → length s ≡ t + n
-    → head_with code n (Some (t, s)) ≡ Ok (head_made code t s)
-unfolding head_made
-head_whole code t n s short h = rw (le-ltb greatest_token t short, eq-eqb (length s) (t + n) h) refl
-
-pub head_not_whole : (code t n : ℕ) (s : List ℕ) → t ≤ greatest_token → length s ≢ t + n
-    → head_with code n (Some (t, s)) ≡ Err NotOneFrame
-head_not_whole code t n s short h = rw (le-ltb greatest_token t short, ne_eqb (length s) (t + n) h) refl
-
--- If no byte follows the length, the token length has no extension.
-few_token : (x t : ℕ) (later : List ℕ) → option_number_at x [] ≡ Some (t, later) → t ≤ greatest_token
-few_token x t later e =
-    elim (cases_lt x 13) [
-      | inl lt ↦
-          let same : x ≡ t =
-          ap (λ (y : ℕ × List ℕ). y.0) (some_is (x, []) (t, later) (sym (option_number_none x [] lt) ∙ e)) in
-          omega (arith, lt, same)
-      | inr ge ↦ absurd (omega (arith, option_extension_some x ge, option_number_length x [] (t, later) e))
-    ]
-
--- The result for a head whose lengths are decoded: no code, or the parts after the code.
-abbrev pub HeadParts : ℕ → List ℕ → ℕ → ℕ → List ℕ → List ℕ → Type 0
-HeadParts b s t n at_code at_token =
-    ((at_code ≡ []) × (head_at (b ∷ s) ≡ Err NotOneFrame) × (t ≤ greatest_token))
-    ⊎ ((code : ℕ) × (later : List ℕ) × (at_code ≡ code ∷ later)
-    × (head_at (b ∷ s) ≡ head_with code n (Some (t, at_token))))
-
-parts_by : (b : ℕ) (s : List ℕ) (t n : ℕ) (at_code at_token : List ℕ) → b % 16 ≢ 15
-    → length_at (b / 16) s ≡ Some (n, at_code)
-    → option_number_at (b % 16) (drop 1 at_code) ≡ Some (t, at_token) → HeadParts b s t n at_code at_token
-parts_by b s t n [] at_token nibble body token =
-    inl (refl, head_by b s nibble ∙ ap (head_from (b % 16)) body, few_token (b % 16) t at_token token)
-parts_by b s t n (code ∷ later) at_token nibble body token =
-    inr (code, later, refl, head_read b s t n later at_token code nibble body token)
-
-pub head_parts : (b : ℕ) (s : List ℕ) (t n : ℕ) → (r : ReadsLengths b s t n) → HeadParts b s t n r.at_code r.at_token
-head_parts b s t n r = parts_by b s t n r.at_code r.at_token r.nibble r.body r.token
-
 -- The bytes of a decoded head encode it, and its body has bytes only.
-head_spelled : (b : ℕ) (s : List ℕ) (t n code : ℕ) (later : List ℕ) → AreBytes (b ∷ s) → (r : ReadsLengths b s t n)
-    → r.at_code ≡ code ∷ later → t ≤ greatest_token → length r.at_token ≡ t + n
-    → IsHeadAndBody (b ∷ s) code (take t r.at_token) (drop t r.at_token) × AreBytes (drop t r.at_token)
-head_spelled b s t n code later fits r is short whole =
-    let byte : b < 256 = fits 0 in
-    let split : b ≡ 16 * (b / 16) + b % 16 = omega arith in
-    let l = length_takes (b / 16) s (n, r.at_code) (AreBytes-tail (b ∷ []) s fits) (omega arith) r.body in
-    let k = option_number_takes (b % 16) (drop 1 r.at_code) (t, r.at_token) (AreBytes-drop 1 r.at_code l.rest_fits)
-    (omega (arith, r.nibble)) r.token in
-    let token : length (take t r.at_token) ≡ t = omega (arith, whole, length-take t r.at_token) in
-    let body : length (drop t r.at_token) ≡ n = omega (arith, whole, length-drop t r.at_token) in
-    let rest : later ≡ k.extension ++ (take t r.at_token ++ drop t r.at_token) =
-    sym (ap (drop 1) is) ∙ k.parts ∙ ap (λ (x : List ℕ). k.extension ++ x) (sym (take-append-drop t r.at_token)) in (
+head_spelled : (b : ℕ) (s : List ℕ) (y z : ℕ × List ℕ) → AreBytes (b ∷ s) → ReadsLengths b s y z
+    → z.0 ≤ greatest_token → length (b ∷ s) ≡ frame_size b z.0 y.0
+    → IsHeadAndBody (b ∷ s) (get_or y.1 0 0) (take z.0 z.1) (drop z.0 z.1) × AreBytes (drop z.0 z.1)
+head_spelled b s y z fits r short whole =
+    let f = have_forms b s y z fits r in
+    let token : length (take z.0 z.1) ≡ z.0 = omega (arith, length-take z.0 z.1, length-drop 1 y.1) in
+    let body : length (drop z.0 z.1) ≡ y.0 = omega (arith, length-drop z.0 z.1, length-drop 1 y.1) in
+    let code : y.1 ≡ get_or y.1 0 0 ∷ drop 1 y.1 = drop_more y.1 0 0 (omega arith) in (
       record {
         length_nibble = b / 16;
-        extension = l.extension;
+        extension = f.extension;
         token_nibble = b % 16;
-        token_extension = k.extension;
-        length_form = subst (λ (x : ℕ). IsLengthForm (b / 16) l.extension x) (sym body) l.form;
-        token_form =
-            (subst (λ (x : ℕ). IsOptionForm (b % 16) k.extension x) (sym token) k.form, omega (arith, token, short));
-        bytes = ap (λ (x : ℕ). x ∷ s) split
-            ∙ ap (λ (x : List ℕ). (16 * (b / 16) + b % 16) ∷ x)
-            (l.parts ∙ ap (λ (x : List ℕ). l.extension ++ x) (is ∙ ap (λ (x : List ℕ). code ∷ x) rest));
+        token_extension = f.token_extension;
+        length_form = rw body f.length_form;
+        token_form = rw token (f.token_form, short);
+        bytes = cc (take-append-drop z.0 z.1);
       },
-      AreBytes-drop t r.at_token k.rest_fits,
+      AreBytes-drop z.0 z.1 f.fits,
     )
 
--- The bytes encode the decoded head h.
-abbrev IsSpelledSo : List ℕ → Head → Type 0
-IsSpelledSo s h = IsHeadAndBody s h.code h.token h.body × AreBytes h.body
-
-takes_parts : (b : ℕ) (s : List ℕ) (h : Head) (t n code : ℕ) (later : List ℕ) → AreBytes (b ∷ s)
-    → (r : ReadsLengths b s t n) → r.at_code ≡ code ∷ later
-    → head_with code n (Some (t, r.at_token)) ≡ Ok h → IsSpelledSo (b ∷ s) h
-unfolding head_made
-takes_parts b s h t n code later fits r is e =
-    elim (cases_lt greatest_token t) [
-      | inl long ↦
-          absurd
-          (ok_or_err (head_with code n (Some (t, r.at_token))) h TokenLength e (head_long code t n r.at_token long))
-      | inr short ↦ elim (cases_eq (length r.at_token) (t + n)) [
-        | inl whole ↦
-            subst (IsSpelledSo (b ∷ s))
-            (ok_is (head_made code t r.at_token) h (sym (head_whole code t n r.at_token short whole) ∙ e))
-            (head_spelled b s t n code later fits r is short whole)
-        | inr other ↦
-            absurd (ok_or_err (head_with code n (Some (t, r.at_token))) h NotOneFrame e
-            (head_not_whole code t n r.at_token short other))
-      ]
-    ]
-
+-- The bytes of a decoded head encode it.
 pub head_takes : (s : List ℕ) (h : Head) → AreBytes s → head_at s ≡ Ok h
     → IsHeadAndBody s h.code h.token h.body × AreBytes h.body
-head_takes [] h fits e = absurd (ok_or_err (head_at []) h NotOneFrame e head_nothing)
+head_takes [] h fits e = cc head_nothing
 head_takes (b ∷ s) h fits e =
-    elim (head_cases b s) [
-      | inl r ↦ elim (head_parts b s r.0 r.1 r.2) [
-        | inl none ↦ absurd (ok_or_err (head_at (b ∷ s)) h NotOneFrame e none.1)
-        | inr p ↦ takes_parts b s h r.0 r.1 p.0 p.1 fits r.2 p.2 (sym p.3 ∙ e)
-      ]
-      | inr others ↦ elim others [
-        | inl none ↦ absurd (ok_or_err (head_at (b ∷ s)) h TokenLength e (head_no_length b s none))
-        | inr cut ↦ absurd (ok_or_err (head_at (b ∷ s)) h NotOneFrame e (head_cut b s cut))
-      ]
+    elim (head_kind b s) [
+      | NoLength none d o bad ↦ cc
+      | Cut few d o bad ↦ cc
+      | Lengths y z r ↦
+          let is : h ≡ record { code = get_or y.1 0 0; token = take z.0 z.1; body = drop z.0 z.1 } =
+          grind (arith, nat_tests) in
+          rw is (head_spelled b s y z fits r (grind (arith, nat_tests)) (grind (arith, nat_tests)))
     ]
-
-made_is : (code t : ℕ) (token body : List ℕ) → length token ≡ t
-    → head_made code t (token ++ body) ≡ record { code = code; token = token; body = body }
-unfolding head_made
-made_is code t token body h = rw (take_at token body t h, drop_at token body t h) refl
 
 -- The encoding of a head is decoded to it.
 pub head_again : (s : List ℕ) (code : ℕ) (token body : List ℕ) → IsHeadAndBody s code token body
     → head_at s ≡ Ok (record { code = code; token = token; body = body })
 head_again s code token body h =
-    let x = h.length_nibble in
-    let y = h.token_nibble in
-    let t = length token in
-    let later = h.token_extension ++ (token ++ body) in
-    let small : y < 15 = option_form_nibble y h.token_extension t h.token_form.0 in
-    let k = nibbles x y (omega (arith, small)) in
-    let is : length_at x (h.extension ++ code ∷ later) ≡ Some (length body, code ∷ later) =
-    length_again x h.extension (length body) (code ∷ later) h.length_form in
-    let token_is : option_number_at y later ≡ Some (t, token ++ body) =
-    option_number_again y h.token_extension t (token ++ body) h.token_form.0 in
-    ap head_at h.bytes
-    ∙ head_read (16 * x + y) (h.extension ++ code ∷ later) t (length body) later (token ++ body) code
-    (omega (arith, k.1, small)) (rw (k.0) is) (rw (k.1) token_is)
-    ∙ head_whole code t (length body) (token ++ body) h.token_form.1 (length-append token body)
-    ∙ ap Ok (made_is code t token body refl)
+    let later = token ++ body in
+    let r = reads_forms h.length_nibble h.token_nibble h.extension h.token_extension (length body) (length token)
+    (code ∷ (h.token_extension ++ later)) later h.length_form h.token_form.0 refl in
+    rw (h.bytes, r.head) (grind (
+      arith,
+      nat_tests,
+      take_at token body (length token) refl,
+      drop_at token body (length token) refl,
+      length-append h.extension (code ∷ (h.token_extension ++ later)),
+      length-append h.token_extension later,
+      length-append token body,
+    ))
 
 -- The head of a frame is decoded without an error.
 pub frame_head : (s : List ℕ) → IsFrame s → (h : Head) × (head_at s ≡ Ok h)
-frame_head s f =
-    let h = f.3 in
-    let r = stated_read f.0 f.1 h.token_length h.body_length h.lengths in
-    let w = widths r.first r.later h.token_length h.body_length r.read in
-    let all : length s ≡ 1 + length r.later = omega (arith, ap length (f.2 ∙ r.bytes)) in
-    elim (head_parts r.first r.later h.token_length h.body_length r.read) [
-      | inl none ↦ absurd (omega (arith, all, h.size, r.extension, w.body, ap length none.0))
-      | inr p ↦
-          let later : length (drop 1 r.read.at_code) ≡ length p.1 = ap (λ (l : List ℕ). length (drop 1 l)) p.2 in
-          let len : length r.read.at_token ≡ h.token_length + h.body_length =
-          omega (arith, all, h.size, r.extension, r.token_extension, w.body, w.token, later, ap length p.2) in (
-            head_made p.0 h.token_length r.read.at_token,
-            ap head_at (f.2 ∙ r.bytes) ∙ p.3 ∙ head_whole p.0 h.token_length h.body_length r.read.at_token h.short len,
-          )
+frame_head [] f = cc (declared_nothing, size_declared [] 0 f)
+frame_head (b ∷ s) f =
+    let e = size_declared (b ∷ s) (length (b ∷ s)) f in
+    elim (head_kind b s) [
+      | NoLength none d o h ↦ cc
+      | Cut few d o h ↦ cc
+      | Lengths y z r ↦
+          (record { code = get_or y.1 0 0; token = take z.0 z.1; body = drop z.0 z.1 }, grind (arith, nat_tests))
     ]
 
 -- A head and a body of the stated length are a frame.
 pub head_frame : (s : List ℕ) (code : ℕ) (token body : List ℕ) → IsHeadAndBody s code token body → IsFrame s
 head_frame s code token body h =
     let later = code ∷ (h.token_extension ++ (token ++ body)) in
-    let first = 16 * h.length_nibble + h.token_nibble in
     let c = code_before later h.token_extension (token ++ body) refl in
-    let front = code_and_extension c.code h.token_extension in
-    let len : length s ≡ 1 + length h.extension + 1 + length h.token_extension + length token + length body =
-    omega (
-      arith,
-      ap length h.bytes,
-      length-append h.extension later,
-      length-append h.token_extension (token ++ body),
-      length-append token body,
-    ) in (
-      first ∷ (h.extension ++ front),
+    let front = code_and_extension c.code h.token_extension in (
+      (16 * h.length_nibble + h.token_nibble) ∷ (h.extension ++ front),
       c.more,
-      h.bytes ∙ ap (λ (x : List ℕ). first ∷ x)
-          (ap (λ (x : List ℕ). h.extension ++ x) c.parts ∙ sym (append_assoc h.extension front c.more)),
+      cc (h.bytes, c.parts, append_assoc h.extension front c.more),
       record {
         token_length = length token;
         body_length = length body;
@@ -528,7 +412,13 @@ head_frame s code token body h =
           head = refl;
         };
         short = h.token_form.1;
-        size = len;
+        size = omega (
+          arith,
+          ap length h.bytes,
+          length-append h.extension later,
+          length-append h.token_extension (token ++ body),
+          length-append token body,
+        );
       },
     )
 
@@ -536,54 +426,108 @@ head_frame s code token body h =
 
 -- An invalid token length is an error.
 pub bad_token_read : (s : List ℕ) → HasBadToken s → head_at s ≡ Err TokenLength
-bad_token_read s bad =
-    elim (bad.3) [
-      | inl none ↦
-          ap head_at (bad.2 ∙ ap (λ (head : List ℕ). head ++ bad.1) none.1) ∙ head_no_length none.0 bad.1 none.2
-      | inr long ↦
-          let r = stated_read bad.0 bad.1 long.0 long.1 long.2 in
-          ap head_at (bad.2 ∙ r.bytes)
-          ∙ elim (head_parts r.first r.later long.0 long.1 r.read) [
-            | inl none ↦ absurd (omega (arith, none.2, long.3))
-            | inr p ↦ p.3 ∙ head_long p.0 long.0 long.1 r.read.at_token long.3
-          ]
+bad_token_read [] bad = cc (declared_nothing, bad_token_declared [] bad)
+bad_token_read (b ∷ s) bad =
+    let e = bad_token_declared (b ∷ s) bad in
+    elim (head_kind b s) [
+      | NoLength none d o h ↦ h
+      | Cut few d o h ↦ cc
+      | Lengths y z r ↦ grind (arith, nat_tests)
     ]
 
 not_one_frame : (s : List ℕ) → head_at s ≡ Err NotOneFrame → IsFirstFault s NotOneFrame
-not_one_frame s e =
-    (λ bad. cc (bad_token_read s bad, e), λ f. let r = frame_head s f in ok_or_err (head_at s) r.0 NotOneFrame r.1 e)
+not_one_frame s e = (λ bad. cc (bad_token_read s bad), λ f. let h = frame_head s f in cc)
 
-no_frame_is : (s : List ℕ) (e : FormatFault) → head_at s ≡ Err NotOneFrame → head_at s ≡ Err e → IsFirstFault s e
-no_frame_is s e is h = let same : NotOneFrame ≡ e = cc in subst (IsFirstFault s) same (not_one_frame s is)
-
-bad_token_is : (s : List ℕ) (e : FormatFault) → HasBadToken s → head_at s ≡ Err e → IsFirstFault s e
-bad_token_is s e bad h = let same : TokenLength ≡ e = cc (bad_token_read s bad) in subst (IsFirstFault s) same bad
-
-parts_fault : (b : ℕ) (s : List ℕ) (e : FormatFault) (t n code : ℕ) → AreBytes (b ∷ s) → (r : ReadsLengths b s t n)
-    → head_at (b ∷ s) ≡ head_with code n (Some (t, r.at_token))
-    → head_at (b ∷ s) ≡ Err e → IsFirstFault (b ∷ s) e
-parts_fault b s e t n code fits r is h =
-    elim (cases_lt greatest_token t) [
-      | inl long ↦ bad_token_is (b ∷ s) e (read_bad_token b s t n fits r long) h
-      | inr short ↦ elim (cases_eq (length r.at_token) (t + n)) [
-        | inl whole ↦
-            absurd (ok_or_err (head_at (b ∷ s)) (head_made code t r.at_token) e
-            (is ∙ head_whole code t n r.at_token short whole) h)
-        | inr other ↦ no_frame_is (b ∷ s) e (is ∙ head_not_whole code t n r.at_token short other) h
-      ]
-    ]
+fault_by : (s : List ℕ) (e : FormatFault) → AreBytes s → head_at s ≡ Err e
+    → ((declared_of s ≡ BadToken) × (e ≡ TokenLength)) ⊎ (e ≡ NotOneFrame) → IsFirstFault s e
+fault_by s e fits h (inl p) = rw (p.1) (rw (p.0) at (declares s fits))
+fault_by s e fits h (inr is) = rw is (not_one_frame s (rw is at h))
 
 -- If decoding a head fails, the bytes have the error returned.
 pub head_is_wrong : (s : List ℕ) (e : FormatFault) → AreBytes s → head_at s ≡ Err e → IsFirstFault s e
-head_is_wrong [] e fits h = no_frame_is [] e head_nothing h
+head_is_wrong [] e fits h = fault_by [] e fits h (inr (cc head_nothing))
 head_is_wrong (b ∷ s) e fits h =
-    elim (head_cases b s) [
-      | inl r ↦ elim (head_parts b s r.0 r.1 r.2) [
-        | inl none ↦ no_frame_is (b ∷ s) e none.1 h
-        | inr p ↦ parts_fault b s e r.0 r.1 p.0 fits r.2 p.3 h
+    fault_by (b ∷ s) e fits h (elim (head_kind b s) [
+      | NoLength none d o bad ↦ inl (d, cc)
+      | Cut few d o bad ↦ inr cc
+      | Lengths y z r ↦ elim (cases_lt greatest_token z.0) [
+        | inl long ↦ inl (grind (arith, nat_tests), grind (arith, nat_tests))
+        | inr short ↦ inr (grind (arith, nat_tests))
       ]
-      | inr others ↦ elim others [
-        | inl none ↦ bad_token_is (b ∷ s) e (no_token_length b s none) h
-        | inr cut ↦ no_frame_is (b ∷ s) e (head_cut b s cut) h
+    ])
+
+-- ---- more bytes
+
+token_more : (x : ℕ) (s t : List ℕ) (z : ℕ × List ℕ) → option_number_at x (drop 1 s) ≡ Some z
+    → (later : List ℕ) × (option_number_at x (drop 1 (s ++ t)) ≡ Some (z.0, later))
+unfolding option_number_at one_byte_at two_bytes_at
+token_more x [] t z e = (drop 1 t, grind (arith, nat_tests))
+token_more x (c ∷ s) t z e = (z.1 ++ t, option_number_more x s t z e)
+
+-- Decoded lengths stay the same when more bytes follow.
+pub reads_more : (b : ℕ) (s t : List ℕ) (y z : ℕ × List ℕ) → ReadsLengths b s y z
+    → (later : List ℕ) × ReadsLengths b (s ++ t) (y.0, y.1 ++ t) (z.0, later)
+reads_more b s t y z r =
+    let k = token_more (b % 16) y.1 t z r.token in
+    (k.0, reads b (s ++ t) (y.0, y.1 ++ t) (z.0, k.0) r.nibble (length_more (b / 16) s t y r.body) k.1)
+
+-- What bytes declare stays the same when more bytes follow, unless it is unknown.
+pub known_more : (s t : List ℕ) → (declared_of s ≡ Unknown → ⊥)
+    → (declared_of (s ++ t) ≡ declared_of s) × (outline_of (s ++ t) ≡ outline_of s)
+unfolding declared_of outline_of
+known_more [] t known = absurd (known refl)
+known_more (b ∷ s) t known =
+    elim (head_kind b s) [
+      | NoLength none d o h ↦ (grind (arith, nat_tests), grind (arith, nat_tests))
+      | Cut few d o h ↦ absurd (known d)
+      | Lengths y z r ↦ let m = (reads_more b s t y z r).1 in (m.declared ∙ sym r.declared, m.outline ∙ sym r.outline)
+    ]
+
+-- ---- all that the first bytes show
+
+-- The head of a frame with this code and a token of t bytes, if `later` follows the extension of the token length.
+abbrev pub parts_of : ℕ → ℕ → List ℕ → Head
+parts_of code t later = record { code = code; token = take t later; body = drop t later }
+
+-- The bytes show an invalid token length, or too few bytes are present, or they state a size and a layout.
+abbrev pub HeadFacts : List ℕ → Type 0
+HeadFacts s =
+    ((declared_of s ≡ BadToken) × (outline_of s ≡ outline.BadToken) × (head_at s ≡ Err TokenLength)
+    × (size_bytes s ≤ length s))
+    ⊎ (((declared_of s ≡ Unknown) × (outline_of s ≡ outline.Unknown) × (head_at s ≡ Err NotOneFrame)
+    × (1 ≤ length s → length s < size_bytes s))
+    ⊎ ((n : ℕ) × (l : FrameLayout) × (declared_of s ≡ Size n) × (outline_of s ≡ outline.Known n l)
+    × (size_bytes s < n) × (size_bytes s ≤ length s) × (l.code_at < n) × (l.token_at + l.token_length ≤ n)
+    × (l.token_length ≤ greatest_token)
+    × (head_at s ≡ cond (eqb (length s) n)
+    (Ok (parts_of (get_or s l.code_at 0) l.token_length (drop l.token_at s))) (Err NotOneFrame))))
+
+pub head_facts : (s : List ℕ) → HeadFacts s
+unfolding declared_of outline_of head_at
+head_facts [] = inr (inl (refl, refl, refl, λ some. absurd (omega arith)))
+head_facts (b ∷ s) =
+    elim (head_kind b s) [
+      | NoLength none d o h ↦ inl (d, o, h, grind (arith, nat_tests))
+      | Cut few d o h ↦ inr (inl (d, o, h, λ some. few))
+      | Lengths y z r ↦ elim (cases_lt greatest_token z.0) [
+        | inl long ↦
+            inl (grind (arith, nat_tests), grind (arith, nat_tests), grind (arith, nat_tests), grind (arith, nat_tests))
+        | inr short ↦ inr (inr (
+          frame_size b z.0 y.0,
+          layout_by b z.0,
+          grind (arith, nat_tests),
+          grind (arith, nat_tests),
+          grind (arith, nat_tests),
+          grind (arith, nat_tests, length-drop 1 y.1),
+          omega arith,
+          omega arith,
+          short,
+          grind (arith, nat_tests, get_or-drop (1 + extension_of (b / 16)) (b ∷ s) 0 0),
+        ))
       ]
     ]
+
+-- The first byte determines the byte at which the size is known.
+pub size_bytes_more : (s t : List ℕ) → 1 ≤ length s → size_bytes (s ++ t) ≡ size_bytes s
+size_bytes_more [] t h = absurd (omega arith)
+size_bytes_more (b ∷ s) t h = refl

@@ -14,7 +14,6 @@ pub mod BodyLaws
 pub mod HeadLaws
 pub mod FaultLaws
 pub mod ReadingLaws
-pub mod ParseLemmas
 pub mod StreamSteps
 pub mod LayoutLaws
 pub mod SizesLaws

@@ -1,53 +1,39 @@
 -- A message in range has exactly one encoding; any other message has none.
-use Rattle.std.proofs.Common.{◌≡◌, ℕ, ◌+◌, ◌-◌, ◌*◌, ◌≤◌, List, [], ◌∷◌, ◌++◌, length, refl, sym, ap, subst, ◌∙◌}
-use Rattle.std.proofs.Common.{append_assoc, arith}
+use Rattle.std.proofs.Common.{◌≡◌, ℕ, ◌-◌, ◌≤◌, List, [], ◌∷◌, ◌++◌, length, refl, append_assoc, arith}
 use Rattle.coap_wire.specs.Prelude.{AllByRecursion, CoapOption, Message, AreOrdered, length_form, greatest_token}
-use Rattle.coap_wire.specs.Prelude.{token_form, greatest_length, IsOptionForm, option_form, IsOneOption}
-use Rattle.coap_wire.specs.Prelude.{IsOptionBytes, payload_bytes, IsHeadAndBody, Spells, option_spelling}
-use Rattle.coap_wire.specs.Prelude.{options_spelling, body_spelling, head_spelling, spelling, HasOptionForm}
-use Rattle.coap_wire.specs.Prelude.{HasSpelling}
+use Rattle.coap_wire.specs.Prelude.{token_form, greatest_length, option_form, IsOneOption, IsOptionBytes, payload_bytes}
+use Rattle.coap_wire.specs.Prelude.{IsHeadAndBody, Spells, option_spelling, options_spelling, body_spelling}
+use Rattle.coap_wire.specs.Prelude.{head_spelling, spelling, HasOptionForm, HasSpelling}
 use Rattle.coap_wire.proofs.FormLaws.{length_form_is, length_form_only, length_form_bound, option_form_is}
 use Rattle.coap_wire.proofs.FormLaws.{option_form_only, option_form_bound, token_form_has, token_form_only}
 
 -- ---- one option
 
--- The parts of an option are regrouped before the tail.
-regrouped : (b : ℕ) (e f v tail : List ℕ) → b ∷ (e ++ (f ++ (v ++ tail))) ≡ (b ∷ (e ++ (f ++ v))) ++ tail
-regrouped b e f v tail =
-    ap (λ (t : List ℕ). b ∷ t)
-    (sym (append_assoc e (f ++ v) tail ∙ ap (λ (t : List ℕ). e ++ t) (append_assoc f v tail)))
-
-option_bytes : (s : List ℕ) (x y p q : ℕ) (e f g h v tail : List ℕ) → x ≡ p → y ≡ q → e ≡ g → f ≡ h
-    → s ≡ (16 * x + y) ∷ (e ++ (f ++ (v ++ tail))) → s ≡ ((16 * p + q) ∷ (g ++ (h ++ v))) ++ tail
-option_bytes s x y p q e f g h v tail at_x at_y at_e at_f is =
-    is ∙ (λ i. (16 * at_x i + at_y i) ∷ (at_e i ++ (at_f i ++ (v ++ tail)))) ∙ regrouped (16 * p + q) g h v tail
-
-number_above : (base delta number : ℕ) → number ≡ base + delta → base ≤ number
-number_above base delta number is = omega arith
-
-delta_is : (base delta number : ℕ) → number ≡ base + delta → delta ≡ number - base
-delta_is base delta number is = omega arith
-
-number_is : (base number : ℕ) → base ≤ number → number ≡ base + (number - base)
-number_is base number le = omega arith
-
 -- Bytes that begin with an option begin with `option_spelling`.
 pub option_spelled_as : (base : ℕ) (o : CoapOption) (s tail : List ℕ) → IsOneOption base o s tail
     → s ≡ option_spelling base o ++ tail
 option_spelled_as base o s tail one =
-    let delta_form = subst (λ (k : ℕ). IsOptionForm one.head.delta_nibble one.head.delta_extension k)
-    (delta_is base one.delta o.number one.number) one.head.delta_form in
-    let d = option_form_only one.head.delta_nibble one.head.delta_extension (o.number - base) delta_form in
-    let l = option_form_only one.head.length_nibble one.head.length_extension (length o.value) one.head.length_form in
-    option_bytes s one.head.delta_nibble one.head.length_nibble _ _ one.head.delta_extension one.head.length_extension _
-    _ o.value tail d.0 l.0 d.1 l.1 one.head.bytes
+    let h = one.head in
+    let delta : one.delta ≡ o.number - base = omega (arith, one.number) in
+    let d = option_form_only h.delta_nibble h.delta_extension (o.number - base) (rw delta at h.delta_form) in
+    let l = option_form_only h.length_nibble h.length_extension (length o.value) h.length_form in
+    let e = (option_form (length o.value)).1 in
+    cc (
+      h.bytes,
+      d.0,
+      d.1,
+      l.0,
+      l.1,
+      append_assoc (option_form (o.number - base)).1 (e ++ o.value) tail,
+      append_assoc e o.value tail,
+    )
 
 -- `option_spelling` encodes an option in range whose number is not below base.
-pub option_is_spelled : (base : ℕ) (o : CoapOption) (tail : List ℕ) → base ≤ o.number → HasOptionForm o
+option_is_spelled : (base : ℕ) (o : CoapOption) (tail : List ℕ) → base ≤ o.number → HasOptionForm o
     → IsOneOption base o (option_spelling base o ++ tail) tail
 option_is_spelled base o tail le has = record {
   delta = o.number - base;
-  number = number_is base o.number le;
+  number = omega arith;
   number_fits = has.0;
   head = record {
     delta_nibble = (option_form (o.number - base)).0;
@@ -56,7 +42,7 @@ option_is_spelled base o tail le has = record {
     length_extension = (option_form (length o.value)).1;
     delta_form = option_form_is (o.number - base) (omega (arith, has.0));
     length_form = option_form_is (length o.value) has.1;
-    bytes = sym (regrouped _ (option_form (o.number - base)).1 (option_form (length o.value)).1 o.value tail);
+    bytes = simp append_assoc;
   };
 }
 
@@ -67,69 +53,54 @@ pub options_spelled_as : (base : ℕ) (os : List CoapOption) (s tail : List ℕ)
     → s ≡ options_spelling base os ++ tail
 options_spelled_as base [] s tail bytes = bytes
 options_spelled_as base (o ∷ os) s tail bytes =
-    option_spelled_as base o s bytes.0 bytes.1
-    ∙ ap (λ (t : List ℕ). option_spelling base o ++ t) (options_spelled_as o.number os bytes.0 tail bytes.2)
-    ∙ sym (append_assoc (option_spelling base o) (options_spelling o.number os) tail)
-
--- Encoded options are in order.
-pub spelled_options_ordered : (base : ℕ) (os : List CoapOption) (s tail : List ℕ)
-    → IsOptionBytes base os s tail → AreOrdered base os
-spelled_options_ordered base [] s tail bytes = tt
-spelled_options_ordered base (o ∷ os) s tail bytes =
-    (number_above base bytes.1.delta o.number bytes.1.number, spelled_options_ordered o.number os bytes.0 tail bytes.2)
-
--- Each encoded option is in range.
-pub options_have_form : (base : ℕ) (os : List CoapOption) (s tail : List ℕ) → IsOptionBytes base os s tail
-    → AllByRecursion HasOptionForm os
-options_have_form base [] s tail bytes = tt
-options_have_form base (o ∷ os) s tail bytes =
-    let head = bytes.1.head in (
-      (
-        bytes.1.number_fits,
-        (option_form_bound head.length_nibble head.length_extension (length o.value) head.length_form).1,
-      ),
-      options_have_form o.number os bytes.0 tail bytes.2,
+    cc (
+      option_spelled_as base o s bytes.0 bytes.1,
+      options_spelled_as o.number os bytes.0 tail bytes.2,
+      append_assoc (option_spelling base o) (options_spelling o.number os) tail,
     )
+
+-- Encoded options are in order, and each one is in range.
+spelled_options : (base : ℕ) (os : List CoapOption) (s tail : List ℕ)
+    → IsOptionBytes base os s tail → AreOrdered base os × AllByRecursion HasOptionForm os
+spelled_options base [] s tail bytes = (tt, tt)
+spelled_options base (o ∷ os) s tail bytes =
+    let one = bytes.1 in
+    let k = option_form_bound one.head.length_nibble one.head.length_extension (length o.value) one.head.length_form in
+    let others = spelled_options o.number os bytes.0 tail bytes.2 in
+    ((omega (arith, one.number), others.0), ((one.number_fits, k.1), others.1))
 
 -- `options_spelling` encodes options that are in order and in range.
 pub options_are_spelled : (base : ℕ) (os : List CoapOption) (tail : List ℕ) → AreOrdered base os
     → AllByRecursion HasOptionForm os → IsOptionBytes base os (options_spelling base os ++ tail) tail
 options_are_spelled base [] tail ordered has = refl
 options_are_spelled base (o ∷ os) tail ordered has =
-    let one = option_is_spelled base o (options_spelling o.number os ++ tail) ordered.0 has.0 in (
-      options_spelling o.number os ++ tail,
-      subst (λ (s : List ℕ). IsOneOption base o s (options_spelling o.number os ++ tail))
-          (sym (append_assoc (option_spelling base o) (options_spelling o.number os) tail)) one,
+    let others = options_spelling o.number os in (
+      others ++ tail,
+      rw (append_assoc (option_spelling base o) others tail) (option_is_spelled base o (others ++ tail) ordered.0 has.0),
       options_are_spelled o.number os tail ordered.1 has.1,
     )
 
 -- ---- the message
 
--- The parts of a head are regrouped before the body.
-parts_joined : (g : List ℕ) (code : ℕ) (f token body : List ℕ)
-    → g ++ code ∷ (f ++ (token ++ body)) ≡ (g ++ code ∷ (f ++ token)) ++ body
-parts_joined g code f token body =
-    ap (λ (t : List ℕ). g ++ code ∷ t) (sym (append_assoc f token body))
-    ∙ sym (append_assoc g (code ∷ (f ++ token)) body)
-
-head_joined : (s : List ℕ) (x y p q code : ℕ) (e g d f token body : List ℕ) → x ≡ p → y ≡ q → e ≡ g → d ≡ f
-    → s ≡ (16 * x + y) ∷ (e ++ code ∷ (d ++ (token ++ body)))
-    → s ≡ ((16 * p + q) ∷ (g ++ code ∷ (f ++ token))) ++ body
-head_joined s x y p q code e g d f token body at_x at_y at_e at_d is =
-    is ∙ (λ i. (16 * at_x i + at_y i) ∷ (at_e i ++ code ∷ (at_d i ++ (token ++ body))))
-    ∙ ap (λ (t : List ℕ). (16 * p + q) ∷ t) (parts_joined g code f token body)
-
 -- A head and a body are `head_spelling`, followed by the body.
-pub head_spelled_as : (s : List ℕ) (code : ℕ) (token body : List ℕ) → IsHeadAndBody s code token body
+head_spelled_as : (s : List ℕ) (code : ℕ) (token body : List ℕ) → IsHeadAndBody s code token body
     → s ≡ head_spelling code token (length body) ++ body
 head_spelled_as s code token body head =
     let l = length_form_only head.length_nibble head.extension (length body) head.length_form in
     let t = token_form_only (length token) head.token_nibble head.token_extension head.token_form in
-    head_joined s head.length_nibble head.token_nibble _ _ code head.extension _ head.token_extension _ token
-    body l.0 t.0 l.1 t.1 head.bytes
+    let e = (token_form (length token)).1 in
+    cc (
+      head.bytes,
+      l.0,
+      l.1,
+      t.0,
+      t.1,
+      append_assoc (length_form (length body)).1 (code ∷ (e ++ token)) body,
+      append_assoc e token body,
+    )
 
 -- `head_spelling`, followed by the body, is a head and a body.
-pub head_is_spelled : (code : ℕ) (token body : List ℕ) → length token ≤ greatest_token → length body ≤ greatest_length
+head_is_spelled : (code : ℕ) (token body : List ℕ) → length token ≤ greatest_token → length body ≤ greatest_length
     → IsHeadAndBody (head_spelling code token (length body) ++ body) code token body
 head_is_spelled code token body short fits = record {
   length_nibble = (length_form (length body)).0;
@@ -138,9 +109,7 @@ head_is_spelled code token body short fits = record {
   token_extension = (token_form (length token)).1;
   length_form = length_form_is (length body) fits;
   token_form = token_form_has (length token) short;
-  bytes =
-      ap (λ (t : List ℕ). (16 * (length_form (length body)).0 + (token_form (length token)).0) ∷ t)
-      (sym (parts_joined (length_form (length body)).1 code (token_form (length token)).1 token body));
+  bytes = simp append_assoc;
 }
 
 body_spelled_as : (s : List ℕ) (m : Message) → (spelled : Spells s m) → spelled.body ≡ body_spelling m
@@ -150,20 +119,20 @@ body_spelled_as s m spelled = options_spelled_as 0 m.options spelled.body (paylo
 pub spelled_as : (s : List ℕ) (m : Message) → Spells s m → s ≡ spelling m
 unfolding spelling
 spelled_as s m spelled =
-    head_spelled_as s m.code m.token spelled.body spelled.head
-    ∙ ap (λ (body : List ℕ). head_spelling m.code m.token (length body) ++ body) (body_spelled_as s m spelled)
+    rw (← body_spelled_as s m spelled) (head_spelled_as s m.code m.token spelled.body spelled.head)
 
 -- A message that bytes encode is in range.
 pub has_spelling : (s : List ℕ) (m : Message) → Spells s m → HasSpelling m
-has_spelling s m spelled = record {
-  token = spelled.head.token_form.1;
-  ordered = spelled_options_ordered 0 m.options spelled.body (payload_bytes m.payload) spelled.options;
-  each = options_have_form 0 m.options spelled.body (payload_bytes m.payload) spelled.options;
-  body =
-      subst (λ (body : List ℕ). length body ≤ greatest_length) (body_spelled_as s m spelled)
-      (length_form_bound spelled.head.length_nibble spelled.head.extension (length spelled.body)
-      spelled.head.length_form).1;
-}
+has_spelling s m spelled =
+    let k = spelled_options 0 m.options spelled.body (payload_bytes m.payload) spelled.options in
+    let h = spelled.head in
+    record {
+      token = h.token_form.1;
+      ordered = k.0;
+      each = k.1;
+      body = rw (← body_spelled_as s m spelled)
+          (length_form_bound h.length_nibble h.extension (length spelled.body) h.length_form).1;
+    }
 
 -- The `spelling` of a message in range encodes it.
 pub spelling_spells : (m : Message) → HasSpelling m → Spells (spelling m) m
@@ -176,4 +145,4 @@ spelling_spells m has = record {
 
 -- A message has at most one encoding.
 pub one_spelling : (s t : List ℕ) (m : Message) → Spells s m → Spells t m → s ≡ t
-one_spelling s t m left right = spelled_as s m left ∙ sym (spelled_as t m right)
+one_spelling s t m left right = cc (spelled_as s m left, spelled_as t m right)

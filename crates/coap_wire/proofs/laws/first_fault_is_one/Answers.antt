@@ -1,4 +1,4 @@
-use Rattle.coap_wire.proofs.ParseLemmas.{has_first_fault, one_first_fault, no_fault_of_spelling}
+use Rattle.coap_wire.proofs.ReadingLaws.{has_first_fault, one_first_fault, no_fault_of_spelling}
 use Rattle.coap_wire.proofs.laws.first_fault_is_one.Goals as goal
 
 pub returns-clause-once : goal.returns-clause-once

@@ -1,4 +1,4 @@
-use Rattle.coap_wire.proofs.FramesLaws.{frames_go_on}
+use Rattle.coap_wire.proofs.StreamSteps.{frames_go_on}
 use Rattle.coap_wire.proofs.laws.frame_segmentation_is_irrelevant.Goals as goal
 
 pub returns : goal.returns

@@ -1,5 +1,5 @@
-use Rattle.coap_wire.proofs.StreamLaws.{frame_begins, whole_frame, fault_begins, fault_found, unfinished_again}
-use Rattle.coap_wire.proofs.StreamLaws.{unfinished_is}
+use Rattle.coap_wire.proofs.FramesLaws.{frame_begins, whole_frame, fault_begins, fault_found, unfinished_again}
+use Rattle.coap_wire.proofs.FramesLaws.{unfinished_is}
 use Rattle.coap_wire.proofs.laws.prefix_kind_finds_first_frame.Goals as goal
 
 pub returns-clause-frame_found : goal.returns-clause-frame_found

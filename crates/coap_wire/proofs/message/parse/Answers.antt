@@ -1,6 +1,6 @@
 use Rattle.std.proofs.Common.{arith, ◌∙◌}
 use Rattle.coap_wire.proofs.ReadingLaws.{message_again}
-use Rattle.coap_wire.proofs.ParseLemmas.{found_is_spelled, fault_is_the_first}
+use Rattle.coap_wire.proofs.ReadingLaws.{found_is_spelled, fault_is_the_first}
 use Rattle.coap_wire.proofs.message.parse.Goals as goal
 
 pub returns-clause-found : goal.returns-clause-found
