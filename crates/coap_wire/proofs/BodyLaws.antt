@@ -1,5 +1,6 @@
 -- Decoding a body returns options and payload if and only if the bytes encode them.
-use Rattle.std.proofs.Common.{◌≡◌, ◌≢◌, ℕ, ◌+◌, ◌*◌, ◌/◌, ◌%◌, ◌<◌, ◌≤◌, List, [], ◌∷◌, ◌++◌, length, take, drop, Some, Ok, Err}
+use Rattle.std.proofs.Common.{◌≡◌, ◌≢◌, ℕ, ◌+◌, ◌*◌, ◌/◌, ◌%◌, ◌<◌, ◌≤◌, List, [], ◌∷◌, ◌++◌, length, take, drop, Some}
+use Rattle.std.proofs.Common.{Ok}
 use Rattle.std.proofs.Common.{IfOk, refl, ◌∙◌, arith}
 use Rattle.std.proofs.lemmas.Bool.{ne_eqb, le-ltb}
 use Rattle.std.proofs.lemmas.Bool.Decides.{nat_tests}
@@ -10,17 +11,18 @@ use Rattle.coap_wire.specs.Prelude.{payload_bytes, option_number_at, option_head
 use Rattle.coap_wire.specs.Prelude.{options_in, options_read}
 use Rattle.coap_wire.proofs.FormLaws.{option_form_bound}
 use Rattle.coap_wire.proofs.NumberLaws.{AreBytes-tail, AreBytes-drop, option_number_again, option_number_takes}
-use Rattle.coap_wire.proofs.BodySteps.{BadDelta, BadLength, HeadCut, Head, option_kind, Body, body_end, body_marker, option_then}
+use Rattle.coap_wire.proofs.BodySteps.{BadDelta, BadLength, HeadCut, Head, option_kind, Body, body_end, body_marker}
+use Rattle.coap_wire.proofs.BodySteps.{option_then}
 use Rattle.coap_wire.proofs.BodySteps.{body_option, ReadsBody, AtEnd, NoPayload, Payload, Wrong, One, WrongLater}
 use Rattle.coap_wire.proofs.BodySteps.{reads_body}
 
 -- ---- an option
 
 -- The bytes of the decoded extensions encode the delta and the length.
-pub head_takes : (b : ℕ) (s : List ℕ) (y z : ℕ × List ℕ) → AreBytes (b ∷ s) → b / 16 ≢ 15 → b % 16 ≢ 15
+pub option_head_takes : (b : ℕ) (s : List ℕ) (y z : ℕ × List ℕ) → AreBytes (b ∷ s) → b / 16 ≢ 15 → b % 16 ≢ 15
     → option_number_at (b / 16) s ≡ Some y → option_number_at (b % 16) y.1 ≡ Some z
     → IsOptionHead (b ∷ s) y.0 z.0 z.1 × AreBytes z.1
-head_takes b s y z fits delta len first second =
+option_head_takes b s y z fits delta len first second =
     let byte : b < 256 = fits 0 in
     let split : b ≡ 16 * (b / 16) + b % 16 = omega arith in
     let later = AreBytes-tail (b ∷ []) s fits in
@@ -51,7 +53,7 @@ option_takes base b s x fits e =
           let made : x ≡ (record { number = base + y.0; value = take z.0 z.1 }, drop z.0 z.1) =
           grind (arith, nat_tests) in
           let enough : z.0 ≤ length z.1 = grind (arith, nat_tests) in
-          let k = head_takes b s y z fits delta len first second in
+          let k = option_head_takes b s y z fits delta len first second in
           rw made (
             record {
               delta = y.0;

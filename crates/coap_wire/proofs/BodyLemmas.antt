@@ -1,5 +1,6 @@
 -- Decoding the options of a body one after the other, as a loop does.
-use Rattle.std.proofs.Common.{◌≡◌, ◌≢◌, ℕ, List, [], ◌∷◌, ◌++◌, length, Ok, Err, refl, sym, ap, ◌∙◌, arith, append_assoc}
+use Rattle.std.proofs.Common.{◌≡◌, ◌≢◌, ℕ, List, [], ◌∷◌, ◌++◌, length, Ok, Err, refl, sym, ap, ◌∙◌, arith}
+use Rattle.std.proofs.Common.{append_assoc}
 use Rattle.std.proofs.lemmas.Bool.Decides.{nat_tests}
 use Rattle.coap_wire.specs.Prelude.{IsOk, CoapOption, ◌>>=◌, option_at, body_at, options_in, options_read}
 use Rattle.coap_wire.proofs.BodySteps.{Body, option_then, body_is, body_end, body_option}
@@ -39,4 +40,4 @@ next_option base b rest after x rest_is other read ok =
     let step = ap (body_at base) rest_is ∙ body_option base b after x other read in
     rw step (next_then x.0 (body_at x.0.number x.1) (rw step at ok))
 
-pub ruleset turns = (nat_tests, body_is, body_empty)
+pub ruleset body_turns = (nat_tests, body_is, body_empty)

@@ -1,10 +1,10 @@
 -- Decoding an option and a body step by step.
-use Rattle.std.proofs.Common.{◌≡◌, ◌≢◌, ℕ, zero, suc, ◌+◌, ◌/◌, ◌%◌, ◌<◌, ◌≤◌, cond, eqb, ltb, List, [], ◌∷◌, length}
-use Rattle.std.proofs.Common.{take, drop, Some, None, Result, Ok, Err, ◌⊎◌, inl, inr, refl, ap, ◌∙◌, arith}
+use Rattle.std.proofs.Common.{◌≡◌, ◌≢◌, ℕ, zero, suc, ◌+◌, ◌/◌, ◌%◌, ◌<◌, ◌≤◌, cond, eqb, List, [], ◌∷◌, length}
+use Rattle.std.proofs.Common.{Some, Result, Ok, Err, ◌⊎◌, inl, inr, refl, ap, arith}
 use Rattle.std.proofs.lemmas.Bool.{eq-eqb, ne_eqb, cases_eq}
 use Rattle.std.proofs.lemmas.Bool.Decides.{nat_tests}
 use Rattle.std.proofs.lemmas.List.{length-drop}
-use Rattle.coap_wire.specs.Prelude.{CoapOption, FormatFault, OptionDelta, OptionLength, OptionCut, OptionNumber}
+use Rattle.coap_wire.specs.Prelude.{CoapOption, FormatFault, OptionDelta, OptionLength, OptionCut}
 use Rattle.coap_wire.specs.Prelude.{EmptyPayload, ◌>>=◌, option_extension, option_number_at, option_head_at, option_at}
 use Rattle.coap_wire.specs.Prelude.{value_at, body_within, body_at}
 use Rattle.coap_wire.proofs.NumberLaws.{option_cases, option_number_rest, option_number_short}
@@ -26,8 +26,8 @@ result_cases (Err e) = inr (e, refl)
 
 -- ---- an option
 
--- What decoding an option returns: the delta or the length has nibble 15, or the extensions are incomplete, or the delta
--- y.0 and the length z.0 are decoded, with z.1 left.
+-- What decoding an option returns: the delta or the length has nibble 15, or the extensions are incomplete, or the
+-- delta y.0 and the length z.0 are decoded, with z.1 left.
 pub data OptionKind (base b : ℕ) (s : List ℕ) : Type 0 where
   BadDelta : b / 16 ≡ 15 → option_at base b s ≡ Err OptionDelta → OptionKind base b s
   BadLength : b / 16 ≢ 15 → b % 16 ≡ 15 → option_at base b s ≡ Err OptionLength → OptionKind base b s
@@ -56,8 +56,14 @@ option_kind base b s =
                   let first = length-drop (option_extension (b / 16)) s in
                   elim (option_cases (option_number_at (b % 16) y.0.1)) [
                     | inr none ↦
-                        HeadCut delta len (omega (arith, k.0, ap length k.1, first, option_number_short (b % 16) y.0.1
-                        none)) (rw (d, l, y.1, none) refl)
+                        HeadCut delta len (omega (
+                          arith,
+                          k.0,
+                          ap length k.1,
+                          first,
+                          option_number_short (b % 16) y.0.1
+                              none,
+                        )) (rw (d, l, y.1, none) refl)
                     | inl z ↦
                         let j = option_number_rest (b % 16) y.0.1 z.0 z.1 in
                         let second = length-drop (option_extension (b % 16)) y.0.1 in

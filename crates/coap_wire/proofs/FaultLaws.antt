@@ -1,5 +1,6 @@
 -- The error that decoding returns is the first one, and decoding returns the first error.
-use Rattle.std.proofs.Common.{◌≡◌, ◌≢◌, ℕ, ◌+◌, ◌/◌, ◌%◌, ◌<◌, ◌≤◌, List, [], ◌∷◌, length, Result, Ok, Err, IfErr, inl, inr}
+use Rattle.std.proofs.Common.{◌≡◌, ◌≢◌, ℕ, ◌+◌, ◌/◌, ◌%◌, ◌<◌, List, [], ◌∷◌, length, Err, IfErr, inl}
+use Rattle.std.proofs.Common.{inr}
 use Rattle.std.proofs.Common.{refl, ◌∙◌, arith}
 use Rattle.std.proofs.lemmas.Bool.{cases_lt, eq-eqb, ne_eqb}
 use Rattle.std.proofs.lemmas.Bool.Decides.{nat_tests}
@@ -9,7 +10,7 @@ use Rattle.coap_wire.specs.Prelude.{FormatFault, TokenLength, OptionDelta, Optio
 use Rattle.coap_wire.specs.Prelude.{EmptyPayload, NotOneFrame, option_head_at, value_at, option_at, body_at}
 use Rattle.coap_wire.proofs.BodySteps.{BadDelta, BadLength, HeadCut, Head, option_kind, Body, body_is, body_fault}
 use Rattle.coap_wire.proofs.BodySteps.{ReadsBody, AtEnd, NoPayload, Payload, Wrong, One, WrongLater, reads_body}
-use Rattle.coap_wire.proofs.BodyLaws.{head_takes, option_takes, option_head_again, option_again}
+use Rattle.coap_wire.proofs.BodyLaws.{option_head_takes, option_takes, option_head_again, option_again}
 
 -- ---- the error of an option
 
@@ -35,7 +36,7 @@ option_fault base b s e fits other h =
             cut = cut;
           }))
       | Head delta len y z first second width is ↦
-          let head = (head_takes b s y z fits delta len first second).0 in
+          let head = (option_head_takes b s y z fits delta len first second).0 in
           elim (cases_lt 65535 (base + y.0)) [
             | inl great ↦
                 let same : e ≡ OptionNumber = grind (arith, nat_tests) in

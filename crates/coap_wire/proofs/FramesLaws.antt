@@ -1,10 +1,11 @@
 -- The theorems on the frames of a stream: `prefix_kind` agrees with the relations, and they determine the frames.
-use Rattle.std.proofs.Common.{◌≡◌, ℕ, zero, suc, ◌+◌, ◌<◌, ◌≤◌, List, [], ◌∷◌, ◌++◌, length, take, drop, Option, Some}
+use Rattle.std.proofs.Common.{◌≡◌, ℕ, zero, suc, ◌≤◌, List, [], ◌∷◌, ◌++◌, length, take, drop, Option, Some}
 use Rattle.std.proofs.Common.{None, inl, inr, refl, sym, ap, subst, ◌∙◌, arith}
 use Rattle.std.proofs.lemmas.Bool.{cases_lt}
 use Rattle.std.proofs.lemmas.Bool.Decides.{nat_tests}
-use Rattle.std.proofs.lemmas.List.{append-nil, append_assoc, length-append, length-take, take-append-drop, take_at, drop_at}
-use Rattle.coap_wire.specs.Prelude.{concat, AreBytes, IsFrame, HasBadToken, IsDeclaredSize, declared_of, FrameFault}
+use Rattle.std.proofs.lemmas.List.{append-nil, append_assoc, length-append, length-take, take-append-drop, take_at}
+use Rattle.std.proofs.lemmas.List.{drop_at}
+use Rattle.coap_wire.specs.Prelude.{concat, AreBytes, IsFrame, HasBadToken, IsDeclaredSize, FrameFault}
 use Rattle.coap_wire.specs.Prelude.{TooLarge, IsTooLarge, IsFrameFault, IsUnfinished, StreamPrefix, Unfinished, Whole}
 use Rattle.coap_wire.specs.Prelude.{Faulty, prefix_kind, size_bytes, fault_bytes, Frames, Sizes, sizes_after, size_for}
 use Rattle.coap_wire.specs.Prelude.{size_after, AreFrames, AreAtMost, FramesEndWith, FollowsRest, FramedAs, with_frame}
@@ -16,7 +17,8 @@ use Rattle.coap_wire.proofs.HeadLaws.{bad_token_declared, size_declared, declare
 use Rattle.coap_wire.proofs.StreamSteps.{size_bytes_some, stated_bytes, size_has_bytes, declared_more, begin_bad_token}
 use Rattle.coap_wire.proofs.StreamSteps.{begin_too_large, begin_whole, whole_parts, whole_itself, token_length_declared}
 use Rattle.coap_wire.proofs.StreamSteps.{too_large_declared, faulty_some, after_twice, after_none, size_for_more}
-use Rattle.coap_wire.proofs.StreamSteps.{Finds, Ends, Fails, Goes, finds, frames_unfinished, frames_faulty, frames_whole}
+use Rattle.coap_wire.proofs.StreamSteps.{Finds, Ends, Fails, Goes, finds, frames_unfinished, frames_faulty}
+use Rattle.coap_wire.proofs.StreamSteps.{frames_whole}
 
 -- The first part of a list of bytes has bytes only.
 pub AreBytes-front : (front bytes : List ℕ) → AreBytes (front ++ bytes) → AreBytes front
@@ -104,6 +106,8 @@ unfinished_again M s fits u = go (prefix_kind M s) refl
     go (Faulty fault) e =
         absurd ((u (fault_bytes s) (drop (size_bytes s) s) (sym (take-append-drop (size_bytes s) s))).1 fault
         (fault_found M s fault fits e))
+
+pub ruleset first_bytes = (frame_begins, fault_begins, fault_found, unfinished_again, unfinished_is)
 
 -- ---- the maximum sizes after frames
 
@@ -201,7 +205,8 @@ frames_end sizes rest more None fits ended follows =
 frames_end sizes rest more (Some fault) fits ended follows =
     let begins = fault_begins _ rest [] fault ended in
     let some = faulty_some _ rest fault (rw append-nil at begins) in
-    frames_faulty sizes (rest ++ more) fault (rw (size_for_more sizes rest more some) (fault_begins _ rest more fault ended))
+    frames_faulty sizes (rest ++ more) fault
+    (rw (size_for_more sizes rest more some) (fault_begins _ rest more fault ended))
     ∙ rw (fault_bytes_again (size_for sizes rest) rest more fault ended) refl
 
 -- Whatever satisfies the relation is the result of the function.

@@ -1,6 +1,7 @@
 -- The head of a frame: decoding returns it if and only if the bytes encode it. `declared_of` agrees with `Declares`.
-use Rattle.std.proofs.Common.{◌≡◌, ◌≢◌, ℕ, ◌+◌, ◌-◌, ◌*◌, ◌/◌, ◌%◌, ◌<◌, ◌≤◌, cond, eqb, ltb, List, [], ◌∷◌, ◌++◌, length}
-use Rattle.std.proofs.Common.{take, drop, get_or, Some, None, Result, Ok, Err, inl, inr, refl, sym, ap, ◌∙◌, arith}
+use Rattle.std.proofs.Common.{◌≡◌, ◌≢◌, ℕ, ◌+◌, ◌*◌, ◌/◌, ◌%◌, ◌<◌, ◌≤◌, cond, eqb, ltb, List, [], ◌∷◌, ◌++◌}
+use Rattle.std.proofs.Common.{length}
+use Rattle.std.proofs.Common.{take, drop, get_or, Some, None, Ok, Err, inl, inr, refl, sym, ap, ◌∙◌, arith}
 use Rattle.std.proofs.Common.{append_assoc, ◌⊎◌}
 use Rattle.std.proofs.lemmas.Bool.{eq-eqb, ne_eqb, lt-ltb, le-ltb, cases_eq, cases_lt}
 use Rattle.std.proofs.lemmas.Bool.Decides.{nat_tests}
@@ -32,8 +33,8 @@ layout_by b t = record {
   token_length = t;
 }
 
--- After the first byte b, the length y.0 of a body is decoded, and y.1 is left. After the code the length z.0 of a token
--- is decoded, and z.1 is left. This determines what the bytes declare, their outline and their head.
+-- After the first byte b, the length y.0 of a body is decoded, and y.1 is left. After the code the length z.0 of a
+-- token is decoded, and z.1 is left. This determines what the bytes declare, their outline and their head.
 pub record ReadsLengths (b : ℕ) (s : List ℕ) (y z : ℕ × List ℕ) : Type 0 where
   pub nibble : b % 16 ≢ 15
   pub body : length_at (b / 16) s ≡ Some y
@@ -113,8 +114,15 @@ head_kind b s =
             | inl y ↦ elim (option_cases (option_number_at (b % 16) (drop 1 y.0.1))) [
               | inr none ↦
                   let k = length_rest (b / 16) s y.0 y.1 in
-                  Cut (grind (arith, nat_tests, k.0, ap length k.1, option_number_short (b % 16) (drop 1 y.0.1) none,
-                  length-drop (extension_of (b / 16)) s, length-drop 1 y.0.1)) (rw (other, y.1, none) refl)
+                  Cut (grind (
+                    arith,
+                    nat_tests,
+                    k.0,
+                    ap length k.1,
+                    option_number_short (b % 16) (drop 1 y.0.1) none,
+                    length-drop (extension_of (b / 16)) s,
+                    length-drop 1 y.0.1,
+                  )) (rw (other, y.1, none) refl)
                   (rw (other, y.1, none) refl) (rw (other, y.1) (head_cut (b % 16) y.0.0 y.0.1 none))
               | inl z ↦ Lengths y.0 z.0 (reads b s y.0 z.0 nibble y.1 z.1)
             ]
@@ -297,14 +305,20 @@ declares (b ∷ s) fits =
           let i = read_stated b s y z fits r in
           elim (cases_lt greatest_token z.0) [
             | inl long ↦
-                rw (r.declared, lt-ltb greatest_token z.0 long) (i.head, i.more, i.bytes, inr (z.0, y.0, i.lengths, long))
-            | inr short ↦ rw (r.declared, le-ltb greatest_token z.0 short) (i.head, i.more, i.bytes, record {
-              token_length = z.0;
-              body_length = y.0;
-              lengths = i.lengths;
-              short = short;
-              size = i.size;
-            })
+                rw (r.declared, lt-ltb greatest_token z.0 long)
+                (i.head, i.more, i.bytes, inr (z.0, y.0, i.lengths, long))
+            | inr short ↦ rw (r.declared, le-ltb greatest_token z.0 short) (
+              i.head,
+              i.more,
+              i.bytes,
+              record {
+                token_length = z.0;
+                body_length = y.0;
+                lengths = i.lengths;
+                short = short;
+                size = i.size;
+              },
+            )
           ]
     ]
 

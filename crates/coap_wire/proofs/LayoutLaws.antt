@@ -1,9 +1,10 @@
 -- The layout of a frame: it stays the same when more bytes follow, and it has the parts that decoding of
 -- the head returns.
-use Rattle.std.proofs.Common.{◌≡◌, ◌≢◌, ◌+◌, ◌<◌, ◌≤◌, ℕ, List, ◌++◌, length, take, drop, get_or, Ok, Err, ◌∙◌, arith, sym}
+use Rattle.std.proofs.Common.{◌≡◌, ◌≢◌, ◌+◌, ◌<◌, ◌≤◌, ℕ, List, ◌++◌, length, take, drop, get_or, Ok, Err, ◌∙◌, arith}
+use Rattle.std.proofs.Common.{sym}
 use Rattle.std.proofs.lemmas.Bool.Decides.{nat_tests}
 use Rattle.std.proofs.lemmas.List.{length-take-le, take-append-drop}
-use Rattle.coap_wire.specs.Prelude.{AreBytes, greatest_token, head_at, Head, TokenLength, NotOneFrame, declared_of}
+use Rattle.coap_wire.specs.Prelude.{AreBytes, greatest_token, head_at, TokenLength, NotOneFrame, declared_of}
 use Rattle.coap_wire.specs.Prelude.{declared_in, outline_of, IsLaidOut, FrameLayout}
 use Rattle.coap_wire.specs.declared.layout.Outline.TheVariants.{Unknown, BadToken, Known}
 use Rattle.coap_wire.specs.declared.declaration.Declared.TheVariants as declared

@@ -1,9 +1,9 @@
 -- Decoding a number with a given nibble returns the number if and only if the bytes after the nibble encode it.
 use Rattle.std.proofs.Common.{◌≡◌, ℕ, suc, ◌+◌, ◌<◌, ◌≤◌, List, [], ◌∷◌, ◌++◌, length, drop, get_or, Option, Some, None}
-use Rattle.std.proofs.Common.{refl, arith, ◌⊎◌, inl, inr, rules}
+use Rattle.std.proofs.Common.{refl, arith, ◌⊎◌, inl, inr}
 use Rattle.std.proofs.lemmas.Bool.{cases_lt}
 use Rattle.std.proofs.lemmas.Bool.Decides.{nat_tests}
-use Rattle.std.proofs.lemmas.List.{get_or-drop, get_or-take, drop_more, length-append, length-drop, take-append-le}
+use Rattle.std.proofs.lemmas.List.{get_or-drop, get_or-take, drop_more, length-append, take-append-le}
 use Rattle.std.proofs.lemmas.List.{drop-append-le}
 use Rattle.coap_wire.specs.Prelude.{AreBytes, IsLengthForm, extension_of, IsOptionForm, option_extension}
 use Rattle.coap_wire.specs.Prelude.{one_byte_at, two_bytes_at, four_bytes_at, length_at, option_number_at}

@@ -1,8 +1,8 @@
 -- The theorems on decoding: `message_of` returns a message if and only if the bytes encode it, and otherwise the first
 -- error.
-use Rattle.std.proofs.Common.{◌≡◌, ℕ, List, Result, Ok, Err, IfOk, IfErr, inl, inr, refl, sym, ◌∙◌}
+use Rattle.std.proofs.Common.{◌≡◌, ℕ, List, Result, Ok, Err, IfOk, IfErr, inl, inr, refl, sym}
 use Rattle.coap_wire.specs.Prelude.{Message, AreBytes, Spells, IsFrame, HasBadToken, HasOptionFault, IsFirstFault}
-use Rattle.coap_wire.specs.Prelude.{FormatFault, TokenLength, NotOneFrame, ◌>>=◌, body_at, head_at, message_of}
+use Rattle.coap_wire.specs.Prelude.{FormatFault, TokenLength, NotOneFrame, body_at, head_at, message_of}
 use Rattle.coap_wire.proofs.BodySteps.{result_cases}
 use Rattle.coap_wire.proofs.BodyLaws.{body_takes, body_again}
 use Rattle.coap_wire.proofs.HeadLaws.{head_takes, head_again, head_is_wrong, bad_token_read, head_frame}

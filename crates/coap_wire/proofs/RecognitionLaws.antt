@@ -1,12 +1,13 @@
 -- Recognised options: the functions agree with the relations, and in an ordered list the option before is enough.
-use Rattle.coap_wire.specs.Prelude.{All, IsTrue, ◌↔◌, unwrap_or, not, ◌||◌, ◌&&◌, ◌==◌, CoapOption, AreOrdered}
+use Rattle.coap_wire.specs.Prelude.{All, IsTrue, ◌↔◌, unwrap_or, not, ◌&&◌, ◌==◌, CoapOption, AreOrdered}
 use Rattle.coap_wire.specs.Prelude.{kind_of, IsFirstWithNumber, IsRecognised, is_first_with_number, has_kind}
 use Rattle.coap_wire.specs.Prelude.{is_recognised, known_given, is_critical, first_critical_given, option_before}
-use Rattle.coap_wire.specs.Prelude.{OptionKind, CheckedOptionValue, checked_given}
-use Rattle.std.proofs.Common.{◌≡◌, ◌≢◌, ℕ, ◌%◌, ◌≤◌, List, [], ◌∷◌, ◌++◌, length, Bool, true, false, Option, Some, None}
-use Rattle.std.proofs.Common.{refl, sym, ap, subst, ◌∙◌, arith}
-use Rattle.std.proofs.lemmas.Bool.{and_parts, and_from, and_left, and_right, leb-true, le-leb, eqb-false, eq-eqb}
-use Rattle.std.proofs.lemmas.Bool.{ne_eqb, not-true}
+use Rattle.coap_wire.specs.Prelude.{OptionKind, checked_given}
+use Rattle.std.specs.Prelude.{map, filter, find, option_map}
+use Rattle.std.proofs.Common.{◌≡◌, ◌≢◌, ℕ, ◌≤◌, List, [], ◌∷◌, ◌++◌, true, cond, Option, Some, None, refl, ap}
+use Rattle.std.proofs.Common.{arith, inl}
+use Rattle.std.proofs.Common.{inr}
+use Rattle.std.proofs.lemmas.Bool.{cases_Bool, eqb-false, ne_eqb, not-true}
 use Rattle.std.proofs.lemmas.Bool.Decides.{nat_tests}
 use Rattle.std.proofs.lemmas.List.Elements.{All-nil, All-push, All-weaker, All-contains, Contains-push, All-cons}
 use Rattle.std.proofs.lemmas.List.Folds.{list_all-append}
@@ -54,86 +55,28 @@ test_from_first before o first =
     (All-weaker (λ p. p.number ≢ o.number) (λ p. not (p.number == o.number) ≡ true)
     (λ p differs. ap not (ne_eqb p.number o.number differs)) before first)
 
-first_unless_repeatable : (before : List CoapOption) (o : CoapOption) (repeatable : Bool)
-    → (repeatable || is_first_with_number before o) ≡ true → repeatable ≡ false → IsFirstWithNumber before o
-first_unless_repeatable before o true test repeats_not = absurd cc
-first_unless_repeatable before o false test repeats_not = first_from_test before o test
-
-repeatable_or_first : (before : List CoapOption) (o : CoapOption) (repeatable : Bool)
-    → (repeatable ≡ false → IsFirstWithNumber before o) → (repeatable || is_first_with_number before o) ≡ true
-repeatable_or_first before o true first = refl
-repeatable_or_first before o false first = test_from_first before o (first refl)
-
 recognised_from_test : (before : List CoapOption) (o : CoapOption) (kind : Option OptionKind) → kind_of o.number ≡ kind
     → has_kind before o kind ≡ true → IsRecognised before o
-recognised_from_test before o None is test = absurd cc
-recognised_from_test before o (Some kind) is test =
-    let parts = and_parts _ _ test in
-    let range = and_parts _ _ parts.0 in
-    record {
-      kind = kind;
-      is_in_table = is;
-      at_least = leb-true kind.min (length o.value) range.0;
-      at_most = leb-true (length o.value) kind.max range.1;
-      first = first_unless_repeatable before o kind.repeatable parts.1;
-    }
-
-test_from_recognised : (before : List CoapOption) (o : CoapOption) → IsRecognised before o
-    → is_recognised before o ≡ true
-unfolding is_recognised
-test_from_recognised before o recognised =
-    ap (has_kind before o) recognised.is_in_table
-    ∙ and_from _ _
-    (and_from _ _ (le-leb recognised.kind.min (length o.value) recognised.at_least)
-    (le-leb (length o.value) recognised.kind.max recognised.at_most))
-    (repeatable_or_first before o recognised.kind.repeatable recognised.first)
+recognised_from_test before o None is test = cc
+recognised_from_test before o (Some kind) is test = record {
+  kind = kind;
+  is_in_table = is;
+  at_least = grind (arith, nat_tests);
+  at_most = grind (arith, nat_tests);
+  first = λ once. first_from_test before o (grind (arith, nat_tests));
+}
 
 pub recognised_is_decided : (before : List CoapOption) (o : CoapOption)
     → IsTrue (is_recognised before o) ↔ IsRecognised before o
 unfolding is_recognised
-recognised_is_decided before o = (recognised_from_test before o (kind_of o.number) refl, test_from_recognised before o)
-
--- ---- one option after the other
-
-pub known_end : (earlier : List CoapOption) → known_given earlier [] ≡ []
-unfolding known_given
-known_end earlier = refl
-
-known_here : (earlier : List CoapOption) (o : CoapOption) (os : List CoapOption) → is_recognised earlier o ≡ true
-    → known_given earlier (o ∷ os) ≡ o ∷ known_given (earlier ++ o ∷ []) os
-unfolding known_given
-known_here earlier o os recognised = rw recognised refl
-
-known_later : (earlier : List CoapOption) (o : CoapOption) (os : List CoapOption) → is_recognised earlier o ≡ false
-    → known_given earlier (o ∷ os) ≡ known_given (earlier ++ o ∷ []) os
-unfolding known_given
-known_later earlier o os not_recognised = rw not_recognised refl
-
-pub checked_end : (earlier : List CoapOption) → checked_given earlier [] ≡ []
-unfolding checked_given
-checked_end earlier = refl
-
-checked_here : (earlier : List CoapOption) (o : CoapOption) (os : List CoapOption) (recognised : Bool)
-    → recognised ≡ is_recognised earlier o
-    → checked_given earlier (o ∷ os)
-    ≡ record { option = o; recognised = recognised } ∷ checked_given (earlier ++ o ∷ []) os
-unfolding checked_given
-checked_here earlier o os recognised is = rw is refl
-
-pub critical_end : (earlier : List CoapOption) → first_critical_given earlier [] ≡ None
-unfolding first_critical_given
-critical_end earlier = refl
-
-critical_here : (earlier : List CoapOption) (o : CoapOption) (os : List CoapOption)
-    → (is_critical o && not (is_recognised earlier o)) ≡ true → first_critical_given earlier (o ∷ os) ≡ Some o.number
-unfolding first_critical_given
-critical_here earlier o os critical = rw critical refl
-
-critical_later : (earlier : List CoapOption) (o : CoapOption) (os : List CoapOption)
-    → (is_critical o && not (is_recognised earlier o)) ≡ false
-    → first_critical_given earlier (o ∷ os) ≡ first_critical_given (earlier ++ o ∷ []) os
-unfolding first_critical_given
-critical_later earlier o os not_critical = rw not_critical refl
+recognised_is_decided before o = (
+  recognised_from_test before o (kind_of o.number) refl,
+  λ r. elim (cases_Bool r.kind.repeatable) [
+    | inl repeats ↦ rw r.is_in_table (grind (arith, nat_tests, r.at_least, r.at_most))
+    | inr once ↦
+        rw r.is_in_table (grind (arith, nat_tests, r.at_least, r.at_most, test_from_first before o (r.first once)))
+  ],
+)
 
 -- ---- earlier options with the same effect
 
@@ -144,138 +87,99 @@ AgreeFrom base xs ys = (q : CoapOption) → base ≤ q.number → is_first_with_
 agree_push : (base : ℕ) (xs ys : List CoapOption) (o : CoapOption) → AgreeFrom base xs ys → base ≤ o.number
     → AgreeFrom o.number (xs ++ o ∷ []) (ys ++ o ∷ [])
 unfolding AgreeFrom
-agree_push base xs ys o agree le = λ q above.
-    list_all-append (λ p. not (p.number == q.number)) xs (o ∷ [])
-    ∙ ap (λ (b : Bool). b && is_first_with_number (o ∷ []) q) (agree q (omega arith))
-    ∙ sym (list_all-append (λ p. not (p.number == q.number)) ys (o ∷ []))
+agree_push base xs ys o agree le q above =
+    rw (list_all-append, list_all-append, agree q (omega arith)) refl
 
-kind_agrees : (xs ys : List CoapOption) (o : CoapOption) (kind : Option OptionKind)
-    → is_first_with_number xs o ≡ is_first_with_number ys o → has_kind xs o kind ≡ has_kind ys o kind
-kind_agrees xs ys o None same = refl
-kind_agrees xs ys o (Some kind) same = rw same refl
-
-recognised_agrees : (base : ℕ) (xs ys : List CoapOption) (o : CoapOption) → AgreeFrom base xs ys → base ≤ o.number
+recognised_agrees : (xs ys : List CoapOption) (o : CoapOption) → is_first_with_number xs o ≡ is_first_with_number ys o
     → is_recognised xs o ≡ is_recognised ys o
-unfolding is_recognised AgreeFrom
-recognised_agrees base xs ys o agree le = kind_agrees xs ys o (kind_of o.number) (agree o le)
-
-known_agrees_at : (recognised : Bool) (xs ys : List CoapOption) (o : CoapOption) (os : List CoapOption)
-    → is_recognised xs o ≡ recognised → is_recognised ys o ≡ recognised
-    → known_given (xs ++ o ∷ []) os ≡ known_given (ys ++ o ∷ []) os
-    → known_given xs (o ∷ os) ≡ known_given ys (o ∷ os)
-known_agrees_at true xs ys o os in_xs in_ys rest =
-    known_here xs o os in_xs ∙ ap (λ (ks : List CoapOption). o ∷ ks) rest ∙ sym (known_here ys o os in_ys)
-known_agrees_at false xs ys o os in_xs in_ys rest = known_later xs o os in_xs ∙ rest ∙ sym (known_later ys o os in_ys)
-
-known_agrees : (base : ℕ) (xs ys os : List CoapOption) → AreOrdered base os → AgreeFrom base xs ys
-    → known_given xs os ≡ known_given ys os
-known_agrees base xs ys [] ordered agree = known_end xs ∙ sym (known_end ys)
-known_agrees base xs ys (o ∷ os) ordered agree =
-    known_agrees_at (is_recognised ys o) xs ys o os (recognised_agrees base xs ys o agree ordered.0) refl
-    (known_agrees o.number (xs ++ o ∷ []) (ys ++ o ∷ []) os ordered.1 (agree_push base xs ys o agree ordered.0))
+unfolding is_recognised
+recognised_agrees xs ys o same = go (kind_of o.number)
+  where
+    go : (kind : Option OptionKind) → has_kind xs o kind ≡ has_kind ys o kind
+    go None = refl
+    go (Some kind) = rw same refl
 
 checked_agrees : (base : ℕ) (xs ys os : List CoapOption) → AreOrdered base os → AgreeFrom base xs ys
     → checked_given xs os ≡ checked_given ys os
-checked_agrees base xs ys [] ordered agree = checked_end xs ∙ sym (checked_end ys)
+unfolding checked_given AgreeFrom
+checked_agrees base xs ys [] ordered agree = refl
 checked_agrees base xs ys (o ∷ os) ordered agree =
-    checked_here xs o os (is_recognised ys o) (sym (recognised_agrees base xs ys o agree ordered.0))
-    ∙ ap (λ (cs : List CheckedOptionValue). record { option = o; recognised = is_recognised ys o } ∷ cs)
-    (checked_agrees o.number (xs ++ o ∷ []) (ys ++ o ∷ []) os ordered.1 (agree_push base xs ys o agree ordered.0))
-    ∙ sym (checked_here ys o os (is_recognised ys o) refl)
-
-critical_agrees_at : (critical : Bool) (xs ys : List CoapOption) (o : CoapOption) (os : List CoapOption)
-    → (is_critical o && not (is_recognised xs o)) ≡ critical → (is_critical o && not (is_recognised ys o)) ≡ critical
-    → first_critical_given (xs ++ o ∷ []) os ≡ first_critical_given (ys ++ o ∷ []) os
-    → first_critical_given xs (o ∷ os) ≡ first_critical_given ys (o ∷ os)
-critical_agrees_at true xs ys o os in_xs in_ys rest = critical_here xs o os in_xs ∙ sym (critical_here ys o os in_ys)
-critical_agrees_at false xs ys o os in_xs in_ys rest =
-    critical_later xs o os in_xs ∙ rest ∙ sym (critical_later ys o os in_ys)
-
-critical_agrees : (base : ℕ) (xs ys os : List CoapOption) → AreOrdered base os → AgreeFrom base xs ys
-    → first_critical_given xs os ≡ first_critical_given ys os
-critical_agrees base xs ys [] ordered agree = critical_end xs ∙ sym (critical_end ys)
-critical_agrees base xs ys (o ∷ os) ordered agree =
-    critical_agrees_at (is_critical o && not (is_recognised ys o)) xs ys o os
-    (ap (λ (b : Bool). is_critical o && not b) (recognised_agrees base xs ys o agree ordered.0)) refl
-    (critical_agrees o.number (xs ++ o ∷ []) (ys ++ o ∷ []) os ordered.1 (agree_push base xs ys o agree ordered.0))
-
--- ---- the option before is enough
+    rw (
+      recognised_agrees xs ys o (agree o ordered.0),
+      checked_agrees o.number (xs ++ o ∷ []) (ys ++ o ∷ []) os ordered.1 (agree_push base xs ys o agree ordered.0),
+    ) refl
 
 -- A comparison with b makes one with a redundant, if a is at most b and the number q is not below b.
-lower_is_redundant : (a b q : ℕ) → a ≤ b → b ≤ q → (not (a == q) && (not (b == q) && true)) ≡ (not (b == q) && true)
-lower_is_redundant a b q below above = grind (arith, nat_tests)
-
 one_is_enough : (before : Option ℕ) (o : CoapOption) → unwrap_or before 0 ≤ o.number
     → AgreeFrom o.number (option_before before ++ o ∷ []) (option_before (Some o.number))
 unfolding AgreeFrom
-one_is_enough None o le = λ q above. refl
-one_is_enough (Some n) o le = λ q above. lower_is_redundant n o.number q.number le above
+one_is_enough None o le q above = refl
+one_is_enough (Some n) o le q above = grind (arith, nat_tests)
 
--- The list begins with a recognised option.
-pub knows : (before : Option ℕ) (all os : List CoapOption) (o : CoapOption) → all ≡ o ∷ os
-    → AreOrdered (unwrap_or before 0) all → true ≡ is_recognised (option_before before) o
-    → known_given (option_before before) all ≡ o ∷ known_given (option_before (Some o.number)) os
-knows before all os o is ordered recognised =
-    let both : AreOrdered (unwrap_or before 0) (o ∷ os) = subst (AreOrdered (unwrap_or before 0)) is ordered in
-    ap (known_given (option_before before)) is ∙ known_here (option_before before) o os (sym recognised)
-    ∙ ap (λ (ks : List CoapOption). o ∷ ks) (known_agrees o.number (option_before before ++ o ∷ [])
-    (option_before (Some o.number)) os both.1 (one_is_enough before o both.0))
+-- ---- the option before is enough
 
--- The list begins with an option that is not recognised.
-pub passes_over : (before : Option ℕ) (all os : List CoapOption) (o : CoapOption) → all ≡ o ∷ os
-    → AreOrdered (unwrap_or before 0) all → false ≡ is_recognised (option_before before) o
-    → known_given (option_before before) all ≡ known_given (option_before (Some o.number)) os
-passes_over before all os o is ordered not_recognised =
-    let both : AreOrdered (unwrap_or before 0) (o ∷ os) = subst (AreOrdered (unwrap_or before 0)) is ordered in
-    ap (known_given (option_before before)) is ∙ known_later (option_before before) o os (sym not_recognised)
-    ∙ known_agrees o.number (option_before before ++ o ∷ []) (option_before (Some o.number)) os both.1
-    (one_is_enough before o both.0)
+-- Recognised options, and the first critical one that is not, by the options with their tests.
+known_by : (earlier os : List CoapOption)
+    → known_given earlier os ≡ map (λ c. c.option) (filter (λ c. c.recognised) (checked_given earlier os))
+unfolding known_given checked_given
+known_by earlier [] = refl
+known_by earlier (o ∷ os) =
+    elim (cases_Bool (is_recognised earlier o)) [
+      | inl is ↦ rw is (ap (λ ks. o ∷ ks) (known_by (earlier ++ o ∷ []) os))
+      | inr not_so ↦ rw not_so (known_by (earlier ++ o ∷ []) os)
+    ]
 
--- The list begins with any option.
-pub checks : (before : Option ℕ) (all os : List CoapOption) (o : CoapOption) (recognised : Bool) → all ≡ o ∷ os
-    → AreOrdered (unwrap_or before 0) all → recognised ≡ is_recognised (option_before before) o
-    → checked_given (option_before before) all
-    ≡ record { option = o; recognised = recognised } ∷ checked_given (option_before (Some o.number)) os
-checks before all os o recognised is ordered test =
-    let both : AreOrdered (unwrap_or before 0) (o ∷ os) = subst (AreOrdered (unwrap_or before 0)) is ordered in
-    ap (checked_given (option_before before)) is ∙ checked_here (option_before before) o os recognised test
-    ∙ ap (λ (cs : List CheckedOptionValue). record { option = o; recognised = recognised } ∷ cs)
-    (checked_agrees o.number (option_before before ++ o ∷ []) (option_before (Some o.number)) os both.1
-    (one_is_enough before o both.0))
+critical_by : (earlier os : List CoapOption) → first_critical_given earlier os
+    ≡ option_map (λ c. c.option.number)
+    (find (λ c. is_critical c.option && not c.recognised) (checked_given earlier os))
+unfolding first_critical_given checked_given
+critical_by earlier [] = refl
+critical_by earlier (o ∷ os) =
+    elim (cases_Bool (is_critical o && not (is_recognised earlier o))) [
+      | inl is ↦ rw is refl
+      | inr not_so ↦ rw not_so (critical_by (earlier ++ o ∷ []) os)
+    ]
 
-pub stays_ordered : (base : ℕ) (all os : List CoapOption) (o : CoapOption) → all ≡ o ∷ os
-    → AreOrdered base all → AreOrdered o.number os
-stays_ordered base all os o is ordered =
-    let both : AreOrdered base (o ∷ os) = subst (AreOrdered base) is ordered in
-    both.1
+-- The first option of a list, and the others.
+pub checked_turn : (before : Option ℕ) (o : CoapOption) (os : List CoapOption)
+    → AreOrdered (unwrap_or before 0) (o ∷ os) → checked_given (option_before before) (o ∷ os)
+    ≡ record { option = o; recognised = is_recognised (option_before before) o }
+    ∷ checked_given (option_before (Some o.number)) os
+unfolding checked_given
+checked_turn before o os ordered =
+    ap (λ cs. record { option = o; recognised = is_recognised (option_before before) o } ∷ cs)
+    (checked_agrees o.number (option_before before ++ o ∷ []) (option_before (Some o.number)) os ordered.1
+    (one_is_enough before o ordered.0))
 
--- The list begins with a critical option that is not recognised.
-pub stops_at : (before : Option ℕ) (all os : List CoapOption) (o : CoapOption) → all ≡ o ∷ os → o.number % 2 ≡ 1
-    → false ≡ is_recognised (option_before before) o → first_critical_given (option_before before) all ≡ Some o.number
-stops_at before all os o is odd not_recognised =
-    ap (first_critical_given (option_before before)) is
-    ∙ critical_here (option_before before) o os
-    (and_from _ _ (eq-eqb (o.number % 2) 1 odd) (ap not (sym not_recognised)))
+pub known_turn : (before : Option ℕ) (o : CoapOption) (os : List CoapOption)
+    → AreOrdered (unwrap_or before 0) (o ∷ os) → known_given (option_before before) (o ∷ os)
+    ≡ cond (is_recognised (option_before before) o) (o ∷ known_given (option_before (Some o.number)) os)
+    (known_given (option_before (Some o.number)) os)
+known_turn before o os ordered =
+    rw (known_by (option_before before) (o ∷ os), checked_turn before o os ordered, known_by _ os)
+    (elim (cases_Bool (is_recognised (option_before before) o)) [ inl is ↦ rw is refl | inr not_so ↦ rw not_so refl ])
 
-goes_past : (before : Option ℕ) (all os : List CoapOption) (o : CoapOption) → all ≡ o ∷ os
-    → AreOrdered (unwrap_or before 0) all → (is_critical o && not (is_recognised (option_before before) o)) ≡ false
-    → first_critical_given (option_before before) all ≡ first_critical_given (option_before (Some o.number)) os
-goes_past before all os o is ordered harmless =
-    let both : AreOrdered (unwrap_or before 0) (o ∷ os) = subst (AreOrdered (unwrap_or before 0)) is ordered in
-    ap (first_critical_given (option_before before)) is ∙ critical_later (option_before before) o os harmless
-    ∙ critical_agrees o.number (option_before before ++ o ∷ []) (option_before (Some o.number)) os both.1
-    (one_is_enough before o both.0)
+pub critical_turn : (before : Option ℕ) (o : CoapOption) (os : List CoapOption)
+    → AreOrdered (unwrap_or before 0) (o ∷ os) → first_critical_given (option_before before) (o ∷ os)
+    ≡ cond (is_critical o && not (is_recognised (option_before before) o)) (Some o.number)
+    (first_critical_given (option_before (Some o.number)) os)
+critical_turn before o os ordered =
+    rw (critical_by (option_before before) (o ∷ os), checked_turn before o os ordered, critical_by _ os)
+    (elim (cases_Bool (is_critical o && not (is_recognised (option_before before) o))) [
+      | inl is ↦ rw is refl
+      | inr not_so ↦ rw not_so refl
+    ])
 
--- The list begins with a recognised option.
-pub goes_past_recognised : (before : Option ℕ) (all os : List CoapOption) (o : CoapOption) → all ≡ o ∷ os
-    → AreOrdered (unwrap_or before 0) all → true ≡ is_recognised (option_before before) o
-    → first_critical_given (option_before before) all ≡ first_critical_given (option_before (Some o.number)) os
-goes_past_recognised before all os o is ordered recognised =
-    goes_past before all os o is ordered (and_right (is_critical o) _ (ap not (sym recognised)))
+pub known_end : (earlier : List CoapOption) → known_given earlier [] ≡ []
+unfolding known_given
+known_end earlier = refl
 
--- The list begins with an elective option.
-pub goes_past_elective : (before : Option ℕ) (all os : List CoapOption) (o : CoapOption) → all ≡ o ∷ os
-    → AreOrdered (unwrap_or before 0) all → (o.number % 2 ≡ 1 → ⊥)
-    → first_critical_given (option_before before) all ≡ first_critical_given (option_before (Some o.number)) os
-goes_past_elective before all os o is ordered even =
-    goes_past before all os o is ordered (and_left (is_critical o) _ (ne_eqb (o.number % 2) 1 even))
+pub checked_end : (earlier : List CoapOption) → checked_given earlier [] ≡ []
+unfolding checked_given
+checked_end earlier = refl
+
+pub critical_end : (earlier : List CoapOption) → first_critical_given earlier [] ≡ None
+unfolding first_critical_given
+critical_end earlier = refl
+
+pub ruleset option_turns = (nat_tests, known_turn, known_end, checked_turn, checked_end, critical_turn, critical_end)

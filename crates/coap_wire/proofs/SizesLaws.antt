@@ -5,8 +5,8 @@ use Rattle.std.proofs.lemmas.Bool.Decides.{nat_tests}
 use Rattle.std.proofs.lemmas.Bool.{le-ltb}
 use mathlib.Core.Path.{fun_ext}
 use Rattle.coap_wire.specs.Prelude.{Unfinished, prefix_kind, Sizes, constant_size, sizes_first, sizes_after}
-use Rattle.coap_wire.specs.Prelude.{sizes_of_rest, StreamFault, Stream, sized_split, split, continued, split_on}
-use Rattle.coap_wire.proofs.StreamSteps.{AreAlikeAfter, split_alike, split_is, sized_goes_on, sized_rest}
+use Rattle.coap_wire.specs.Prelude.{sizes_of_rest, StreamFault, sized_split, split, continued, split_on}
+use Rattle.coap_wire.proofs.StreamSteps.{split_alike, split_is, sized_goes_on, sized_rest}
 use Rattle.coap_wire.proofs.StreamSteps.{unfinished_larger}
 
 -- ---- one maximum for the first n bytes

@@ -76,7 +76,8 @@ options_are_spelled base [] tail ordered has = refl
 options_are_spelled base (o ∷ os) tail ordered has =
     let others = options_spelling o.number os in (
       others ++ tail,
-      rw (append_assoc (option_spelling base o) others tail) (option_is_spelled base o (others ++ tail) ordered.0 has.0),
+      rw (append_assoc (option_spelling base o) others tail)
+          (option_is_spelled base o (others ++ tail) ordered.0 has.0),
       options_are_spelled o.number os tail ordered.1 has.1,
     )
 

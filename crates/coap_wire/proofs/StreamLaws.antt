@@ -1,5 +1,6 @@
 -- The theorems on streams: the relation `Splits` and the function `sized_split` agree.
-use Rattle.std.proofs.Common.{◌≡◌, ℕ, List, [], ◌∷◌, ◌++◌, length, Option, Some, None, Result, Ok, Err, inl, inr, refl, sym}
+use Rattle.std.proofs.Common.{◌≡◌, ℕ, List, [], ◌∷◌, ◌++◌, length, Option, Some, None, Result, Ok, Err, inl, inr, refl}
+use Rattle.std.proofs.Common.{sym}
 use Rattle.std.proofs.Common.{ap, subst, ◌∙◌, arith}
 use Rattle.std.proofs.lemmas.List.{append-nil, append_assoc}
 use Rattle.coap_wire.specs.Prelude.{concat, Message, AreBytes, FormatFault, message_of, FrameFault, Frames, Sizes}
@@ -27,11 +28,13 @@ read_splits sizes [] rest more None fits each small ended follows =
 read_splits sizes [] rest more (Some fault) fits each small ended follows =
     record { frames = []; more = more; whole = refl; spelled = tt; small = tt; ended = ended; follows = tt }
 read_splits sizes (f ∷ fs) rest more fault fits each small ended follows =
-    go (message_of f) refl (read_splits (sizes_after (length f) sizes) fs rest more fault (AreBytes-tail f _ both) each.1
-    small.1 (subst (λ M. FramesEndWith M rest fault) (sym (size_after_one sizes f fs rest)) ended) follows)
+    go (message_of f) refl
+    (read_splits (sizes_after (length f) sizes) fs rest more fault (AreBytes-tail f _ both) each.1 small.1
+    (subst (λ M. FramesEndWith M rest fault) (sym (size_after_one sizes f fs rest)) ended) follows)
   where
     both : AreBytes (f ++ (concat fs ++ (rest ++ more)))
     both = rw (append_assoc f (concat fs) (rest ++ more)) at fits
+
     go : (r : Result Message FormatFault) → message_of f ≡ r
         → SplitsAs (sizes_after (length f) sizes) (concat fs ++ (rest ++ more)) (read_frames fs rest fault)
         → SplitsAs sizes (concat (f ∷ fs) ++ (rest ++ more)) (frame_then f r (read_frames fs rest fault))
@@ -63,8 +66,8 @@ read_splits sizes (f ∷ fs) rest more fault fits each small ended follows =
 framed_splits : (sizes : Sizes) (bytes : List ℕ) (found : Frames) → AreBytes bytes → FramedAs sizes bytes found
     → SplitsAs sizes bytes (read_found found)
 framed_splits sizes bytes found fits f =
-    rw (f.whole) (read_splits sizes found.frames found.rest f.more found.fault (rw f.whole at fits) f.each f.small f.ended
-    f.follows)
+    rw (f.whole) (read_splits sizes found.frames found.rest f.more found.fault (rw f.whole at fits) f.each f.small
+    f.ended f.follows)
 
 -- The result of the function satisfies the relation.
 pub split_splits : (sizes : Sizes) (bytes : List ℕ) → AreBytes bytes → SplitsAs sizes bytes (sized_split sizes bytes)

@@ -1,15 +1,15 @@
 -- Splitting a stream step by step: the classification of its first bytes, and the effect of more bytes.
-use Rattle.std.proofs.Common.{◌≡◌, ℕ, zero, suc, ◌+◌, ◌-◌, ◌/◌, ◌%◌, ◌<◌, ◌≤◌, List, [], ◌∷◌, ◌++◌, length, take, drop}
-use Rattle.std.proofs.Common.{Option, Some, None, Result, Ok, Err, ◌⊎◌, inl, inr, refl, sym, ap, ◌∙◌, arith}
+use Rattle.std.proofs.Common.{◌≡◌, ℕ, zero, suc, ◌+◌, ◌-◌, ◌<◌, ◌≤◌, List, [], ◌∷◌, ◌++◌, length, take, drop}
+use Rattle.std.proofs.Common.{Option, Some, None, Result, Ok, Err, inl, inr, refl, sym, ap, ◌∙◌, arith}
 use mathlib.Core.Path.{fun_ext}
 use Rattle.std.proofs.lemmas.Bool.Decides.{nat_tests}
-use Rattle.std.proofs.lemmas.List.{length-append, length-take, length-take-le, take-append-drop, take-append-le}
+use Rattle.std.proofs.lemmas.List.{length-append, length-take, take-append-drop, take-append-le}
 use Rattle.std.proofs.lemmas.List.{drop-append-le, take_all, drop_all, nil_from_length, append-nil}
-use Rattle.coap_wire.specs.Prelude.{Message, StatesLengths, Declared, Unknown, Size, BadToken, FormatFault, declared_of}
+use Rattle.coap_wire.specs.Prelude.{Message, StatesLengths, Unknown, Size, BadToken, FormatFault, declared_of}
 use Rattle.coap_wire.specs.Prelude.{message_of, FrameFault, TooLarge, StreamPrefix, Unfinished, Whole, Faulty}
 use Rattle.coap_wire.specs.Prelude.{prefix_kind, size_bytes, fault_bytes, Frames, Sizes, constant_size, sizes_after}
 use Rattle.coap_wire.specs.Prelude.{size_for, sizes_of_rest, with_frame, frames_then, frames_within, sized_frames}
-use Rattle.coap_wire.specs.Prelude.{frames_on, frames_gone_on, StreamFault, OfFrame, Format, Stream, with_message}
+use Rattle.coap_wire.specs.Prelude.{frames_on, frames_gone_on, StreamFault, OfFrame, Stream}
 use Rattle.coap_wire.specs.Prelude.{frame_then, read_found, sized_split, split, stream_then, continued}
 use Rattle.coap_wire.specs.Prelude.{sized_split_on, split_on}
 use Rattle.coap_wire.specs.Stream.{read_frames}
@@ -29,10 +29,6 @@ stated_bytes head more t n h = let r = stated_read head more t n h in ap size_by
 pub size_bytes_some : (s : List ℕ) → 1 ≤ length s → 1 ≤ size_bytes s
 size_bytes_some [] h = absurd (omega arith)
 size_bytes_some (b ∷ s) h = grind (arith, nat_tests)
-
--- If a size or an invalid token length is known, the bytes that state it are present.
-pub known_bytes : (s : List ℕ) → (declared_of s ≡ Unknown → ⊥) → size_bytes s ≤ length s
-known_bytes s known = grind (arith, head_facts s)
 
 -- If no size is known yet, a byte that states it is missing.
 unknown_bytes : (s : List ℕ) → 1 ≤ length s → declared_of s ≡ Unknown → length s < size_bytes s
@@ -301,8 +297,8 @@ unfolding frames_within
 finds_within zero sizes [] h = Ends sizes [] (unfinished_empty _)
 finds_within zero sizes (b ∷ s) h = absurd (omega arith)
 finds_within (suc turns) sizes s h =
-    finds_then sizes s (λ frame. frames_within turns (sizes_after (length frame) sizes)) (prefix_kind (size_for sizes s) s)
-    refl (λ frame rest e. let all = whole_lengths _ s frame rest e in
+    finds_then sizes s (λ frame. frames_within turns (sizes_after (length frame) sizes))
+    (prefix_kind (size_for sizes s) s) refl (λ frame rest e. let all = whole_lengths _ s frame rest e in
     finds_within turns (sizes_after (length frame) sizes) rest (omega arith))
 
 -- `sized_frames` finds the frames.
@@ -360,7 +356,8 @@ found_rest : (sizes : Sizes) (s : List ℕ) (found : Frames) → Finds sizes s f
 found_rest _ _ _ (Ends sizes s e) none = ap (λ f. prefix_kind (size_for f s) s) (rest_is_all sizes s) ∙ e
 found_rest _ _ _ (Fails sizes s fault e) none = cc
 found_rest _ _ _ (Goes sizes s frame rest found e f) none =
-    let same = rest_sizes sizes frame rest s found.rest (whole_lengths _ s frame rest e).0 (found_within_stream _ _ _ f) in
+    let within = found_within_stream _ _ _ f in
+    let same = rest_sizes sizes frame rest s found.rest (whole_lengths _ s frame rest e).0 within in
     ap (λ f. prefix_kind (size_for f found.rest) found.rest) (sym same) ∙ found_rest _ _ _ f none
 
 -- One more frame before the others stays before them when more bytes follow.
@@ -375,10 +372,11 @@ found_on t _ _ _ (Ends sizes s e) = rw (rest_is_all sizes s) refl
 found_on t _ _ _ (Fails sizes s fault e) =
     frames_faulty sizes (s ++ t) fault (sized_faulty_more sizes s t fault e) ∙ rw (fault_bytes_more _ s t fault e) refl
 found_on t _ _ _ (Goes sizes s frame rest found e f) =
+    let within = found_within_stream _ _ _ f in
     frames_whole sizes (s ++ t) frame (rest ++ t) (sized_whole_more sizes s t frame rest e)
     ∙ ap (with_frame frame) (found_on t _ _ _ f)
     ∙ sym (frame_on frame found _ found.fault)
-    ∙ rw (rest_sizes sizes frame rest s found.rest (whole_lengths _ s frame rest e).0 (found_within_stream _ _ _ f)) refl
+    ∙ rw (rest_sizes sizes frame rest s found.rest (whole_lengths _ s frame rest e).0 within) refl
 
 -- The segmentation of a stream does not change its frames.
 pub frames_go_on : (sizes : Sizes) (s more : List ℕ) → sized_frames sizes (s ++ more)
@@ -505,8 +503,10 @@ pub frames_alike : (F G : Sizes) (kept more : List ℕ) → AreAlikeAfter F G ke
     → sized_frames F (kept ++ more) ≡ sized_frames G (kept ++ more)
 frames_alike F G kept more alike = go (prefix_kind (size_for G (kept ++ more)) (kept ++ more)) refl
   where
-    front : prefix_kind (size_for F (kept ++ more)) (kept ++ more) ≡ prefix_kind (size_for G (kept ++ more)) (kept ++ more)
+    front : prefix_kind (size_for F (kept ++ more)) (kept ++ more)
+        ≡ prefix_kind (size_for G (kept ++ more)) (kept ++ more)
     front = front_agrees F G kept more alike
+
     go : (b : StreamPrefix) → prefix_kind (size_for G (kept ++ more)) (kept ++ more) ≡ b
         → sized_frames F (kept ++ more) ≡ sized_frames G (kept ++ more)
     go Unfinished e =
@@ -574,3 +574,5 @@ module _ (M : ℕ) (s : List ℕ) where
   pub split_rest : (split M s).fault ≡ None → prefix_kind M (split M s).rest ≡ Unfinished
   unfolding split
   split_rest h = (sized_rest (constant_size M) s h).0
+
+pub ruleset stream_in_order = (sized_step, split_step, split_rest)

@@ -180,7 +180,7 @@ pub fn read_option(
 ///
 /// - `EmptyPayload`: no byte follows the payload marker.
 /// - The error of a malformed option, as `read_option` returns it.
-#[tactic(auto, using(crate::proofs::BodyLemmas::turns))]
+#[tactic(auto, using(crate::proofs::BodyLemmas::body_turns))]
 #[inline(always)]
 pub fn payload_of(body: &[u8]) -> Result<&[u8], FormatFault>
     ensures { GivesPayload result (body_at 0 body.now) }

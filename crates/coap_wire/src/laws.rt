@@ -72,6 +72,7 @@ pub fn first_fault_is_one()
 ///
 /// Each message is compared with the maximum size in effect at the last byte that states its own size. `split` computes
 /// the result if the maximum never changes.
+#[tactic(auto, using(crate::proofs::StreamSteps::split_is, crate::proofs::StreamLaws::split_splits))]
 pub fn stream_is_split_once()
     ensures has { (sizes : Sizes) (s : List ℕ) → AreBytes s → SplitsAs sizes s (sized_split sizes s) }
     ensures no_other { (sizes : Sizes) (s : List ℕ) (other : Stream) → AreBytes s → SplitsAs sizes s other
@@ -81,6 +82,7 @@ pub fn stream_is_split_once()
 
 /// States that the segmentation of a stream does not change its messages. To split `s ++ more`, split `s`, then
 /// continue from its rest with `more`. After an error, `more` is ignored.
+#[tactic(auto, using(crate::proofs::StreamSteps::sized_goes_on, crate::proofs::StreamSteps::split_goes_on))]
 pub fn segmentation_is_irrelevant()
     ensures sized { (sizes : Sizes) (s more : List ℕ) → sized_split sizes (s ++ more)
         ≡ sized_split_on (sizes_of_rest sizes s (sized_split sizes s).rest) (sized_split sizes s) more }
@@ -89,6 +91,7 @@ pub fn segmentation_is_irrelevant()
 
 /// States that a stream divides in exactly one way into frames, a rest and an error, which `sized_frames` computes.
 /// Each frame is compared with the maximum size in effect at the last byte that states its own size.
+#[tactic(auto, using(crate::proofs::FramesLaws::frames_framed))]
 pub fn frames_are_found_once()
     ensures has { (sizes : Sizes) (s : List ℕ) → AreBytes s → FramedAs sizes s (sized_frames sizes s) }
     ensures no_other { (sizes : Sizes) (s : List ℕ) (other : Frames) → AreBytes s → FramedAs sizes s other
@@ -97,6 +100,7 @@ pub fn frames_are_found_once()
 
 /// States that the segmentation of a stream does not change its frames. To find those of `s ++ more`, find those of
 /// `s`, then continue from the rest with `more`. After an error, `more` is ignored.
+#[tactic(auto, using(crate::proofs::StreamSteps::frames_go_on))]
 pub fn frame_segmentation_is_irrelevant()
     ensures { (sizes : Sizes) (s more : List ℕ) → sized_frames sizes (s ++ more)
         ≡ frames_on (sizes_of_rest sizes s (sized_frames sizes s).rest) (sized_frames sizes s) more }
@@ -126,6 +130,7 @@ pub fn a_stream_goes_on_with_the_size_in_force()
 
 /// States that a stream can be read in order. The result is that of the first frame, followed by the result for the
 /// bytes after it. If there is no error, the rest is an unfinished frame.
+#[tactic(auto, using(crate::proofs::StreamSteps::stream_in_order))]
 pub fn stream_is_read_in_order()
     ensures front { (sizes : Sizes) (s : List ℕ) → sized_split sizes s
         ≡ stream_then (λ frame. sized_split (sizes_after (length frame) sizes)) s (prefix_kind (size_for sizes s) s) }
@@ -138,6 +143,7 @@ pub fn stream_is_read_in_order()
 
 /// States that `prefix_kind` agrees with the relations `IsFrame`, `IsFrameFault` and `IsUnfinished`. The first bytes
 /// are a frame of at most `M` bytes, or `fault_bytes` shows an error, or the frame is unfinished.
+#[tactic(auto, using(crate::proofs::FramesLaws::first_bytes))]
 pub fn prefix_kind_finds_first_frame()
     ensures frame_found { (M : ℕ) (frame rest : List ℕ) → IsFrame frame → length frame ≤ M →
         prefix_kind M (frame ++ rest) ≡ Whole frame rest }
@@ -162,6 +168,7 @@ pub fn frame_at_the_front_is_the_first_bytes()
 {}
 
 /// States that a frame or an error found by `prefix_kind` stays the same when more bytes follow.
+#[tactic(auto, using(crate::proofs::StreamSteps::whole_more, crate::proofs::StreamSteps::faulty_more))]
 pub fn prefix_classification_is_stable()
     ensures whole { (M : ℕ) (s more frame rest : List ℕ) → prefix_kind M s ≡ Whole frame rest →
         prefix_kind M (s ++ more) ≡ Whole frame (rest ++ more) }
@@ -185,6 +192,7 @@ pub fn unfinished_beginning_needs_more_bytes()
 
 /// States that the bytes of a number below 2^64 encode it, so numbers with equal bytes are equal (RFC
 /// 7252 section 3.2).
+#[tactic(auto, using(crate::proofs::UintLaws::uint_of_bytes, crate::proofs::UintLaws::bytes_are_one))]
 pub fn bytes_of_a_number_mean_it()
     ensures mean { (n : ℕ) → n < 2 ^ 64 → uint_of (bytes_of_uint n) ≡ n }
     ensures distinct { (m n : ℕ) → m < 2 ^ 64 → n < 2 ^ 64 → bytes_of_uint m ≡ bytes_of_uint n → m ≡ n }
@@ -199,6 +207,7 @@ pub fn first_has_another_number_than_the_one_before()
 
 /// States that the test `is_recognised` is true for exactly the recognised options (RFC 7252 sections 5.4.3, 5.4.5).
 /// The definitions `known_options` and `first_critical` use it.
+#[tactic(auto, using(crate::proofs::RecognitionLaws::recognised_is_decided))]
 pub fn recognised_is_tested()
     ensures { (before : List CoapOption) (o : CoapOption) → (IsTrue (is_recognised before o) ↔ IsRecognised before o) }
 {}

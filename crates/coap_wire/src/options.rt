@@ -46,7 +46,7 @@ impl<'a> Iterator for Options<'a> {
 
     ghost remaining = { item_count (λ os. os) };
 
-    #[tactic(auto, using(crate::proofs::BodyLemmas::turns, crate::proofs::BodyLemmas::next_option))]
+    #[tactic(auto, using(crate::proofs::BodyLemmas::body_turns, crate::proofs::BodyLemmas::next_option))]
     #[inline(always)]
     fn next(&mut self) -> Option<OptionRef<'a>> {
         let (first, after) = self.rest.split_first()?;

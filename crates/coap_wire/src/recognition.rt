@@ -44,6 +44,7 @@ fn recognises_by_table(before: Option<u16>, option: &OptionRef) -> bool
 }
 
 /// Returns the number of the first critical option that is not recognised, or `None` if there is none.
+#[tactic(auto, using(crate::proofs::RecognitionLaws::option_turns))]
 pub(crate) fn first_unrecognised_critical(options: Options) -> Option<u16>
     requires { AreOrdered 0 options }
     ensures { result ≡ first_critical options.entry }
@@ -98,6 +99,7 @@ impl<'a> Iterator for RecognisedOptions<'a> {
 
     ghost remaining = { item_count (λ os. os) };
 
+    #[tactic(auto, using(crate::proofs::RecognitionLaws::option_turns))]
     fn next(&mut self) -> Option<OptionRef<'a>> {
         while let Some(option) = self.options.next() {
             let is_known = recognises(self.before, &option);
@@ -159,6 +161,7 @@ impl<'a> Iterator for CheckedOptions<'a> {
 
     ghost remaining = { item_count (λ os. os) };
 
+    #[tactic(auto, using(crate::proofs::RecognitionLaws::option_turns))]
     fn next(&mut self) -> Option<CheckedOption<'a>> {
         let option = self.options.next()?;
         let is_recognised = recognises(self.before, &option);

@@ -1,50 +1,35 @@
-use Rattle.std.proofs.Common.{◌≡◌, List, length, ap, ◌∙◌, arith}
-use Rattle.coap_wire.specs.Prelude.{CoapOption, Message, HasOptionForm, last_number, options_spelling, with_option}
-use Rattle.coap_wire.proofs.CompactLemmas.{added, encoded_more, longer}
+use Rattle.std.proofs.Common.{arith, refl}
+use Rattle.std.proofs.lemmas.List.{length-append}
+use Rattle.coap_wire.specs.Prelude.{CoapOption, last_number, option_spelling, options_spelling, options_in}
+use Rattle.coap_wire.proofs.OptionLists.{spelling-push}
+use Rattle.coap_wire.proofs.CompactLemmas.{option_pushed}
 use Rattle.coap_wire.proofs.HeadSizes.{option_size_bound}
 use Rattle.coap_wire.proofs.compact.CompactBuilder.option.Goals as goal
 
 pub invariant_of-self : goal.invariant_of-self
-invariant_of-self g c =
-    let inside = c.self.inside in
-    let o : CoapOption = record { number = c.args.number; value = c.args.value.now } in
-    let last : inside.last ≡ last_number 0 c.args.self.now.options =
-    c.self.invariant.options.last_is ∙ ap (λ (m : Message). last_number 0 m.options) c.self.view_is in
-    let form : HasOptionForm o = (omega arith, omega (arith, c.requires.room, c.self.invariant.few)) in
-    record {
-      options =
-          encoded_more inside.options.items c.write_option.new.out.items inside.last o c.self.invariant.options
-          (omega (arith, last)) form c.write_option.ensures.appended;
-      token = c.self.invariant.token;
-      payload = c.self.invariant.payload;
-      few = c.self.invariant.few;
-    }
+invariant_of-self g c = record {
+  options =
+      (option_pushed c.self.inside c.args.self.now c.write_option.new.out.items
+      (record { number = c.args.number; value = c.args.value.now }) c.self.invariant c.self.view_is c.requires.order
+      (omega arith) c.requires.room c.write_option.ensures.appended).1;
+  token = c.self.invariant.token;
+  payload = c.self.invariant.payload;
+  few = c.self.invariant.few;
+}
 
 pub returns-clause-added : goal.returns-clause-added
 returns-clause-added g c =
-    let inside = c.self.inside in
-    let o : CoapOption = record { number = c.args.number; value = c.args.value.now } in
-    let last : inside.last ≡ last_number 0 c.args.self.now.options =
-    c.self.invariant.options.last_is ∙ ap (λ (m : Message). last_number 0 m.options) c.self.view_is in
-    let form : HasOptionForm o = (omega arith, omega (arith, c.requires.room, c.self.invariant.few)) in
-    let more = added inside.options.items c.write_option.new.out.items inside.last o c.self.invariant.options
-    (omega (arith, last)) form c.write_option.ensures.appended in
-    ap (λ (os : List CoapOption). let m : Message =
-    record { code = inside.code; token = inside.token; options = os; payload = inside.payload.now } in m) more
-    ∙ ap (λ (m : Message). with_option m c.args.number c.args.value.now) c.self.view_is
+    let k = option_pushed c.self.inside c.args.self.now c.write_option.new.out.items
+    (record { number = c.args.number; value = c.args.value.now }) c.self.invariant c.self.view_is c.requires.order
+    (omega arith) c.requires.room c.write_option.ensures.appended in
+    rw (← c.self.view_is, k.0) refl
 
 pub returns-clause-size : goal.returns-clause-size
 returns-clause-size g c =
-    let inside = c.self.inside in
     let o : CoapOption = record { number = c.args.number; value = c.args.value.now } in
-    let last : inside.last ≡ last_number 0 c.args.self.now.options =
-    c.self.invariant.options.last_is ∙ ap (λ (m : Message). last_number 0 m.options) c.self.view_is in
-    let form : HasOptionForm o = (omega arith, omega (arith, c.requires.room, c.self.invariant.few)) in
-    let more = longer inside.options.items c.write_option.new.out.items inside.last o c.self.invariant.options
-    (omega (arith, last)) form c.write_option.ensures.appended in
-    omega (
-      arith,
-      more,
-      option_size_bound inside.last o,
-      ap (λ (m : Message). length (options_spelling 0 m.options)) c.self.view_is,
-    )
+    let os = options_in 0 c.self.inside.options.items in
+    let last = last_number 0 os in
+    let k = option_pushed c.self.inside c.args.self.now c.write_option.new.out.items o c.self.invariant c.self.view_is
+    c.requires.order (omega arith) c.requires.room c.write_option.ensures.appended in
+    rw (← c.self.view_is, k.0, spelling-push 0 os o)
+    (omega (arith, option_size_bound last o, length-append (options_spelling 0 os) (option_spelling last o)))

@@ -1,42 +1,21 @@
-use Rattle.coap_wire.specs.Prelude.{compact_message}
+use Rattle.std.proofs.Common.{append_assoc}
 use Rattle.coap_wire.proofs.SpellingLaws.{spelling_spells}
-use Rattle.coap_wire.proofs.BuiltLemmas.{head_room, options_room, marker_room, all_written, all_room}
-use Rattle.coap_wire.proofs.BuiltLemmas.{front_then_payload}
+use Rattle.coap_wire.proofs.BuiltLemmas.{front_parts}
 use Rattle.coap_wire.proofs.compact.CompactBuilder.write_front.Goals as goal
-
-pub write_head-requires-clause-room : goal.write_head-requires-clause-room
-write_head-requires-clause-room g c =
-    head_room (compact_message c.self.inside) c.args.self.now c.body_size.result c.bytes.result.now c.self.view_is
-    c.body_size.ensures.size c.bytes.ensures.bytes _ c.requires
-
-pub append_short-requires : goal.append_short-requires
-append_short-requires g c =
-    rw (c.deref.ensures.0, c.self.invariant.options.encoded)
-    (options_room (compact_message c.self.inside) c.args.self.now c.body_size.result c.bytes.result.now c.self.view_is
-    c.body_size.ensures.size c.bytes.ensures.bytes _ _ c.requires c.write_head.ensures.less_room)
-
-pub write_marker-requires : goal.write_marker-requires
-write_marker-requires g c =
-    marker_room (compact_message c.self.inside) c.args.self.now c.body_size.result c.bytes.result.now c.self.view_is
-    c.body_size.ensures.size c.bytes.ensures.bytes _ _ _ c.requires c.write_head.ensures.less_room
-    (rw (c.deref.ensures.0, c.self.invariant.options.encoded) at c.append_short.ensures.less_room)
 
 pub returns-clause-appended : goal.returns-clause-appended
 returns-clause-appended g c =
-    all_written (compact_message c.self.inside) c.args.self.now c.body_size.result c.bytes.result.now c.self.view_is
-    c.body_size.ensures.size c.bytes.ensures.bytes _ _ _ _ c.write_head.ensures.appended
-    (rw (c.deref.ensures.0, c.self.invariant.options.encoded) at c.append_short.ensures.appended)
-    c.write_marker.ensures.appended
-
-pub returns-clause-less_room : goal.returns-clause-less_room
-returns-clause-less_room g c =
-    all_room (compact_message c.self.inside) c.args.self.now c.body_size.result c.bytes.result.now c.self.view_is
-    c.body_size.ensures.size c.bytes.ensures.bytes _ _ _ _ c.write_head.ensures.less_room
-    (rw (c.deref.ensures.0, c.self.invariant.options.encoded) at c.append_short.ensures.less_room)
-    c.write_marker.ensures.less_room
-
-pub returns-clause-whole : goal.returns-clause-whole
-returns-clause-whole g c = front_then_payload c.args.self.now
+    rw (
+      c.write_marker.ensures.appended,
+      c.append_short.ensures.appended,
+      c.write_head.ensures.appended,
+      c.deref.ensures.0,
+      c.self.invariant.options.encoded,
+      c.bytes.ensures.bytes,
+      c.body_size.ensures.size,
+      ← c.self.view_is,
+      front_parts,
+    ) (simp append_assoc)
 
 pub returns-clause-spelled : goal.returns-clause-spelled
 returns-clause-spelled g c = spelling_spells c.args.self.now c.body_size.ensures.spelled

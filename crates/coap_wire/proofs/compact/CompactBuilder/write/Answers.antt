@@ -1,6 +1,0 @@
-use Rattle.std.proofs.Common.{arith}
-use Rattle.coap_wire.proofs.BuiltLemmas.{length-whole}
-use Rattle.coap_wire.proofs.compact.CompactBuilder.write.Goals as goal
-
-pub write_front-requires : goal.write_front-requires
-write_front-requires g c = omega (arith, length-whole c.args.self.now)
