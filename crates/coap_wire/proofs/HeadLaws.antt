@@ -129,6 +129,50 @@ head_kind b s =
           ]
     ]
 
+-- ---- all that the first bytes show
+
+-- The head of a frame with this code and a token of t bytes, if `later` follows the extension of the token length.
+abbrev pub parts_of : ℕ → ℕ → List ℕ → Head
+parts_of code t later = record { code = code; token = take t later; body = drop t later }
+
+-- The bytes show an invalid token length, or too few bytes are present, or they state a size and a layout.
+abbrev pub HeadFacts : List ℕ → Type 0
+HeadFacts s =
+    ((declared_of s ≡ BadToken) × (outline_of s ≡ outline.BadToken) × (head_at s ≡ Err TokenLength)
+    × (size_bytes s ≤ length s))
+    ⊎ (((declared_of s ≡ Unknown) × (outline_of s ≡ outline.Unknown) × (head_at s ≡ Err NotOneFrame)
+    × (1 ≤ length s → length s < size_bytes s))
+    ⊎ ((n : ℕ) × (l : FrameLayout) × (declared_of s ≡ Size n) × (outline_of s ≡ outline.Known n l)
+    × (size_bytes s < n) × (size_bytes s ≤ length s) × (l.code_at < n) × (l.token_at + l.token_length ≤ n)
+    × (l.token_length ≤ greatest_token)
+    × (head_at s ≡ cond (eqb (length s) n)
+    (Ok (parts_of (get_or s l.code_at 0) l.token_length (drop l.token_at s))) (Err NotOneFrame))))
+
+pub head_facts : (s : List ℕ) → HeadFacts s
+unfolding declared_of outline_of head_at
+head_facts [] = inr (inl (refl, refl, refl, λ some. absurd (omega arith)))
+head_facts (b ∷ s) =
+    elim (head_kind b s) [
+      | NoLength none d o h ↦ inl (d, o, h, grind (arith, nat_tests))
+      | Cut few d o h ↦ inr (inl (d, o, h, λ some. few))
+      | Lengths y z r ↦ elim (cases_lt greatest_token z.0) [
+        | inl long ↦
+            inl (grind (arith, nat_tests), grind (arith, nat_tests), grind (arith, nat_tests), grind (arith, nat_tests))
+        | inr short ↦ inr (inr (
+          frame_size b z.0 y.0,
+          layout_by b z.0,
+          grind (arith, nat_tests),
+          grind (arith, nat_tests),
+          grind (arith, nat_tests),
+          grind (arith, nat_tests, length-drop 1 y.1),
+          omega arith,
+          omega arith,
+          short,
+          grind (arith, nat_tests, get_or-drop (1 + extension_of (b / 16)) (b ∷ s) 0 0),
+        ))
+      ]
+    ]
+
 -- ---- forms of lengths are decoded
 
 reads_forms : (x y : ℕ) (e d : List ℕ) (n t : ℕ) (at_code at_token : List ℕ) → IsLengthForm x e n → IsOptionForm y d t
@@ -393,14 +437,14 @@ head_again s code token body h =
 
 -- The head of a frame is decoded without an error.
 pub frame_head : (s : List ℕ) → IsFrame s → (h : Head) × (head_at s ≡ Ok h)
-frame_head [] f = cc (declared_nothing, size_declared [] 0 f)
-frame_head (b ∷ s) f =
-    let e = size_declared (b ∷ s) (length (b ∷ s)) f in
-    elim (head_kind b s) [
-      | NoLength none d o h ↦ cc
-      | Cut few d o h ↦ cc
-      | Lengths y z r ↦
-          (record { code = get_or y.1 0 0; token = take z.0 z.1; body = drop z.0 z.1 }, grind (arith, nat_tests))
+frame_head s f =
+    let e = size_declared s (length s) f in
+    elim (head_facts s) [
+      | inl bad ↦ cc
+      | inr others ↦ elim others [
+        | inl unknown ↦ cc
+        | inr k ↦ (parts_of (get_or s k.1.code_at 0) k.1.token_length (drop k.1.token_at s), grind (arith, nat_tests))
+      ]
     ]
 
 -- A head and a body of the stated length are a frame.
@@ -440,14 +484,7 @@ head_frame s code token body h =
 
 -- An invalid token length is an error.
 pub bad_token_read : (s : List ℕ) → HasBadToken s → head_at s ≡ Err TokenLength
-bad_token_read [] bad = cc (declared_nothing, bad_token_declared [] bad)
-bad_token_read (b ∷ s) bad =
-    let e = bad_token_declared (b ∷ s) bad in
-    elim (head_kind b s) [
-      | NoLength none d o h ↦ h
-      | Cut few d o h ↦ cc
-      | Lengths y z r ↦ grind (arith, nat_tests)
-    ]
+bad_token_read s bad = let e = bad_token_declared s bad in grind (arith, head_facts s)
 
 not_one_frame : (s : List ℕ) → head_at s ≡ Err NotOneFrame → IsFirstFault s NotOneFrame
 not_one_frame s e = (λ bad. cc (bad_token_read s bad), λ f. let h = frame_head s f in cc)
@@ -459,15 +496,10 @@ fault_by s e fits h (inr is) = rw is (not_one_frame s (rw is at h))
 
 -- If decoding a head fails, the bytes have the error returned.
 pub head_is_wrong : (s : List ℕ) (e : FormatFault) → AreBytes s → head_at s ≡ Err e → IsFirstFault s e
-head_is_wrong [] e fits h = fault_by [] e fits h (inr (cc head_nothing))
-head_is_wrong (b ∷ s) e fits h =
-    fault_by (b ∷ s) e fits h (elim (head_kind b s) [
-      | NoLength none d o bad ↦ inl (d, cc)
-      | Cut few d o bad ↦ inr cc
-      | Lengths y z r ↦ elim (cases_lt greatest_token z.0) [
-        | inl long ↦ inl (grind (arith, nat_tests), grind (arith, nat_tests))
-        | inr short ↦ inr (grind (arith, nat_tests))
-      ]
+head_is_wrong s e fits h =
+    fault_by s e fits h (elim (head_facts s) [
+      | inl bad ↦ inl (bad.0, cc)
+      | inr others ↦ elim others [ inl unknown ↦ inr cc | inr k ↦ inr (grind (arith, nat_tests)) ]
     ])
 
 -- ---- more bytes
@@ -495,50 +527,6 @@ known_more (b ∷ s) t known =
       | NoLength none d o h ↦ (grind (arith, nat_tests), grind (arith, nat_tests))
       | Cut few d o h ↦ absurd (known d)
       | Lengths y z r ↦ let m = (reads_more b s t y z r).1 in (m.declared ∙ sym r.declared, m.outline ∙ sym r.outline)
-    ]
-
--- ---- all that the first bytes show
-
--- The head of a frame with this code and a token of t bytes, if `later` follows the extension of the token length.
-abbrev pub parts_of : ℕ → ℕ → List ℕ → Head
-parts_of code t later = record { code = code; token = take t later; body = drop t later }
-
--- The bytes show an invalid token length, or too few bytes are present, or they state a size and a layout.
-abbrev pub HeadFacts : List ℕ → Type 0
-HeadFacts s =
-    ((declared_of s ≡ BadToken) × (outline_of s ≡ outline.BadToken) × (head_at s ≡ Err TokenLength)
-    × (size_bytes s ≤ length s))
-    ⊎ (((declared_of s ≡ Unknown) × (outline_of s ≡ outline.Unknown) × (head_at s ≡ Err NotOneFrame)
-    × (1 ≤ length s → length s < size_bytes s))
-    ⊎ ((n : ℕ) × (l : FrameLayout) × (declared_of s ≡ Size n) × (outline_of s ≡ outline.Known n l)
-    × (size_bytes s < n) × (size_bytes s ≤ length s) × (l.code_at < n) × (l.token_at + l.token_length ≤ n)
-    × (l.token_length ≤ greatest_token)
-    × (head_at s ≡ cond (eqb (length s) n)
-    (Ok (parts_of (get_or s l.code_at 0) l.token_length (drop l.token_at s))) (Err NotOneFrame))))
-
-pub head_facts : (s : List ℕ) → HeadFacts s
-unfolding declared_of outline_of head_at
-head_facts [] = inr (inl (refl, refl, refl, λ some. absurd (omega arith)))
-head_facts (b ∷ s) =
-    elim (head_kind b s) [
-      | NoLength none d o h ↦ inl (d, o, h, grind (arith, nat_tests))
-      | Cut few d o h ↦ inr (inl (d, o, h, λ some. few))
-      | Lengths y z r ↦ elim (cases_lt greatest_token z.0) [
-        | inl long ↦
-            inl (grind (arith, nat_tests), grind (arith, nat_tests), grind (arith, nat_tests), grind (arith, nat_tests))
-        | inr short ↦ inr (inr (
-          frame_size b z.0 y.0,
-          layout_by b z.0,
-          grind (arith, nat_tests),
-          grind (arith, nat_tests),
-          grind (arith, nat_tests),
-          grind (arith, nat_tests, length-drop 1 y.1),
-          omega arith,
-          omega arith,
-          short,
-          grind (arith, nat_tests, get_or-drop (1 + extension_of (b / 16)) (b ∷ s) 0 0),
-        ))
-      ]
     ]
 
 -- The first byte determines the byte at which the size is known.

@@ -88,6 +88,7 @@ impl<'t, 'p, const N: usize> CompactBuilder<'t, 'p, N> {
     ///
     /// - The number is not below that of the last option.
     /// - The encoded options have at most `N` bytes, counting 9 bytes for the new one.
+    #[tactic(auto, using(crate::proofs::UintLaws::no_byte_of_zero, crate::proofs::UintLaws::one_byte_of))]
     #[inline(always)]
     pub fn uint_option(&mut self, number: u16, value: u32)
         requires order { last_number 0 self.old.options ≤ number }
@@ -105,6 +106,7 @@ impl<'t, 'p, const N: usize> CompactBuilder<'t, 'p, N> {
     }
 
     /// Does the same as `uint_option`, and is never inlined. (Most numbers have at most one byte.)
+    #[tactic(auto, using(crate::proofs::UintLaws::four_bytes_of))]
     #[inline(never)]
     fn long_uint_option(&mut self, number: u16, value: u32)
         requires order { last_number 0 self.old.options ≤ number }

@@ -28,6 +28,7 @@ pub fn declared(head: &[u8]) -> Declared
 ///
 /// Both are known if `head` has the first byte and the complete extensions of the length and of the token length. At
 /// most 8 bytes are needed. Nothing changes if more bytes follow.
+#[tactic(auto, using(crate::proofs::LayoutLaws::outline_declared))]
 #[inline(always)]
 pub fn outline(head: &[u8]) -> Outline
     ensures exact { result ≡ outline_of head.now }
