@@ -8,9 +8,8 @@ pub use Rattle.std.specs.List.{AllByRecursion, concat}
 pub use Rattle.std.specs.Prelude.{All, IfErr, IfOk, IsOk, IsTrue, is_ok, not, slice_get, unwrap_or, ◌&&◌, ◌==◌, ◌||◌}
 pub use Rattle.std.specs.Prelude.{◌↔◌}
 -- ---- coap_wire
-pub use Rattle.coap_wire.specs.declared.sizes.TheConstants.{BASE_MESSAGE_SIZE, MAX_EXTENDED_LENGTH}
-pub use Rattle.coap_wire.specs.declared.sizes.TheConstants.{LARGEST_MESSAGE, LARGEST_SENT_MESSAGE, LARGEST_QUEUE}
-pub use Rattle.coap_wire.specs.declared.sizes.TheConstants.{DEFAULT_QUEUE}
+pub use Rattle.coap_wire.specs.declared.sizes.TheConstants.{MAX_EXTENDED_LENGTH}
+pub use Rattle.coap_wire.specs.declared.sizes.TheConstants.{LARGEST_MESSAGE}
 pub use Rattle.coap_wire.specs.StreamPrefix.{IsFrameFault, IsUnfinished, Unfinished, Whole, Faulty, fault_bytes}
 pub use Rattle.coap_wire.specs.StreamPrefix.{StreamPrefix, IsTooLarge, begins_with, size_bytes, token_bytes}
 unfoldable pub use Rattle.coap_wire.specs.StreamPrefix.{prefix_kind}
@@ -29,7 +28,7 @@ pub use Rattle.coap_wire.specs.Message.{last_number, Message, CoapOption, AreByt
 pub use Rattle.coap_wire.specs.Message.{BodyValue, body_of}
 pub use Rattle.coap_wire.specs.Reading.{options_in, token_length_at, Head, both_at, head_at_code, head_from, head_with}
 pub use Rattle.coap_wire.specs.Reading.{options_read, or_cut, plus, size_from, size_with, value_at, ◌>>=◌}
-pub use Rattle.coap_wire.specs.Reading.{payload_read, body_read}
+pub use Rattle.coap_wire.specs.Reading.{body_read}
 unfoldable pub use Rattle.coap_wire.specs.Reading.{declared_of, message_of, body_at, one_byte_at, two_bytes_at}
 unfoldable pub use Rattle.coap_wire.specs.Reading.{four_bytes_at, length_at, option_number_at, head_at}
 unfoldable pub use Rattle.coap_wire.specs.Reading.{option_head_at, option_at, body_within}
@@ -53,7 +52,7 @@ unfoldable pub use Rattle.coap_wire.specs.Stream.{sized_split, split}
 pub use Rattle.coap_wire.specs.Uint.{uint_of, without_leading_zeros}
 unfoldable pub use Rattle.coap_wire.specs.Uint.{bytes_of_uint}
 pub use Rattle.coap_wire.specs.Views.{coap_options, CanBeBuilt, option_refusal, payload_refusal, with_option}
-pub use Rattle.coap_wire.specs.Views.{coap_option, Gives, GivesPayload, most_options, checked_option}
+pub use Rattle.coap_wire.specs.Views.{coap_option, Gives, GivesPayload, checked_option}
 pub use Rattle.coap_wire.specs.CompactViews.{compact_message, encoded_size, IsEncoding}
 -- ---- coap_wire, declared
 pub use Rattle.coap_wire.specs.declared.fault.FormatFault.{FormatFault}

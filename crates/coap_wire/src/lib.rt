@@ -66,5 +66,5 @@ pub use sizes::{
     BASE_MESSAGE_SIZE, DEFAULT_QUEUE, LARGEST_MESSAGE, LARGEST_QUEUE, LARGEST_SENT_MESSAGE,
     MAX_EXTENDED_LENGTH,
 };
-pub use token::{Token, TokenRef, copy_of};
+pub use token::{MAX_TOKEN, Token, TokenRef, copy_of};
 pub use uint::{UintBytes, significant_bytes, uint_bytes, uint_value};

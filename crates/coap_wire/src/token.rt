@@ -8,7 +8,7 @@ use std::fmt;
 use std::marker::Model;
 
 /// Maximum length of a token that this project accepts, in bytes (RFC 8974 section 2.1).
-pub(crate) const MAX_TOKEN: usize = 64;
+pub const MAX_TOKEN: usize = 64;
 
 /// Owned token of at most 64 bytes, with equality (RFC 7252 section 5.3.1, RFC 8974 section 2).
 pub type Token = ArrayVec<u8, MAX_TOKEN>;
