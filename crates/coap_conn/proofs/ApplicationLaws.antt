@@ -1,20 +1,20 @@
 -- Requests that wait for a response of the application, and its responses.
-use Rattle.std.proofs.Common.{◌≡◌, ℕ, suc, Bool, true, false, ◌&&◌, ◌||◌, cond, List, [], ◌∷◌, ◌++◌}
-use Rattle.std.proofs.Common.{get_or, take, drop, Option, Some, None, refl, sym, ap, ◌∙◌}
-use Rattle.coap_conn.specs.Prelude.{list_any, AllByRecursion, is_none, position, remove, Message}
-use Rattle.coap_conn.specs.Prelude.{Phase, Reason, Reply, Whole, Bare, Stopped, AllFit, fit, fitted, bare_response}
-use Rattle.coap_conn.specs.Prelude.{answers, PendingEntryValue, Engine, Application, Answer, Pong}
-use Rattle.coap_conn.specs.Prelude.{is_request_for, has_request, without_request, IsFirstRequest, ConnectionState}
+use Rattle.std.proofs.Common.{◌≡◌, ℕ, suc, Bool, true, false, List, [], ◌∷◌, ◌++◌, get_or, take, drop, Option, Some}
+use Rattle.std.proofs.Common.{None, refl, ap, ◌∙◌, arith}
+use Rattle.coap_conn.specs.Prelude.{list_any, AllByRecursion, position, remove, Message, Reason, Reply, Whole, AllFit}
+use Rattle.coap_conn.specs.Prelude.{fit, fitted, bare_response, answers, PendingEntryValue, Engine, Application, Answer}
+use Rattle.coap_conn.specs.Prelude.{Pong, is_request_for, has_request, without_request, IsFirstRequest, ConnectionState}
 use Rattle.coap_conn.specs.Prelude.{send, send_as, response_refusal, History, link_of, limit_now, state_now}
-use Rattle.coap_conn.specs.Prelude.{state_without, after, without_at, with_effect, RespondFault}
+use Rattle.coap_conn.specs.Prelude.{state_without, after, without_at, with_effect}
 use Rattle.coap_conn.specs.declared.phase.Phase.TheVariants as phase
 use Rattle.coap_conn.specs.Calls as call
 use Rattle.std.proofs.lemmas.Option.{slice_get-get_or}
 use Rattle.std.proofs.lemmas.List.Quantifiers.{position-Some}
-use Rattle.coap_conn.proofs.HistoryLaws.{send_fit}
+use Rattle.coap_conn.proofs.ReactionLaws.{send_fit}
 use Rattle.coap_conn.proofs.PendingLaws.{split_at, none_before, no_position}
 use Rattle.std.proofs.lemmas.List.Folds.{list_any_at}
 use lib.Pointwise.{bytes_decides}
+use Rattle.std.proofs.lemmas.Bool.{and_right}
 
 -- ---- the first request with a token
 
@@ -29,19 +29,17 @@ request_with token (Pong other) is = absurd cc
 none_passes : (p : PendingEntryValue → Bool) (pending : List PendingEntryValue)
     → AllByRecursion (λ e. p e ≡ false) pending → list_any p pending ≡ false
 none_passes p [] each = refl
-none_passes p (e ∷ pending) each = ap (λ (b : Bool). b || list_any p pending) each.0 ∙ none_passes p pending each.1
+none_passes p (e ∷ pending) each = rw each.0 (none_passes p pending each.1)
 
 pub absent_request : (pending : List PendingEntryValue) (token : List ℕ)
     → position (is_request_for token) pending ≡ None → has_request token pending ≡ false
-absent_request pending token none = none_passes (is_request_for token) pending
-    (no_position (is_request_for token) pending none)
+absent_request pending token none = none_passes _ pending (no_position _ pending none)
 
 pub there_request : (pending : List PendingEntryValue) (token : List ℕ) (i : ℕ)
     → position (is_request_for token) pending ≡ Some i → has_request token pending ≡ true
 there_request pending token i found =
-    let d : PendingEntryValue = Pong [] in
-    let at = position-Some (is_request_for token) pending i d found in
-    list_any_at (is_request_for token) pending i d at.0 at.1
+    let at = position-Some _ pending i (Pong []) found in
+    list_any_at _ pending i (Pong []) at.0 at.1
 
 -- If a request with the token waits, the entry at the first position of one is that request.
 request_at : (pending : List PendingEntryValue) (token : List ℕ) (i : ℕ)
@@ -64,8 +62,7 @@ request_at pending token i found =
 found_request : (pending : List PendingEntryValue) (token : List ℕ) (at : Option ℕ)
     → position (is_request_for token) pending ≡ at → has_request token pending ≡ true
     → IsFirstRequest pending token (without_at pending at)
-found_request pending token None none has =
-    let bad : ◌≡◌ {A = Bool} false true = sym (absent_request pending token none) ∙ has in absurd cc
+found_request pending token None none has = absurd (cc (absent_request pending token none))
 found_request pending token (Some i) found has = request_at pending token i found
 
 pub first_request : (pending : List PendingEntryValue) (token : List ℕ) → has_request token pending ≡ true
@@ -76,8 +73,7 @@ first_request pending token = found_request pending token (position (is_request_
 no_request : (pending : List PendingEntryValue) (token : List ℕ) (at : Option ℕ)
     → position (is_request_for token) pending ≡ at → has_request token pending ≡ false → without_at pending at ≡ pending
 no_request pending token None none has = refl
-no_request pending token (Some i) found has =
-    let bad : ◌≡◌ {A = Bool} false true = sym has ∙ there_request pending token i found in absurd cc
+no_request pending token (Some i) found has = absurd (cc (there_request pending token i found))
 
 pub others_stay : (pending : List PendingEntryValue) (token : List ℕ) → has_request token pending ≡ false
     → without_request token pending ≡ pending
@@ -91,62 +87,26 @@ pub responded_fits : (h : History) (m : Message)
 responded_fits h m = send_fit (state_without m.token (state_now h)) m (bare_response m)
 
 sent_queued : (s : ConnectionState) (m less : Message) (r : Reply) → (send_as s m less r).queued ≡ fitted m less r
-sent_queued s m less Whole = refl
-sent_queued s m less Bare = refl
-sent_queued s m less Stopped = refl
-
--- The condition of the effect of `Respond` holds in a phase that sends responses, if there is no error.
-may_respond : (h : History) (m : Message) → answers h.phase ≡ true → response_refusal (link_of h) m ≡ None
-    → (answers h.phase && is_none (response_refusal (link_of h) m)) ≡ true
-may_respond h m answering allowed =
-    ap (λ (b : Bool). b && is_none (response_refusal (link_of h) m)) answering
-    ∙ ap (λ (o : Option RespondFault). is_none o) allowed
+sent_queued s m less r = grind arith
 
 respond_does : (h : History) (m : Message) → answers h.phase ≡ true → response_refusal (link_of h) m ≡ None
     → after h (call.Respond m) ≡ with_effect h (send (state_without m.token (state_now h)) m (bare_response m))
-respond_does h m answering allowed =
-    ap (λ (b : Bool). cond b (with_effect h (send (state_without m.token (state_now h)) m (bare_response m))) h)
-    (may_respond h m answering allowed)
+respond_does h m answering allowed = rw (answering, allowed) refl
 
 pub responds_fitted : (h : History) (m : Message) → answers h.phase ≡ true → response_refusal (link_of h) m ≡ None
     → (after h (call.Respond m)).queued ≡ h.queued ++ fitted m (bare_response m) (fit (limit_now h) m (bare_response m))
-responds_fitted h m answering allowed =
-    ap (λ (k : History). k.queued) (respond_does h m answering allowed)
-    ∙ ap (λ (ms : List Message). h.queued ++ ms) (sent_queued (state_without m.token (state_now h)) m
-    (bare_response m) (fit (limit_now h) m (bare_response m)))
-
-pending_as_sent : (s : ConnectionState) (m less : Message) (r : Reply) → r ≡ Whole
-    → (send_as s m less r).pending ≡ s.pending
-pending_as_sent s m less Whole is = refl
-pending_as_sent s m less Bare is = absurd cc
-pending_as_sent s m less Stopped is = absurd cc
+responds_fitted h m answering allowed = rw (respond_does h m answering allowed, sent_queued) refl
 
 pub whole_answers : (h : History) (m : Message) → answers h.phase ≡ true → response_refusal (link_of h) m ≡ None
     → fit (limit_now h) m (bare_response m) ≡ Whole
     → (after h (call.Respond m)).pending ≡ without_request m.token h.pending
-whole_answers h m answering allowed whole =
-    ap (λ (k : History). k.pending) (respond_does h m answering allowed)
-    ∙ pending_as_sent (state_without m.token (state_now h)) m (bare_response m)
-    (fit (limit_now h) m (bare_response m)) whole
+whole_answers h m answering allowed whole = rw (respond_does h m answering allowed, whole) refl
 
 -- Nothing happens without a request, and after a stop.
-not_allowed : (h : History) (m : Message) → has_request m.token h.pending ≡ false
-    → is_none (response_refusal (link_of h) m) ≡ false
-unfolding response_refusal
-not_allowed h m none = rw none refl
-
-never : (b : Bool) (h k : History) → cond (b && false) k h ≡ h
-never true h k = refl
-never false h k = refl
-
 pub absent_stays : (h : History) (m : Message) → has_request m.token h.pending ≡ false → after h (call.Respond m) ≡ h
-absent_stays h m none =
-    ap (λ (b : Bool). cond (answers h.phase && b)
-    (with_effect h (send (state_without m.token (state_now h)) m (bare_response m))) h) (not_allowed h m none)
-    ∙ never (answers h.phase) h _
+unfolding response_refusal
+absent_stays h m none = rw (none, and_right (answers h.phase) false refl) refl
 
 pub responds_never : (h : History) (m : Message) (why : Reason) → h.phase ≡ phase.Stopped why
     → after h (call.Respond m) ≡ h
-responds_never h m why stopped =
-    ap (λ (p : Phase). cond (answers p && is_none (response_refusal (link_of h) m))
-    (with_effect h (send (state_without m.token (state_now h)) m (bare_response m))) h) stopped
+responds_never h m why stopped = rw stopped refl

@@ -1,18 +1,16 @@
 -- A link represents its history after each call.
 use Rattle.std.proofs.Common.{◌≡◌, ℕ, ◌≤◌, Bool, true, false, cond, List, [], ◌∷◌, ◌++◌, length, drop, Option, Some}
 use Rattle.std.proofs.Common.{None, refl, sym, ap, subst, ◌∙◌, arith}
-use Rattle.coap_conn.specs.Prelude.{unwrap_or, filter_map, Message, spelling, Phase, Role, LimitValues, announcement}
-use Rattle.coap_conn.specs.Prelude.{announced, token_announcement, announced_token, last_or, last_reported}
-use Rattle.coap_conn.specs.Prelude.{PendingEntryValue}
-use Rattle.coap_conn.specs.Prelude.{OutstandingValue, ReactionResult, LinkValue, bytes_of, own_csm, first_csm, new_link}
-use Rattle.coap_conn.specs.Prelude.{link_with, Call, CallEffect, Handles, Does, Holds, Asks, Announces, Writes}
-use Rattle.coap_conn.specs.Prelude.{call_effect}
-use Rattle.coap_conn.specs.Prelude.{link_with_deed, link_after, IsWithin, History, IsHistory, LinkShows, link_of}
-use Rattle.coap_conn.specs.Prelude.{new_history, with_effect, with_deed, after, takes_messages, sizes_of}
-use Rattle.std.proofs.lemmas.List.{append-nil, drop-append-le, drop-drop, length-append, length-drop}
+use Rattle.coap_conn.specs.Prelude.{unwrap_or, filter_map, Message, spelling, Role, LimitValues, announcement}
+use Rattle.coap_conn.specs.Prelude.{announced, token_announcement, announced_token, last_or, last_reported, LinkValue}
+use Rattle.coap_conn.specs.Prelude.{bytes_of, own_csm, new_link, Call, CallEffect, Handles, Does, Holds, Asks}
+use Rattle.coap_conn.specs.Prelude.{Announces, Writes, call_effect, link_with_deed, link_after, IsWithin, History}
+use Rattle.coap_conn.specs.Prelude.{IsHistory, LinkShows, link_of, new_history, with_deed, after, takes_messages}
+use Rattle.coap_conn.specs.Prelude.{sizes_of, cons_option}
+use Rattle.std.proofs.lemmas.List.{drop-append-le, drop-drop, length-append, length-drop}
 use Rattle.std.proofs.lemmas.List.Concat.{flat_map-append}
-use Rattle.std.proofs.lemmas.List.Elements.{filter_map-append}
 use Rattle.coap_conn.specs.Calls as call
+use Rattle.std.proofs.lemmas.Bool.{cond_both}
 
 -- ---- queued messages
 
@@ -21,8 +19,7 @@ bytes_more ms ns = flat_map-append spelling ms ns
 
 pub waiting_more : (h : History) (ms : List Message) → IsHistory h
     → drop h.written (bytes_of (h.queued ++ ms)) ≡ drop h.written (bytes_of h.queued) ++ bytes_of ms
-waiting_more h ms is =
-    ap (drop h.written) (bytes_more h.queued ms) ∙ drop-append-le h.written (bytes_of h.queued) (bytes_of ms) is
+waiting_more h ms is = rw (bytes_more, drop-append-le) refl
 
 pub history_more : (h : History) (ms : List Message) → IsHistory h → h.written ≤ length (bytes_of (h.queued ++ ms))
 history_more h ms is = omega (
@@ -32,45 +29,18 @@ history_more h ms is = omega (
   length-append (bytes_of h.queued) (bytes_of ms),
 )
 
--- The link that represents a history, with other queued bytes, phase, entries and sizes of the peer.
-abbrev link_at : History → List ℕ → Phase → List PendingEntryValue → List OutstandingValue → ℕ → ℕ → LinkValue
-link_at h waiting phase pending outstanding peer_max peer_token =
-    record {
-      role = h.role;
-      limits = h.limits;
-      waiting = waiting;
-      phase = phase;
-      own_max = h.own_max;
-      peer_max = peer_max;
-      peer_token = peer_token;
-      pending = pending;
-      outstanding = outstanding;
-      tokens = h.tokens;
-    }
-
--- An effect on the link is the same effect on the history.
-effect_of : (h : History) (e : ReactionResult) → IsHistory h → link_with (link_of h) e ≡ link_of (with_effect h e)
-effect_of h e is =
-    ap (λ (w : List ℕ). link_at h w e.phase e.pending e.outstanding (announced h.handled) (announced_token h.handled))
-    (sym (waiting_more h e.queued is))
-
 -- ---- announcements
 
-last_more : (n x : ℕ) (xs : List ℕ) → last_or n (xs ++ x ∷ []) ≡ x
-last_more n x [] = refl
-last_more n x (y ∷ xs) = last_more y x xs
-
-module _ (reports : Message → Option ℕ) (base : ℕ) where
-  reported_by : (xs : List ℕ) (m : Message) (o : Option ℕ) → reports m ≡ o
-      → last_or base (xs ++ filter_map reports (m ∷ [])) ≡ unwrap_or o (last_or base xs)
-  reported_by xs m None e = rw e (ap (last_or base) (append-nil xs))
-  reported_by xs m (Some n) e = rw e (last_more base n xs)
-
-  -- One more message replaces the last number that `reports` gives, if it gives one for the message.
-  reported_more : (ms : List Message) (m : Message)
-      → last_reported reports base (ms ++ m ∷ []) ≡ unwrap_or (reports m) (last_reported reports base ms)
-  reported_more ms m =
-      ap (last_or base) (filter_map-append reports ms (m ∷ [])) ∙ reported_by (filter_map reports ms) m (reports m) refl
+-- One more message replaces the last number that `reports` gives, if it gives one for the message.
+reported_more : (reports : Message → Option ℕ) (base : ℕ) (ms : List Message) (m : Message)
+    → last_reported reports base (ms ++ m ∷ []) ≡ unwrap_or (reports m) (last_reported reports base ms)
+reported_more reports base [] m = grind arith
+reported_more reports base (one ∷ ms) m =
+    elim (reports one) as (λ o. last_or base (cons_option o (filter_map reports (ms ++ m ∷ [])))
+    ≡ unwrap_or (reports m) (last_or base (cons_option o (filter_map reports ms)))) [
+      | None ↦ reported_more reports base ms m
+      | Some n ↦ reported_more reports n ms m
+    ]
 
 pub announced_more : (ms : List Message) (m : Message)
     → announced (ms ++ m ∷ []) ≡ unwrap_or (announcement m) (announced ms)
@@ -93,42 +63,14 @@ token_none = refl
 
 -- ---- effects
 
-handled_of : (h : History) (m : Message) (e : ReactionResult) → IsHistory h
-    → link_with_deed (link_of h) (Handles m e) ≡ link_of (with_deed h (Handles m e))
-handled_of h m e is =
-    let max : ℕ = unwrap_or (announcement m) (announced h.handled) in
-    let token : ℕ = unwrap_or (token_announcement m) (announced_token h.handled) in
-    let waiting : List ℕ = drop h.written (bytes_of (h.queued ++ e.queued)) in
-    ap (λ (w : List ℕ). link_at h w e.phase e.pending e.outstanding max token) (sym (waiting_more h e.queued is))
-    ∙ ap (λ (n : ℕ). link_at h waiting e.phase e.pending e.outstanding n token) (sym (announced_more h.handled m))
-    ∙ ap (link_at h waiting e.phase e.pending e.outstanding (announced (h.handled ++ m ∷ [])))
-    (sym (token_more h.handled m))
-
-requested_of : (h : History) (m : Message) (outstanding : List OutstandingValue) (tokens : ℕ) → IsHistory h
-    → link_with_deed (link_of h) (Asks m outstanding tokens) ≡ link_of (with_deed h (Asks m outstanding tokens))
-requested_of h m outstanding tokens is =
-    ap (λ (w : List ℕ). link_at (record h { tokens = tokens }) w h.phase h.pending outstanding (announced h.handled)
-    (announced_token h.handled)) (sym (waiting_more h (m ∷ []) is))
-
-announces_of : (h : History) (size : ℕ) → IsHistory h
-    → link_with_deed (link_of h) (Announces size) ≡ link_of (with_deed h (Announces size))
-announces_of h size is =
-    ap (λ (w : List ℕ). link_at (record h { own_max = size }) w h.phase h.pending h.outstanding (announced h.handled)
-    (announced_token h.handled)) (sym (waiting_more h (own_csm size ∷ []) is))
-
-written_of : (h : History) (n : ℕ) → link_with_deed (link_of h) (Writes n) ≡ link_of (with_deed h (Writes n))
-written_of h n =
-    ap (λ (w : List ℕ). link_at h w h.phase h.pending h.outstanding (announced h.handled) (announced_token h.handled))
-    (drop-drop n h.written (bytes_of h.queued))
-
 -- An effect of a call on the link is the same effect on the history.
 deed_of : (h : History) (d : CallEffect) → IsHistory h → link_with_deed (link_of h) d ≡ link_of (with_deed h d)
-deed_of h (Handles m e) is = handled_of h m e is
-deed_of h (Does e) is = effect_of h e is
+deed_of h (Handles m e) is = rw (waiting_more h e.queued is, announced_more, token_more) refl
+deed_of h (Does e) is = rw (waiting_more h e.queued is) refl
 deed_of h (Holds e) is = refl
-deed_of h (Asks m outstanding tokens) is = requested_of h m outstanding tokens is
-deed_of h (Announces size) is = announces_of h size is
-deed_of h (Writes n) is = written_of h n
+deed_of h (Asks m outstanding tokens) is = rw (waiting_more h (m ∷ []) is) refl
+deed_of h (Announces size) is = rw (waiting_more h (own_csm size ∷ []) is) refl
+deed_of h (Writes n) is = rw (drop-drop n h.written (bytes_of h.queued)) refl
 
 -- The effect of a call keeps `IsHistory`.
 deed_kept : (h : History) (d : CallEffect) → IsHistory h → IsWithin (link_of h) d → IsHistory (with_deed h d)
@@ -150,14 +92,8 @@ done_shown new h false d same is within = record { is_history = is; same = same 
 
 pub new_shown : (role : Role) (limits : LimitValues) (tokens : ℕ) (new : LinkValue) → new ≡ new_link role limits tokens
     → LinkShows new (new_history role limits tokens)
-new_shown role limits tokens new is = record {
-  is_history = omega arith;
-  same =
-      is ∙ ap (λ (n : ℕ). link_at (new_history role limits tokens) (bytes_of (first_csm limits.max_message ∷ []))
-      (new_history role limits tokens).phase [] [] n 8) (sym announced_none)
-      ∙ ap (link_at (new_history role limits tokens) (bytes_of (first_csm limits.max_message ∷ []))
-      (new_history role limits tokens).phase [] [] (announced [])) (sym token_none);
-}
+new_shown role limits tokens new is =
+    record { is_history = omega arith; same = is ∙ rw (announced_none, token_none) refl }
 
 -- A link that represents a history represents the history after a call, too.
 pub shows : (v new : LinkValue) (c : Call) → IsWithin v (call_effect v c).deed → new ≡ link_after v c → (h : History)
@@ -182,8 +118,7 @@ after_link h c within is = sym (shown_after h c within is).same
 -- A part of a link is unchanged if the effect leaves it unchanged, or if there is none.
 pub stays_so : {A : Type 0} (part : LinkValue → A) (does : Bool) (l now : LinkValue) → part now ≡ part l
     → part (cond does now l) ≡ part l
-stays_so part true l now same = same
-stays_so part false l now same = refl
+stays_so part does l now same = cond_both does now l (λ v. part v ≡ part l) (λ e. same) (λ e. refl)
 
 -- The end of input changes neither limits nor sizes.
 pub end_sizes : (l : LinkValue) (cut : Bool) → sizes_of (link_after l (call.End cut)) ≡ sizes_of l

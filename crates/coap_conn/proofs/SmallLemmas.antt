@@ -1,9 +1,8 @@
 -- The CSM and the Release of the local endpoint are small.
-use Rattle.std.proofs.Common.{◌≡◌, ℕ, zero, suc, ◌+◌, ◌-◌, ◌≤◌, ltb, List, [], ◌∷◌, ◌++◌, length, refl, ap, ◌∙◌, arith}
+use Rattle.std.proofs.Common.{◌≡◌, ℕ, zero, suc, ◌+◌, ◌-◌, ◌≤◌, List, [], ◌∷◌, ◌++◌, length, refl, arith}
 use Rattle.coap_conn.specs.Prelude.{w64, to_be_bytes, CoapOption, Message, length_form, option_form, token_form}
 use Rattle.coap_conn.specs.Prelude.{spelling, option_spelling, body_spelling, head_spelling, bytes_of_uint}
 use Rattle.coap_conn.specs.Prelude.{without_leading_zeros, own_csm, own_token_length, first_csm, release}
-use Rattle.std.proofs.lemmas.Bool.{cond_both}
 use Rattle.std.proofs.lemmas.List.{append-nil, length-append}
 use Rattle.coap_wire.specs.Codes as code
 use Rattle.coap_conn.specs.SignalOptions as option
@@ -12,15 +11,10 @@ abbrev HasShortForm : ℕ → ℕ × List ℕ → Type 0
 HasShortForm most form = length form.1 ≤ most
 
 length_extension : (n : ℕ) → HasShortForm 4 (length_form n)
-length_extension n =
-    cond_both (ltb n 13) (n, []) _ (HasShortForm 4) (λ e. omega arith)
-    (λ e. cond_both (ltb n 269) (13, (n - 13) ∷ []) _ (HasShortForm 4) (λ e. omega arith)
-    (λ e. cond_both (ltb n 65805) _ _ (HasShortForm 4) (λ e. omega arith) (λ e. omega arith)))
+length_extension n = grind arith
 
 option_extension : (n : ℕ) → HasShortForm 2 (option_form n)
-option_extension n =
-    cond_both (ltb n 13) (n, []) _ (HasShortForm 2) (λ e. omega arith)
-    (λ e. cond_both (ltb n 269) (13, (n - 13) ∷ []) _ (HasShortForm 2) (λ e. omega arith) (λ e. omega arith))
+option_extension n = grind arith
 
 option_size : (base : ℕ) (o : CoapOption) → length (option_spelling base o) ≤ 5 + length o.value
 option_size base o =
@@ -94,11 +88,10 @@ unfolding spelling
 release_small = refl
 
 pub csm_bytes_small : (M : ℕ) → length (spelling (own_csm M) ++ []) ≤ 24
-csm_bytes_small M = omega (arith, csm_small M, ap (λ (t : List ℕ). length t) (append-nil (spelling (own_csm M))))
+csm_bytes_small M = rw append-nil (csm_small M)
 
 pub first_csm_bytes_small : (M : ℕ) → length (spelling (first_csm M) ++ []) ≤ 32
-first_csm_bytes_small M =
-    omega (arith, first_csm_small M, ap (λ (t : List ℕ). length t) (append-nil (spelling (first_csm M))))
+first_csm_bytes_small M = rw append-nil (first_csm_small M)
 
 pub release_bytes_small : length (spelling release ++ []) ≡ 2
-release_bytes_small = ap (λ (t : List ℕ). length t) (append-nil (spelling release)) ∙ release_small
+release_bytes_small = rw append-nil release_small

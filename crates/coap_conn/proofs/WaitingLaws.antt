@@ -1,6 +1,6 @@
 -- The number of bytes queued on a connection, and that of bytes kept of an unfinished frame.
-use Rattle.std.proofs.Common.{◌≡◌, ℕ, ◌+◌, ◌<◌, ◌≤◌, Bool, true, false, cond, List, [], ◌∷◌, ◌++◌, length, drop, ap}
-use Rattle.std.proofs.Common.{◌∙◌, arith, refl}
+use Rattle.std.proofs.Common.{◌≡◌, ℕ, ◌+◌, ◌<◌, ◌≤◌, Bool, true, false, cond, List, [], ◌∷◌, ◌++◌, length, drop, arith}
+use Rattle.std.proofs.Common.{refl}
 use Rattle.std.proofs.Math.Nat.{min-le_left}
 use Rattle.std.proofs.lemmas.List.{length-append}
 use Rattle.coap_conn.specs.Prelude.{Message, spelling, announced, AllFit, History, IsHistory, limit_now, link_of}
@@ -27,9 +27,7 @@ limit_within h = min-le_left h.limits.max_sent (announced h.handled)
 
 pub queued_waits : (h : History) (ms : List Message) → IsHistory h
     → length (drop h.written (bytes_of (h.queued ++ ms))) ≡ wait h + size ms
-queued_waits h ms is =
-    ap (λ (bs : List ℕ). length bs) (waiting_more h ms is)
-    ∙ length-append (drop h.written (bytes_of h.queued)) (bytes_of ms)
+queued_waits h ms is = rw (waiting_more h ms is, length-append) refl
 
 -- ---- bytes of an unfinished frame
 

@@ -85,6 +85,7 @@ impl PendingEntry {
 
 /// Returns the index of the entry that is due first at `now`. Responses whose time has come precede Pongs: the earliest
 /// time first, and of equal times the first entry. Otherwise a Pong is due if it is the first entry of the list.
+#[tactic(auto, unfolding(crate::specs::PendingEntries::due_index))]
 pub(crate) fn due_in(pending: &[PendingEntry], now: u64) -> Option<usize>
     ensures first { result ≡ index_due now (map pending_value pending.now) }
     ensures within { IfSome result (λ i. i < length pending.now) }

@@ -47,6 +47,7 @@ pub(crate) fn announcement_size(max_message: usize) -> u64
 
 /// Queues the first CSM, with this Max-Message-Size and the longest token that is accepted (RFC 8323 section 5.3, RFC
 /// 8974 section 2.2.1).
+#[tactic(auto, using(crate::proofs::SmallLemmas::first_csm_small, crate::proofs::SmallLemmas::first_csm_bytes_small))]
 pub(crate) fn announce_first(queue: &mut OutQueue, max_message: usize)
     requires { 32 ≤ free_of queue.old }
     ensures csm { queue.new
@@ -59,6 +60,7 @@ pub(crate) fn announce_first(queue: &mut OutQueue, max_message: usize)
 }
 
 /// Queues a CSM with this Max-Message-Size alone.
+#[tactic(auto, using(crate::proofs::SmallLemmas::csm_small, crate::proofs::SmallLemmas::csm_bytes_small))]
 pub(crate) fn announce(queue: &mut OutQueue, max_message: usize)
     requires { 24 ≤ free_of queue.old }
     ensures csm { queue.new ≡ record queue.old { waiting = queue.old.waiting ++ bytes_of (own_csm max_message ∷ []) } }
@@ -70,6 +72,7 @@ pub(crate) fn announce(queue: &mut OutQueue, max_message: usize)
 }
 
 /// Queues a Release.
+#[tactic(auto, using(crate::proofs::SmallLemmas::release_small, crate::proofs::SmallLemmas::release_bytes_small))]
 pub(crate) fn queue_release(queue: &mut OutQueue)
     requires { 2 ≤ free_of queue.old }
     ensures queued { queue.new ≡ record queue.old { waiting = queue.old.waiting ++ bytes_of (release ∷ []) } }

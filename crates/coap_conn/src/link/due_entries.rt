@@ -52,6 +52,7 @@ impl Link {
     /// # Preconditions
     ///
     /// The queue has room for a message of `max_sent` bytes.
+    #[tactic(auto, unfolding(crate::specs::PendingEntries::first_due, crate::specs::PendingEntries::without_due))]
     pub fn due(&mut self, now: u64) -> Due
         requires ready { IsReady self.old }
         ensures due { due_value result ≡ due_result (first_due now self.old.pending) }

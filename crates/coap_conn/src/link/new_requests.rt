@@ -28,6 +28,7 @@ impl Link {
     /// - `TokensSpent`: no token is left.
     /// - `TooBig`: the message exceeds `max_sent` or the Max-Message-Size of the peer.
     /// - `NoRoom`: the message exceeds the free space of the queue.
+    #[tactic(auto, unfolding(crate::specs::RequestState::asking_refusal, crate::specs::RequestState::new_refusal))]
     pub fn request(&mut self, message: &Builder, observe: bool) -> Result<Token, RequestFault>
         ensures answer { RefusedBy result (asking_refusal (asking_in self.old)
             (with_token message.now (next_token self.old.tokens))) }
@@ -88,6 +89,7 @@ impl Link {
     /// # Errors
     ///
     /// Returns the same errors as `request`; the link is then unchanged.
+    #[tactic(auto, unfolding(crate::specs::RequestState::asking_refusal, crate::specs::RequestState::new_refusal))]
     pub fn ping(&mut self, custody: bool) -> Result<Token, RequestFault>
         ensures answer { RefusedBy result (asking_refusal (asking_in self.old)
             (ping_with custody (next_token self.old.tokens))) }

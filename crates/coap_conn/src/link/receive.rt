@@ -28,6 +28,7 @@ impl Link {
     /// # Preconditions
     ///
     /// The queue has room for a message of `max_sent` bytes, and the phase is `Waiting` or `Open`.
+    #[tactic(auto, using(crate::proofs::RequestLemmas::react_live, crate::proofs::RequestLemmas::handled_is))]
     pub fn on<'m>(&mut self, message: &MessageRef<'m>) -> Verdict<'m>
         requires ready { IsReady self.old }
         requires live { IsLive self.old.phase }

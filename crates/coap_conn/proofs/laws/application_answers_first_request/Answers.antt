@@ -2,20 +2,12 @@ use Rattle.coap_conn.proofs.ApplicationLaws.{first_request, others_stay, respond
 use Rattle.coap_conn.proofs.ApplicationLaws.{responds_never}
 use Rattle.coap_conn.proofs.laws.application_answers_first_request.Goals as goal
 
-pub returns-clause-first : goal.returns-clause-first
-returns-clause-first c = first_request
-
-pub returns-clause-others : goal.returns-clause-others
-returns-clause-others c = others_stay
-
-pub returns-clause-sent : goal.returns-clause-sent
-returns-clause-sent c = responds_fitted
-
-pub returns-clause-answered : goal.returns-clause-answered
-returns-clause-answered c = whole_answers
-
-pub returns-clause-absent : goal.returns-clause-absent
-returns-clause-absent c = absent_stays
-
-pub returns-clause-stopped : goal.returns-clause-stopped
-returns-clause-stopped c = responds_never
+pub returns : goal.returns
+returns c = record {
+  first = first_request;
+  others = others_stay;
+  sent = responds_fitted;
+  answered = whole_answers;
+  absent = absent_stays;
+  stopped = responds_never;
+}
