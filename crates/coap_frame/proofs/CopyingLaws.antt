@@ -2,31 +2,23 @@
 use Rattle.std.proofs.Common.{◌≡◌, ◌≢◌, ℕ, ◌+◌, ◌-◌, ◌≤◌, List, [], ◌∷◌, ◌++◌, length, refl, ap, arith}
 use Rattle.std.proofs.lemmas.List.{length-append, length-take}
 use Rattle.coap_frame.specs.Prelude.{StreamPrefix, Unfinished, Whole, Faulty, prefix_kind, FramerValue, IsFramer}
-use Rattle.coap_frame.specs.Prelude.{FrameEventValue}
-use Rattle.coap_frame.specs.Prelude.{Nothing, AFrame, AFault, Framing, framing_at, framing, framing_of, count_after}
-use Rattle.coap_frame.specs.Prelude.{copied_alone, copied_of, framer_after, without_last, frame_back, copied_back}
-use Rattle.coap_frame.specs.Prelude.{with_frame_back, FramerCall, Next, Unread, Clear, Raise, MayCall, after_call}
-use Rattle.coap_frame.specs.Prelude.{IsCountedNext, IsCountedUnread, IsCounted, AreCounted}
+use Rattle.coap_frame.specs.Prelude.{AFrame, Framing, framing_at, framing, framing_of, copied_of, framer_after}
+use Rattle.coap_frame.specs.Prelude.{without_last, frame_back, copied_back, with_frame_back, FramerCall, Next, Unread}
+use Rattle.coap_frame.specs.Prelude.{Clear, Raise, MayCall, after_call, IsCountedNext, IsCountedUnread, IsCounted}
+use Rattle.coap_frame.specs.Prelude.{AreCounted}
 use Rattle.coap_wire.proofs.StreamSteps.{whole_parts}
 use Rattle.coap_frame.proofs.RaiseLemmas.{raise_is_framer, raise_copied}
 use Rattle.coap_frame.proofs.FramingLemmas.{empty_framer, framing_is_framer, unread_is_framer}
 
 -- ---- a chunk
 
-copied_alone_within : (taken : ℕ) (finding : FrameEventValue) → copied_alone taken finding ≤ taken
-copied_alone_within taken Nothing = omega arith
-copied_alone_within taken (AFrame frame) = omega arith
-copied_alone_within taken (AFault fault) = omega arith
-
 -- At most the bytes taken are copied.
 copied_within : (kept : List ℕ) (f : Framing) → copied_of kept f ≤ f.taken
-copied_within [] f = copied_alone_within f.taken f.finding
-copied_within (b ∷ kept) f = omega arith
+copied_within kept f = grind arith
 
 -- No byte of a frame that is whole in the chunk is copied.
 none_copied : (kept frame : List ℕ) (f : Framing) → kept ≡ [] → f.finding ≡ AFrame frame → copied_of kept f ≡ 0
-none_copied [] frame f none found = ap (copied_alone f.taken) found
-none_copied (b ∷ kept) frame f none found = absurd cc
+none_copied kept frame f none found = grind arith
 
 -- The bytes in the buffer were kept or are copied.
 lies_at : (max : ℕ) (kept piece : List ℕ) (b : StreamPrefix) → prefix_kind max (kept ++ piece) ≡ b
@@ -37,7 +29,7 @@ lies_at max (b ∷ kept) piece Unfinished e = omega (arith, length-append (b ∷
 lies_at max [] piece (Whole frame rest) e = omega arith
 lies_at max (b ∷ kept) piece (Whole frame rest) e =
     let bytes = (whole_parts max ((b ∷ kept) ++ piece) frame rest e).bytes in
-    omega (arith, length-append (b ∷ kept) piece, ap (λ (s : List ℕ). length s) bytes, length-append frame rest)
+    omega (arith, length-append (b ∷ kept) piece, ap length bytes, length-append frame rest)
 lies_at max kept piece (Faulty fault) e = omega arith
 
 lies_within : (max : ℕ) (kept piece : List ℕ)
@@ -70,7 +62,7 @@ lies_back (b ∷ spent) piece = omega (arith, length-take (length (b ∷ spent) 
 
 unread_counted : (v : FramerValue) (piece : List ℕ) → IsFramer v → IsCountedUnread v piece (with_frame_back v piece)
 unread_counted v piece is = record {
-  whole = λ none. ap (λ (s : List ℕ). count_after v.copied (copied_back s piece)) none;
+  whole = λ none. rw none refl;
   split = λ some. omega (arith, is.countable, none_back v.spent piece some);
   honest = λ below. omega (arith, below, lies_back v.spent piece);
 }

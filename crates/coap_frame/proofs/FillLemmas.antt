@@ -4,13 +4,12 @@ use Rattle.std.proofs.Common.{ap, ◌∙◌, append_assoc, arith, inl, inr}
 use Rattle.std.proofs.lemmas.Bool.{cases_lt}
 use Rattle.std.proofs.lemmas.List.{append-nil, take-append-drop, take_more, take_all, length-append, length-take}
 use Rattle.std.proofs.lemmas.List.{length-drop}
-use Rattle.coap_frame.specs.Prelude.{declared_of, Declared, Unknown, Size, BadToken, FrameFault, TokenLength}
-use Rattle.coap_frame.specs.Prelude.{TooLarge, StreamPrefix, Unfinished, Whole, Faulty, prefix_kind, fault_bytes}
-use Rattle.coap_frame.specs.Prelude.{size_bytes, IsTakenTo, IsFilled}
+use Rattle.coap_frame.specs.Prelude.{declared_of, Declared, Unknown, Size, BadToken, FrameFault, TokenLength, TooLarge}
+use Rattle.coap_frame.specs.Prelude.{Unfinished, Whole, Faulty, prefix_kind, fault_bytes, size_bytes, IsTakenTo}
+use Rattle.coap_frame.specs.Prelude.{IsFilled, FrameLayout, outline_of}
 use Rattle.coap_wire.proofs.StreamSteps.{begin_unknown, begin_bad_token, begin_too_large, begin_short, begin_whole}
 use Rattle.coap_wire.proofs.StreamSteps.{size_has_bytes, size_at_last, declared_more, faulty_more, fault_bytes_more}
 use Rattle.coap_wire.proofs.StreamSteps.{fault_at_last, fault_has_bytes}
-use Rattle.coap_frame.specs.Prelude.{FrameLayout, outline_of}
 use Rattle.coap_wire.specs.declared.layout.Outline.TheVariants.{Known}
 use Rattle.coap_wire.proofs.LayoutLaws.{outline_more, outline_front}
 use Rattle.coap_frame.specs.declared.filling.FrameStatus.TheVariants as status
@@ -21,16 +20,10 @@ pub size_unfinished : (M : ℕ) (s : List ℕ) (n : ℕ) → prefix_kind M s ≡
     → (n ≤ M) × (length s < n)
 size_unfinished M s n unfinished known_size =
     elim (cases_lt M n) [
-      | inl large ↦
-          let bad : ◌≡◌ {A = StreamPrefix} Unfinished (Faulty TooLarge) =
-          sym unfinished ∙ begin_too_large M s n known_size large in
-          absurd cc
+      | inl large ↦ absurd (cc (begin_too_large M s n known_size large))
       | inr fits ↦ elim (cases_lt (length s) n) [
         | inl short ↦ (fits, short)
-        | inr long ↦
-            let bad : ◌≡◌ {A = StreamPrefix} Unfinished (Whole (take n s) (drop n s)) =
-            sym unfinished ∙ begin_whole M s n known_size fits long in
-            absurd cc
+        | inr long ↦ absurd (cc (begin_whole M s n known_size fits long))
       ]
     ]
 
@@ -42,22 +35,19 @@ module _ (M : ℕ) (old piece new : List ℕ) (taken : ℕ) (size : Declared) (u
   later = drop taken piece
 
   pub all_bytes : old ++ piece ≡ new ++ later
-  all_bytes =
-      ap (λ (p : List ℕ). old ++ p) (sym (take-append-drop taken piece))
-      ∙ sym (append_assoc old (take taken piece) later) ∙ ap (λ (n : List ℕ). n ++ later) (sym h.bytes)
+  all_bytes = rw (h.bytes, append_assoc, take-append-drop) refl
 
   pub length_new : length new ≡ length old + taken
   length_new = omega (arith, ap length h.bytes, length-append old (take taken piece), length-take taken piece, h.within)
 
   none_taken : taken ≡ 0 → new ≡ old
-  none_taken e = h.bytes ∙ ap (λ (n : ℕ). old ++ take n piece) e ∙ append-nil old
+  none_taken e = rw (h.bytes, e, append-nil) refl
 
   -- The new bytes end with the last byte taken.
   last_byte_taken : (before : ℕ) → taken ≡ before + 1 → new ≡ (old ++ take before piece) ++ get_or piece before 0 ∷ []
   last_byte_taken before e =
       let lt : before < length piece = let w = h.within in omega arith in
-      h.bytes ∙ ap (λ (n : ℕ). old ++ take n piece) e ∙ ap (λ (p : List ℕ). old ++ p) (take_more piece before 0 lt)
-      ∙ sym (append_assoc old (take before piece) (get_or piece before 0 ∷ []))
+      rw (h.bytes, e, take_more piece before 0 lt, append_assoc) refl
 
   -- A declared size is above the number of bytes in the buffer.
   pub size_above_filled : (n : ℕ) → size ≡ Size n → length new < n
@@ -65,24 +55,20 @@ module _ (M : ℕ) (old piece new : List ℕ) (taken : ℕ) (size : Declared) (u
       let now : declared_of new ≡ Size n = sym h.size_is ∙ is in
       elim h.first [
         | inl none ↦
-            (let same = none_taken none in
-            rw same (size_unfinished M old n unfinished (ap declared_of (sym same) ∙ now)).1)
+            (let same = none_taken none in rw same (size_unfinished M old n unfinished (rw same at now)).1)
         | inr more ↦ (let e = last_byte_taken more.0 more.1 in
-            let last =
-            size_at_last (old ++ take more.0 piece) (get_or piece more.0 0) n more.2 (ap declared_of (sym e) ∙ now) in
+            let last = size_at_last (old ++ take more.0 piece) (get_or piece more.0 0) n more.2 (rw e at now) in
             let few = (size_has_bytes new n now).0 in
-            omega (arith, ap (λ (s : List ℕ). length s) e, ap size_bytes e, last, few))
+            omega (arith, ap length e, ap size_bytes e, last, few))
       ]
 
   fault_is_new : (fault : FrameFault) → prefix_kind M new ≡ Faulty fault → fault_bytes new ≡ new
   fault_is_new fault faulty =
       elim h.first [
-        | inl none ↦
-            (let bad : ◌≡◌ {A = StreamPrefix} Unfinished (Faulty fault) =
-            sym unfinished ∙ ap (prefix_kind M) (sym (none_taken none)) ∙ faulty in absurd cc)
+        | inl none ↦ absurd (cc (none_taken none))
         | inr more ↦ (let e = last_byte_taken more.0 more.1 in
             let last = fault_at_last M (old ++ take more.0 piece) (get_or piece more.0 0) fault
-            (begin_unknown M (old ++ take more.0 piece) more.2) (ap (prefix_kind M) (sym e) ∙ faulty) in
+            (begin_unknown M (old ++ take more.0 piece) more.2) (rw e at faulty) in
             ap fault_bytes e ∙ last ∙ sym e)
       ]
 
@@ -94,8 +80,8 @@ module _ (M : ℕ) (old piece new : List ℕ) (taken : ℕ) (size : Declared) (u
       record {
         within = h.within;
         has_status = (
-          ap (prefix_kind M) all_bytes ∙ faulty_more M new later fault faulty,
-          sym length_new ∙ sym (ap (λ (s : List ℕ). length s) bytes),
+          rw all_bytes (faulty_more M new later fault faulty),
+          omega (arith, length_new, ap length bytes),
         );
       }
 
@@ -107,11 +93,10 @@ module _ (M : ℕ) (old piece new : List ℕ) (taken : ℕ) (size : Declared) (u
 
   pub filled_unknown : size ≡ Unknown → taken ≡ length piece → IsFilled M old piece new taken status.Unfinished
   filled_unknown is all =
-      let bytes : new ≡ old ++ piece =
-      h.bytes ∙ ap (λ (p : List ℕ). old ++ p) (take_all taken piece (omega (arith, all))) in
+      let bytes : new ≡ old ++ piece = rw (h.bytes, take_all taken piece (omega (arith, all))) refl in
       record {
         within = h.within;
-        has_status = (ap (prefix_kind M) (sym bytes) ∙ begin_unknown M new (sym h.size_is ∙ is), all, bytes);
+        has_status = (rw (← bytes) (begin_unknown M new (sym h.size_is ∙ is)), all, bytes);
       }
 
   -- The size stays the same with the bytes that follow.

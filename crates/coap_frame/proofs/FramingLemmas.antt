@@ -1,13 +1,12 @@
 -- The effect of a chunk on a framer, by the status of the chunk or of the buffer.
-use Rattle.std.proofs.Common.{◌≡◌, ◌≢◌, ℕ, ◌-◌, ◌<◌, ◌≤◌, List, [], ◌∷◌, ◌++◌, length, take, drop, refl, sym, ap, ◌∙◌}
-use Rattle.std.proofs.Common.{arith, inl, inr, ◌⊎◌}
+use Rattle.std.proofs.Common.{◌≡◌, ◌≢◌, ℕ, ◌-◌, ◌<◌, ◌≤◌, List, [], ◌∷◌, ◌++◌, length, take, drop, refl, ap, arith, inl}
+use Rattle.std.proofs.Common.{inr, ◌⊎◌}
 use Rattle.std.proofs.lemmas.Bool.{cases_lt}
 use Rattle.std.proofs.lemmas.List.{length-append, length-drop, take-append-drop}
 use Rattle.coap_frame.specs.Prelude.{StreamPrefix, Unfinished, Whole, Faulty, prefix_kind, fault_bytes, FramerValue}
 use Rattle.coap_frame.specs.Prelude.{IsFramer, FrameEventValue, Nothing, AFrame, AFault, Framing, split_frame}
-use Rattle.coap_frame.specs.Prelude.{framing_at}
-use Rattle.coap_frame.specs.Prelude.{framing, count_after, copied_of, framed, framer_after, without_last, frame_back}
-use Rattle.coap_frame.specs.Prelude.{with_frame_back, MayUnread, framer_of, spent_in, IsFilled, FrameFault}
+use Rattle.coap_frame.specs.Prelude.{framing_at, framing, count_after, copied_of, framed, framer_after, without_last}
+use Rattle.coap_frame.specs.Prelude.{frame_back, with_frame_back, MayUnread, framer_of, spent_in, IsFilled, FrameFault}
 use Rattle.coap_frame.specs.Prelude.{BufferContent, FrameLayout}
 use Rattle.coap_wire.proofs.StreamSteps.{unfinished_empty, unfinished_below, whole_parts, whole_itself, whole_more}
 use Rattle.coap_wire.proofs.StreamSteps.{faulty_more}
@@ -18,11 +17,7 @@ module _ (max : ℕ) (kept piece new : List ℕ) (taken : ℕ) where
   pub framing_unfinished : IsFilled max kept piece new taken status.Unfinished
       → framing max kept piece ≡ record { taken = taken; finding = Nothing; kept = new; spent = [] }
   unfolding framing
-  framing_unfinished filled =
-      let s = filled.has_status in
-      ap (framing_at kept piece) s.0
-      ∙ ap (λ (n : ℕ). record { taken = n; finding = Nothing; kept = kept ++ piece; spent = [] }) (sym s.1)
-      ∙ ap (λ (k : List ℕ). record { taken = taken; finding = Nothing; kept = k; spent = [] }) (sym s.2)
+  framing_unfinished filled = let s = filled.has_status in rw (s.0, s.1, s.2) refl
 
   pub framing_whole : (layout : FrameLayout) → IsFilled max kept piece new taken (status.Whole layout)
       → framing max kept piece ≡ record { taken = taken; finding = AFrame new; kept = []; spent = split_frame kept new }
@@ -30,8 +25,7 @@ module _ (max : ℕ) (kept piece new : List ℕ) (taken : ℕ) where
   framing_whole layout filled =
       let s = filled.has_status in
       let count : length piece - length s.0 ≡ taken = omega (arith, s.2) in
-      ap (framing_at kept piece) s.1
-      ∙ ap (λ (n : ℕ). record { taken = n; finding = AFrame new; kept = []; spent = split_frame kept new }) count
+      rw (s.1, count) refl
 
   pub framing_fault : (fault : FrameFault) → IsFilled max kept piece new taken (status.Fault fault)
       → framing max kept piece ≡ record { taken = taken; finding = AFault fault; kept = []; spent = [] }
@@ -39,8 +33,7 @@ module _ (max : ℕ) (kept piece new : List ℕ) (taken : ℕ) where
   framing_fault fault filled =
       let s = filled.has_status in
       let count : length (fault_bytes (kept ++ piece)) - length kept ≡ taken = omega (arith, s.1) in
-      ap (framing_at kept piece) s.0
-      ∙ ap (λ (n : ℕ). record { taken = n; finding = AFault fault; kept = []; spent = [] }) count
+      rw (s.0, count) refl
 
 -- ---- no byte was kept
 
@@ -54,20 +47,14 @@ module _ (max c taken : ℕ) (piece : List ℕ) where
       → buffer ≡ piece → copied ≡ count_after c taken
       → framer_of max content.Prefix buffer copied ≡ framer_after bare piece
   alone_more buffer copied filled lies count =
-      ap (λ (b : List ℕ). framer_of max content.Prefix b copied) (lies ∙ sym (filled.has_status.2))
-      ∙ ap (λ (n : ℕ). framer_of max content.Prefix (take taken piece) n) count
-      ∙ sym (ap (framed bare) (framing_unfinished max [] piece (take taken piece) taken filled))
+      rw (framing_unfinished max [] piece (take taken piece) taken filled, lies, count, filled.has_status.2) refl
 
   -- The chunk alone has the frame or the error.
   alone_found : (f : Framing) → c ≤ 18446744073709551615 → framing max [] piece ≡ f → f.kept ≡ [] → f.spent ≡ []
       → copied_of [] f ≡ 0 → bare ≡ framer_after bare piece
   alone_found f count is kept spent none =
       let same : c ≡ count_after c (copied_of [] f) = omega (arith, count, none) in
-      ap (λ (n : ℕ). framer_of max content.Prefix [] n) same
-      ∙ ap (λ (k : List ℕ). framer_of max content.Prefix k (count_after c (copied_of [] f))) (sym kept)
-      ∙ ap (λ (s : List ℕ). record { max = max; kept = f.kept; spent = s; copied = count_after c (copied_of [] f) })
-      (sym spent)
-      ∙ sym (ap (framed bare) is)
+      rw (is, kept, spent, ← same) refl
 
   pub alone_frame : (layout : FrameLayout) → c ≤ 18446744073709551615
       → IsFilled max [] piece (take taken piece) taken (status.Whole layout) → bare ≡ framer_after bare piece
@@ -97,11 +84,7 @@ module _ (max c : ℕ) (kept piece new : List ℕ) (taken copied : ℕ) (some : 
 
   rest_found : (f : Framing) → framing max kept piece ≡ f → f.taken ≡ taken
       → record { max = max; kept = f.kept; spent = f.spent; copied = copied } ≡ framer_after keeping piece
-  rest_found f is all =
-      let more : copied ≡ count_after c (copied_of kept f) =
-      count ∙ ap (count_after c) (sym all ∙ sym (copied_after kept f some)) in
-      ap (λ (n : ℕ). record { max = max; kept = f.kept; spent = f.spent; copied = n }) more
-      ∙ sym (ap (framed keeping) is)
+  rest_found f is all = rw (is, count, copied_after kept f some, all) refl
 
   pub rest_more : IsFilled max kept piece new taken status.Unfinished
       → framer_of max content.Prefix new copied ≡ framer_after keeping piece
@@ -110,9 +93,7 @@ module _ (max c : ℕ) (kept piece new : List ℕ) (taken copied : ℕ) (some : 
   pub rest_frame : (layout : FrameLayout) → IsFilled max kept piece new taken (status.Whole layout)
       → framer_of max content.Split new copied ≡ framer_after keeping piece
   rest_frame layout filled =
-      ap (λ (s : List ℕ). record { max = max; kept = []; spent = s; copied = copied })
-      (sym (split_after kept new some))
-      ∙ rest_found _ (framing_whole max kept piece new taken layout filled) refl
+      rw (← rest_found _ (framing_whole max kept piece new taken layout filled) refl, split_after kept new some) refl
 
   pub rest_is_faulty : (fault : FrameFault) → IsFilled max kept piece new taken (status.Fault fault)
       → framer_of max content.Prefix [] copied ≡ framer_after keeping piece
@@ -125,18 +106,10 @@ HasNoFrame (AFrame frame) = ⊥
 HasNoFrame (AFault fault) = Unit {0}
 
 -- Without a frame, there is no split frame.
-spent_at : (kept piece : List ℕ) (b : StreamPrefix) (finding : FrameEventValue)
-    → (framing_at kept piece b).finding ≡ finding → HasNoFrame finding → (framing_at kept piece b).spent ≡ []
-spent_at kept piece Unfinished finding e none = refl
-spent_at kept piece (Whole frame rest) Nothing e none = absurd cc
-spent_at kept piece (Whole frame rest) (AFrame found) e none = absurd none
-spent_at kept piece (Whole frame rest) (AFault fault) e none = absurd cc
-spent_at kept piece (Faulty fault) finding e none = refl
-
 pub none_spent : (max : ℕ) (kept piece : List ℕ) (finding : FrameEventValue)
     → (framing max kept piece).finding ≡ finding → HasNoFrame finding → (framing max kept piece).spent ≡ []
 unfolding framing
-none_spent max kept piece finding e none = spent_at kept piece (prefix_kind max (kept ++ piece)) finding e none
+none_spent max kept piece finding e none = grind arith
 
 -- ---- the invariant of a framer
 
@@ -146,7 +119,7 @@ empty_framer max kept copied low high countable e = record {
   low = low;
   high = high;
   countable = countable;
-  unfinished = ap (prefix_kind max) e ∙ unfinished_empty max;
+  unfinished = rw e (unfinished_empty max);
   whole = inl refl;
 }
 
@@ -180,34 +153,24 @@ kept_below v is = unfinished_below v.max v.kept (omega (arith, is.low)) is.unfin
 
 -- ---- a frame that is taken back
 
--- The bytes but the last, followed by the last.
-without_last_then : (frame : List ℕ) → 1 ≤ length frame → frame ≡ without_last frame ++ drop (length frame - 1) frame
-without_last_then frame some = sym (take-append-drop (length frame - 1) frame)
-
-last_is_some : (frame : List ℕ) → 1 ≤ length frame → length (drop (length frame - 1) frame) ≡ 1
-last_is_some frame some = omega (arith, length-drop (length frame - 1) frame)
-
 -- Without its last byte, a frame is unfinished.
 front_needs_more : (M : ℕ) (front last : List ℕ) (b : StreamPrefix) → length last ≡ 1
     → prefix_kind M (front ++ last) ≡ Whole (front ++ last) [] → prefix_kind M front ≡ b
     → prefix_kind M front ≡ Unfinished
 front_needs_more M front last Unfinished one e is = is
 front_needs_more M front last (Whole frame rest) one e is =
-    let same : Whole (front ++ last) [] ≡ Whole frame (rest ++ last) = sym e ∙ whole_more M front last frame rest is in
+    let more = whole_more M front last frame rest is in
     let none : ◌≡◌ {A = List ℕ} [] (rest ++ last) = cc in
-    absurd (omega (arith, one, ap (λ (s : List ℕ). length s) none, length-append rest last))
-front_needs_more M front last (Faulty fault) one e is =
-    let bad : ◌≡◌ {A = StreamPrefix} (Whole (front ++ last) []) (Faulty fault) =
-    sym e ∙ faulty_more M front last fault is in
-    absurd cc
+    absurd (omega (arith, one, ap length none, length-append rest last))
+front_needs_more M front last (Faulty fault) one e is = absurd (cc (faulty_more M front last fault is))
 
 pub front_unfinished : (M : ℕ) (frame : List ℕ) → prefix_kind M frame ≡ Whole frame []
     → prefix_kind M (without_last frame) ≡ Unfinished
 front_unfinished M frame e =
     let some = (whole_parts M frame frame [] e).some in
-    let parts = without_last_then frame (omega arith) in
-    front_needs_more M (without_last frame) (drop (length frame - 1) frame) _ (last_is_some frame (omega arith))
-    (ap (prefix_kind M) (sym parts) ∙ e ∙ ap (λ (f : List ℕ). Whole f []) parts) refl
+    front_needs_more M (without_last frame) (drop (length frame - 1) frame) _
+    (omega (arith, length-drop (length frame - 1) frame))
+    (rw (take-append-drop (length frame - 1) frame) e) refl
 
 pub frame_is_small : (M : ℕ) (frame : List ℕ) → prefix_kind M frame ≡ Whole frame []
     → (2 ≤ length frame) × (length frame ≤ M)
@@ -222,9 +185,8 @@ spent_back : (v : FramerValue) (piece spent : List ℕ) → v.spent ≡ spent
     → (spent ≡ []) ⊎ ((prefix_kind v.max spent ≡ Whole spent []) × (v.kept ≡ []))
     → 0 < length spent → IsBack v piece spent
 spent_back v piece [] e whole some = absurd (omega arith)
-spent_back v piece (b ∷ s) e (inl none) some = let bad : ◌≡◌ {A = List ℕ} (b ∷ s) [] = none in absurd cc
-spent_back v piece (b ∷ s) e (inr whole) some =
-    record { is = ap (λ (x : List ℕ). frame_back x piece) e; whole = whole.0 }
+spent_back v piece (b ∷ s) e (inl none) some = absurd cc
+spent_back v piece (b ∷ s) e (inr whole) some = record { is = rw e refl; whole = whole.0 }
 
 pub back_spent : (v : FramerValue) (piece : List ℕ) → IsFramer v → 0 < length v.spent → IsBack v piece v.spent
 back_spent v piece is some = spent_back v piece v.spent refl is.whole some
@@ -233,7 +195,7 @@ piece_back : (v : FramerValue) (piece spent : List ℕ) → v.spent ≡ spent
     → (spent ≢ []) ⊎ ((prefix_kind v.max piece ≡ Whole piece []) × (v.kept ≡ []))
     → length spent ≤ 0 → IsBack v piece piece
 piece_back v piece [] e (inl some) none = absurd (some refl)
-piece_back v piece [] e (inr whole) none = record { is = ap (λ (x : List ℕ). frame_back x piece) e; whole = whole.0 }
+piece_back v piece [] e (inr whole) none = record { is = rw e refl; whole = whole.0 }
 piece_back v piece (b ∷ s) e back none = absurd (omega arith)
 
 -- If there is no split frame, the chunk is the frame.
@@ -256,7 +218,7 @@ front_framer max bytes frame copied low high countable whole is = record {
   low = low;
   high = high;
   countable = countable;
-  unfinished = ap (prefix_kind max) is ∙ front_unfinished max frame whole;
+  unfinished = rw is (front_unfinished max frame whole);
   whole = inl refl;
 }
 
@@ -273,3 +235,6 @@ unread_is_framer v piece is may =
       | inl some ↦ back_is_framer v piece v.spent is (back_spent v piece is some)
       | inr none ↦ back_is_framer v piece piece is (back_piece v piece may none)
     ]
+
+-- What `Framer::unread` needs.
+pub ruleset frames_back = (back_spent, back_piece, frame_is_small, spent_lies, front_framer)

@@ -1,6 +1,6 @@
 -- The theorems on framers: the output agrees with the stream, the number of bytes taken of a chunk, and `unread`.
 use Rattle.std.proofs.Common.{◌≡◌, ℕ, ◌+◌, ◌-◌, ◌≤◌, Bool, true, false, List, [], ◌∷◌, ◌++◌, length, take, drop, refl}
-use Rattle.std.proofs.Common.{sym, ap, subst, ◌∙◌, append_assoc, arith, inl, inr, is_none, if◌then◌else◌}
+use Rattle.std.proofs.Common.{sym, ap, subst, ◌∙◌, append_assoc, arith, inl, inr, is_none, if◌then◌else◌, None, Some}
 use Rattle.std.proofs.lemmas.Bool.{cases_lt}
 use Rattle.std.proofs.lemmas.List.{append-nil, take-append-drop, take-append-le, take_all, take_at, length-append}
 use Rattle.std.proofs.lemmas.List.{length-drop}
@@ -11,8 +11,7 @@ use Rattle.coap_frame.specs.Prelude.{with_frame, sized_frames, FramerValue, IsFr
 use Rattle.coap_frame.specs.Prelude.{AFault, Framing, split_frame, framing_at, framing, framing_of, framer_after}
 use Rattle.coap_frame.specs.Prelude.{without_last, frame_back, MayUnread, raise_refusal, with_size, raise_result}
 use Rattle.coap_frame.specs.Prelude.{FramerInput, Piece, FramerOutput, given_then, output_of, stream_given, IsGiven}
-use Rattle.coap_frame.specs.Prelude.{taken_of}
-use Rattle.coap_frame.specs.Prelude.{unread_after, last_byte}
+use Rattle.coap_frame.specs.Prelude.{taken_of, unread_after, last_byte}
 use Rattle.coap_wire.proofs.StreamSteps.{whole_parts, whole_itself, whole_more, faulty_more, fault_bytes_more}
 use Rattle.coap_wire.proofs.StreamSteps.{fault_at_last, size_has_bytes, size_bytes_more, AreAlikeAfter}
 use Rattle.coap_wire.proofs.StreamSteps.{frames_unfinished, frames_faulty, frames_whole, frames_alike}
@@ -37,33 +36,25 @@ known_step : (M : ℕ) (kept : List ℕ) (b : ℕ) (piece : List ℕ) (fault : F
     → prefix_kind M (kept ++ b ∷ []) ≡ at → IsKnownAtFront M kept (b ∷ piece) fault
 known_step M kept b piece fault Unfinished u e again is =
     let next = again is in
-    let same : (kept ++ b ∷ []) ++ next.front ≡ kept ++ b ∷ next.front = append_assoc kept (b ∷ []) next.front in
     record {
       front = b ∷ next.front;
       more = next.more;
-      bytes = ap (λ (s : List ℕ). b ∷ s) next.bytes;
-      faulty = ap (prefix_kind M) (sym same) ∙ next.faulty;
-      is = ap fault_bytes (sym same) ∙ next.is ∙ same;
+      bytes = rw next.bytes refl;
+      faulty = rw (← append_assoc kept (b ∷ []) next.front) next.faulty;
+      is = rw (← append_assoc kept (b ∷ []) next.front) next.is;
     }
 known_step M kept b piece fault (Whole frame rest) u e again is =
-    let bad : ◌≡◌ {A = StreamPrefix} (Whole frame (rest ++ piece)) (Faulty fault) =
-    sym (whole_more M (kept ++ b ∷ []) piece frame rest is) ∙ e in
-    absurd cc
+    absurd (cc (whole_more M (kept ++ b ∷ []) piece frame rest is))
 known_step M kept b piece fault (Faulty first) u e again is =
-    let now : prefix_kind M (kept ++ b ∷ []) ≡ Faulty fault =
-    is ∙ sym (faulty_more M (kept ++ b ∷ []) piece first is) ∙ e in
+    let now : prefix_kind M (kept ++ b ∷ []) ≡ Faulty fault = cc (faulty_more M (kept ++ b ∷ []) piece first is) in
     record { front = b ∷ []; more = piece; bytes = refl; faulty = now; is = fault_at_last M kept b fault u now }
 
 -- If the kept bytes are unfinished, the error is known within the chunk.
 known : (M : ℕ) (kept piece : List ℕ) (fault : FrameFault) → prefix_kind M kept ≡ Unfinished
     → prefix_kind M (kept ++ piece) ≡ Faulty fault → IsKnownAtFront M kept piece fault
-known M kept [] fault u e =
-    let bad : ◌≡◌ {A = StreamPrefix} Unfinished (Faulty fault) =
-    sym u ∙ ap (prefix_kind M) (sym (append-nil kept)) ∙ e in
-    absurd cc
+known M kept [] fault u e = absurd (cc (rw append-nil at e))
 known M kept (b ∷ piece) fault u e =
-    let cut : prefix_kind M ((kept ++ b ∷ []) ++ piece) ≡ Faulty fault =
-    ap (prefix_kind M) (append_assoc kept (b ∷ []) piece) ∙ e in
+    let cut : prefix_kind M ((kept ++ b ∷ []) ++ piece) ≡ Faulty fault = rw (append_assoc kept (b ∷ []) piece) e in
     known_step M kept b piece fault (prefix_kind M (kept ++ b ∷ [])) u cut
     (λ is. known M (kept ++ b ∷ []) piece fault is cut) refl
 
@@ -78,16 +69,14 @@ kept_within_frame M kept piece frame rest u e =
       | inl small ↦ (
           let front : take n kept ≡ frame = sym (take-append-le n kept piece (omega arith))
           ∙ ap (take n) (whole_parts M (kept ++ piece) frame rest e).bytes ∙ take_at frame rest n refl in
-          let cut : kept ≡ frame ++ drop n kept =
-          sym (take-append-drop n kept) ∙ ap (λ (s : List ℕ). s ++ drop n kept) front in
-          let bad : ◌≡◌ {A = StreamPrefix} Unfinished (Whole frame (drop n kept)) = sym u ∙ ap (prefix_kind M) cut
-          ∙ whole_more M frame (drop n kept) frame [] (whole_itself M (kept ++ piece) frame rest e) in
-          absurd cc)
+          let cut : frame ++ drop n kept ≡ kept = rw front at (take-append-drop n kept) in
+          let bad = whole_more M frame (drop n kept) frame [] (whole_itself M (kept ++ piece) frame rest e) in
+          absurd (cc (rw cut at bad)))
       | inr fits ↦ fits
     ]
 
 -- The content of the kept bytes and the bytes taken, by the finding, and the bytes kept afterwards.
-abbrev IsFoundAt : ℕ → List ℕ → List ℕ → ℕ → List ℕ → FrameEventValue → Type 0
+abbrev pub IsFoundAt : ℕ → List ℕ → List ℕ → ℕ → List ℕ → FrameEventValue → Type 0
 IsFoundAt max kept piece taken after Nothing = (taken ≡ length piece) × (after ≡ kept ++ take taken piece)
 IsFoundAt max kept piece taken after (AFrame frame) =
     (frame ≡ kept ++ take taken piece) × (prefix_kind max frame ≡ Whole frame []) × (after ≡ [])
@@ -99,42 +88,43 @@ record IsCall (max : ℕ) (kept piece : List ℕ) (f : Framing) : Type 0 where
   within : f.taken ≤ length piece
   found : IsFoundAt max kept piece f.taken f.kept f.finding
 
+fault_call : (max : ℕ) (kept front more : List ℕ) (fault : FrameFault) → prefix_kind max (kept ++ front) ≡ Faulty fault
+    → fault_bytes (kept ++ front) ≡ kept ++ front
+    → IsCall max kept (front ++ more) (framing_at kept (front ++ more) (Faulty fault))
+fault_call max kept front more fault faulty is =
+    let bytes : fault_bytes (kept ++ (front ++ more)) ≡ kept ++ front =
+    rw (← append_assoc, fault_bytes_more max (kept ++ front) more fault faulty) is in
+    let count : length (fault_bytes (kept ++ (front ++ more))) - length kept ≡ length front =
+    omega (arith, ap length bytes, length-append kept front) in
+    let taken : take (length (fault_bytes (kept ++ (front ++ more))) - length kept) (front ++ more) ≡ front =
+    rw count (take_at front more (length front) refl) in
+    record {
+      within = omega (arith, count, length-append front more);
+      found = (
+        rw (← append_assoc) (faulty_more max (kept ++ front) more fault faulty),
+        rw taken (sym bytes),
+        rw taken faulty,
+        refl,
+      );
+    }
+
 call_at : (max : ℕ) (kept piece : List ℕ) (b : StreamPrefix) → prefix_kind max kept ≡ Unfinished
     → prefix_kind max (kept ++ piece) ≡ b → IsCall max kept piece (framing_at kept piece b)
-call_at max kept piece Unfinished u e = record {
-  within = omega arith;
-  found = (refl, sym (ap (λ (p : List ℕ). kept ++ p) (take_all (length piece) piece (omega arith))));
-}
+call_at max kept piece Unfinished u e =
+    record { within = omega arith; found = (refl, rw (take_all (length piece) piece (omega arith)) refl) }
 call_at max kept piece (Whole frame rest) u e =
     let c = whole_parts max (kept ++ piece) frame rest e in
     let n = length piece - length rest in
     let long = kept_within_frame max kept piece frame rest u e in
-    let all : length kept + length piece ≡ length frame + length rest =
-    sym (length-append kept piece) ∙ ap (λ (s : List ℕ). length s) c.bytes ∙ length-append frame rest in
+    let all : length kept + length piece ≡ length frame + length rest = simp length-append at (ap length c.bytes) in
     let size : length frame ≡ length kept + n = omega (arith, long, all) in
-    let bytes : frame ≡ kept ++ take n piece = sym (take_at frame rest (length kept + n) size)
-    ∙ ap (take (length kept + n)) (sym c.bytes) ∙ take-append-add kept piece n in
+    let bytes : frame ≡ kept ++ take n piece =
+    rw (← take-append-add, ← size, c.bytes, take_at frame rest (length frame) refl) refl in
     record { within = omega arith; found = (bytes, whole_itself max (kept ++ piece) frame rest e, refl) }
 call_at max kept piece (Faulty fault) u e =
     let k = known max kept piece fault u e in
-    let cut : kept ++ piece ≡ (kept ++ k.front) ++ k.more =
-    ap (λ (p : List ℕ). kept ++ p) k.bytes ∙ sym (append_assoc kept k.front k.more) in
-    let bytes : fault_bytes (kept ++ piece) ≡ kept ++ k.front =
-    ap fault_bytes cut ∙ fault_bytes_more max (kept ++ k.front) k.more fault k.faulty ∙ k.is in
-    let count : length (fault_bytes (kept ++ piece)) - length kept ≡ length k.front =
-    omega (arith, ap (λ (s : List ℕ). length s) bytes, length-append kept k.front) in
-    let taken : take (length (fault_bytes (kept ++ piece)) - length kept) piece ≡ k.front =
-    ap (λ (n : ℕ). take n piece) count ∙ ap (take (length k.front)) k.bytes
-    ∙ take_at k.front k.more (length k.front) refl in
-    record {
-      within = omega (arith, count, ap (λ (s : List ℕ). length s) k.bytes, length-append k.front k.more);
-      found = (
-        e,
-        ap (λ (p : List ℕ). kept ++ p) taken ∙ sym bytes,
-        ap (λ (p : List ℕ). prefix_kind max (kept ++ p)) taken ∙ k.faulty,
-        refl,
-      );
-    }
+    subst (λ p. IsCall max kept p (framing_at kept p (Faulty fault))) (sym k.bytes)
+    (fault_call max kept k.front k.more fault k.faulty k.is)
 
 call_is : (max : ℕ) (kept piece : List ℕ) → prefix_kind max kept ≡ Unfinished
     → IsCall max kept piece (framing max kept piece)
@@ -142,7 +132,7 @@ unfolding framing
 call_is max kept piece u = call_at max kept piece (prefix_kind max (kept ++ piece)) u refl
 
 -- The same, for the finding of a call.
-found_is : (max : ℕ) (kept piece : List ℕ) (finding : FrameEventValue) → prefix_kind max kept ≡ Unfinished
+pub found_is : (max : ℕ) (kept piece : List ℕ) (finding : FrameEventValue) → prefix_kind max kept ≡ Unfinished
     → (framing max kept piece).finding ≡ finding
     → IsFoundAt max kept piece (framing max kept piece).taken (framing max kept piece).kept finding
 found_is max kept piece finding u e =
@@ -155,16 +145,13 @@ found_is max kept piece finding u e =
 first_point : (m n M : ℕ) (S : Sizes) (at : ℕ) → sizes_first m M (sizes_first n M S) at ≡ sizes_first (m + n) M S at
 first_point m n M S at =
     elim (cases_lt at m) [
-      | inl lt ↦ first_in m M (sizes_first n M S) at lt ∙ sym (first_in (m + n) M S at (omega (arith, lt)))
-      | inr ge ↦ elim (cases_lt (at - m) n) [
-        | inl lt ↦
-            first_past m M (sizes_first n M S) at ge ∙ first_in n M S (at - m) lt
-            ∙ sym (first_in (m + n) M S at (omega (arith, lt, ge)))
+      | inl lt ↦ rw (first_in m M _ at lt, first_in (m + n) M S at (omega (arith, lt))) refl
+      | inr ge ↦ rw (first_past m M _ at ge) (elim (cases_lt (at - m) n) [
+        | inl lt ↦ rw (first_in n M S (at - m) lt, first_in (m + n) M S at (omega (arith, lt, ge))) refl
         | inr past ↦ (
             let same : (at - m) - n ≡ at - (m + n) = omega arith in
-            first_past m M (sizes_first n M S) at ge ∙ first_past n M S (at - m) past ∙ ap S same
-            ∙ sym (first_past (m + n) M S at (omega (arith, past, ge))))
-      ]
+            rw (first_past n M S (at - m) past, first_past (m + n) M S at (omega (arith, past, ge)), same) refl)
+      ])
     ]
 
 first_first : (m n M : ℕ) (S : Sizes) → sizes_first m M (sizes_first n M S) ≡ sizes_first (m + n) M S
@@ -175,13 +162,7 @@ first_bytes : (M : ℕ) (kept taken more all : List ℕ) (S : Sizes) → all ≡
     → sized_frames (sizes_first (length kept) M (sizes_first (length taken) M S)) (kept ++ (taken ++ more))
     ≡ sized_frames (sizes_first (length all) M S) (all ++ more)
 first_bytes M kept taken more all S is =
-    let count : length kept + length taken ≡ length all =
-    omega (arith, ap (λ (s : List ℕ). length s) is, length-append kept taken) in
-    let bytes : kept ++ (taken ++ more) ≡ all ++ more =
-    sym (append_assoc kept taken more) ∙ ap (λ (s : List ℕ). s ++ more) (sym is) in
-    ap (λ (f : Sizes). sized_frames f (kept ++ (taken ++ more))) (first_first (length kept) (length taken) M S)
-    ∙ ap (sized_frames (sizes_first (length kept + length taken) M S)) bytes
-    ∙ ap (λ (n : ℕ). sized_frames (sizes_first n M S) (all ++ more)) count
+    rw (is, first_first (length kept) (length taken) M S, length-append, append_assoc) refl
 
 -- The maximum that applies to a whole frame that was taken with this maximum.
 size_at_frame : (M : ℕ) (frame more : List ℕ) (S : Sizes) → prefix_kind M frame ≡ Whole frame []
@@ -194,53 +175,43 @@ size_at_frame M frame more S whole =
 
 -- ---- a list of calls
 
+-- The output agrees with the stream, of which these are the frames, the rest and the error.
+given_by : (v : FramerValue) (given : FramerOutput) (s : Frames) → stream_given v given ≡ s → s.frames ≡ given.frames
+    → (given.fault ≡ None → s.rest ≡ given.after.kept) → s.fault ≡ given.fault
+    → ((fault : FrameFault) → given.fault ≡ Some fault → given.after.kept ≡ []) → IsGiven v given
+given_by v given s same frames rest fault nothing = record {
+  frames = rw same frames;
+  rest = λ none. rw same (rest none);
+  fault = rw same fault;
+  nothing_kept = nothing;
+}
+
 given_step : (v after : FramerValue) (piece : List ℕ) (taken : ℕ) (go : FramerValue → FramerOutput)
     (finding : FrameEventValue) → after.max ≡ v.max → IsFoundAt v.max v.kept piece taken after.kept finding
     → IsGiven after (go after) → IsGiven v (given_then go (take taken piece) v.max after finding)
 given_step v after piece taken go Nothing max found again =
-    let more = (go after).taken in
-    let S = (go after).sizes in
-    let same : stream_given v (given_then go (take taken piece) v.max after Nothing) ≡ stream_given after (go after) =
-    first_bytes v.max v.kept (take taken piece) more after.kept S found.1
-    ∙ ap (λ (m : ℕ). sized_frames (sizes_first (length after.kept) m S) (after.kept ++ more)) (sym max) in
-    record {
-      frames = ap (λ (f : Frames). f.frames) same ∙ again.frames;
-      rest = λ none. ap (λ (f : Frames). f.rest) same ∙ again.rest none;
-      fault = ap (λ (f : Frames). f.fault) same ∙ again.fault;
-      nothing_kept = again.nothing_kept;
-    }
+    given_by v _ (stream_given after (go after))
+    (first_bytes v.max v.kept (take taken piece) (go after).taken after.kept (go after).sizes found.1
+    ∙ ap (λ m. sized_frames (sizes_first (length after.kept) m (go after).sizes) (after.kept ++ (go after).taken))
+    (sym max))
+    again.frames again.rest again.fault again.nothing_kept
 given_step v after piece taken go (AFrame frame) max found again =
     let more = (go after).taken in
     let S = (go after).sizes in
     let whole : prefix_kind (size_for (sizes_first (length frame) v.max S) (frame ++ more)) (frame ++ more)
     ≡ Whole frame more =
-    ap (λ (m : ℕ). prefix_kind m (frame ++ more)) (size_at_frame v.max frame more S found.1)
-    ∙ whole_more v.max frame more frame [] found.1 in
+    rw (size_at_frame v.max frame more S found.1) (whole_more v.max frame more frame [] found.1) in
     let further : sized_frames (sizes_after (length frame) (sizes_first (length frame) v.max S)) more
-    ≡ stream_given after (go after) =
-    ap (λ (f : Sizes). sized_frames f more) (rest_first (length frame) v.max S ∙ sym (first_none after.max S))
-    ∙ ap (λ (k : List ℕ). sized_frames (sizes_first (length k) after.max S) (k ++ more)) (sym found.2) in
-    let same : stream_given v (given_then go (take taken piece) v.max after (AFrame frame))
-    ≡ with_frame frame (stream_given after (go after)) =
-    first_bytes v.max v.kept (take taken piece) more frame S found.0
+    ≡ stream_given after (go after) = rw (rest_first, found.2, first_none) refl in
+    given_by v _ (with_frame frame (stream_given after (go after)))
+    (first_bytes v.max v.kept (take taken piece) more frame S found.0
     ∙ frames_whole (sizes_first (length frame) v.max S) (frame ++ more) frame more whole
-    ∙ ap (with_frame frame) further in
-    record {
-      frames = ap (λ (f : Frames). f.frames) same ∙ ap (λ (fs : List (List ℕ)). frame ∷ fs) again.frames;
-      rest = λ none. ap (λ (f : Frames). f.rest) same ∙ again.rest none;
-      fault = ap (λ (f : Frames). f.fault) same ∙ again.fault;
-      nothing_kept = again.nothing_kept;
-    }
+    ∙ ap (with_frame frame) further)
+    (ap (λ (fs : List (List ℕ)). frame ∷ fs) again.frames) again.rest again.fault again.nothing_kept
 given_step v after piece taken go (AFault fault) max found again =
-    let same =
-    ap (λ (f : Sizes). sized_frames f (v.kept ++ take taken piece)) (first_always (length v.kept) v.max)
-    ∙ frames_faulty (constant_size v.max) (v.kept ++ take taken piece) fault found.2 in
-    record {
-      frames = ap (λ (f : Frames). f.frames) same;
-      rest = λ none. absurd cc;
-      fault = ap (λ (f : Frames). f.fault) same;
-      nothing_kept = λ other some. found.3;
-    }
+    given_by v _ _ (ap (λ (f : Sizes). sized_frames f (v.kept ++ take taken piece)) (first_always (length v.kept) v.max)
+    ∙ frames_faulty (constant_size v.max) (v.kept ++ take taken piece) fault found.2)
+    refl (λ none. absurd cc) refl (λ other some. found.3)
 
 -- The result is the same if the kept bytes were taken with a larger maximum.
 raised_alike : (max new : ℕ) (kept : List ℕ) (S : Sizes) → prefix_kind max kept ≡ Unfinished → max ≤ new
@@ -261,15 +232,10 @@ raised_alike max new kept S u le =
 given_raised : (v : FramerValue) (new : ℕ) (given : FramerOutput) → IsFramer v → v.max ≤ new
     → IsGiven (with_size v new) given → IsGiven v given
 given_raised v new given is le again =
-    let same : stream_given v given ≡ stream_given (with_size v new) given =
-    frames_alike (sizes_first (length v.kept) v.max given.sizes) (sizes_first (length v.kept) new given.sizes) v.kept
-    given.taken (raised_alike v.max new v.kept given.sizes is.unfinished le) in
-    record {
-      frames = ap (λ (f : Frames). f.frames) same ∙ again.frames;
-      rest = λ none. ap (λ (f : Frames). f.rest) same ∙ again.rest none;
-      fault = ap (λ (f : Frames). f.fault) same ∙ again.fault;
-      nothing_kept = again.nothing_kept;
-    }
+    given_by v given (stream_given (with_size v new) given)
+    (frames_alike (sizes_first (length v.kept) v.max given.sizes) (sizes_first (length v.kept) new given.sizes) v.kept
+    given.taken (raised_alike v.max new v.kept given.sizes is.unfinished le))
+    again.frames again.rest again.fault again.nothing_kept
 
 given_raise : (v : FramerValue) (new : ℕ) (given : FramerOutput) (allowed : Bool)
     → is_none (raise_refusal v.max new) ≡ allowed → IsFramer v
@@ -281,16 +247,9 @@ given_raise v new given false e is again = again
 pub given_is : (v : FramerValue) (handed : List FramerInput) → IsFramer v → IsGiven v (output_of v handed)
 unfolding output_of
 given_is v [] is =
-    let same =
-    ap (λ (f : Sizes). sized_frames f (v.kept ++ [])) (first_always (length v.kept) v.max)
-    ∙ ap (sized_frames (constant_size v.max)) (append-nil v.kept)
-    ∙ frames_unfinished (constant_size v.max) v.kept is.unfinished in
-    record {
-      frames = ap (λ (f : Frames). f.frames) same;
-      rest = λ none. ap (λ (f : Frames). f.rest) same;
-      fault = ap (λ (f : Frames). f.fault) same;
-      nothing_kept = λ fault some. absurd cc;
-    }
+    given_by v _ _ (ap (λ (f : Sizes). sized_frames f (v.kept ++ [])) (first_always (length v.kept) v.max)
+    ∙ rw append-nil (frames_unfinished (constant_size v.max) v.kept is.unfinished))
+    refl (λ none. refl) refl (λ fault some. absurd cc)
 given_is v (Size new ∷ more) is =
     given_raise v new (output_of (raise_result v new) more) (is_none (raise_refusal v.max new)) refl is
     (given_is (raise_result v new) more (raise_is_framer v new is))
@@ -319,39 +278,28 @@ module _ (max : ℕ) (kept piece : List ℕ) where
 
 -- ---- a frame that is taken back
 
-left_at : (kept piece frame : List ℕ) (b : StreamPrefix) → (framing_at kept piece b).finding ≡ AFrame frame
-    → ((framing_at kept piece b).kept ≡ []) × ((framing_at kept piece b).spent ≡ split_frame kept frame)
-left_at kept piece frame Unfinished e = absurd cc
-left_at kept piece frame (Whole found rest) e =
-    let same : found ≡ frame = cc in
-    (refl, ap (split_frame kept) same)
-left_at kept piece frame (Faulty fault) e = absurd cc
-
 -- The kept bytes and the split frame after a frame was found.
 frame_leaves : (max : ℕ) (kept piece frame : List ℕ) → (framing max kept piece).finding ≡ AFrame frame
     → ((framing max kept piece).kept ≡ []) × ((framing max kept piece).spent ≡ split_frame kept frame)
 unfolding framing
-frame_leaves max kept piece frame e = left_at kept piece frame (prefix_kind max (kept ++ piece)) e
+frame_leaves max kept piece frame e = (grind arith, grind arith)
 
 after_frame : (v : FramerValue) (piece frame : List ℕ) → (framing_of v piece).finding ≡ AFrame frame
     → framer_after v piece ≡ record (framer_after v piece) { kept = []; spent = split_frame v.kept frame }
 after_frame v piece frame e =
-    let left = frame_leaves v.max v.kept piece frame e in
-    ap (λ (k : List ℕ). record (framer_after v piece) { kept = k }) left.0
-    ∙ ap (λ (s : List ℕ). record (framer_after v piece) { kept = []; spent = s }) left.1
+    let left = frame_leaves v.max v.kept piece frame e in rw (left.0, left.1) refl
 
 -- A split frame and a frame that is whole in its chunk are taken back alike.
 back_is : (kept bytes frame : List ℕ) → frame ≡ kept ++ bytes → frame_back (split_frame kept frame) bytes ≡ frame
 back_is [] bytes frame e = sym e
-back_is (b ∷ kept) bytes frame e = ap (λ (f : List ℕ). frame_back f bytes) e ∙ sym e
+back_is (b ∷ kept) bytes frame e = rw e refl
 
 allowed_at : (v : FramerValue) (bytes frame : List ℕ) (kept : List ℕ) → prefix_kind v.max frame ≡ Whole frame []
     → frame ≡ kept ++ bytes → MayUnread (record v { kept = []; spent = split_frame kept frame }) bytes
-allowed_at v bytes frame [] whole e =
-    inr (ap (prefix_kind v.max) (sym e) ∙ whole ∙ ap (λ (f : List ℕ). Whole f []) e, refl)
+allowed_at v bytes frame [] whole e = inr (rw e at whole, refl)
 allowed_at v bytes frame (b ∷ kept) whole e =
     inl (λ (none : frame ≡ []). let some = (frame_is_small v.max frame whole).0 in
-    absurd (omega (arith, some, ap (λ (f : List ℕ). length f) none)))
+    absurd (omega (arith, some, ap length none)))
 
 -- All bytes but the last of two lists, if the second has a byte.
 pub last_of_second : (front bytes : List ℕ) → 1 ≤ length bytes
@@ -359,27 +307,24 @@ pub last_of_second : (front bytes : List ℕ) → 1 ≤ length bytes
 last_of_second front bytes some =
     let count : length (front ++ bytes) - 1 ≡ length front + (length bytes - 1) =
     omega (arith, length-append front bytes) in
-    ap (λ (n : ℕ). take n (front ++ bytes)) count ∙ take-append-add front bytes (length bytes - 1)
+    rw count (take-append-add front bytes (length bytes - 1))
 
 -- If the kept bytes are unfinished, at least one byte of the chunk is taken for a frame.
 pub takes_a_byte : (max : ℕ) (kept bytes frame : List ℕ) → prefix_kind max kept ≡ Unfinished
     → prefix_kind max frame ≡ Whole frame [] → frame ≡ kept ++ bytes → 1 ≤ length bytes
-takes_a_byte max kept [] frame u whole e =
-    let bad : ◌≡◌ {A = StreamPrefix} Unfinished (Whole frame []) =
-    sym u ∙ ap (prefix_kind max) (sym (append-nil kept) ∙ sym e) ∙ whole in
-    absurd cc
+takes_a_byte max kept [] frame u whole e = absurd (cc (append-nil kept))
 takes_a_byte max kept (b ∷ bytes) frame u whole e = omega arith
 
 -- A chunk that completes nothing.
 framing_more : (max : ℕ) (kept piece : List ℕ) → prefix_kind max (kept ++ piece) ≡ Unfinished
     → framing max kept piece ≡ framing_at kept piece Unfinished
 unfolding framing
-framing_more max kept piece e = ap (framing_at kept piece) e
+framing_more max kept piece e = rw e refl
 
 framing_frame : (max : ℕ) (kept piece frame : List ℕ) → prefix_kind max (kept ++ piece) ≡ Whole frame []
     → framing max kept piece ≡ framing_at kept piece (Whole frame [])
 unfolding framing
-framing_frame max kept piece frame e = ap (framing_at kept piece) e
+framing_frame max kept piece frame e = rw e refl
 
 -- A chunk in which a frame was found.
 module _ (v : FramerValue) (piece frame : List ℕ) (is : IsFramer v)
@@ -400,10 +345,10 @@ module _ (v : FramerValue) (piece frame : List ℕ) (is : IsFramer v)
 
   unread_is : unread_after v piece ≡ back
   unread_is =
-      let split =
-      ap (λ (s : List ℕ). frame_back s (taken_of v piece)) (frame_leaves v.max v.kept piece frame found).1 in
-      ap (λ (f : List ℕ). record v { kept = without_last f; spent = []; copied = copied_before })
-      (split ∙ back_is v.kept (taken_of v piece) frame frame_is_kept_and_taken)
+      rw (
+        (frame_leaves v.max v.kept piece frame found).1,
+        back_is v.kept (taken_of v piece) frame frame_is_kept_and_taken,
+      ) refl
 
   -- The bytes taken without the last one complete nothing.
   frame_but_last : without_last frame ≡ v.kept ++ without_last (taken_of v piece)
@@ -420,33 +365,29 @@ module _ (v : FramerValue) (piece frame : List ℕ) (is : IsFramer v)
   -- `unread` is allowed after a frame.
   pub unread_allowed : MayUnread (framer_after v piece) (taken_of v piece)
   unread_allowed =
-      subst (λ (after : FramerValue). MayUnread after (taken_of v piece)) (sym (after_frame v piece frame found))
+      subst (λ after. MayUnread after (taken_of v piece)) (sym (after_frame v piece frame found))
       (allowed_at v (taken_of v piece) frame v.kept frame_is_whole frame_is_kept_and_taken)
 
   -- Except for the count of copied bytes, the framer is as if the last byte had not arrived.
   pub unread_one_less : unread_after v piece
       ≡ record (framer_after v (without_last (taken_of v piece))) { copied = (unread_after v piece).copied }
-  unread_one_less =
-      unread_is
-      ∙ ap (λ (k : List ℕ). record v { kept = k; spent = []; copied = copied_before }) frame_but_last
-      ∙ sym (ap (λ (f : Framing). record v { kept = f.kept; spent = f.spent; copied = copied_before }) but_last)
+  unread_one_less = rw (unread_is, frame_but_last, but_last) refl
 
   pub unread_nothing : (framing_of v (without_last (taken_of v piece))).finding ≡ Nothing
-  unread_nothing = ap (λ (f : Framing). f.finding) but_last
+  unread_nothing = rw but_last refl
 
   -- With the last byte, the frame is found again.
   frame_comes_again : framing_of (unread_after v piece) (last_byte frame)
       ≡ framing_at (without_last frame) (last_byte frame) (Whole frame [])
   frame_comes_again =
-      ap (λ (b : FramerValue). framing_of b (last_byte frame)) unread_is
+      ap (λ b. framing_of b (last_byte frame)) unread_is
       ∙ framing_frame v.max (without_last frame) (last_byte frame) frame
-      (ap (prefix_kind v.max) (take-append-drop (length frame - 1) frame) ∙ frame_is_whole)
+      (rw (take-append-drop (length frame - 1) frame) frame_is_whole)
 
   pub unread_again : (framing_of (unread_after v piece) (last_byte frame)).finding ≡ AFrame frame
-  unread_again = ap (λ (f : Framing). f.finding) frame_comes_again
+  unread_again = rw frame_comes_again refl
 
   pub unread_taken : (framing_of (unread_after v piece) (last_byte frame)).taken ≡ 1
   unread_taken =
       let some = (frame_is_small v.max frame frame_is_whole).0 in
-      let one : length (last_byte frame) - 0 ≡ 1 = omega (arith, some, length-drop (length frame - 1) frame) in
-      ap (λ (f : Framing). f.taken) frame_comes_again ∙ one
+      rw frame_comes_again (omega (arith, some, length-drop (length frame - 1) frame))

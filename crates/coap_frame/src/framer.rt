@@ -185,6 +185,7 @@ impl Framer {
     }
 
     /// Begins a new stream: discards the kept bytes and the split frame.
+    #[tactic(auto, using(crate::proofs::FramingLemmas::empty_framer))]
     pub fn clear(&mut self)
         ensures { self.new ≡ record self.old { kept = []; spent = [] } }
     {
@@ -281,6 +282,7 @@ impl Framer {
     ///
     /// - The buffer has a split frame, or `piece` is exactly one frame and no byte is kept. This is the case after
     ///   `next` returned a frame.
+    #[tactic(auto, using(crate::proofs::FramingLemmas::frames_back))]
     pub fn unread(&mut self, piece: &[u8])
         requires { MayUnread self.old piece.now }
         ensures { self.new ≡ with_frame_back self.old piece.now }

@@ -1,6 +1,6 @@
-use Rattle.std.proofs.Common.{◌≡◌, refl, sym, ap, subst, ◌∙◌}
-use Rattle.coap_frame.specs.Prelude.{FramerValue, IsFramer, framing_of, framer_after, framer_value, IsFramedRef}
-use Rattle.coap_frame.specs.Prelude.{finding_of_ref, lent_of_ref, AFrame}
+use Rattle.std.proofs.Common.{◌≡◌, refl, ap, ◌∙◌}
+use Rattle.coap_frame.specs.Prelude.{FramerValue, framing_of, framer_after, framer_value, IsFramedRef, finding_of_ref}
+use Rattle.coap_frame.specs.Prelude.{lent_of_ref}
 use Rattle.coap_frame.proofs.FramingLemmas.{framing_is_framer}
 use Rattle.coap_frame.proofs.FoundLemmas.{given_more, given_fault, given_whole, given_split}
 use Rattle.coap_frame.proofs.framer.Framer.next_frame.Goals.{in-Unfinished, in-Fault, in-Whole+in-Prefix}
@@ -9,31 +9,19 @@ use Rattle.coap_frame.proofs.framer.Framer.next_frame.Goals as goal
 
 pub invariant_of-self : goal.invariant_of-self
 invariant_of-self c =
-    let v = framer_value c.self.inside in (
-      subst IsFramer (sym c.advance-taken.ensures.after) (framing_is_framer v c.args.piece.now c.self.invariant.0),
-      c.advance-taken.ensures.capacity,
-    )
+    (rw c.advance-taken.ensures.after (framing_is_framer _ _ c.self.invariant.0), c.advance-taken.ensures.capacity)
 
 pub invariant_of-self-in-Fault-1 : goal.invariant_of-self-in-Fault-1
 invariant_of-self-in-Fault-1 c =
-    let v = framer_value c.self.inside in (
-      subst IsFramer (sym c.advance-taken.ensures.after) (framing_is_framer v c.args.piece.now c.self.invariant.0),
-      c.advance-taken.ensures.capacity,
-    )
+    (rw c.advance-taken.ensures.after (framing_is_framer _ _ c.self.invariant.0), c.advance-taken.ensures.capacity)
 
 pub invariant_of-self-in-Prefix : goal.invariant_of-self-in-Prefix
 invariant_of-self-in-Prefix c =
-    let v = framer_value c.self.inside in (
-      subst IsFramer (sym c.advance-taken.ensures.after) (framing_is_framer v c.args.piece.now c.self.invariant.0),
-      c.advance-taken.ensures.capacity,
-    )
+    (rw c.advance-taken.ensures.after (framing_is_framer _ _ c.self.invariant.0), c.advance-taken.ensures.capacity)
 
 pub invariant_of-self-in-Split : goal.invariant_of-self-in-Split
 invariant_of-self-in-Split c =
-    let v = framer_value c.self.inside in (
-      subst IsFramer (sym c.advance-taken.ensures.after) (framing_is_framer v c.args.piece.now c.self.invariant.0),
-      c.advance-taken.ensures.capacity,
-    )
+    (rw c.advance-taken.ensures.after (framing_is_framer _ _ c.self.invariant.0), c.advance-taken.ensures.capacity)
 
 pub returns : goal.returns
 returns c =
@@ -60,22 +48,15 @@ returns c =
       | in-Whole+in-Split w ↦
           given_split v.max v.kept p new a.result.0 a.new.content a.result.1 what a.ensures.taken a.ensures.found spends
           w.in-Whole.layout w.in-Whole.is w.in-Split.is
-          (ap finding_of_ref w.what-is ∙ ap (λ bytes. AFrame bytes) w.deref.ensures.value)
-          (ap lent_of_ref w.what-is ∙ w.deref.ensures.value)
+          (rw (w.what-is, w.deref.ensures.value) refl) (rw (w.what-is, w.deref.ensures.value) refl)
     ] in
     let after : c.match-status.self.0 ≡ framer_after c.args.self.now p =
     elim c.match-status.branch [
-      | in-Unfinished w ↦ ap (λ s. s.0) w.self-is ∙ a.ensures.after ∙ same
-      | in-Fault w ↦ ap (λ s. s.0) w.self-is ∙ a.ensures.after ∙ same
-      | in-Whole+in-Prefix w ↦ ap (λ s. s.0) w.self-is ∙ a.ensures.after ∙ same
-      | in-Whole+in-Split w ↦ ap (λ s. s.0) w.self-is ∙ a.ensures.after ∙ same
+      | in-Unfinished w ↦ rw w.self-is (a.ensures.after ∙ same)
+      | in-Fault w ↦ rw w.self-is (a.ensures.after ∙ same)
+      | in-Whole+in-Prefix w ↦ rw w.self-is (a.ensures.after ∙ same)
+      | in-Whole+in-Split w ↦ rw w.self-is (a.ensures.after ∙ same)
     ] in (
       (refl, (λ _. tt), after),
-      record {
-        writes_back = tt;
-        framed =
-            subst (λ (f : FramerValue). IsFramedRef (record { taken = a.result.0; what = what }) (framing_of f p))
-            c.self.view_is framed;
-        within = a.ensures.within;
-      },
+      record { writes_back = tt; framed = rw (← c.self.view_is) framed; within = a.ensures.within },
     )
