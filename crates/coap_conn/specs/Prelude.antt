@@ -13,7 +13,6 @@ pub use mathlib.Core.Option.{none}
 pub use Rattle.coap_wire.specs.Forms.{length_form, option_form, token_form}
 pub use Rattle.coap_wire.specs.Message.{Message, CoapOption}
 pub use Rattle.coap_wire.specs.Recognition.{is_critical}
-unfoldable pub use Rattle.coap_wire.specs.Recognition.{first_critical_given, is_recognised, kind_of, known_given}
 unfoldable pub use Rattle.coap_wire.specs.Reading.{message_of}
 pub use Rattle.coap_wire.specs.Refusal.{RefusedBy}
 pub use Rattle.coap_wire.specs.Spelling.{body_spelling, head_spelling, option_spelling}
@@ -94,8 +93,8 @@ pub use Rattle.coap_conn.specs.declared.phase.Reject.{Reject}
 pub use Rattle.coap_conn.specs.declared.phase.Reply.{Reply}
 pub use Rattle.coap_conn.specs.declared.phase.Reply.TheVariants.{Bare, Stopped, Whole}
 pub use Rattle.coap_conn.specs.declared.phase.RequestFault.{RequestFault}
-pub use Rattle.coap_conn.specs.declared.phase.RequestFault.TheVariants.{NoRoom, NoSuchToken, NotOpen, TokensSpent}
-pub use Rattle.coap_conn.specs.declared.phase.RequestFault.TheVariants.{TooBig, TooMany}
+pub use Rattle.coap_conn.specs.declared.phase.RequestFault.TheVariants.{NoRoom, NoSuchToken, NotOpen}
+pub use Rattle.coap_conn.specs.declared.phase.RequestFault.TheVariants.{TooBig}
 pub use Rattle.coap_conn.specs.declared.phase.RespondFault.{RespondFault}
 pub use Rattle.coap_conn.specs.declared.phase.Role.{Role}
 pub use Rattle.coap_conn.specs.declared.phase.Role.TheVariants.{Client, Server}

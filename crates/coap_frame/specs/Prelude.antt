@@ -10,20 +10,17 @@ pub use Rattle.coap_wire.specs.StreamPrefix.{Whole}
 unfoldable pub use Rattle.coap_wire.specs.StreamPrefix.{prefix_kind}
 pub use Rattle.coap_wire.specs.Forms.{extension_of}
 pub use Rattle.coap_wire.specs.Frames.{Frames, Sizes, constant_size, size_for, sizes_after, sizes_first, with_frame}
-unfoldable pub use Rattle.coap_wire.specs.Frames.{frames_within, sized_frames}
-pub use Rattle.coap_wire.specs.Layout.{declared_in, IsLaidOut}
+unfoldable pub use Rattle.coap_wire.specs.Frames.{sized_frames}
+pub use Rattle.coap_wire.specs.Layout.{declared_in}
 unfoldable pub use Rattle.coap_wire.specs.Layout.{outline_of}
 pub use Rattle.coap_wire.specs.Reading.{message_of}
-unfoldable pub use Rattle.coap_wire.specs.Reading.{declared_of, length_at, one_byte_at, option_number_at}
-unfoldable pub use Rattle.coap_wire.specs.Reading.{two_bytes_at}
+unfoldable pub use Rattle.coap_wire.specs.Reading.{declared_of}
 pub use Rattle.coap_wire.specs.Stream.{OfFrame, Stream, frame_then, split}
-unfoldable pub use Rattle.coap_wire.specs.Stream.{sized_split}
 pub use Rattle.coap_wire.specs.declared.fault.FrameFault.{FrameFault}
 pub use Rattle.coap_wire.specs.declared.fault.FrameFault.TheVariants.{TokenLength, TooLarge}
 pub use Rattle.coap_wire.specs.declared.declaration.Declared.{Declared}
 pub use Rattle.coap_wire.specs.declared.declaration.Declared.TheVariants.{BadToken, Size, Unknown}
 pub use Rattle.coap_wire.specs.declared.layout.FrameLayout.{FrameLayout}
-pub use Rattle.coap_wire.specs.declared.layout.Outline.{Outline}
 pub use Rattle.coap_wire.specs.declared.sizes.TheConstants.{BASE_MESSAGE_SIZE, LARGEST_MESSAGE}
 -- ---- coap_frame
 pub use Rattle.coap_frame.specs.BufferViews.{framer_of, kept_in, frame_in, finding_in, spent_in, HasLayoutIn}
@@ -31,7 +28,7 @@ pub use Rattle.coap_frame.specs.Copying.{FramerCall, Clear, IsCounted, IsCounted
 pub use Rattle.coap_frame.specs.Copying.{Raise, Unread, after_call}
 unfoldable pub use Rattle.coap_frame.specs.Copying.{AreCounted}
 pub use Rattle.coap_frame.specs.Filling.{IsHead, IsFilled, IsTakenTo}
-pub use Rattle.coap_frame.specs.FramedViews.{finding_of, finding_read, IsFramed, lent_of}
+pub use Rattle.coap_frame.specs.FramedViews.{finding_of, finding_read, IsFramed}
 pub use Rattle.coap_frame.specs.FramedViews.{finding_of_ref, finding_laid_out, IsFramedRef, lent_of_ref}
 pub use Rattle.coap_frame.specs.FramerViews.{framer_value, is_framer}
 pub use Rattle.coap_frame.specs.Framing.{framing_of, framer_after, IsFramer, MayUnread, with_frame_back, FramerValue}
@@ -48,7 +45,6 @@ pub use Rattle.coap_frame.specs.Raising.{raised, IsRaiseAnswer, raise_result, ra
 pub use Rattle.coap_frame.specs.declared.fault.RaiseFault.{RaiseFault}
 pub use Rattle.coap_frame.specs.declared.fault.RaiseFault.TheVariants.{Lower}
 pub use Rattle.coap_frame.specs.declared.filling.FrameStatus.{FrameStatus}
-pub use Rattle.coap_frame.specs.declared.framer.FrameEvent.{FrameEvent}
 pub use Rattle.coap_frame.specs.declared.frame_ref_event.FrameRefEvent.{FrameRefEvent}
 pub use Rattle.coap_frame.specs.declared.framer.Framer.TheInside.{Inside}
 pub use Rattle.coap_frame.specs.declared.framer.BufferContent.{BufferContent}
