@@ -197,6 +197,7 @@ fn change(
 }
 
 /// Recomputes the changed marks of the observers of a path with this hash, if there is one.
+#[tactic(auto, using(crate::proofs::values::ChainLemmas::none_observes, crate::proofs::values::MarkLemmas::anew_unconcerned))]
 fn mark_changed(observers: &mut Observers, changed: Option<u8>, shared: &ServerState)
     ensures { observers.new ≡ record observers.old {
       marks = marks_after changed shared.entry.now observers.old.entries observers.old.marks;
@@ -271,6 +272,7 @@ fn hand_over(link: &mut Link, observers: &mut Observers, request: &MessageRef, m
 ///
 /// A delayed response is sent here, and 5.04 to a request that the application has not answered. A Pong with Custody is
 /// queued by `Link::due` (RFC 8323 section 5.4.1).
+#[tactic(auto, using(crate::proofs::values::SettleLemmas::none_is_pending))]
 #[inline(always)]
 pub(crate) fn send_due(link: &mut Link, now: u64) -> bool
     requires { IsReady link.old }
@@ -287,6 +289,7 @@ pub(crate) fn send_due(link: &mut Link, now: u64) -> bool
 
 /// Does the same as `send_due`. (A separate function: a function clears all its locals, so these would slow down a
 /// connection without pending entries.)
+#[tactic(auto, using(crate::proofs::values::AnsweringLemmas::nothing_sent))]
 #[inline(never)]
 fn send_first_due(link: &mut Link, now: u64) -> bool
     requires { IsReady link.old }

@@ -47,6 +47,7 @@ impl Observer {
     }
 
     /// Returns the mark of the current state of the path, or `None` if the path is absent.
+    #[tactic(auto, using(crate::proofs::values::MarkLemmas::built_in_mark))]
     pub(crate) fn present(&self, shared: &ServerState) -> Option<u64>
         requires { IsTagged self.now }
         ensures { result ≡ present_mark shared.entry.now self.now.path }
@@ -58,6 +59,7 @@ impl Observer {
     }
 
     /// Returns the kind of the path.
+    #[tactic(auto, using(coap_store::proofs::AnswerLaws::place_dynamic))]
     pub(crate) fn kind(&self) -> ResourceKind
         requires { IsTagged self.now }
         ensures { result ≡ kind_of_path self.now.path }
@@ -69,6 +71,7 @@ impl Observer {
     }
 
     /// Returns the same as `present`. If the path is `known`, whose mark is `present`, the store is not read.
+    #[tactic(auto, using(coap_path::proofs::PathLemmas::keys_equal))]
     fn present_by(&self, known: &PathKey, present: Option<u64>, shared: &ServerState) -> Option<u64>
         requires tagged { IsTagged self.now }
         requires present { present ≡ present_mark shared.now known.now }
@@ -81,6 +84,7 @@ impl Observer {
     }
 
     /// Returns the changed mark that this observer must have now.
+    #[tactic(auto, using(crate::proofs::values::MarkLemmas::unsent_is_changed))]
     pub(crate) fn changed_by(
         &self,
         known: &PathKey,

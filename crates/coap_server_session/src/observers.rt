@@ -96,6 +96,7 @@ impl Observers {
     }
 
     /// Returns the hash of the path of the last observer, or `None` if there is no observer.
+    #[tactic(auto, using(crate::proofs::values::ConcernLemmas::last_tagged, crate::proofs::values::ConcernLemmas::none_last))]
     pub(crate) fn last_hash(&self) -> Option<u8>
         ensures { result ≡ last_hash self.now.entries }
     {
@@ -261,6 +262,7 @@ fn mark_chain(
 }
 
 /// Sets the changed mark of the observer at an index, and its flag.
+#[tactic(auto, using(crate::proofs::values::FlagLemmas::writes))]
 fn set_mark(observers: &mut Vec<Observer>, marked: &mut Flags, index: usize, changed: Option<u64>)
     requires many { length observers.old.items ≤ 256 }
     requires within { index < length observers.old.items }
@@ -295,6 +297,7 @@ fn find_anew(observers: &mut Vec<Observer>, chains: &mut Chains, marked: &mut Fl
 }
 
 /// Returns the flags of the observers that have a changed mark.
+#[tactic(auto, using(crate::proofs::values::FlagLemmas::one_more_flagged))]
 fn flags_of(observers: &[Observer]) -> Flags
     requires { length observers.now ≤ 256 }
     ensures { AreFlagged result (map mark_in observers.now) }

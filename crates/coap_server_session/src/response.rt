@@ -45,6 +45,7 @@ pub(crate) fn respond(link: &mut Link, token: &TokenRef, plan: &Plan, observes: 
 
 /// Sends a response with this Location-Path as `respond` does. (A separate function: a function clears all its locals,
 /// so these would slow down `respond`.)
+#[tactic(auto, using(coap_path::proofs::PathLemmas::few_segments, coap_path::proofs::PathLemmas::path_fits))]
 #[inline(never)]
 fn respond_at<'a>(
     link: &mut Link,
@@ -120,6 +121,7 @@ pub(crate) fn respond_change(link: &mut Link, token: &TokenRef, planned: &Change
 }
 
 /// Sends a response with this code and Location-Path. (A separate function, as `respond_at`.)
+#[tactic(auto, using(coap_path::proofs::PathLemmas::few_segments, coap_path::proofs::PathLemmas::path_fits))]
 #[inline(never)]
 fn respond_created<'a>(link: &mut Link, token: &TokenRef, code: Code, path: UriPath<'a>)
     requires ready { IsReady link.old }

@@ -120,7 +120,7 @@ impl Session {
     /// # Preconditions
     ///
     /// The changed marks of the observers are current.
-    #[tactic(auto, unfolding(crate::specs::values::Sessions::taking, coap_frame::specs::Framing::framing))]
+    #[tactic(auto, unfolding(crate::specs::values::Sessions::taking, crate::specs::values::HandedRequests::handed, crate::specs::values::HandedRequests::completed, coap_frame::specs::Framing::framing))]
     pub fn take(&mut self, shared: &mut ServerState, piece: &[u8]) -> Result<TakeOutcome, usize>
         requires { IsMarked shared.old self.old }
         ensures count { IfOk result (λ t. t.count ≡ (taking shared.old self.old.session piece.now).count) }

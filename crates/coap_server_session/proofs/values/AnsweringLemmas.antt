@@ -1,22 +1,8 @@
 -- The link and the entries after a request, after a due entry was sent, and after a notification.
-use Rattle.std.proofs.Common.{◌≡◌, ℕ, Bool, true, false, ◌&&◌, List, Option, Some, None, refl, sym, ap, ◌∙◌, ◌==◌}
+use Rattle.std.proofs.Common.{◌≡◌, ℕ, Bool, true, false, ◌&&◌, List, map, Option, Some, None, refl, ◌∙◌, ◌==◌, arith}
 use Rattle.std.proofs.Common.{slice_get, slice_set, if◌then◌else◌}
-use Rattle.coap_server_session.specs.Prelude.{remove, Message, Reply, fit, bare_response, first_due, link_after}
-use Rattle.coap_server_session.specs.Prelude.{LinkValue}
-use Rattle.coap_server_session.specs.Prelude.{limit_in, can_hold, path_of, says, only, answer_of, immediate_answer}
-use Rattle.coap_server_session.specs.Prelude.{changes}
-use Rattle.coap_server_session.specs.Prelude.{StoreValue, application_deadline, prompt_answer, unless_handed}
-use Rattle.coap_server_session.specs.Prelude.{Application}
-use Rattle.coap_server_session.specs.Prelude.{Delay, delay_by, delay_or, hold_call, Engine}
-use Rattle.coap_server_session.specs.Prelude.{response_message, response_with_observe, notification_of, MayObserve}
-use Rattle.coap_server_session.specs.Prelude.{ServerState}
-use Rattle.coap_server_session.specs.Prelude.{moment_after, asks_entry, is_whole, with_entry, goes_on, ObserverValue}
-use Rattle.coap_server_session.specs.Prelude.{new_entry, answer_on, delay_on, delay_in, is_stale, mark_of}
-use Rattle.coap_server_session.specs.Prelude.{notification_on}
-use Rattle.coap_server_session.specs.Prelude.{state_on, first_index, is_observed, response_on, is_sent, link_replied}
-use Rattle.coap_server_session.specs.Prelude.{entries_replied, entries_notified, Response}
 use Rattle.std.proofs.lemmas.List.{append-nil}
-use Rattle.std.proofs.lemmas.Bool.{and_left, both_ways, false_from_ne_true}
+use Rattle.std.proofs.lemmas.Bool.{false_from_ne_true}
 use Rattle.coap_wire.specs.Codes as code
 use Rattle.coap_conn.specs.Calls as call
 use Rattle.coap_conn.proofs.PendingLaws.{due_nothing}
@@ -26,10 +12,32 @@ use Rattle.coap_store.specs.declared.plan.Watch.TheVariants as watch
 use Rattle.coap_store.proofs.ApplicationLaws.{prompt_cases}
 use Rattle.coap_store.proofs.HoldLaws.{delay_of_answer, delayed_unwatched, same_change, same_at_once, refused_for_now}
 use Rattle.coap_store.proofs.WatchLaws.{promptly_watched_is_there}
-use Rattle.coap_server_session.proofs.values.EntryLemmas.{is_first}
 use Rattle.coap_model.proofs.world.EntryLemmas.{asks_to_enter}
+use Rattle.coap_server_session.specs.Prelude.{is_observed, remove, Message, Reply, fit, bare_response, first_due}
+use Rattle.coap_server_session.specs.Prelude.{link_after, LinkValue, limit_in, can_hold, path_of, says, only, answer_of}
+use Rattle.coap_server_session.specs.Prelude.{immediate_answer, changes, StoreValue, application_deadline}
+use Rattle.coap_server_session.specs.Prelude.{prompt_answer, Application, is_handed, unless_handed, Delay, delay_or}
+use Rattle.coap_server_session.specs.Prelude.{hold_call, response_message, response_with_observe, notification_of}
+use Rattle.coap_server_session.specs.Prelude.{MayObserve, ServerState, moment_after, asks_entry, is_whole, with_entry}
+use Rattle.coap_server_session.specs.Prelude.{goes_on, ObserverValue, ObserversValue, new_entry, answer_on, delay_on}
+use Rattle.coap_server_session.specs.Prelude.{delay_in, is_stale, mark_of, notification_on, state_on, first_index}
+use Rattle.coap_server_session.specs.Prelude.{is_sent, link_replied, entries_replied, entries_notified, without_entry}
+use Rattle.coap_server_session.specs.Prelude.{change_hash, shared_changed, AreMarked, changed_mark, marks_after}
+use Rattle.coap_server_session.proofs.values.CauseLemmas.{marked_after}
+use Rattle.coap_server_session.proofs.values.EntryLemmas.{is_first}
 
 -- ---- a request
+
+-- States the effect of a request: the hash of the changed path, the link, the observers, and the server state.
+pub record IsAnswered (shared : ServerState) (l : LinkValue) (o : ObserversValue) (m : Message) (hash : Option ℕ)
+    (after : LinkValue) (p : ObserversValue) (later : ServerState) : Type 0 where
+  pub changed : hash ≡ change_hash (answer_on shared m).change
+  pub link : after ≡ link_replied shared l o.room (without_entry m.token o.entries) m (delay_in l (delay_on shared m))
+  pub entries : p.entries
+      ≡ entries_replied shared l o.room (without_entry m.token o.entries) m (delay_in l (delay_on shared m))
+  pub room : p.room ≡ o.room
+  pub marked : AreMarked later p.entries p.marks
+  pub shared_is : later ≡ shared_changed shared (answer_on shared m).change
 
 pub may_watch : (shared : ServerState) (m : Message) → asks_entry (answer_on shared m).watch ≡ true
     → MayObserve shared.store shared.now (path_of m) (answer_on shared m)
@@ -37,13 +45,6 @@ may_watch shared m asks =
     prompt_cases shared.store shared.now m (λ a. a.watch ≡ watch.Add → MayObserve shared.store shared.now (path_of m) a)
     (λ e. absurd cc) (promptly_watched_is_there shared.store shared.now m)
     (asks_to_enter (answer_on shared m).watch asks)
-
--- A request that changes the store gets no entry.
-unobserved : (shared : ServerState) (m : Message) (room : ℕ) (others : List ObserverValue)
-    → changes (answer_on shared m).change ≡ true → is_observed shared room others m ≡ false
-unobserved shared m room others does =
-    and_left _ _ (false_from_ne_true (asks_entry (answer_on shared m).watch)
-    (λ asks. both_ways (changes (answer_on shared m).change) (ap changes (may_watch shared m asks).quiet) does))
 
 -- A change that changes something is not `Nothing`.
 pub nothing_changed : (c : answer.Change) → changes c ≡ false → c ≡ answer.Nothing
@@ -59,25 +60,20 @@ pub record IsRefusedDelay (a : Answer) : Type 0 where
   pub refused : a.response ≡ only code.service_unavailable
   pub unwatched : asks_entry a.watch ≡ false
 
-refused_immediately : (s : StoreValue) (now : ℕ) (m : Message) (seconds : ℕ) → (answer_of s now m).hold ≡ Some seconds
-    → IsRefusedDelay (immediate_answer s now m)
+refused_by : (s : StoreValue) (now : ℕ) (m : Message) (d : Delay) (deadline hold : Option ℕ)
+    → (answer_of s now m).hold ≡ hold → delay_or deadline hold ≡ Some d
+    → IsRefusedDelay (unless_handed deadline (immediate_answer s now m))
 unfolding immediate_answer
-refused_immediately s now m seconds holds =
+refused_by s now m d (Some seconds) hold holds is = record { quiet = refl; refused = refl; unwatched = refl }
+refused_by s now m d None None holds is = absurd cc
+refused_by s now m d None (Some seconds) holds is =
     let same : (answer_of s now m).watch ≡ (immediate_answer s now m).watch = cc holds in
     record {
       quiet = same_change s now m ∙ (delay_of_answer s now m seconds holds).change;
       refused = refused_for_now s now m seconds holds;
-      unwatched = false_from_ne_true (asks_entry (immediate_answer s now m).watch)
-          (λ asks. delayed_unwatched s now m seconds holds (same
-          ∙ asks_to_enter (immediate_answer s now m).watch asks));
+      unwatched = false_from_ne_true _
+          (λ asks. delayed_unwatched s now m seconds holds (same ∙ asks_to_enter _ asks));
     }
-
-refused_by : (s : StoreValue) (now : ℕ) (m : Message) (d : Delay) (deadline hold : Option ℕ)
-    → (answer_of s now m).hold ≡ hold → delay_or deadline hold ≡ Some d
-    → IsRefusedDelay (unless_handed deadline (immediate_answer s now m))
-refused_by s now m d (Some seconds) hold holds is = record { quiet = refl; refused = refl; unwatched = refl }
-refused_by s now m d None None holds is = absurd cc
-refused_by s now m d None (Some seconds) holds is = refused_immediately s now m seconds holds
 
 refused_delay_of : (shared : ServerState) (m : Message) (d : Delay) → delay_on shared m ≡ Some d
     → IsRefusedDelay (answer_on shared m)
@@ -91,87 +87,87 @@ module _ (shared : ServerState) (m : Message) (d : Delay) (room : ℕ) (others :
   pub late_quiet : (answer_on shared m).change ≡ answer.Nothing
   late_quiet = (refused_delay_of shared m d delays).quiet
 
-  -- It gets no entry.
-  late_unobserved : is_observed shared room others m ≡ false
-  late_unobserved = and_left _ _ (refused_delay_of shared m d delays).unwatched
+-- Its response is delayed if the pending list has room, and is 5.03 otherwise. It gets no entry.
+pub late_answered : (shared : ServerState) (l : LinkValue) (o : ObserversValue) (m : Message) (d : Delay) (moment : ℕ)
+    (after : LinkValue) (p : ObserversValue) → delay_on shared m ≡ Some d → moment ≡ moment_after shared.now d.seconds
+    → AreMarked shared o.entries o.marks
+    → after ≡ (if can_hold l then link_after l (hold_call d.by m.token moment)
+    else link_after l (call.Reply (response_message m.token (only code.service_unavailable))))
+    → p.entries ≡ without_entry m.token o.entries
+    → ((mark : ObserverValue → Option ℕ) → o.marks ≡ map mark o.entries → p.marks ≡ map mark p.entries)
+    → p.room ≡ o.room → IsAnswered shared l o m None after p shared
+late_answered shared l o m d moment after p delays at marked link_is entries_is marks_are room_is =
+    let refused = refused_delay_of shared m d delays in
+    record {
+      changed = cc refused.quiet;
+      link = grind (arith, refused);
+      entries = grind (arith, refused);
+      room = room_is;
+      marked = marks_are (changed_mark shared) marked;
+      shared_is = cc refused.quiet;
+    }
 
-  -- Its response is delayed if the pending list has room, and is 5.03 otherwise.
-  pub late_link : (l after : LinkValue) (moment : ℕ) → moment ≡ moment_after shared.now d.seconds
-      → after ≡ (if can_hold l then link_after l (hold_call d.by m.token moment)
-      else link_after l (call.Reply (response_message m.token (only code.service_unavailable))))
-      → after ≡ link_replied shared l room others m (delay_in l (delay_on shared m))
-  late_link l after moment at is =
-      let refused : response_message m.token (only code.service_unavailable) ≡ response_on shared room others m =
-      cc (late_unobserved, (refused_delay_of shared m d delays).refused) in
-      is
-      ∙ elim (can_hold l) as (λ b. (if b then link_after l (hold_call d.by m.token moment)
-      else link_after l (call.Reply (response_message m.token (only code.service_unavailable))))
-      ≡ link_replied shared l room others m (if b then Some d else None)) [
-        | true ↦ cc at
-        | false ↦ cc refused
-      ]
-      ∙ ap (λ (delay : Option Delay). link_replied shared l room others m (delay_in l delay)) (sym delays)
+-- A request of the application is handed over if the pending list has room.
+pub handed_late : (shared : ServerState) (m : Message) {seconds : ℕ}
+    → delay_on shared m ≡ Some (record { by = Application; seconds = seconds }) → (l : LinkValue)
+    → can_hold l ≡ is_handed (delay_in l (delay_on shared m))
+handed_late shared m delays l = grind (arith, delays)
 
-  pub late_entries : (l : LinkValue) → others ≡ entries_replied shared l room others m (delay_in l (delay_on shared m))
-  late_entries l =
-      rw delays
-      (elim (can_hold l) as (λ b. others ≡ entries_replied shared l room others m (if b then Some d else None)) [
-        | true ↦ refl
-        | false ↦ cc late_unobserved
-      ])
+-- ---- a request that is answered at once
 
--- ---- a request that the application does not answer
-
-module _ (shared : ServerState) (m : Message) (unhanded : application_deadline shared.store.applications m ≡ None) where
-  pub delay_unhanded : delay_on shared m ≡ delay_by Engine (answer_of shared.store shared.now m).hold
-  delay_unhanded = ap (λ deadline. delay_or deadline (answer_of shared.store shared.now m).hold) unhanded
-
-  answer_unhanded : answer_on shared m ≡ immediate_answer shared.store shared.now m
+module _ (shared : ServerState) (m : Message) (unhanded : application_deadline shared.store.applications m ≡ None)
+    (a : Answer) (is : a ≡ answer_of shared.store shared.now m) (at_once : a.hold ≡ None) where
+  pub prompt_is : (delay_on shared m ≡ None) × (a ≡ answer_on shared m)
   unfolding prompt_answer
-  answer_unhanded = ap (λ deadline. unless_handed deadline (immediate_answer shared.store shared.now m)) unhanded
-
-  -- ---- a request that is answered at once
-
-  pub prompt_is : (a : Answer) → a ≡ answer_of shared.store shared.now m → a.hold ≡ None
-      → (delay_on shared m ≡ None) × (a ≡ answer_on shared m)
-  prompt_is a is at_once =
-      let none : (answer_of shared.store shared.now m).hold ≡ None = cc in (
-        delay_unhanded ∙ ap (delay_by Engine) none,
-        is ∙ sym (same_at_once shared.store shared.now m none) ∙ sym answer_unhanded,
-      )
-
--- The delay of a request that the application answers.
-pub delay_handed : (shared : ServerState) (m : Message) (deadline : ℕ)
-    → application_deadline shared.store.applications m ≡ Some deadline
-    → delay_on shared m ≡ Some (record { by = Application; seconds = deadline })
-delay_handed shared m deadline is = ap (λ (d : Option ℕ). delay_or d (answer_of shared.store shared.now m).hold) is
-
-module _ (shared : ServerState) (m : Message) (l : LinkValue) (room : ℕ) (others : List ObserverValue)
-    (none : delay_on shared m ≡ None) where
-  pub prompt_link : link_after l (call.Reply (response_on shared room others m))
-      ≡ link_replied shared l room others m (delay_in l (delay_on shared m))
-  prompt_link = cc none
-
-  pub prompt_entries : (enters : Bool)
-      → enters ≡ (is_observed shared room others m && is_sent l (response_on shared room others m))
-      → with_entry enters others (new_entry shared m)
-      ≡ entries_replied shared l room others m (delay_in l (delay_on shared m))
-  prompt_entries enters is = cc
+  prompt_is =
+      let none : (answer_of shared.store shared.now m).hold ≡ None = cc in
+      (rw (unhanded, none) refl, rw (unhanded, same_at_once shared.store shared.now m none) is)
 
   -- A request that changes the store gets no entry.
-  module _ (does : changes (answer_on shared m).change ≡ true) where
-    pub change_link : (after : LinkValue) (r : Response) → r ≡ (answer_on shared m).response
-        → after ≡ link_after l (call.Reply (response_with_observe m.token false r))
-        → after ≡ link_replied shared l room others m (delay_in l (delay_on shared m))
-    change_link after r same is =
-        is
-        ∙ ap (λ (s : Response). link_after l (call.Reply (response_with_observe m.token false s))) same
-        ∙ ap (λ (b : Bool). link_after l (call.Reply (response_with_observe m.token b (answer_on shared m).response)))
-        (sym (unobserved shared m room others does))
-        ∙ prompt_link
+  pub change_answered : (l : LinkValue) (o before p : ObserversValue) (planned : Answer) (hash : Option ℕ)
+      (after : LinkValue) (later : ServerState) → changes a.change ≡ true → planned.change ≡ a.change
+      → planned.response ≡ a.response → before.entries ≡ without_entry m.token o.entries
+      → before.room ≡ o.room → AreMarked shared before.entries before.marks → hash ≡ change_hash planned.change
+      → later ≡ shared_changed shared planned.change
+      → p ≡ record before { marks = marks_after hash later before.entries before.marks }
+      → after ≡ link_after l (call.Reply (response_with_observe m.token false planned.response))
+      → IsAnswered shared l o m hash after p later
+  change_answered l o before p planned hash after later does change_is response_is entries_is room_is marked hash_is
+      later_is p_is after_is =
+      let prompt = prompt_is in
+      let watches = may_watch shared m in
+      let marks = marked_after shared planned.change before.entries before.marks marked in
+      record {
+        changed = cc prompt.1;
+        link = grind (arith, prompt, watches);
+        entries = grind (arith, prompt, watches);
+        room = cc;
+        marked = rw (p_is, hash_is, later_is) marks;
+        shared_is = cc prompt.1;
+      }
 
-    pub change_entries : others ≡ entries_replied shared l room others m (delay_in l (delay_on shared m))
-    change_entries = prompt_entries false (cc (unobserved shared m room others does))
+  pub prompt_answered : (l : LinkValue) (o before p : ObserversValue) (observes enters : Bool) (reply : Reply)
+      (after : LinkValue) → changes a.change ≡ false → before.entries ≡ without_entry m.token o.entries
+      → before.room ≡ o.room → AreMarked shared before.entries before.marks
+      → observes ≡ is_observed shared o.room (without_entry m.token o.entries) m → (observes && is_whole reply) ≡ enters
+      → reply ≡ fit (limit_in l) (response_with_observe m.token observes a.response)
+      (bare_response (response_with_observe m.token observes a.response))
+      → after ≡ link_after l (call.Reply (response_with_observe m.token observes a.response))
+      → p.entries ≡ with_entry enters before.entries (new_entry shared m)
+      → p.room ≡ before.room → AreMarked shared p.entries p.marks
+      → IsAnswered shared l o m None after p shared
+  prompt_answered l o before p observes enters reply after quiet entries_is room_is marked observes_is enters_is
+      reply_is after_is p_is same_room marked_is =
+      let prompt = prompt_is in
+      let nothing = nothing_changed a.change quiet in
+      record {
+        changed = cc (prompt.1, nothing);
+        link = cc (prompt.0, prompt.1);
+        entries = cc (prompt.0, prompt.1);
+        room = cc;
+        marked = marked_is;
+        shared_is = cc (prompt.1, nothing);
+      }
 
 -- ---- pending entries
 
@@ -192,8 +188,8 @@ pub notified_entries : (shared : ServerState) (l : LinkValue) (entries : List Ob
     ≡ goes_whole shared l o
     → (if stays then slice_set entries index (record o { mark = mark_of shared.now (state_on shared o.path) })
     else remove entries index) ≡ entries_notified shared l entries o
-notified_entries shared l entries index o true first is = (is_first (is_stale shared) entries index first).becomes _
-    ∙ cc
+notified_entries shared l entries index o true first is =
+    (is_first (is_stale shared) entries index first).becomes _ ∙ cc
 notified_entries shared l entries index o false first is = (is_first (is_stale shared) entries index first).goes ∙ cc
 
 -- An observer stays if and only if the code computes so from the entry at the index.
@@ -207,5 +203,4 @@ pub observer_stays_by : (shared : ServerState) (l : LinkValue) (entries : List O
     ≡ goes_whole shared l o
 observer_stays_by shared l entries index found o a c goes reply read at reported code_is goes_is sent =
     let same : found ≡ o = cc (read, at) in
-    let stays : (goes && is_whole reply) ≡ goes_whole shared l found = cc (reported, code_is, goes_is, sent) in
-    stays ∙ ap (goes_whole shared l) same
+    rw (← same) (cc (reported, code_is, goes_is, sent))

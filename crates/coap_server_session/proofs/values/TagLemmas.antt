@@ -1,11 +1,10 @@
 -- Values stored with each observer: the hash of its path, whether the path is built in, and the changed mark.
-use Rattle.std.proofs.Common.{◌≡◌, ℕ, zero, suc, ◌<◌, ◌≤◌, Bool, true, false, List, [], ◌∷◌, length, map, set, get_or}
-use Rattle.std.proofs.Common.{Option, Some, None, refl, sym, ap, subst, ◌∙◌, arith, option_map, slice_get, filter}
-use Rattle.std.proofs.Common.{remove, if◌then◌else◌}
+use Rattle.std.proofs.Common.{◌≡◌, ℕ, zero, suc, ◌<◌, ◌≤◌, Bool, List, [], ◌∷◌, length, map, set, get_or, Option, Some}
+use Rattle.std.proofs.Common.{None, refl, arith, slice_get, filter}
 use Rattle.coap_server_session.specs.Prelude.{AllByRecursion, ObserverValue, ObserversValue, observer_value, mark_in}
+use Rattle.coap_server_session.specs.Prelude.{remove}
 use Rattle.std.proofs.lemmas.List.{map-set}
 use Rattle.std.proofs.lemmas.List.Sums.{length-filter, count_by-le-length}
-use Rattle.std.proofs.lemmas.Option.{slice_get_read, slice_get-map}
 use Rattle.coap_server_session.proofs.values.EntryLemmas.{read_at}
 use Rattle.coap_server_session.specs.declared.observer.Observer.{Observer}
 
@@ -27,7 +26,7 @@ all_remove P (o ∷ os) (suc i) all = (all.0, all_remove P os i all.1)
 pub all_at : {O : Type 0} (P : O → Type 0) (os : List O) (i : ℕ) (o : O) → AllByRecursion P os
     → i < length os → o ≡ get_or os i o → P o
 all_at P [] i o all within read = absurd (omega arith)
-all_at P (p ∷ os) zero o all within read = subst P (sym read) all.0
+all_at P (p ∷ os) zero o all within read = rw read all.0
 all_at P (p ∷ os) (suc i) o all within read = all_at P os i o all.1 (omega arith) read
 
 -- ---- elements that a filter keeps
@@ -36,41 +35,16 @@ pub others_keep_marks : (keep : Observer → Bool) (mark : ObserverValue → Opt
     → map mark_in xs ≡ map mark (map observer_value xs)
     → map mark_in (filter keep xs) ≡ map mark (map observer_value (filter keep xs))
 others_keep_marks keep mark [] same = refl
-others_keep_marks keep mark (x ∷ xs) same =
-    let one : mark_in x ≡ mark (observer_value x) = cc in
-    let rest : map mark_in xs ≡ map mark (map observer_value xs) = cc in
-    let kept = others_keep_marks keep mark xs rest in
-    elim (keep x) as (λ b. map mark_in (if b then x ∷ filter keep xs else filter keep xs)
-    ≡ map mark (map observer_value (if b then x ∷ filter keep xs else filter keep xs))) [
-      | true ↦ cc (one, kept)
-      | false ↦ kept
-    ]
+others_keep_marks keep mark (x ∷ xs) same = grind (arith, others_keep_marks keep mark xs)
 
 -- If a filter keeps as many elements as there were, it keeps all.
 pub all_kept_stay : {X : Type 0} (keep : X → Bool) (xs : List X)
     → length xs ≤ length (filter keep xs) → filter keep xs ≡ xs
 all_kept_stay keep [] many = refl
 all_kept_stay keep (x ∷ xs) many =
-    elim (keep x) as (λ b. length (x ∷ xs) ≤ length (if b then x ∷ filter keep xs else filter keep xs)
-    → (if b then x ∷ filter keep xs else filter keep xs) ≡ x ∷ xs) [
-      | true ↦ λ m. ap (λ (l : List _). x ∷ l) (all_kept_stay keep xs (omega (arith, m)))
-      | false ↦ λ m. absurd (omega (arith, m, length-filter keep xs, count_by-le-length keep xs))
-    ] many
-
--- The changed mark of an entry that is read.
-pub marked_at : (xs : List Observer) (i : ℕ) (x : Observer) → i < length xs → x ≡ get_or xs i x
-    → slice_get (map mark_in xs) i ≡ Some (mark_in x)
-marked_at xs i x within read =
-    slice_get-map mark_in xs i ∙ ap (option_map mark_in) (slice_get_read xs (length xs) i x refl within read)
+    grind (arith, all_kept_stay keep xs, length-filter keep xs, count_by-le-length keep xs)
 
 -- ---- one written element
-
-pub two_lists : (room : ℕ) (es fs : List ObserverValue) (ms ns : List (Option ℕ)) → es ≡ fs → ms ≡ ns
-    → ◌≡◌ {A = ObserversValue} (record { room = room; entries = es; marks = ms })
-    (record { room = room; entries = fs; marks = ns })
-two_lists room es fs ms ns entries marks =
-    ap (λ (os : List ObserverValue). record { room = room; entries = os; marks = ms }) entries
-    ∙ ap (λ (os : List (Option ℕ)). record { room = room; entries = fs; marks = os }) marks
 
 pub notified_value : (room : ℕ) (xs : List Observer) (i mark place : ℕ) (x : Observer) (o : ObserverValue)
     → i < length xs → x ≡ get_or xs i x → slice_get (map observer_value xs) i ≡ Some o
@@ -81,9 +55,6 @@ pub notified_value : (room : ℕ) (xs : List Observer) (i mark place : ℕ) (x :
       marks = set (map mark_in xs) i None;
     }))
 notified_value room xs i mark place x o within read at =
-    let y : Observer = record x { mark = mark; index = place; changed = None } in
-    let both : Some (observer_value x) ≡ Some o = sym (read_at xs i x within read) ∙ at in
-    let same : observer_value x ≡ o = cc both in
-    two_lists room _ _ _ _ (map-set observer_value xs i y
-    ∙ ap (λ (p : ObserverValue). set (map observer_value xs) i (record p { mark = mark })) same)
-    (map-set mark_in xs i y)
+    let same : Some (observer_value x) ≡ Some o = rw (← at, read_at observer_value xs i x within read) refl in
+    let value : observer_value x ≡ o = cc same in
+    rw (← value, map-set, map-set) refl

@@ -1,117 +1,105 @@
 -- After input that changes no resource, a connection has nothing to settle but its pending entries.
-use Rattle.std.proofs.Common.{◌≤◌, ◌≡◌, ℕ, ◌+◌, ◌-◌, Bool, true, false, ◌&&◌, List, [], ◌++◌, length, take, Option}
-use Rattle.std.proofs.Common.{Some, None, refl, sym, ap, subst, ◌∙◌, arith, not, nat_lt, ◌==◌, Result, Ok, Err}
-use Rattle.coap_server_session.specs.Prelude.{AllByRecursion, Message, StreamPrefix, Unfinished, Faulty, prefix_kind}
-use Rattle.coap_server_session.specs.Prelude.{FormatFault, message_of, Framing, FrameEventValue, AFrame, AFault}
-use Rattle.coap_server_session.specs.Prelude.{framing_at}
-use Rattle.coap_server_session.specs.Prelude.{framing, without_last, is_open, takes_messages, OfFrame, reject_of, fit}
-use Rattle.coap_server_session.specs.Prelude.{bare_response, LinkValue, limit_in, link_after, response_with_observe}
-use Rattle.coap_server_session.specs.Prelude.{same_bytes, Change, changes, IsPut, ServerState, moment_after, asks_entry}
-use Rattle.coap_server_session.specs.Prelude.{has_place}
-use Rattle.coap_server_session.specs.Prelude.{with_entry, is_whole, ObserverValue, SessionValue, TakeOutcome, is_stale}
-use Rattle.coap_server_session.specs.Prelude.{session_ready, session_takes, session_max, without_entry, new_entry}
-use Rattle.coap_server_session.specs.Prelude.{session_with, answer_on, Delay, delay_on, hold_call, delay_in}
-use Rattle.coap_server_session.specs.Prelude.{session_replied, asks_this}
-use Rattle.coap_server_session.specs.Prelude.{session_handled, taking_read, taking_found, taking, shared_changed}
-use Rattle.coap_server_session.specs.Prelude.{next_pending_in, next_stale, session_settled, IsSettled, RefusesPiece}
-use Rattle.coap_server_session.specs.Prelude.{settled_pending}
-use Rattle.std.proofs.lemmas.Bool.{eqb-true, and_parts, cond_both}
+use Rattle.std.proofs.Common.{◌≤◌, ◌≡◌, ℕ, ◌+◌, ◌-◌, Bool, true, false, List, [], ◌++◌, length, take, Option, Some}
+use Rattle.std.proofs.Common.{None, refl, sym, ap, ◌∙◌, arith, not, find, Result, Ok, Err, inl, inr, if◌then◌else◌}
+use Rattle.std.proofs.lemmas.Bool.{and_parts, cond_both, cases_Bool}
 use Rattle.std.proofs.lemmas.List.{length-append, take-append-le}
 use Rattle.std.proofs.Math.Seq.{take-append-add}
 use Rattle.coap_wire.specs.StreamPrefix.{Whole}
 use Rattle.coap_wire.proofs.StreamSteps.{whole_parts, whole_itself}
 use Rattle.coap_frame.proofs.FramingLemmas.{front_unfinished}
 use Rattle.coap_frame.specs.Framing.{Nothing}
-use Rattle.coap_conn.specs.declared.phase.Reject.TheVariants as reject
-use Rattle.coap_conn.specs.Calls as call
-use Rattle.coap_store.specs.Answer.{Answer}
 use Rattle.coap_store.specs.Answer as answer
+use Rattle.coap_model.proofs.world.EntryLemmas.{all_filter, all_entered, none_due, none_found}
+use Rattle.coap_server_session.specs.Prelude.{AllByRecursion, Message, StreamPrefix, Unfinished, Faulty, prefix_kind}
+use Rattle.coap_server_session.specs.Prelude.{FormatFault, message_of, Framing, FrameEventValue, AFrame, AFault}
+use Rattle.coap_server_session.specs.Prelude.{framing_at, framing, without_last, LinkValue, same_bytes, Change, changes}
+use Rattle.coap_server_session.specs.Prelude.{IsPut, ServerState, asks_entry, with_entry, ObserverValue, SessionValue}
+use Rattle.coap_server_session.specs.Prelude.{TakeOutcome, is_stale, session_takes, session_max, without_entry}
+use Rattle.coap_server_session.specs.Prelude.{new_entry, answer_on, Delay, session_replied, link_after, delay_in}
+use Rattle.coap_server_session.specs.Prelude.{delay_on}
+use Rattle.coap_conn.specs.Calls as call
+use Rattle.coap_server_session.specs.Prelude.{asks_this, session_handled, taking_read, taking_found, taking}
+use Rattle.coap_server_session.specs.Prelude.{shared_changed, next_pending_in, next_stale, session_settled, IsSettled}
+use Rattle.coap_server_session.specs.Prelude.{RefusesPiece, settled_pending}
 use Rattle.coap_server_session.proofs.values.AnsweringLemmas.{nothing_changed, may_watch}
-use Rattle.coap_server_session.proofs.values.EntryLemmas.{none_in}
-use Rattle.coap_model.proofs.world.EntryLemmas.{all_if, all_filter, all_entered, none_due}
 use Rattle.coap_server_session.proofs.values.SettleLemmas.{none_is_pending, settled_quiet, settled_stays, marked_now}
 use Rattle.coap_server_session.proofs.values.SettleLemmas.{found_ready}
 
--- ---- no observer is stale
+-- ---- the observers after an input slice
 
-abbrev NoneStale : ServerState → List ObserverValue → Type 0
-NoneStale shared os = AllByRecursion (λ o. is_stale shared o ≡ false) os
+-- They are none, or those before, or those with another token than a request, perhaps with an entry that it asks for.
+module _ (P : List ObserverValue → Type 0) (shared : ServerState) (v : SessionValue) (none : P [])
+    (same : P v.observers)
+    (replied : (m : Message) (enters : Bool) → (enters ≡ true → asks_entry (answer_on shared m).watch ≡ true)
+    → P (with_entry enters (without_entry m.token v.observers) (new_entry shared m))) where
+  if_open : (stays : Bool) (os : List ObserverValue) → P os → P (if stays then os else [])
+  if_open stays os all = cond_both stays os [] P (λ _. all) (λ _. none)
 
--- If no observer is stale, a connection settles only if an entry is pending.
-settled_pending_none : (shared : ServerState) (v : SessionValue) → NoneStale shared v.observers
-    → settled_pending shared v ≡ session_settled shared v
-settled_pending_none shared v none =
-    cond_both (length v.link.pending == 0) v (session_settled shared v) (λ w. w ≡ session_settled shared v)
-    (λ nothing. sym (settled_stays shared v
-    (settled_quiet shared v (none_is_pending shared.now v.link.pending
-    (omega (arith, eqb-true (length v.link.pending) 0 nothing)))
-    (none_in (is_stale shared) v.observers none))))
-    (λ _. refl)
+  after_request : (l : LinkValue) (m : Message) (hold : Option Delay)
+      → P (session_replied shared l (without_entry m.token v.observers) m hold).observers
+  after_request l m None =
+      if_open _ _
+      (replied m _ (λ enters. (and_parts (asks_entry (answer_on shared m).watch) _ (and_parts _ _ enters).0).0))
+  after_request l m (Some d) = if_open _ _ (replied m false (λ enters. absurd cc))
 
--- ---- a message
+  after_message : (count : ℕ) (r : Result Message FormatFault) → P (taking_read shared v count r).session.observers
+  unfolding session_handled
+  after_message count (Ok m) =
+      let l = link_after v.link (call.Handle m) in
+      elim (cases_Bool (asks_this v.link m)) [
+        | inl is ↦ rw is (after_request l m (delay_in l (delay_on shared m)))
+        | inr other ↦ rw other (if_open _ v.observers same)
+      ]
+  after_message count (Err e) = if_open _ v.observers same
+
+  after_frame : (f : Framing) (what : FrameEventValue) → P (taking_found shared v f what).session.observers
+  after_frame f Nothing = same
+  after_frame f (AFrame frame) = after_message f.taken (message_of frame)
+  after_frame f (AFault fault) = if_open _ v.observers same
+
+  pub observers_taken : (piece : List ℕ) → P (taking shared v piece).session.observers
+  unfolding taking
+  observers_taken piece =
+      let f = framing (session_max v) v.frame piece in
+      elim (cases_Bool (session_takes v)) [
+        | inl takes ↦ rw takes (after_frame f f.finding)
+        | inr other ↦ rw other same
+      ]
 
 -- The entry that a request adds is not stale.
-replied_none : (shared : ServerState) (l : LinkValue) (others : List ObserverValue) (m : Message) (hold : Option Delay)
-    → NoneStale shared others → NoneStale shared (session_replied shared l others m hold).observers
-replied_none shared l others m None none =
+none_stale_taken : (shared : ServerState) (v : SessionValue) (piece : List ℕ)
+    → AllByRecursion (λ o. is_stale shared o ≡ false) v.observers
+    → AllByRecursion (λ o. is_stale shared o ≡ false) (taking shared v piece).session.observers
+unfolding without_entry
+none_stale_taken shared v piece none =
     let fresh : ObserverValue → Type 0 = λ o. is_stale shared o ≡ false in
-    let a : Answer = answer_on shared m in
-    let observes : Bool = has_place l.limits.observers others a.watch in
-    let response : Message = response_with_observe m.token observes a.response in
-    let enters : Bool = observes && is_whole (fit (limit_in l) response (bare_response response)) in
-    let reported : enters ≡ true → is_stale shared (new_entry shared m) ≡ false = λ e.
-    let asks = (and_parts observes (is_whole (fit (limit_in l) response (bare_response response))) e).0 in
-    let may = may_watch shared m (and_parts (asks_entry a.watch) (nat_lt (length others) l.limits.observers) asks).0 in
-    marked_now shared (new_entry shared m) may.representation may.there in
-    all_if fresh (is_open (link_after l (call.Reply response)).phase) (with_entry enters others (new_entry shared m))
-    (all_entered fresh enters others (new_entry shared m) none reported)
-replied_none shared l others m (Some d) none =
-    all_if (λ o. is_stale shared o ≡ false)
-    (is_open (link_after l (hold_call d.by m.token (moment_after shared.now d.seconds))).phase) others none
+    observers_taken (AllByRecursion fresh) shared v tt none
+    (λ m enters asks. all_entered fresh enters _ (new_entry shared m)
+    (all_filter fresh (λ o. not (same_bytes o.token m.token)) v.observers none)
+    (λ e. let may = may_watch shared m (asks e) in
+    marked_now shared (new_entry shared m) may.representation may.there)) piece
 
--- ---- an input slice
-
-read_none : (shared : ServerState) (v : SessionValue) (count : ℕ) (r : Result Message FormatFault)
-    → NoneStale shared v.observers → NoneStale shared (taking_read shared v count r).session.observers
-unfolding session_handled without_entry
-read_none shared v count (Ok m) none =
-    let l : LinkValue = link_after v.link (call.Handle m) in
-    let hold : Option Delay = delay_in l (delay_on shared m) in
-    let fresh : ObserverValue → Type 0 = λ o. is_stale shared o ≡ false in
-    cond_both (asks_this v.link m) (session_replied shared l (without_entry m.token v.observers) m hold)
-    (session_with [] l v.observers) (λ w. NoneStale shared w.observers)
-    (λ _. replied_none shared l (without_entry m.token v.observers) m hold
-    (all_filter fresh (λ o. not (same_bytes o.token m.token)) v.observers none))
-    (λ _. all_if fresh (is_open l.phase) v.observers none)
-read_none shared v count (Err e) none =
-    all_if (λ o. is_stale shared o ≡ false)
-    (is_open (link_after v.link (call.Reject reject.Format)).phase) v.observers none
-
-found_none : (shared : ServerState) (v : SessionValue) (f : Framing) (what : FrameEventValue)
-    → NoneStale shared v.observers
-    → NoneStale shared (taking_found shared v f what).session.observers
-found_none shared v f Nothing none = none
-found_none shared v f (AFrame frame) none = read_none shared v f.taken (message_of frame) none
-found_none shared v f (AFault fault) none =
-    all_if (λ o. is_stale shared o ≡ false) (is_open
-    (link_after v.link (call.Reject (reject_of (OfFrame fault)))).phase)
-    v.observers none
+-- If no observer is stale, a connection settles only if an entry is pending.
+pending_settles : (shared : ServerState) (v : SessionValue) → find (is_stale shared) v.observers ≡ None
+    → settled_pending shared v ≡ session_settled shared v
+pending_settles shared v fresh =
+    let stays = λ (few : length v.link.pending ≤ 0).
+    settled_stays shared v (settled_quiet shared v (none_is_pending shared.now v.link.pending few) fresh) in
+    grind (arith, stays)
 
 -- A connection that was settled has only its pending entries to settle, if the server state is unchanged.
 pub taking_settles_pending : (shared : ServerState) (v : SessionValue) (piece : List ℕ) → IsSettled shared v
     → settled_pending shared (taking shared v piece).session ≡ session_settled shared (taking shared v piece).session
 unfolding taking
-taking_settles_pending shared v piece settled =
-    let f : Framing = framing (session_max v) v.frame piece in
-    let nothing : TakeOutcome = record { count = 0; handled = false; session = v; change = answer.Nothing } in
-    cond_both (session_takes v) (taking_found shared v f f.finding) nothing
-    (λ t. settled_pending shared t.session ≡ session_settled shared t.session)
-    (λ takes.
-    let ready = (and_parts (takes_messages v.link.phase) (session_ready v) takes).1 in
-    settled_pending_none shared _ (found_none shared v f f.finding
-    (none_due (is_stale shared) v.observers (sym ((found_ready shared v ready).1) ∙ settled.1))))
-    (λ _. cond_both (length v.link.pending == 0) v (session_settled shared v) (λ w. w ≡ session_settled shared v)
-    (λ _. sym (settled_stays shared v settled)) (λ _. refl))
+taking_settles_pending shared v piece settled = elim (cases_Bool (session_takes v)) [
+  | inl takes ↦
+      (let ready = (and_parts _ _ takes).1 in
+      pending_settles shared _ (none_found (is_stale shared) _ (none_stale_taken shared v piece
+      (none_due (is_stale shared) v.observers (sym (found_ready shared v ready).1 ∙ settled.1)))))
+  | inr other ↦ (
+      let stays = settled_stays shared v settled in
+      rw other (grind (arith, stays)))
+]
 
 -- ---- allocation failed
 
@@ -120,12 +108,11 @@ before_whole : (M : ℕ) (kept piece frame rest : List ℕ) (count : ℕ) → pr
     → length piece - length rest ≡ count + 1 → prefix_kind M (kept ++ take count piece) ≡ Unfinished
 before_whole M kept piece frame rest count whole taken =
     let parts = whole_parts M (kept ++ piece) frame rest whole in
-    let size : length frame - 1 ≡ length kept + count =
+    let size : length kept + count ≡ length frame - 1 =
     omega (arith, taken, ap length parts.bytes, length-append kept piece, length-append frame rest) in
     let front : kept ++ take count piece ≡ without_last frame =
-    sym (take-append-add kept piece count) ∙ ap (take (length kept + count)) parts.bytes
-    ∙ ap (λ (n : ℕ). take n (frame ++ rest)) (sym size)
-    ∙ take-append-le (length frame - 1) frame rest (omega arith) in
+    rw (← take-append-add kept piece count, parts.bytes, size)
+    (take-append-le (length frame - 1) frame rest (omega arith)) in
     rw front (front_unfinished M frame (whole_itself M (kept ++ piece) frame rest whole))
 
 -- The effect of an input slice, from the result of `prefix_kind`.
@@ -137,13 +124,12 @@ put_is_whole : (shared : ServerState) (v : SessionValue) (piece : List ℕ) (b :
     → (frame : List ℕ) × (rest : List ℕ) × (b ≡ Whole frame rest) × (length piece - length rest ≡ count + 1)
 put_is_whole shared v piece Unfinished count last puts = absurd puts
 put_is_whole shared v piece (Faulty fault) count last puts = absurd puts
-put_is_whole shared v piece (Whole frame rest) count last puts =
-    (frame, rest, refl, sym (counted (message_of frame)) ∙ last)
+put_is_whole shared v piece (Whole frame rest) count last puts = (frame, rest, refl, counted (message_of frame) last)
   where
-    counted : (r : Result Message FormatFault)
-        → (taking_read shared v (length piece - length rest) r).count ≡ length piece - length rest
-    counted (Ok m) = refl
-    counted (Err e) = refl
+    counted : (r : Result Message FormatFault) → (taking_read shared v (length piece - length rest) r).count ≡ count + 1
+        → length piece - length rest ≡ count + 1
+    counted (Ok m) is = is
+    counted (Err e) is = is
 
 taking_where_takes : (shared : ServerState) (v : SessionValue) (piece : List ℕ) → session_takes v ≡ true
     → taking shared v piece ≡ taking_begun shared v piece (prefix_kind (session_max v) (v.frame ++ piece))
@@ -158,8 +144,7 @@ module _ (shared : ServerState) (v : SessionValue) (piece : List ℕ) (count : �
   whole_piece =
       let all = taking_where_takes shared v piece refuses.takes in
       put_is_whole shared v piece (prefix_kind (session_max v) (v.frame ++ piece)) count
-      (sym (ap (λ (t : TakeOutcome). t.count) all) ∙ refuses.last)
-      (subst (λ (t : TakeOutcome). IsPut t.change) all refuses.stores)
+      (rw all at refuses.last) (rw all at refuses.stores)
 
   -- The accepted bytes are fewer than those of the slice.
   pub refused_within : count + 1 ≤ length piece
@@ -167,22 +152,22 @@ module _ (shared : ServerState) (v : SessionValue) (piece : List ℕ) (count : �
 
   front_taken : taking shared v (take count piece) ≡ taking_begun shared v (take count piece) Unfinished
   front_taken =
-      let M : ℕ = session_max v in
       let whole = whole_piece in
-      taking_where_takes shared v (take count piece) refuses.takes
-      ∙ ap (taking_begun shared v (take count piece))
-      (before_whole M v.frame piece whole.0 whole.1 count whole.2 whole.3)
+      rw (
+        taking_where_takes shared v (take count piece) refuses.takes,
+        before_whole (session_max v) v.frame piece whole.0 whole.1 count whole.2 whole.3,
+      ) refl
 
   pub refused_changes_nothing : (taking shared v (take count piece)).change ≡ answer.Nothing
-  refused_changes_nothing = ap (λ (t : TakeOutcome). t.change) front_taken
-
-  pub refused_stays_settled : IsSettled shared v → IsSettled shared (taking shared v (take count piece)).session
-  unfolding next_pending_in next_stale
-  refused_stays_settled settled = subst (λ (t : TakeOutcome). IsSettled shared t.session) (sym front_taken) settled
+  refused_changes_nothing = rw front_taken refl
 
   pub refused_kept : (P : SessionValue → Type 0) → ((frame : List ℕ) → P (record v { frame = frame }))
       → P (taking shared v (take count piece)).session
-  refused_kept P still = subst (λ (t : TakeOutcome). P t.session) (sym front_taken) (still _)
+  refused_kept P still = rw front_taken (still _)
+
+  pub refused_stays_settled : IsSettled shared v → IsSettled shared (taking shared v (take count piece)).session
+  unfolding next_pending_in next_stale
+  refused_stays_settled settled = refused_kept (IsSettled shared) (λ frame. settled)
 
 -- ---- the server state
 

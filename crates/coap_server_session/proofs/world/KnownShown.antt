@@ -1,10 +1,9 @@
 -- The mark in an observer's value decides whether the observer was sent the current state.
 use Rattle.std.proofs.Common.{◌≡◌, ℕ, ◌≤◌, true, [], Option, Some, None, refl, sym, ap, ◌∙◌, arith, ◌==◌, not}
 use Rattle.std.proofs.Common.{if◌then◌else◌}
-use Rattle.coap_server_session.specs.Prelude.{decimal, digits_value, both_ways, Path, same_bytes}
-use Rattle.coap_server_session.specs.Prelude.{Representation, StoreValue, found_in, kind_of_path, state_at, state_of}
-use Rattle.coap_server_session.specs.Prelude.{Time, Dynamic, mark_of, mark_at}
-use Rattle.coap_server_session.specs.Prelude.{is_marked, is_stale, Observer, same_state, is_due}
+use Rattle.coap_server_session.specs.Prelude.{decimal, digits_value, both_ways, Path, same_bytes, Representation}
+use Rattle.coap_server_session.specs.Prelude.{StoreValue, found_in, kind_of_path, state_at, state_of, Time, Dynamic}
+use Rattle.coap_server_session.specs.Prelude.{mark_of, mark_at, is_marked, is_stale, Observer, same_state, is_due}
 use Rattle.coap_server_session.specs.Prelude.{mark_sent, observer_shown}
 use Rattle.std.proofs.lemmas.Bool.{eqb-true, eq-eqb, ne_eqb, cond-false}
 use Rattle.std.proofs.lemmas.Fmt.{decimal_is_IsNumeral}

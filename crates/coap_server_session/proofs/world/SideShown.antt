@@ -1,36 +1,26 @@
 -- A connection of the model and the value that represents it change in the same way, in each call and while they
 -- settle.
 use Rattle.std.proofs.Common.{◌≡◌, ℕ, ◌+◌, ◌≤◌, Bool, true, false, cond, List, [], length, map, Option, Some, None}
-use Rattle.std.proofs.Common.{refl, sym, ap, ◌∙◌, ◌&&◌, if◌then◌else◌, zero, suc, find, option_map}
-use Rattle.coap_server_session.specs.Prelude.{Message, StreamFault, takes_messages, is_open, fit, bare_response}
-use Rattle.coap_server_session.specs.Prelude.{reject_of}
-use Rattle.coap_server_session.specs.Prelude.{release_refusal, stop, History, IsHistory, limit_now, after, link_of}
-use Rattle.coap_server_session.specs.Prelude.{Call}
-use Rattle.coap_server_session.specs.Prelude.{end_reason, link_after, LinkValue, link_with, state_in, StoreValue}
-use Rattle.coap_server_session.specs.Prelude.{path_of}
-use Rattle.coap_server_session.specs.Prelude.{Nothing, prompt_answer, Delay, delay_of, hold_call, Responder, Engine}
-use Rattle.coap_server_session.specs.Prelude.{Application, response_with_observe, ServerState, is_cut}
-use Rattle.coap_server_session.specs.Prelude.{side_responded, session_given, side_announced, may_raise, Connection}
-use Rattle.coap_server_session.specs.Prelude.{handles, waiting_on, has_room, side_with}
-use Rattle.coap_server_session.specs.Prelude.{with_history, moment_after, delay_for, side_replied, asks_answer}
-use Rattle.coap_server_session.specs.Prelude.{side_after}
-use Rattle.coap_server_session.specs.Prelude.{change_after, side_faulted, side_written, side_ended, side_released}
-use Rattle.coap_server_session.specs.Prelude.{next_due}
-use Rattle.coap_server_session.specs.Prelude.{notified, next_pending, settled_so, settled_once, settled_within, settled}
+use Rattle.std.proofs.Common.{refl, ap, ◌∙◌, ◌&&◌, zero, suc, option_map, arith, inl, inr}
+use Rattle.coap_server_session.specs.Prelude.{Message, StreamFault, fit, bare_response, reject_of, release_refusal}
+use Rattle.coap_server_session.specs.Prelude.{History, IsHistory, limit_now, after, link_of, Call, link_after}
+use Rattle.coap_server_session.specs.Prelude.{LinkValue, StoreValue, path_of, Nothing, prompt_answer, Delay, delay_of}
+use Rattle.coap_server_session.specs.Prelude.{hold_call, Responder, Engine, Application, response_with_observe}
+use Rattle.coap_server_session.specs.Prelude.{ServerState, is_cut, side_responded, session_given, side_announced}
+use Rattle.coap_server_session.specs.Prelude.{may_raise, Connection, handles, waiting_on, side_with, moment_after}
+use Rattle.coap_server_session.specs.Prelude.{delay_for, side_replied, asks_answer, side_after, change_after}
+use Rattle.coap_server_session.specs.Prelude.{side_faulted, side_written, side_ended, side_released, next_due, notified}
+use Rattle.coap_server_session.specs.Prelude.{next_pending, settled_so, settled_once, settled_within, settled}
 use Rattle.coap_server_session.specs.Prelude.{SessionValue, session_with, new_entry, delay_in, session_replied}
-use Rattle.coap_server_session.specs.Prelude.{session_handled}
-use Rattle.coap_server_session.specs.Prelude.{change_by, session_rejected, session_written, session_ended}
-use Rattle.coap_server_session.specs.Prelude.{session_released}
-use Rattle.coap_server_session.specs.Prelude.{without_entry, session_announced, is_stale, next_stale, entry_left}
-use Rattle.coap_server_session.specs.Prelude.{session_notified, next_pending_in, session_settled_so}
-use Rattle.coap_server_session.specs.Prelude.{session_settled_once}
-use Rattle.coap_server_session.specs.Prelude.{session_settled_within, session_settled, Observer, without_token}
-use Rattle.coap_server_session.specs.Prelude.{has_place}
-use Rattle.coap_server_session.specs.Prelude.{entry_for, is_whole, with_entry, is_due, goes_on, notification}
-use Rattle.coap_server_session.specs.Prelude.{notification_message, left_of, first_becomes, format_of, observer_shown}
-use Rattle.coap_server_session.specs.Prelude.{kept_on}
-use Rattle.coap_server_session.specs.Prelude.{session_shown, PendingEntryValue, link_sent, late_message, after_sent}
-use Rattle.std.proofs.lemmas.Bool.{and_parts, cond_both, le-leb}
+use Rattle.coap_server_session.specs.Prelude.{session_handled, change_by, session_rejected, session_written}
+use Rattle.coap_server_session.specs.Prelude.{session_ended, session_released, session_announced, is_stale, next_stale}
+use Rattle.coap_server_session.specs.Prelude.{entry_left, session_notified, next_pending_in, session_settled_so}
+use Rattle.coap_server_session.specs.Prelude.{session_settled_once, session_settled_within, session_settled, Observer}
+use Rattle.coap_server_session.specs.Prelude.{without_token, has_place, entry_for, is_whole, with_entry, is_due}
+use Rattle.coap_server_session.specs.Prelude.{goes_on, notification, notification_message, left_of, format_of}
+use Rattle.coap_server_session.specs.Prelude.{observer_shown, kept_on, session_shown, PendingEntryValue, link_sent}
+use Rattle.coap_server_session.specs.Prelude.{late_message, after_sent}
+use Rattle.std.proofs.lemmas.Bool.{and_parts, cases_Bool, le-leb}
 use Rattle.std.proofs.lemmas.List.{length-map}
 use Rattle.coap_model.proofs.world.KnownLaws.{IsWatchable, entry_watchable, IsKnown, IsVersioned}
 use Rattle.coap_model.proofs.world.KnownLaws.{reports_on_to_observer, left_watchable}
@@ -42,6 +32,7 @@ use Rattle.coap_model.proofs.world.GoingOn.{GoesOn, call_goes_on, sent_goes_on}
 use Rattle.coap_conn.proofs.LinkLemmas.{after_link}
 use Rattle.coap_model.proofs.world.WalkLaws.{there_or_not}
 use Rattle.coap_conn.specs.Calls as call
+use Rattle.coap_conn.specs.Calls.{IsWithin, call_effect}
 use Rattle.coap_model.proofs.world.SideLaws.{next_known, once_known, AreKnown, IsKnownSide, handles_parts}
 use Rattle.coap_conn.specs.PendingEntries as pending
 
@@ -54,23 +45,19 @@ shared_of store now = record { store = store; now = now }
 -- The value of a connection whose history has changed, from its link.
 shown_as : (rest : List ℕ) (h : History) (l : LinkValue) (os : List Observer) → link_of h ≡ l
     → session_shown rest (side_with h os) ≡ session_with rest l (map observer_shown os)
-shown_as rest h l os same =
-    let kept = elim (is_open h.phase) as (λ b. map observer_shown (cond b os []) ≡ cond b (map observer_shown os) []) [
-      | true ↦ refl
-      | false ↦ refl
-    ] in
-    ap (λ vs. record (session_shown rest (side_with h os)) { observers = vs }) kept
-    ∙ ap (λ k. session_with rest k (map observer_shown os)) same
+shown_as rest h l os same = rw (← same) (grind arith)
 
 -- If the history only continues, no frame is kept that was not kept before.
 side_shown : (rest : List ℕ) (s : Connection) (h : History) (l : LinkValue) (os : List Observer) → GoesOn s.history h
     → link_of h ≡ l → session_shown rest (side_with h os) ≡ session_with (kept_on s rest) l (map observer_shown os)
-side_shown rest s h l os goes same =
-    let with_frame : List ℕ → SessionValue = λ frame. session_with frame (link_of h) (map observer_shown os) in
-    shown_as rest h (link_of h) os refl
-    ∙ cond_both (takes_messages s.history.phase) rest [] (λ frame. with_frame rest ≡ with_frame frame) (λ takes. refl)
-    (λ none. rw (goes.over none) refl)
-    ∙ ap (λ k. session_with (kept_on s rest) k (map observer_shown os)) same
+side_shown rest s h l os goes same = shown_as rest h l os same ∙ rw (← same) (grind (arith, goes.over))
+
+call_shown : (rest : List ℕ) (s : Connection) (c : Call) (os : List Observer) → IsHistory s.history
+    → IsWithin (link_of s.history) (call_effect (link_of s.history) c).deed
+    → session_shown rest (side_with (after s.history c) os)
+    ≡ session_with (kept_on s rest) (link_after (link_of s.history) c) (map observer_shown os)
+call_shown rest s c os is within =
+    side_shown rest s _ _ os (call_goes_on s.history c within) (after_link s.history c within is)
 
 -- ---- calls that need no resource
 
@@ -78,58 +65,66 @@ pub faulted_shown : (rest left : List ℕ) (s : Connection) (fault : StreamFault
     → session_shown left (side_faulted s fault) ≡ session_rejected (session_shown rest s) (reject_of fault)
 unfolding side_faulted
 faulted_shown rest left s fault is e =
-    rw e (shown_as left (after s.history (call.Reject (reject_of fault))) _ s.observers
-    (after_link s.history (call.Reject (reject_of fault)) tt is)
+    let c : Call = call.Reject (reject_of fault) in
+    rw e (shown_as left (after s.history c) _ s.observers (after_link s.history c tt is)
     ∙ rw (handles_parts s e).0 refl)
 
 pub written_shown : (rest : List ℕ) (s : Connection) (n : ℕ) → IsHistory s.history → n ≤ length (waiting_on s)
     → session_shown rest (side_written s n) ≡ session_written (session_shown rest s) n
 unfolding side_written
 written_shown rest s n is within =
-    rw (le-leb n (length (waiting_on s)) within)
-    (ap (λ l. record (session_shown rest s) { link = l }) (after_link s.history (call.Written n) within is))
+    rw (le-leb n (length (waiting_on s)) within, after_link s.history (call.Written n) within is) refl
 
 -- The input ends within a frame if bytes of a frame are kept.
 pub ended_side_shown : (rest : List ℕ) (s : Connection) → IsHistory s.history
     → session_shown rest (side_ended s (is_cut rest)) ≡ session_ended (session_shown rest s)
 unfolding side_ended
 ended_side_shown rest s is =
-    let v : LinkValue = link_of s.history in
-    let ended : Bool → Bool → LinkValue =
-    λ takes cut. if takes then link_with v (stop (state_in v) (end_reason cut) []) else v in
-    side_shown rest s _ _ s.observers (call_goes_on s.history (call.End (is_cut rest)) tt)
-    (after_link s.history (call.End (is_cut rest)) tt is)
-    ∙ ap (λ l. session_with (kept_on s rest) l (map observer_shown s.observers))
-    (elim (takes_messages s.history.phase)
-    as (λ takes. ended takes (is_cut rest) ≡ ended takes (is_cut (if takes then rest else []))) [
-      | true ↦ refl
-      | false ↦ refl
-    ])
+    call_shown rest s (call.End (is_cut rest)) s.observers is tt
+    ∙ ap (λ l. session_with (kept_on s rest) l (map observer_shown s.observers)) (grind arith)
 
 pub released_shown : (rest : List ℕ) (s : Connection) → IsHistory s.history → release_refusal (link_of s.history) ≡ None
     → session_shown rest (side_released s) ≡ session_released (session_shown rest s)
 unfolding side_released
-released_shown rest s is none =
-    rw none (side_shown rest s _ _ s.observers (call_goes_on s.history call.Release tt)
-    (after_link s.history call.Release tt is))
+released_shown rest s is none = rw none (call_shown rest s call.Release s.observers is tt)
 
 pub given_shown : (rest : List ℕ) (s : Connection) (m : Message) → IsHistory s.history
     → session_shown rest (side_responded s m) ≡ session_given (session_shown rest s) m
 unfolding side_responded
-given_shown rest s m is =
-    side_shown rest s _ _ s.observers (call_goes_on s.history (call.Respond m) tt)
-    (after_link s.history (call.Respond m) tt is)
+given_shown rest s m is = call_shown rest s (call.Respond m) s.observers is tt
 
 pub announced_shown : (rest : List ℕ) (s : Connection) (size : ℕ) → IsHistory s.history → may_raise s size ≡ true
     → session_shown rest (side_announced s size) ≡ session_announced (session_shown rest s) size
 unfolding side_announced
-announced_shown rest s size is may =
-    rw may (side_shown rest s _ _ s.observers (call_goes_on s.history (call.Announce size) tt)
-    (after_link s.history (call.Announce size) tt is))
+announced_shown rest s size is may = rw may (call_shown rest s (call.Announce size) s.observers is tt)
+
+-- ---- the link after a pending entry was sent
+
+pub sent_link : (h : History) (now : ℕ) (e : PendingEntryValue) → IsHistory h
+    → link_of (after_sent h now e) ≡ link_sent (link_of h) now e
+sent_link h now (pending.Answer by token moment) is =
+    after_link (after h (call.Due now)) (call.Reply (late_message by token)) tt
+    ((call_goes_on h (call.Due now) tt).history is)
+    ∙ ap (λ l. link_after l (call.Reply (late_message by token))) (after_link h (call.Due now) tt is)
+sent_link h now (pending.Pong token) is = after_link h (call.Due now) tt is
 
 -- ---- a message
 
+pub change_shown : (store : StoreValue) (now : ℕ) (s : Connection) (m : Message) → handles s ≡ true
+    → change_after store now s m ≡ change_by (shared_of store now) (link_of s.history) m
+unfolding change_after
+change_shown store now s m e = ap (λ b. cond (b && asks_answer s m) (prompt_answer store now m).change Nothing) e
+
 module _ (store : StoreValue) (now : ℕ) (small : now ≤ 18446744073709551615) (is : IsVersioned store) where
+  held_shown : (h : History) (os : List Observer) (by : Responder) (token : List ℕ) (moment : ℕ) → IsHistory h
+      → session_shown [] (side_with (after h (hold_call by token moment)) os)
+      ≡ session_with [] (link_after (link_of h) (hold_call by token moment)) (map observer_shown os)
+  held_shown h os Engine token moment history =
+      shown_as [] (after h (call.Hold token moment)) _ os (after_link h (call.Hold token moment) tt history)
+  held_shown h os Application token moment history =
+      shown_as [] (after h (call.HoldRequest token moment)) _ os
+      (after_link h (call.HoldRequest token moment) tt history)
+
   replied_shown : (h : History) (os : List Observer) (m : Message) (hold : Option Delay) → IsHistory h
       → session_shown [] (side_replied store now h os m hold)
       ≡ session_replied (shared_of store now) (link_of h) (map observer_shown os) m hold
@@ -146,18 +141,7 @@ module _ (store : StoreValue) (now : ℕ) (small : now ≤ 18446744073709551615)
       shown_as [] (after h (call.Reply response)) _ (with_entry enters os entry)
       (after_link h (call.Reply response) tt history)
       ∙ cc (length-map os observer_shown, entered)
-  replied_shown h os m (Some d) history = pending_shown d.by
-    where
-      pending_shown : (by : Responder)
-          → session_shown [] (side_with (after h (hold_call by m.token (moment_after now d.seconds))) os)
-          ≡ session_with [] (link_after (link_of h) (hold_call by m.token (moment_after now d.seconds)))
-          (map observer_shown os)
-      pending_shown Engine =
-          let pending : Call = call.Hold m.token (moment_after now d.seconds) in
-          shown_as [] (after h pending) _ os (after_link h pending tt history)
-      pending_shown Application =
-          let pending : Call = call.HoldRequest m.token (moment_after now d.seconds) in
-          shown_as [] (after h pending) _ os (after_link h pending tt history)
+  replied_shown h os m (Some d) history = held_shown h os d.by m.token (moment_after now d.seconds) history
 
   -- A message that is processed.
   pub handled_shown : (rest : List ℕ) (s : Connection) (m : Message) → IsHistory s.history → handles s ≡ true
@@ -165,42 +149,19 @@ module _ (store : StoreValue) (now : ℕ) (small : now ≤ 18446744073709551615)
   unfolding side_after session_handled
   handled_shown rest s m history e =
       let h = after s.history (call.Handle m) in
-      let l = link_after (link_of s.history) (call.Handle m) in
-      let same : link_of h ≡ l = after_link s.history (call.Handle m) tt history in
+      let same = after_link s.history (call.Handle m) tt history in
       let hold = delay_of store now m in
-      let pending = elim hold as (λ o. delay_for h o ≡ delay_in (link_of h) o) [ None ↦ refl | Some d ↦ refl ] in
-      let shared = shared_of store now in
-      let others = without_token m.token s.observers in
-      let vs = without_entry m.token (map observer_shown s.observers) in
-      let before : Bool → Connection =
-      λ asks. if asks then side_replied store now h others m (delay_for h hold) else with_history s h in
-      let afterwards : Bool → SessionValue = λ asks. if asks then session_replied shared l vs m (delay_in l hold)
-      else session_with [] l (map observer_shown s.observers) in
-      rw e (elim (asks_answer s m) as (λ asks. session_shown [] (before asks) ≡ afterwards asks) [
-        | true ↦
-            replied_shown h others m (delay_for h hold) ((call_goes_on s.history (call.Handle m) tt).history history)
-            ∙ cc (without_shown m.token s.observers, pending, same)
-        | false ↦ shown_as [] h l s.observers same
+      let pending : delay_for h hold ≡ delay_in (link_of h) hold = grind arith in
+      rw e (elim (cases_Bool (asks_answer s m)) [
+        | inl asks ↦
+            rw asks (replied_shown h (without_token m.token s.observers) m (delay_for h hold)
+            ((call_goes_on s.history (call.Handle m) tt).history history)
+            ∙ cc (without_shown m.token s.observers, pending, same))
+        | inr other ↦ rw other (shown_as [] h _ s.observers same)
       ])
 
-pub change_shown : (store : StoreValue) (now : ℕ) (s : Connection) (m : Message) → handles s ≡ true
-    → change_after store now s m ≡ change_by (shared_of store now) (link_of s.history) m
-unfolding change_after
-change_shown store now s m e = ap (λ b. cond (b && asks_answer s m) (prompt_answer store now m).change Nothing) e
+  -- ---- one iteration of settling, and all of them
 
--- ---- the link after a pending entry was sent
-
-pub sent_link : (h : History) (now : ℕ) (e : PendingEntryValue) → IsHistory h
-    → link_of (after_sent h now e) ≡ link_sent (link_of h) now e
-sent_link h now (pending.Answer by token moment) is =
-    after_link (after h (call.Due now)) (call.Reply (late_message by token)) tt
-    ((call_goes_on h (call.Due now) tt).history is)
-    ∙ ap (λ l. link_after l (call.Reply (late_message by token))) (after_link h (call.Due now) tt is)
-sent_link h now (pending.Pong token) is = after_link h (call.Due now) tt is
-
--- ---- one iteration of settling, and all of them
-
-module _ (store : StoreValue) (now : ℕ) (small : now ≤ 18446744073709551615) (is : IsVersioned store) where
   left_shown : (o : Observer) (stays : Bool) → IsKnown store o
       → (stays ≡ true → goes_on (notification store now o) ≡ true)
       → map observer_shown (left_of store now o stays) ≡ entry_left (shared_of store now) (observer_shown o) stays
@@ -223,13 +184,11 @@ module _ (store : StoreValue) (now : ℕ) (small : now ≤ 18446744073709551615)
       → option_map observer_shown (next_due store now s) ≡ next_stale (shared_of store now) (session_shown rest s)
   unfolding next_stale
   next_shown rest s known =
-      elim (has_room s) as (λ b. option_map observer_shown (if b then find (is_due store now) s.observers else None)
-      ≡ (if b then find (is_stale (shared_of store now)) (map observer_shown s.observers) else None)) [
-        | true ↦
-            found_shown (is_due store now) (is_stale (shared_of store now)) s.observers
-            (same_tests s.observers known.reported)
-        | false ↦ refl
-      ]
+      grind (
+        arith,
+        found_shown (is_due store now) (is_stale (shared_of store now)) s.observers
+            (same_tests s.observers known.reported),
+      )
 
   notified_shown : (rest : List ℕ) (s : Connection) (found : Option Observer) → IsKnownSide store s
       → ((o : Observer) → found ≡ Some o → IsKnown store o)
@@ -237,16 +196,13 @@ module _ (store : StoreValue) (now : ℕ) (small : now ≤ 18446744073709551615)
       ≡ session_notified (shared_of store now) (session_shown rest s) (option_map observer_shown found)
   notified_shown rest s None known reported = refl
   notified_shown rest s (Some o) known reported =
-      let stale = is_stale (shared_of store now) in
       let m = notification_message o.token (notification store now o) in
       let on = goes_on (notification store now o) in
       let stays = on && is_whole (fit (limit_now s.history) m (bare_response m)) in
-      let left = left_of store now o stays in
-      let l = link_after (link_of s.history) (call.Reply m) in
-      side_shown rest s _ l (first_becomes (is_due store now) left s.observers)
-      (call_goes_on s.history (call.Reply m) tt) (after_link s.history (call.Reply m) tt known.is_history)
+      call_shown rest s (call.Reply m) _ known.is_history tt
       ∙ cc (
-        become_shown (is_due store now) stale left s.observers (same_tests s.observers known.reported),
+        become_shown (is_due store now) (is_stale (shared_of store now)) (left_of store now o stays) s.observers
+            (same_tests s.observers known.reported),
         left_shown o stays (reported o refl) (λ e. (and_parts on _ e).0),
       )
 
@@ -269,14 +225,13 @@ module _ (store : StoreValue) (now : ℕ) (small : now ≤ 18446744073709551615)
   unfolding settled_within session_settled_within
   within_shown zero rest s known = refl
   within_shown (suc turns) rest s known =
-      within_shown turns rest (settled_once store now s) (once_known store now small is s known)
-      ∙ ap (session_settled_within turns (shared_of store now)) (once_shown rest s known)
+      rw (← once_shown rest s known)
+      (within_shown turns rest (settled_once store now s) (once_known store now small is s known))
 
   -- A connection settles as its value does.
   pub settled_shown : (rest : List ℕ) (s : Connection) → IsKnownSide store s
       → session_shown rest (settled store now s) ≡ session_settled (shared_of store now) (session_shown rest s)
   unfolding settled session_settled
   settled_shown rest s known =
-      within_shown (length s.history.pending + length s.observers) rest s known
-      ∙ ap (λ more. session_settled_within (length s.history.pending + more) (shared_of store now)
-      (session_shown rest s)) (sym (length-map s.observers observer_shown))
+      rw (length-map s.observers observer_shown)
+      (within_shown (length s.history.pending + length s.observers) rest s known)

@@ -1,18 +1,12 @@
-use Rattle.std.proofs.Common.{◌≡◌, ◌+◌, Bool, true, false, ◌&&◌, List, ℕ, min, map, Option, Some, None, refl, sym, ap}
-use Rattle.std.proofs.Common.{subst, ◌∙◌, nat_lt, length}
+use Rattle.std.proofs.Common.{◌≡◌, List, Bool, true, false, ◌&&◌, Some, None, nat_lt, length, refl, sym, ap, ◌∙◌}
 use Rattle.std.proofs.Math.Bool.{not-not}
-use Rattle.coap_server_session.specs.Prelude.{StoreValue, Nothing, changed, IsPut, changes, asks_entry, is_whole}
-use Rattle.coap_server_session.specs.Prelude.{with_entry}
-use Rattle.coap_server_session.specs.Prelude.{ObserverValue, ObserversValue, answer_on, answer_of, Delay, Engine}
-use Rattle.coap_server_session.specs.Prelude.{delay_by, delay_on, delay_in, shared_changed}
-use Rattle.coap_server_session.specs.Prelude.{new_entry, without_entry, change_hash, is_observed, link_replied}
-use Rattle.coap_server_session.specs.Prelude.{entries_replied, AreMarked, changed_mark, marks_after, ServerState}
+use Rattle.coap_server_session.specs.Prelude.{ObserverValue, ObserversValue, StoreValue, without_entry, is_observed}
+use Rattle.coap_server_session.specs.Prelude.{AreMarked, changed_mark, new_entry, is_whole, with_entry, Engine}
+use Rattle.coap_server_session.specs.Prelude.{asks_entry, Delay, delay_on}
 use Rattle.coap_store.specs.Answer.{Answer}
-use Rattle.coap_server_session.proofs.values.AnsweringLemmas.{delay_unhanded, nothing_changed, late_link, late_entries}
-use Rattle.coap_server_session.proofs.values.AnsweringLemmas.{prompt_is, change_link, change_entries, may_watch}
-use Rattle.coap_server_session.proofs.values.AnsweringLemmas.{late_quiet, prompt_link, prompt_entries}
-use Rattle.coap_server_session.proofs.values.CauseLemmas.{marked_after}
 use Rattle.coap_io.proofs.streams.WriteLemmas.{on_any_fault}
+use Rattle.coap_server_session.proofs.values.AnsweringLemmas.{IsAnswered, may_watch, late_answered, prompt_is}
+use Rattle.coap_server_session.proofs.values.AnsweringLemmas.{change_answered, prompt_answered}
 use Rattle.coap_server_session.proofs.answering.answer_from_store.Goals.{After-respond-reply, then-asks_entry}
 use Rattle.coap_server_session.proofs.answering.answer_from_store.Goals.{else-asks_entry}
 use Rattle.coap_server_session.proofs.answering.answer_from_store.Goals.{else-observes-via-then-observes+else-is_whole}
@@ -24,26 +18,12 @@ pub returns-in-Some : goal.returns-in-Some
 returns-in-Some c =
     let shared = c.args.shared.now in
     let m = c.args.request.now in
-    let room = c.args.observers.now.room in
-    let seconds = c.in-Some.seconds in
-    let others : List ObserverValue = without_entry m.token c.args.observers.now.entries in
-    let holds : (answer_of shared.store shared.now m).hold ≡ Some seconds =
-    ap (λ (a : Answer). a.hold) (sym c.fill_plan-index.ensures.answer) ∙ sym c.in-Some.ensures.seconds in
-    let d : Delay = record { by = Engine; seconds = seconds } in
-    let delays : delay_on shared m ≡ Some d = delay_unhanded shared m c.requires.unhanded
-    ∙ ap (delay_by Engine) holds in
-    let at = c.saturating_add-moment.ensures ∙ ap (λ (n : ℕ). min (shared.now
-    + n) 18446744073709551615) c.from.ensures in
-    let quiet = late_quiet shared m d room others delays in
-    assumption (
-      ap change_hash (sym quiet),
-      late_link shared m d room others delays c.args.link.now _ c.saturating_add-moment.result at
-          c.delay_answer.ensures.link,
-      c.delay_answer.ensures.entries ∙ late_entries shared m d room others delays c.args.link.now,
-      c.delay_answer.ensures.room,
-      c.delay_answer.ensures.marks (changed_mark shared) c.requires.marked,
-      ap (shared_changed shared) (sym quiet),
-    )
+    let holds = ap (λ (a : Answer). a.hold) (sym c.fill_plan-index.ensures.answer) ∙ sym c.in-Some.ensures.seconds in
+    let d : Delay = record { by = Engine; seconds = c.in-Some.seconds } in
+    let delays : delay_on shared m ≡ Some d = rw (c.requires.unhanded, holds) refl in
+    let e = c.delay_answer.ensures in
+    assumption (late_answered shared c.args.link.now c.args.observers.now m d _ _ c.delay_answer.new.observers delays
+    (rw c.from.ensures at c.saturating_add-moment.ensures) c.requires.marked e.link e.entries e.marks e.room)
 
 -- ---- a request that changes nothing
 
@@ -59,68 +39,50 @@ add_observer-requires-clause-watched c =
     ]
 
 -- The request changes nothing: its response is sent, and the entries after it are the defined ones.
-prompted : (c : After-respond-reply) (enters : Bool) (after : ObserversValue)
+prompted : (c : After-respond-reply) (enters : Bool) (p : ObserversValue)
     → (c.if-asks_entry.observes && is_whole c.respond-reply.result) ≡ enters
-    → after.entries ≡ with_entry enters c.remove_token-2.new.self.entries
+    → p.entries ≡ with_entry enters c.remove_token-2.new.self.entries
     (new_entry c.args.shared.now c.args.request.now)
-    → after.room ≡ c.remove_token-2.new.self.room
+    → p.room ≡ c.remove_token-2.new.self.room
     → (AreMarked c.args.shared.now c.remove_token-2.new.self.entries c.remove_token-2.new.self.marks
-    → AreMarked c.args.shared.now after.entries after.marks)
-    → let m = c.args.request.now in
-    let before = c.args.observers.now in
-    let hold = delay_in c.args.link.now (delay_on c.args.shared.now m) in
-    (None ≡ change_hash (answer_on c.args.shared.now m).change)
-    × (c.respond-reply.new.link
-    ≡ link_replied c.args.shared.now c.args.link.now before.room (without_entry m.token before.entries) m hold)
-    × (after.entries
-    ≡ entries_replied c.args.shared.now c.args.link.now before.room (without_entry m.token before.entries) m hold)
-    × (after.room ≡ before.room)
-    × AreMarked c.args.shared.now after.entries after.marks
-    × (c.args.shared.now ≡ shared_changed c.args.shared.now (answer_on c.args.shared.now m).change)
-prompted c enters after enters_is after_is room_is marked =
+    → AreMarked c.args.shared.now p.entries p.marks)
+    → IsAnswered c.args.shared.now c.args.link.now c.args.observers.now c.args.request.now None c.respond-reply.new.link
+    p c.args.shared.now
+prompted c enters p enters_is entries_is room_is marked =
     let shared = c.args.shared.now in
     let m = c.args.request.now in
-    let l = c.args.link.now in
-    let before = c.args.observers.now in
-    let others : List ObserverValue = without_entry m.token before.entries in
-    let prompt = prompt_is shared m c.requires.unhanded c.fill_plan-index.new.plan c.fill_plan-index.ensures.answer
-    (sym c.hold.ensures.seconds ∙ c.in_default.is) in
-    let none = prompt.0 in
-    let answer = prompt.1 in
-    let quiet : (answer_on shared m).change ≡ Nothing =
-    nothing_changed _
-    (ap (λ (a : Answer). changes a.change) (sym answer) ∙ sym c.changes.ensures ∙ c.if-changes.false) in
+    let o = c.args.observers.now in
+    let at_once = sym c.hold.ensures.seconds ∙ c.in_default.is in
+    let answer = (prompt_is shared m c.requires.unhanded c.fill_plan-index.new.plan c.fill_plan-index.ensures.answer
+    at_once).1 in
+    let others : List ObserverValue = without_entry m.token o.entries in
     let forgotten : c.remove_token-2.new.self.entries ≡ others =
     rw c.token-2.ensures at c.remove_token-2.ensures.entries in
     let asks = c.asks_entry.ensures ∙ ap asks_entry c.watch.ensures ∙ ap (λ (a : Answer). asks_entry a.watch) answer in
-    let most = not-not (nat_lt (length others) before.room) in
-    let observed : c.if-asks_entry.observes ≡ is_observed shared before.room others m = elim c.if-asks_entry.branch [
+    let observed : c.if-asks_entry.observes ≡ is_observed shared o.room others m = elim c.if-asks_entry.branch [
       | then-asks_entry w ↦ cc (
         asks,
-        most,
+        not-not (nat_lt (length others) o.room),
         w.if-asks_entry.true,
         rw (forgotten, c.remove_token-2.ensures.room) at w.is_full.ensures,
         w.observes-is,
       )
       | else-asks_entry w ↦ cc (asks, w.if-asks_entry.false, w.observes-is)
     ] in
-    let reply = rw (c.token-3.ensures, answer, observed) at c.respond-reply.ensures.reply in (
-      ap change_hash (sym quiet),
-      (rw (c.token-3.ensures, answer, observed) at c.respond-reply.ensures.after)
-          ∙ prompt_link shared m l before.room others none,
-      (rw forgotten at after_is)
-          ∙ prompt_entries shared m l before.room others none enters (sym (rw (observed, reply) at enters_is)),
-      room_is ∙ c.remove_token-2.ensures.room,
-      marked (c.remove_token-2.ensures.marks (changed_mark shared) c.requires.marked),
-      ap (shared_changed shared) (sym quiet),
-    )
+    let marked_before = c.remove_token-2.ensures.marks (changed_mark shared) c.requires.marked in
+    prompt_answered shared m c.requires.unhanded c.fill_plan-index.new.plan c.fill_plan-index.ensures.answer at_once
+    c.args.link.now o c.remove_token-2.new.self p c.if-asks_entry.observes enters c.respond-reply.result
+    c.respond-reply.new.link (sym c.changes.ensures ∙ c.if-changes.false) forgotten c.remove_token-2.ensures.room
+    marked_before observed enters_is (rw c.token-3.ensures at c.respond-reply.ensures.reply)
+    (rw c.token-3.ensures at c.respond-reply.ensures.after) entries_is room_is (marked marked_before)
 
 pub returns-then-is_whole : goal.returns-then-is_whole
 returns-then-is_whole c =
-    assumption (prompted (goal.at.returns-then-is_whole c).After-respond-reply true _
+    let e = c.add_observer.ensures in
+    assumption (prompted (goal.at.returns-then-is_whole c).After-respond-reply true c.add_observer.new.observers
     (ap (λ (b : Bool). b && is_whole c.respond-reply.result) c.if-observes.true ∙ sym c.is_whole.ensures
-    ∙ c.if-is_whole.true) (ap (λ (o : ObserversValue). o.entries) c.add_observer.ensures.value)
-    (ap (λ (o : ObserversValue). o.room) c.add_observer.ensures.value) c.add_observer.ensures.marked)
+    ∙ c.if-is_whole.true) (ap (λ (o : ObserversValue). o.entries) e.value)
+    (ap (λ (o : ObserversValue). o.room) e.value) e.marked)
 
 pub returns-else-observes : goal.returns-else-observes
 returns-else-observes c =
@@ -130,8 +92,8 @@ returns-else-observes c =
           ∙ sym w.is_whole.ensures ∙ w.if-is_whole.false
       | else-observes-via-else-observes w ↦ ap (λ (b : Bool). b && is_whole c.respond-reply.result) w.if-observes.false
     ] in
-    assumption
-    (prompted (goal.at.returns-else-observes c).After-respond-reply false _ misses refl refl (λ marked. marked))
+    assumption (prompted (goal.at.returns-else-observes c).After-respond-reply false c.remove_token-2.new.self misses
+    refl refl (λ marked. marked))
 
 -- ---- a change for which allocation failed, and one that was applied
 
@@ -140,45 +102,18 @@ returns-in_err-changed-clause-put c =
     let prompt = prompt_is c.args.shared.now c.args.request.now c.requires.unhanded c.fill_plan-index.new.plan
     c.fill_plan-index.ensures.answer (sym c.hold.ensures.seconds ∙ c.in_default.is) in
     on_any_fault c.from_residual.result _
-    (subst IsPut (cc (c.into_change-planned.ensures, prompt.1)) c.in_err-changed.ensures.put)
+    (rw (c.into_change-planned.ensures, prompt.1) at c.in_err-changed.ensures.put)
 
 pub returns-then-changes : goal.returns-then-changes
 returns-then-changes c =
     let shared = c.args.shared.now in
-    let m = c.args.request.now in
-    let room = c.args.observers.now.room in
-    let others : List ObserverValue = without_entry m.token c.args.observers.now.entries in
-    let prompt = prompt_is shared m c.requires.unhanded c.fill_plan-index.new.plan c.fill_plan-index.ensures.answer
-    (sym c.hold.ensures.seconds ∙ c.in_default.is) in
-    let answer = prompt.1 in
-    let change = ap (λ (a : Answer). a.change) c.into_change-planned.ensures ∙ ap (λ (a : Answer). a.change) answer in
-    let does = ap (λ (a : Answer). changes a.change) (sym answer) ∙ sym c.changes.ensures ∙ c.if-changes.true in
-    let plain = ap (λ (a : Answer). a.response) c.into_change-planned.ensures
-    ∙ sym (c.fill_plan-index.ensures.plain (sym c.changes.ensures ∙ c.if-changes.true))
-    ∙ ap (λ (a : Answer). a.response) answer in
-    let hash_is = c.in_ok-changed.ensures.hash ∙ ap change_hash change in
-    let shared_is =
-    ap (λ (s : StoreValue). record shared { store = s }) (c.in_ok-changed.ensures.ok
-    ∙ ap (changed shared.store) change) in
-    let es = c.remove_token.new.self.entries in
-    let ms = c.remove_token.new.self.marks in
-    let after : ServerState = record shared { store = c.change.new.store } in
-    let marked : AreMarked after c.mark_changed.new.observers.entries c.mark_changed.new.observers.marks =
-    ap (λ (o : ObserversValue). o.marks) c.mark_changed.ensures
-    ∙ ap (λ (hash : Option ℕ). marks_after hash after es ms) hash_is
-    ∙ ap (λ (h : ServerState). marks_after (change_hash (answer_on shared m).change) h es ms) shared_is
-    ∙ marked_after shared (answer_on shared m).change es ms
-    (c.remove_token.ensures.marks (changed_mark shared) c.requires.marked)
-    ∙ ap (λ (h : ServerState). map (changed_mark h) es) (sym shared_is)
-    ∙ ap (λ (o : ObserversValue). map (changed_mark after) o.entries) (sym c.mark_changed.ensures) in
-    assumption (
-      hash_is,
-      change_link shared m c.args.link.now room others prompt.0 does _ _ plain
-          (rw c.token-then-changes.ensures at c.respond_change.ensures),
-      ap (λ (o : ObserversValue). o.entries) c.mark_changed.ensures
-          ∙ (rw c.token.ensures at c.remove_token.ensures.entries)
-          ∙ change_entries shared m c.args.link.now room others prompt.0 does,
-      ap (λ (o : ObserversValue). o.room) c.mark_changed.ensures ∙ c.remove_token.ensures.room,
-      marked,
-      shared_is,
-    )
+    let e = c.remove_token.ensures in
+    let does = sym c.changes.ensures ∙ c.if-changes.true in
+    assumption (change_answered shared c.args.request.now c.requires.unhanded c.fill_plan-index.new.plan
+    c.fill_plan-index.ensures.answer (sym c.hold.ensures.seconds ∙ c.in_default.is) c.args.link.now
+    c.args.observers.now c.remove_token.new.self c.mark_changed.new.observers c.into_change-planned.result _ _
+    (record shared { store = c.change.new.store }) does (ap (λ (a : Answer). a.change) c.into_change-planned.ensures)
+    (ap (λ (a : Answer). a.response) c.into_change-planned.ensures ∙ sym (c.fill_plan-index.ensures.plain does))
+    (rw c.token.ensures at e.entries) e.room (e.marks (changed_mark shared) c.requires.marked)
+    c.in_ok-changed.ensures.hash (ap (λ (s : StoreValue). record shared { store = s }) c.in_ok-changed.ensures.ok)
+    c.mark_changed.ensures (rw c.token-then-changes.ensures at c.respond_change.ensures))

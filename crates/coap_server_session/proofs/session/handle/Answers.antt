@@ -1,10 +1,9 @@
-use Rattle.std.proofs.Common.{[], ◌≡◌, true, refl, sym, ap, ◌∙◌, List, ℕ}
+use Rattle.std.proofs.Common.{[], ◌≡◌, true, false, refl, sym, ap, ◌∙◌, List, ℕ}
 use Rattle.coap_store.specs.Answer as answer
 use Rattle.coap_server_session.specs.Prelude.{is_request, SessionValue, sizes_of, shared_changed, asks_this, answer_on}
-use Rattle.coap_server_session.specs.Prelude.{change_hash, takes_messages}
+use Rattle.coap_server_session.specs.Prelude.{is_handed_over, change_hash, takes_messages}
 use Rattle.coap_conn.proofs.LinkLemmas.{stays_so}
 use Rattle.coap_server_session.proofs.values.SessionLemmas.{on_request, no_request_reported, message_handled}
-use Rattle.coap_server_session.proofs.values.SplitLemmas.{message_not_handed}
 use Rattle.coap_server_session.specs.declared.answering.RequestEffect.{RequestEffect}
 use Rattle.coap_server_session.proofs.session.handle.Goals as goal
 use Rattle.std.proofs.lemmas.Bool.{cond-false}
@@ -24,6 +23,7 @@ returns-in_default c =
     let m = c.args.message.now in
     let other = ap is_request (sym c.on.ensures.verdict) ∙ no_request_reported c.on.result c.in_default.not-Request in
     let same = cond-false (asks_this link m) (answer_on shared m).change answer.Nothing other in
+    let unhanded : is_handed_over shared link m ≡ false = rw other refl in
     assumption (
       λ (frame : List ℕ). message_handled shared
           (record { frame = frame; link = link; observers = c.args.observers.now.entries }) m
@@ -31,7 +31,7 @@ returns-in_default c =
       ap sizes_of c.on.ensures.after ∙ stays_so sizes_of (takes_messages link.phase) link _ refl,
       c.requires.marked,
       ap (λ (e : RequestEffect). e.changed) c.none.ensures ∙ ap change_hash (sym same),
-      ap (λ (e : RequestEffect). e.handed) c.none.ensures ∙ message_not_handed shared link m other,
+      ap (λ (e : RequestEffect). e.handed) c.none.ensures ∙ sym unhanded,
       λ (_ : c.none.result.handed ≡ true). ap (λ (e : RequestEffect). e.changed) c.none.ensures,
       ap (shared_changed shared) (sym same),
     )

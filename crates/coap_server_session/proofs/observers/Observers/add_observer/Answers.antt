@@ -1,6 +1,6 @@
-use Rattle.std.proofs.Common.{◌≡◌, ℕ, Some, if◌then◌else◌, length, map, None, ap, ◌∙◌, ◌++◌, ◌∷◌, [], arith}
+use Rattle.std.proofs.Common.{◌≡◌, length, map, None, ap, ◌∙◌, arith}
 use Rattle.std.proofs.lemmas.List.{length-map, length_push, map_push}
-use Rattle.coap_server_session.specs.Prelude.{observer_value, mark_in, IsTagged, concerns_path, last_in}
+use Rattle.coap_server_session.specs.Prelude.{observer_value, mark_in, IsTagged}
 use Rattle.coap_server_session.proofs.values.ChainLemmas.{entered_chained}
 use Rattle.coap_server_session.proofs.values.FlagLemmas.{entered_flagged}
 use Rattle.coap_model.proofs.world.EntryLemmas.{all_append}
@@ -13,7 +13,6 @@ invariant_of-self c =
     let e = c.link.ensures in
     let room = rw (← c.self.view_is) at c.requires.room in
     let unmarked : mark_in y ≡ None = e.mark ∙ c.requires.unmarked in
-    let marks = map_push mark_in items y ∙ ap (λ m. map mark_in items ++ m ∷ []) unmarked in
     record {
       few = omega (
         arith,
@@ -26,12 +25,8 @@ invariant_of-self c =
       least = c.self.invariant.least;
       tagged = rw c.push_reserved.ensures.items (all_append IsTagged items _ c.self.invariant.tagged (e.tagged, tt));
       chained =
-          rw c.push_reserved.ensures.items (entered_chained c.self.inside.chains c.link.new.self items c.args.observer y
-          c.self.invariant.chained e.value e.previous (λ why. e.last why
-          ∙ ap (λ (n : ℕ). if concerns_path why c.args.observer.path then Some n else last_in why c.self.inside.chains)
-          (c.len.ensures ∙ c.self.inside.entries.ok.0)));
-      flagged = rw (
-        c.push_reserved.ensures.items,
-        marks,
-      ) (entered_flagged c.self.inside.marked (map mark_in items) c.self.invariant.flagged);
+          rw c.push_reserved.ensures.items (entered_chained items c.args.observer y c.self.invariant.chained e.value
+          e.previous (rw (c.len.ensures, c.self.inside.entries.ok.0) at e.last));
+      flagged = rw (c.push_reserved.ensures.items, map_push mark_in items y, unmarked)
+          (entered_flagged c.self.inside.marked (map mark_in items) c.self.invariant.flagged);
     }

@@ -5,6 +5,5 @@ use Rattle.coap_server_session.proofs.session.Session.announce.Goals as goal
 
 pub invariant_of-self-2 : goal.invariant_of-self-2
 invariant_of-self-2 c =
-    announced_session c.self.inside c.args.size c.raise.new.self c.announce.new.self c.self.invariant
-    (ap is_open (sym c.phase.ensures ∙ c.in-Open.is)) (sym c.if-not-takes_announcement.ensures) c.in-Ok.ensures.answer
-    c.in-Ok.ensures.after c.announce.ensures.after
+    announced_session c.self.invariant (ap is_open (sym c.phase.ensures ∙ c.in-Open.is))
+    (sym c.if-not-takes_announcement.ensures) c.in-Ok.ensures.answer c.in-Ok.ensures.after c.announce.ensures.after

@@ -6,7 +6,5 @@ use Rattle.coap_server_session.proofs.session.Session.end.Goals as goal
 
 pub invariant_of-self : goal.invariant_of-self
 invariant_of-self c =
-    given_up c.self.inside c.end.new.self c.self.inside.framer c.discard_if_closed.new.framer c.self.inside.observers
-    c.discard_if_closed.new.observers c.self.invariant
-    (ap sizes_of c.end.ensures.after ∙ end_sizes c.self.inside.link _)
-    refl c.self.invariant.framer refl c.discard_if_closed.ensures.framer c.discard_if_closed.ensures.observers
+    given_up c.self.inside.observers c.self.invariant (ap sizes_of c.end.ensures.after ∙ end_sizes c.self.inside.link _)
+    c.self.invariant.framer refl refl c.discard_if_closed.ensures.framer c.discard_if_closed.ensures.observers

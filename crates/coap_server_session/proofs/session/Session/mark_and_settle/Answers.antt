@@ -1,32 +1,16 @@
-use Rattle.std.proofs.Common.{sym, ap, subst, ◌∙◌}
-use Rattle.coap_server_session.specs.Prelude.{ObserversValue, SessionValue, MarkedSession, session_settled, IsMarkedBut}
 use Rattle.coap_server_session.proofs.session.Session.mark_and_settle.Goals as goal
 
 pub invariant_of-self : goal.invariant_of-self
-invariant_of-self c =
-    let was = c.self.invariant in
-    rw c.mark.ensures (record {
-      ranges = was.ranges;
-      greatest = was.greatest;
-      framer = was.framer;
-      room = was.room;
-      open_only = was.open_only;
-    })
+invariant_of-self c = rw c.mark.ensures (assumption c.self.invariant)
 
 pub settle-requires : goal.settle-requires
-settle-requires c = rw c.mark.ensures (subst (IsMarkedBut c.args.cause c.args.shared.now) (sym c.self.view_is)
-    c.requires)
+settle-requires c = rw c.mark.ensures (rw (← c.self.view_is) at c.requires)
 
 pub returns : goal.returns
 returns c =
-    let shared = c.args.shared.now in
-    let s = c.self.inside in
-    let with_observers : ObserversValue → SessionValue =
-    λ o. record { frame = s.framer.kept; link = s.link; observers = o.entries } in
-    record {
-      after =
-          c.settle.ensures.after ∙ ap (λ (o : ObserversValue). session_settled shared (with_observers o)) c.mark.ensures
-          ∙ ap (λ (m : MarkedSession). session_settled shared m.session) c.self.view_is;
+    rw (← c.self.view_is)
+    (record {
+      after = rw c.mark.ensures at c.settle.ensures.after;
       marked = c.settle.ensures.marked;
-      split = c.settle.ensures.split ∙ ap (λ (m : MarkedSession). m.split) c.self.view_is;
-    }
+      split = c.settle.ensures.split;
+    })

@@ -6,8 +6,7 @@ use Rattle.coap_conn.proofs.LinkLemmas.{stays_so}
 
 pub invariant_of-self-2 : goal.invariant_of-self-2
 invariant_of-self-2 c =
-    given_up c.self.inside c.release.new.self c.self.inside.framer c.discard_if_closed.new.framer
-    c.self.inside.observers c.discard_if_closed.new.observers c.self.invariant
-    (ap sizes_of c.in_ok-release.ensures.after
-    ∙ (stays_so sizes_of (is_open c.self.inside.link.phase) c.self.inside.link _ refl))
-    refl c.self.invariant.framer refl c.discard_if_closed.ensures.framer c.discard_if_closed.ensures.observers
+    let l = c.self.inside.link in
+    given_up c.self.inside.observers c.self.invariant
+    (ap sizes_of c.in_ok-release.ensures.after ∙ stays_so sizes_of (is_open l.phase) l _ refl)
+    c.self.invariant.framer refl refl c.discard_if_closed.ensures.framer c.discard_if_closed.ensures.observers

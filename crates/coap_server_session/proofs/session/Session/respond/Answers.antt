@@ -4,7 +4,7 @@ use Rattle.coap_server_session.proofs.session.Session.respond.Goals as goal
 
 pub invariant_of-self-2 : goal.invariant_of-self-2
 invariant_of-self-2 c =
-    given_up c.self.inside c.respond.new.self c.self.inside.framer c.discard_if_closed.new.framer
-    c.self.inside.observers c.discard_if_closed.new.observers c.self.invariant
-    (sizes_responded c.self.inside.link c.respond.new.self _ c.in_ok-reply.ensures.answer c.in_ok-reply.ensures.after)
-    refl c.self.invariant.framer refl c.discard_if_closed.ensures.framer c.discard_if_closed.ensures.observers
+    let e = c.in_ok-reply.ensures in
+    given_up c.self.inside.observers c.self.invariant
+    (sizes_responded c.self.inside.link c.respond.new.self _ e.answer e.after) c.self.invariant.framer refl refl
+    c.discard_if_closed.ensures.framer c.discard_if_closed.ensures.observers
