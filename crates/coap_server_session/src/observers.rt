@@ -122,6 +122,7 @@ impl Observers {
     }
 
     /// Returns the first observer that has a changed mark, or `None` if there is none.
+    #[tactic(auto, using(crate::proofs::values::FlagLemmas::none_marked, crate::proofs::values::FlagLemmas::flag_within, crate::proofs::values::EntryLemmas::read_at))]
     pub(crate) fn first_changed(&mut self) -> Option<StaleObserver>
         ensures none { IfNone result (first_index is_some self.old.marks ≡ None) }
         ensures some { IfSome result (λ found. IsFirstMarked self.old.marks found) }

@@ -48,9 +48,7 @@ may_watch shared m asks =
 
 -- A change that changes something is not `Nothing`.
 pub nothing_changed : (c : answer.Change) → changes c ≡ false → c ≡ answer.Nothing
-nothing_changed answer.Nothing e = refl
-nothing_changed (answer.Put path format bytes) e = absurd cc
-nothing_changed (answer.Delete path) e = absurd cc
+nothing_changed c e = grind arith
 
 -- ---- a request whose response is to be delayed
 

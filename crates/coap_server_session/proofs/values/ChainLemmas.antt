@@ -13,7 +13,6 @@ use Rattle.coap_server_session.specs.Prelude.{AllByRecursion, list_any, Cause, S
 use Rattle.coap_server_session.specs.Prelude.{observes_hash, is_concerned, changed_mark, marks_anew, observer_value}
 use Rattle.coap_server_session.specs.Prelude.{mark_in, IsTagged, AreFlagged, Chains, Linked, linked, concerns_path}
 use Rattle.coap_server_session.specs.Prelude.{last_in, previous_in, next_index, IsLastBefore, AreChainedTo}
-use Rattle.coap_server_session.specs.declared.cause.Cause.TheVariants as cause
 use Rattle.coap_server_session.specs.declared.observer.Observer.{Observer}
 use Rattle.coap_server_session.proofs.values.EntryLemmas.{read_at}
 use Rattle.coap_server_session.proofs.values.TagLemmas.{all_set}
@@ -124,8 +123,7 @@ none_observes hash [] none = tt
 none_observes hash (o ∷ os) none = (λ same. grind arith, none_observes hash os (grind arith))
 
 concerned_by_path : (why : Cause) (o : ObserverValue) → is_concerned why o ≡ concerns_path why o.path
-concerned_by_path (cause.Path hash) o = refl
-concerned_by_path (cause.Moment before) o = refl
+concerned_by_path why o = grind arith
 
 -- ---- the loop that recomputes the marks of a chain, from its last observer on
 

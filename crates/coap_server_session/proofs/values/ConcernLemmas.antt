@@ -103,8 +103,7 @@ none_replaced p due left (o ∷ os) gone none =
 
 none_left : (p : ObserverValue → Bool) (shared : ServerState) (o : ObserverValue) (stays : Bool) →
     ((mark : ℕ) → p (record o { mark = mark }) ≡ false) → list_any p (entry_left shared o stays) ≡ false
-none_left p shared o true none = rw none refl
-none_left p shared o false none = refl
+none_left p shared o stays none = grind (arith, none)
 
 none_notified : (shared : ServerState) (v : SessionValue) (o : ObserverValue) → find (is_stale shared) v.observers
     ≡ Some o

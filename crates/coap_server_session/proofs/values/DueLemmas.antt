@@ -1,13 +1,13 @@
 -- On a settled connection, nothing becomes due before its next deadline.
-use Rattle.std.proofs.Common.{◌≡◌, ℕ, ◌<◌, ◌≤◌, ◌^◌, false, List, [], ◌∷◌, Option, Some, None, min, refl, arith, fold}
+use Rattle.std.proofs.Common.{◌≡◌, ℕ, ◌<◌, ◌≤◌, ◌^◌, false, List, [], ◌∷◌, Option, Some, None, min, arith, fold}
 use Rattle.coap_conn.proofs.PendingLaws.{due_nothing, cons_parts}
 use Rattle.coap_store.proofs.StoreLemmas.{found_kept}
 use Rattle.coap_model.proofs.world.SideLaws.{nothing_due_first}
-use Rattle.coap_server_session.specs.Prelude.{AllByRecursion, list_any, filter_map, reduce, PendingEntryValue, Answer}
-use Rattle.coap_server_session.specs.Prelude.{Pong, due_moment, future_moment, next_moment, first_due, Path}
-use Rattle.coap_server_session.specs.Prelude.{Representation, StoreValue, key_for, stored_at, state_at, IsStore}
-use Rattle.coap_server_session.specs.Prelude.{ServerState, ObserverValue, SessionValue, is_stale, IsSettled}
-use Rattle.coap_server_session.specs.Prelude.{changed_mark, sooner, is_time_observer, next_notified, due_on, IsBefore}
+use Rattle.coap_server_session.specs.Prelude.{AllByRecursion, list_any, filter_map, reduce, PendingEntryValue}
+use Rattle.coap_server_session.specs.Prelude.{due_moment, future_moment, next_moment, first_due, Path, Representation}
+use Rattle.coap_server_session.specs.Prelude.{StoreValue, key_for, stored_at, state_at, IsStore, ServerState}
+use Rattle.coap_server_session.specs.Prelude.{ObserverValue, SessionValue, is_stale, IsSettled, changed_mark, sooner}
+use Rattle.coap_server_session.specs.Prelude.{is_time_observer, next_notified, due_on, IsBefore}
 use Rattle.coap_server_session.specs.declared.cause.Cause.TheVariants as cause
 use Rattle.coap_server_session.proofs.values.MarkLemmas.{none_stale_after}
 use Rattle.coap_server_session.proofs.values.SettleLemmas.{settled_still}
@@ -35,8 +35,7 @@ before_each later (x ∷ xs) h = before_fold later x xs h
 -- A response that is not due yet is not due later either, if the later time is before its deadline.
 not_come : (now later : ℕ) (e : PendingEntryValue) → due_moment now e ≡ None
     → ((m : ℕ) → future_moment now e ≡ Some m → later < m) → due_moment later e ≡ None
-not_come now later (Pong token) none after = refl
-not_come now later (Answer by token moment) none after = grind (arith, after moment)
+not_come now later e none after = grind (arith, after)
 
 none_come_later : (now later : ℕ) (pending : List PendingEntryValue)
     → AllByRecursion (λ e. due_moment now e ≡ None) pending

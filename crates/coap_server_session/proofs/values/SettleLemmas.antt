@@ -78,56 +78,63 @@ fewer_stale shared v o first =
       fewer_open shared (link_after v.link (call.Reply m)) (first_becomes (is_stale shared) left v.observers),
     )
 
--- An iteration sends an entry, or notifies an observer, or finds nothing.
-pub once_cases : (shared : ServerState) (v : SessionValue) (P : SessionValue → Type 0)
-    → ((e : PendingEntryValue) → first_due shared.now v.link.pending ≡ Some e
-    → P (session_with v.frame (link_sent v.link shared.now e) v.observers))
-    → ((o : ObserverValue) → find (is_stale shared) v.observers ≡ Some o → P (session_notified shared v (Some o)))
-    → (IsSettled shared v → P v) → P (session_settled_once shared v)
-unfolding session_settled_once next_pending_in next_stale
-once_cases shared v P sends notifies rests =
-    there_or_not (next_pending_in shared.now v) (λ due. P (session_settled_so shared v due))
-    (λ silent. there_or_not (next_stale shared v) (λ next. P (session_notified shared v next))
-    (λ fresh. rests (silent, fresh)) (λ o found. notifies o (some_where (session_ready v) _ o found)))
-    (λ e found. sends e (some_where (session_ready v) _ e found))
+module _ (shared : ServerState) (v : SessionValue) where
+  -- An iteration sends an entry, or notifies an observer, or finds nothing.
+  pub once_cases : (P : SessionValue → Type 0)
+      → ((e : PendingEntryValue) → first_due shared.now v.link.pending ≡ Some e
+      → P (session_with v.frame (link_sent v.link shared.now e) v.observers))
+      → ((o : ObserverValue) → find (is_stale shared) v.observers ≡ Some o → P (session_notified shared v (Some o)))
+      → (IsSettled shared v → P v) → P (session_settled_once shared v)
+  unfolding session_settled_once next_pending_in next_stale
+  once_cases P sends notifies rests =
+      there_or_not (next_pending_in shared.now v) (λ due. P (session_settled_so shared v due))
+      (λ silent. there_or_not (next_stale shared v) (λ next. P (session_notified shared v next))
+      (λ fresh. rests (silent, fresh)) (λ o found. notifies o (some_where (session_ready v) _ o found)))
+      (λ e found. sends e (some_where (session_ready v) _ e found))
 
--- ---- all iterations
+  -- ---- all iterations
 
--- If nothing is left to settle, an iteration does nothing.
-pub stays_once : (shared : ServerState) (v : SessionValue) → IsSettled shared v → session_settled_once shared v ≡ v
-unfolding session_settled_once
-stays_once shared v settled = rw (settled.0, settled.1) refl
+  -- If nothing is left to settle, an iteration does nothing.
+  pub stays_once : IsSettled shared v → session_settled_once shared v ≡ v
+  unfolding session_settled_once
+  stays_once settled = rw (settled.0, settled.1) refl
 
-pub stays_within : (shared : ServerState) (v : SessionValue) (turns : ℕ) → IsSettled shared v
-    → session_settled_within turns shared v ≡ v
-unfolding session_settled_within
-stays_within shared v zero settled = refl
-stays_within shared v (suc turns) settled = rw (stays_once shared v settled) (stays_within shared v turns settled)
+  pub stays_within : (turns : ℕ) → IsSettled shared v
+      → session_settled_within turns shared v ≡ v
+  unfolding session_settled_within
+  stays_within zero settled = refl
+  stays_within (suc turns) settled = rw (stays_once settled) (stays_within turns settled)
 
--- Settling a settled connection changes nothing.
-pub settled_stays : (shared : ServerState) (v : SessionValue) → IsSettled shared v → session_settled shared v ≡ v
-unfolding session_settled
-settled_stays shared v settled = stays_within shared v (length v.link.pending + length v.observers) settled
+  -- Settling a settled connection changes nothing.
+  pub settled_stays : IsSettled shared v → session_settled shared v ≡ v
+  unfolding session_settled
+  settled_stays settled = stays_within (length v.link.pending + length v.observers) settled
 
--- ---- conditions for a settled connection
+  -- ---- conditions for a settled connection
 
--- A connection is settled if no pending entry is due and no observer is stale.
-pub settled_quiet : (shared : ServerState) (v : SessionValue) → first_due shared.now v.link.pending ≡ None
-    → find (is_stale shared) v.observers ≡ None → IsSettled shared v
-unfolding next_pending_in next_stale
-settled_quiet shared v none fresh = grind arith
+  -- A connection is settled if no pending entry is due and no observer is stale.
+  pub settled_quiet : first_due shared.now v.link.pending ≡ None
+      → find (is_stale shared) v.observers ≡ None → IsSettled shared v
+  unfolding next_pending_in next_stale
+  settled_quiet none fresh = grind arith
 
--- A connection is settled if its queue has no room.
-pub settled_unready : (shared : ServerState) (v : SessionValue) → session_ready v ≡ false → IsSettled shared v
-unfolding next_pending_in next_stale
-settled_unready shared v full = rw full (refl, refl)
+  -- A connection is settled if its queue has no room.
+  pub settled_unready : session_ready v ≡ false → IsSettled shared v
+  unfolding next_pending_in next_stale
+  settled_unready full = rw full (refl, refl)
 
--- If the queue has room, the first due entry and the first stale observer are found.
-pub found_ready : (shared : ServerState) (v : SessionValue) → session_ready v ≡ true
-    → (next_pending_in shared.now v ≡ first_due shared.now v.link.pending)
-    × (next_stale shared v ≡ find (is_stale shared) v.observers)
-unfolding next_pending_in next_stale
-found_ready shared v ready = rw ready (refl, refl)
+  -- If the queue has room, the first due entry and the first stale observer are found.
+  pub found_ready : session_ready v ≡ true
+      → (next_pending_in shared.now v ≡ first_due shared.now v.link.pending)
+      × (next_stale shared v ≡ find (is_stale shared) v.observers)
+  unfolding next_pending_in next_stale
+  found_ready ready = rw ready (refl, refl)
+
+  -- If the queue had room, nothing was due, so nothing is due after the write either.
+  pub settled_where_room : (n : ℕ) → session_ready v ≡ true → IsSettled shared v
+      → IsSettled shared (session_written v n)
+  unfolding next_pending_in next_stale
+  settled_where_room n ready settled = grind arith
 
 -- A settled connection stays settled in another server state in which nothing more is due or stale.
 pub settled_still : (shared after : ServerState) (v : SessionValue)
@@ -136,12 +143,6 @@ pub settled_still : (shared after : ServerState) (v : SessionValue)
     → IsSettled shared v → IsSettled after v
 unfolding next_pending_in next_stale
 settled_still shared after v none fresh settled = grind arith
-
--- If the queue had room, nothing was due, so nothing is due after the write either.
-pub settled_where_room : (shared : ServerState) (v : SessionValue) (n : ℕ) → session_ready v ≡ true → IsSettled shared v
-    → IsSettled shared (session_written v n)
-unfolding next_pending_in next_stale
-settled_where_room shared v n ready settled = grind arith
 
 -- If no entry is pending, none is due.
 pub none_is_pending : (now : ℕ) (pending : List PendingEntryValue) → length pending ≤ 0 → first_due now pending ≡ None

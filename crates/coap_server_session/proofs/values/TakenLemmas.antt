@@ -128,8 +128,7 @@ put_is_whole shared v piece (Whole frame rest) count last puts = (frame, rest, r
   where
     counted : (r : Result Message FormatFault) → (taking_read shared v (length piece - length rest) r).count ≡ count + 1
         → length piece - length rest ≡ count + 1
-    counted (Ok m) is = is
-    counted (Err e) is = is
+    counted r is = grind arith
 
 taking_where_takes : (shared : ServerState) (v : SessionValue) (piece : List ℕ) → session_takes v ≡ true
     → taking shared v piece ≡ taking_begun shared v piece (prefix_kind (session_max v) (v.frame ++ piece))

@@ -20,6 +20,7 @@ impl Session {
     /// # Preconditions
     ///
     /// The changed marks of the observers are current.
+    #[tactic(auto, using(crate::proofs::values::SettleLemmas::settled_is_settled), unfolding(crate::specs::values::Sessions::session_settled, crate::specs::values::Sessions::session_settled_within))]
     #[inline]
     pub fn settle(&mut self, shared: &ServerState)
         requires { IsMarked shared.now self.old }
@@ -34,6 +35,7 @@ impl Session {
     }
 
     /// Settles the connection as `settle` does, in at most `more` iterations.
+    #[tactic(auto, using(crate::proofs::values::SettleLemmas::last_turn, crate::proofs::values::SettleLemmas::settled_is_settled), unfolding(crate::specs::values::Sessions::session_settled, crate::specs::values::Sessions::session_settled_within))]
     // Never inlined, so that `settle` costs one comparison on a connection with nothing to send.
     #[inline(never)]
     fn settle_each(&mut self, shared: &ServerState)
@@ -128,6 +130,7 @@ impl Session {
     ///
     /// At least `count` bytes are queued, the connection is settled, and the changed marks of the observers are
     /// current.
+    #[tactic(auto, using(crate::proofs::values::SettleLemmas::settled_stays, crate::proofs::values::SettleLemmas::settled_where_room, crate::proofs::values::SessionLemmas::ready_is))]
     pub fn written_and_settled(&mut self, shared: &ServerState, count: usize)
         requires within { count ≤ length self.old.session.link.waiting }
         requires settled { IsSettled shared.now self.old.session }
