@@ -5,11 +5,10 @@ use Rattle.std.proofs.Common.{append_assoc, length, is_none}
 use Rattle.coap_model.specs.Prelude.{AllByRecursion, Message, StreamFault, Stream, split_on, Reason, takes_messages}
 use Rattle.coap_model.specs.Prelude.{stop_of, LimitValues, bytes_of, ConfigValues, Connection, side_after, change_after}
 use Rattle.coap_model.specs.Prelude.{side_faulted, settled, new_side, waiting_on, settled_within, ConnectionEntry}
-use Rattle.coap_model.specs.Prelude.{World}
-use Rattle.coap_model.specs.Prelude.{side_of, acted, step, Step, new_world, AcceptedCall, Opened, Took, spelled_on}
-use Rattle.coap_model.specs.Prelude.{taken_in, size_by, beyond, steps_by, later_steps, steps_of, written_times}
-use Rattle.coap_model.specs.Prelude.{flushed, flushed_after, only_id, stream_of, steps_for, world_for, side_for}
-use Rattle.coap_model.specs.Prelude.{Outcome, outcome_on, outcome, stdio_output}
+use Rattle.coap_model.specs.Prelude.{World, side_of, acted, step, Step, new_world, AcceptedCall, Opened, Took}
+use Rattle.coap_model.specs.Prelude.{spelled_on, taken_in, size_by, beyond, steps_by, later_steps, steps_of}
+use Rattle.coap_model.specs.Prelude.{written_times, flushed, flushed_after, only_id, stream_of, steps_for, world_for}
+use Rattle.coap_model.specs.Prelude.{side_for, Outcome, outcome_on, outcome, stdio_output}
 use Rattle.std.proofs.lemmas.Bool.{eqb-true, cond_both}
 use Rattle.std.proofs.lemmas.List.{append-nil}
 use Rattle.coap_wire.proofs.StreamSteps.{unfinished_empty, split_unfinished, split_goes_on}

@@ -6,20 +6,17 @@ use Rattle.std.proofs.lemmas.Bool.{both_ways}
 use Rattle.std.proofs.lemmas.List.{append-nil}
 use Rattle.coap_model.specs.Prelude.{Message, StreamFault, Stream, Phase, Reject, Reason, takes_messages, answers}
 use Rattle.coap_model.specs.Prelude.{is_open, fit, pong_with, PendingEntryValue, without_due, due_index, reject_of}
-use Rattle.coap_model.specs.Prelude.{reject_reason, History, state_now, limit_now, StoreValue, ConfigValues}
-use Rattle.coap_model.specs.Prelude.{Connection, handles, side_after, side_faulted, settled, new_side, settled_once}
-use Rattle.coap_model.specs.Prelude.{World}
-use Rattle.coap_model.specs.Prelude.{Step, side_of, AcceptedCall, Took, stream_on, steps_by, world_after, spelled_on}
-use Rattle.coap_model.specs.Prelude.{message_reason, LimitValues}
+use Rattle.coap_model.specs.Prelude.{reject_reason, History, state_now, limit_now, StoreValue, ConfigValues, Connection}
+use Rattle.coap_model.specs.Prelude.{handles, side_after, side_faulted, settled, new_side, settled_once, World, Step}
+use Rattle.coap_model.specs.Prelude.{side_of, AcceptedCall, Took, stream_on, steps_by, world_after, spelled_on}
+use Rattle.coap_model.specs.Prelude.{message_reason, LimitValues, without_request, bare_response}
 use Rattle.coap_model.proofs.world.StepLaws.{world_same, world_step, nothing_spelled, world_first}
 use Rattle.coap_model.proofs.world.TookLaws.{Adds}
 use Rattle.coap_conn.proofs.ReactionLaws.{StopsAtMost}
 use Rattle.coap_model.proofs.world.QueuedMessages.{sent_either}
-use Rattle.coap_model.specs.Prelude.{without_request, bare_response}
 use Rattle.coap_model.proofs.world.WalkLaws.{sent, Replies, LetsGo, Pongs, Responds, responded_between, settled_between}
-use Rattle.coap_model.proofs.world.WalkLaws.{Between, once_between}
-use Rattle.coap_model.proofs.world.WalkLaws.{written_between, ended_between, released_between, announced_between}
-use Rattle.coap_model.proofs.world.WalkLaws.{holding}
+use Rattle.coap_model.proofs.world.WalkLaws.{Between, once_between, written_between, ended_between, released_between}
+use Rattle.coap_model.proofs.world.WalkLaws.{announced_between, holding}
 use Rattle.coap_model.proofs.world.AcrossLaws.{handled_there, faulted_there, HoldsOf}
 use Rattle.coap_model.proofs.world.PlaceLaws.{nobody}
 use Rattle.coap_conn.specs.declared.phase.Phase.TheVariants as phase

@@ -2,39 +2,33 @@
 -- from before its Ping is pending.
 use Rattle.std.proofs.Common.{◌≡◌, ℕ, zero, suc, Bool, true, false, cond, ◌&&◌, ◌==◌, List, [], ◌∷◌, ◌++◌, length}
 use Rattle.std.proofs.Common.{Option, Some, None, refl, sym, ap, subst, ◌∙◌, inl, inr, ◌⊎◌, arith, append_assoc}
-use Rattle.coap_model.specs.Prelude.{Responder, Engine, Application}
-use Rattle.coap_model.specs.Prelude.{AllByRecursion, list_any, remove, Message, Phase, LimitValues, takes_messages}
-use Rattle.coap_model.specs.Prelude.{answers, is_open, fit, bare_response, PendingEntryValue, Answer, Pong, without_due}
-use Rattle.coap_model.specs.Prelude.{ConnectionState, send, is_custody_pong, pong_with, History, limit_now}
-use Rattle.coap_model.specs.Prelude.{state_now}
-use Rattle.coap_model.specs.Prelude.{after, may_hold, StoreValue, Response, answer_of, prompt_answer, each_at}
-use Rattle.coap_model.specs.Prelude.{ApplicationsValue, application_deadline, Delay, delay_or, delay_of, asks_delayed}
-use Rattle.coap_model.specs.Prelude.{response_with_observe, Observer, without_token, notification}
-use Rattle.coap_model.specs.Prelude.{notification_message, Connection, handles, with_history, delay_for, moment_after}
-use Rattle.coap_model.specs.Prelude.{asks_answer, side_handled, side_after, next_pending, late_message, settled_once}
-use Rattle.coap_model.specs.Prelude.{side_written, next_due, notified, side_answered, side_with, asks_pending}
-use Rattle.coap_model.specs.Prelude.{CorrespondTo}
-use Rattle.coap_model.specs.Prelude.{QueuesCustody, IsFirstPending, KeepsPending, AddsRequested, KeepsPendingOver}
-use Rattle.coap_model.specs.Prelude.{Reason}
-use Rattle.coap_model.specs.Prelude.{PeerTooSmall, state_due, state_without, without_request}
+use Rattle.coap_model.specs.Prelude.{Responder, AllByRecursion, list_any, remove, Message, Phase, LimitValues}
+use Rattle.coap_model.specs.Prelude.{takes_messages, answers, is_open, fit, bare_response, PendingEntryValue, Answer}
+use Rattle.coap_model.specs.Prelude.{Pong, without_due, ConnectionState, send, is_custody_pong, History, limit_now}
+use Rattle.coap_model.specs.Prelude.{state_now, after, may_hold, StoreValue, Response, prompt_answer, each_at}
+use Rattle.coap_model.specs.Prelude.{ApplicationsValue, Delay, delay_of, asks_delayed, response_with_observe, Observer}
+use Rattle.coap_model.specs.Prelude.{without_token, Connection, handles, with_history, delay_for, moment_after}
+use Rattle.coap_model.specs.Prelude.{asks_answer, side_handled, side_after, settled_once, side_written, side_answered}
+use Rattle.coap_model.specs.Prelude.{side_with, asks_pending, CorrespondTo, QueuesCustody, IsFirstPending, KeepsPending}
+use Rattle.coap_model.specs.Prelude.{AddsRequested, Reason, PeerTooSmall, state_without, without_request}
+use Rattle.coap_model.specs.Prelude.{side_responded, response_refusal, link_of, with_effect, RespondFault, KeepsBut}
+use Rattle.coap_model.specs.Prelude.{reject_reason, end_reason, ReleasedHere, next_pending, next_due, notified}
+use Rattle.coap_model.specs.Prelude.{notification_message, notification}
+use Rattle.coap_model.proofs.world.WalkLaws.{there_or_not, PlainCall, Fault, Write, End, Release, Announcement}
+use Rattle.coap_model.proofs.world.WalkLaws.{plain_between, pending_is, there_where, said_request, sent, without_first}
+use Rattle.coap_model.proofs.world.WalkLaws.{Replies, after_between, responded_between, once_between, received, holding}
 use Rattle.std.proofs.lemmas.Bool.{and_from, both_ways, cond-true, cond_both, or_from}
 use Rattle.std.proofs.lemmas.List.{append_cancel_left, append-nil}
-use Rattle.std.specs.Prelude.{is_some, is_none}
+use Rattle.std.specs.Prelude.{is_none}
 use lib.Pointwise.{bytes_decides}
 use Rattle.coap_conn.proofs.PendingLaws.{custody_at_once, due_pong}
 use Rattle.coap_conn.proofs.RequestLemmas.{react_asks}
 use Rattle.coap_store.proofs.HoldLaws.{delay_of_answer}
-use Rattle.coap_model.proofs.OptionLemmas.{same_there}
 use Rattle.coap_model.proofs.world.EntryLemmas.{all_to}
-use Rattle.coap_model.proofs.world.WalkLaws.{pending_is, there_where, said_request, sent, without_first, Replies}
-use Rattle.coap_model.proofs.world.WalkLaws.{after_between, faulted_between, written_between, ended_between}
-use Rattle.coap_model.proofs.world.WalkLaws.{released_between, announced_between, responded_between, once_between}
-use Rattle.coap_model.proofs.world.WalkLaws.{received, holding}
 use Rattle.coap_model.proofs.world.GoingOn.{Keeps}
 use Rattle.coap_conn.proofs.ReactionLaws.{IsPlain, react_so, IsNoPong, StopsAtMost}
-use Rattle.coap_model.proofs.world.QueuedMessages.{Queues, sent_either, sent_all, reply_either}
+use Rattle.coap_model.proofs.world.QueuedMessages.{plain_queues, sent_either, sent_all, reply_either}
 use Rattle.coap_model.proofs.world.RespondedLaws.{allowed, plain_codes, response_is_no_pong}
-use Rattle.coap_model.specs.Prelude.{side_responded, response_refusal, link_of, with_effect, RespondFault, KeepsBut}
 use Rattle.coap_model.proofs.world.SideLaws.{replied_cases, handles_parts}
 use Rattle.coap_wire.specs.OptionNumbers as numbers
 use Rattle.coap_conn.specs.SignalOptions as option
@@ -105,9 +99,10 @@ custody_waits store now s m =
     (λ h by token moment opened may. gives_none ⊥ h (holding h (h.pending ++ Answer by token moment ∷ [])) refl) store
     now s m)
 
--- Plain effects queue no such Pong.
-pub plain_queues_no_custody : (s t : Connection) → Queues IsPlain s.history t.history → QueuesCustody s t → ⊥
-plain_queues_no_custody s t queues =
+-- Plain calls queue no such Pong.
+pub plain_queues_no_custody : (s t : Connection) → PlainCall s t → QueuesCustody s t → ⊥
+plain_queues_no_custody s t call =
+    let queues = plain_queues s t call in
     custody_gives ⊥ s t (
       queues.more,
       queues.same,
@@ -207,15 +202,6 @@ request_quiet s m asks =
     let quiet = react_asks (state_now s.history) m (said_request _ asks) in
     grind (arith, stopped_over (state_now s.history) m)
 
--- So its delayed response is appended to them.
-pub pending_when_requested : (store : StoreValue) (now : ℕ) (s : Connection) (m : Message) (d : Delay)
-    → handles s ≡ true
-    → asks_answer s m ≡ true → delay_for (after s.history (call.Handle m)) (delay_of store now m) ≡ Some d
-    → (side_after store now s m).history.pending ≡ s.history.pending ++ Answer d.by m.token (moment_after now d.seconds)
-    ∷ []
-unfolding side_after
-pending_when_requested store now s m d does asks is = grind (arith, request_quiet s m asks, pending_is)
-
 -- A delayed response is pending only if the list has a place for it.
 pub pending_where : (h : History) (delay : Option Delay) (d : Delay) → delay_for h delay ≡ Some d
     → (may_hold h ≡ true) × (delay ≡ Some d)
@@ -223,21 +209,9 @@ pending_where h None d is = absurd cc
 pending_where h (Some e) d is = there_where (may_hold h) (Some e) d is
 
 -- The message asks for the responder of its delay.
-delay_requested : (store : StoreValue) (now : ℕ) (m : Message) (d : Delay) (deadline : Option ℕ) (hold : Option ℕ)
-    → application_deadline store.applications m ≡ deadline → (answer_of store now m).hold ≡ hold
-    → delay_or deadline hold ≡ Some d → asks_delayed store.applications d.by m ≡ true
-delay_requested store now m d None None by holds is = absurd cc
-delay_requested store now m d None (Some seconds) by holds is =
-    subst (λ (e : Delay). asks_delayed store.applications e.by m ≡ true)
-    (same_there (record { by = Engine; seconds = seconds }) d is) (delay_of_answer store now m seconds holds).requested
-delay_requested store now m d (Some deadline) hold by holds is =
-    subst (λ (e : Delay). asks_delayed store.applications e.by m ≡ true)
-    (same_there (record { by = Application; seconds = deadline }) d is) (ap is_some by)
-
 delayed_requested : (store : StoreValue) (now : ℕ) (m : Message) (d : Delay) → delay_of store now m ≡ Some d
     → asks_delayed store.applications d.by m ≡ true
-delayed_requested store now m d is =
-    delay_requested store now m d (application_deadline store.applications m) (answer_of store now m).hold refl refl is
+delayed_requested store now m d is = grind (arith, delay_of_answer store now m)
 
 -- The possible cases of a message: no request, a request with a delayed response, and one with an immediate response.
 pub handled_cases : (store : StoreValue) (now : ℕ) (s : Connection) (m : Message) (P : Connection → Type 0)
@@ -324,15 +298,6 @@ handled_hears store now s m =
     (λ asks. reply_either h _ (HandlesOne a m s.history) received
     (record { handled_more = received.handled_more; stops = λ is. refl; adds = inr (PeerTooSmall, refl, refl) }))
 
-pub handled_over : (store : StoreValue) (now : ℕ) (s : Connection) (m : Message)
-    → KeepsPendingOver store.applications m s (side_handled store now s m)
-handled_over store now s m = grind (arith, handled_hears store now s m)
-
-pub if_over : (a : Option ApplicationsValue) (m : Message) (does : Bool) (s t : Connection) → KeepsPendingOver a m s t
-    → KeepsPendingOver a m s (cond does t s)
-if_over a m true s t over = over
-if_over a m false s t over = inl ([], sym (append-nil s.history.pending), record { few = omega arith; requested = tt })
-
 -- ---- histories
 
 abbrev pub Corresponds : Option ApplicationsValue → History → Type 0
@@ -354,6 +319,14 @@ received_corresponds a m h k takes received stand = rw (received.handled_more ta
     by (inl more) = rw more.1 (stand_append a h.handled (m ∷ []) h.pending more.0 stand (stand_added a m more.0 more.2))
     by (inr over) = rw over.2 tt
 
+pub corresponds_plain : (a : Option ApplicationsValue) (s t : Connection) → PlainCall s t → Corresponds a s.history
+    → Corresponds a t.history
+unfolding CorrespondTo
+corresponds_plain a =
+    plain_between (λ h k. Corresponds a h → Corresponds a k) (λ h stand. stand) (λ h fault takes room stand. tt)
+    (λ h n within stand. stand) (λ h cut takes stand. tt) (λ h opened none stand. tt)
+    (λ h n opened room fit stand. stand)
+
 pub corresponds_keeps : (limits : LimitValues) (a : Option ApplicationsValue)
     → Keeps limits a (λ s. Corresponds a s.history)
 unfolding side_after CorrespondTo
@@ -364,11 +337,11 @@ corresponds_keeps limits a = let R : History → History → Type 0 = λ h k. Co
       (λ does. received_corresponds a m s.history (side_handled store now s m).history (handles_parts s does).0
       (subst (λ b. HasReceived b m s.history (side_handled store now s m).history) same (handled_hears store now s m))
       stand) (λ off. stand);
-  faulted = faulted_between R (λ h stand. stand) (λ h fault takes room stand. tt);
-  written = written_between R (λ h stand. stand) (λ h n within stand. stand);
-  ended = ended_between R (λ h stand. stand) (λ h cut takes stand. tt);
-  released = released_between R (λ h stand. stand) (λ h opened none stand. tt);
-  announced = announced_between R (λ h stand. stand) (λ h n opened room fit stand. stand);
+  faulted = λ s fault. corresponds_plain a s _ (Fault fault);
+  written = λ s n. corresponds_plain a s _ (Write n);
+  ended = λ s cut. corresponds_plain a s _ (End cut);
+  released = λ s. corresponds_plain a s _ Release;
+  announced = λ s size. corresponds_plain a s _ (Announcement size);
   responded = responded_between R (λ h stand. stand) (λ h m answering none stand.
       sent_either (state_without m.token (state_now h)) m (bare_response m)
       (fit (limit_now h) m (bare_response m)) (λ es now. CorrespondTo a h.handled es)
@@ -384,15 +357,33 @@ corresponds_keeps limits a = let R : History → History → Type 0 = λ h k. Co
 -- ---- effects that do not change the pending entries
 
 -- The pending entries are the same, or the connection has stopped.
-abbrev pub Leaves : History → History → Type 0
+abbrev Leaves : History → History → Type 0
 Leaves h k = (k.pending ≡ h.pending) ⊎ ((why : Reason) × (k.phase ≡ phase.Stopped why))
 
 -- So the pending entries are kept.
-pub left_kept : (s t : Connection) → Leaves s.history t.history → KeepsPending s t
+left_kept : (s t : Connection) → Leaves s.history t.history → KeepsPending s t
 left_kept s t leaves = let none = append-nil s.history.pending in grind arith
 
+pub plain_keeps : (s t : Connection) → PlainCall s t → KeepsPending s t
+plain_keeps s t call =
+    left_kept s t (plain_between Leaves (λ h. inl refl) (λ h fault takes room. inr (reject_reason fault, refl))
+    (λ h n within. inl refl) (λ h cut takes. inr (end_reason cut, refl)) (λ h opened none. inr (ReleasedHere, refl))
+    (λ h size opened room fit. inl refl) s t call)
+
+-- If no entry is due, settling only notifies an observer.
+pub notified_keeps : (store : StoreValue) (now : ℕ) (s : Connection) → next_pending now s ≡ None
+    → KeepsPending s (settled_once store now s)
+unfolding settled_once
+notified_keeps store now s is =
+    left_kept s (settled_once store now s) (rw is (there_or_not (next_due store now s)
+    (λ o. Leaves s.history (notified store now s o).history) (λ none. inl refl)
+    (λ o due. reply_either s.history (notification_message o.token (notification store now o))
+    (λ ms es now. (es ≡ s.history.pending) ⊎ ((why : Reason) × (now ≡ phase.Stopped why))) (inl refl)
+    (inr (PeerTooSmall, refl)))))
+
 pub written_same : (s : Connection) (n : ℕ) → (side_written s n).history.pending ≡ s.history.pending
-written_same s n = written_between (λ h k. k.pending ≡ h.pending) (λ h. refl) (λ h n within. refl) s n
+unfolding side_written
+written_same s n = grind arith
 
 -- A response of the application removes the request that it answers.
 pub responded_keeps : (s : Connection) (m : Message) → answers s.history.phase ≡ true
@@ -424,46 +415,3 @@ responded_no_custody s m =
           (response_is_no_pong n codes.0) (response_is_no_pong (bare_response n) codes.1)) in
           both_ways _ quiet pong),
     ))) s m)
-
--- If no entry is due, settling only notifies an observer.
-pub notified_keeps : (store : StoreValue) (now : ℕ) (s : Connection) → next_pending now s ≡ None
-    → KeepsPending s (settled_once store now s)
-unfolding settled_once
-notified_keeps store now s is = rw is (by (next_due store now s))
-  where
-    by : (found : Option Observer) → KeepsPending s (notified store now s found)
-    by None = left_kept s s (inl refl)
-    by (Some o) =
-        left_kept s (notified store now s (Some o))
-        (reply_either s.history (notification_message o.token (notification store now o))
-        (λ ms es now. (es ≡ s.history.pending) ⊎ ((why : Reason) × (now ≡ phase.Stopped why))) (inl refl)
-        (inr (PeerTooSmall, refl)))
-
--- ---- the first due entry is removed
-
-pub sent_when_due : (store : StoreValue) (now : ℕ) (s : Connection) (by : Responder) (token : List ℕ) (moment : ℕ)
-    → next_pending now s ≡ Some (Answer by token moment)
-    → (settled_once store now s).history ≡ after (after s.history (call.Due now)) (call.Reply (late_message by token))
-unfolding settled_once
-sent_when_due store now s by token moment is = rw is refl
-
-pub taken_out : (store : StoreValue) (now : ℕ) (s : Connection) (e : PendingEntryValue) → next_pending now s ≡ Some e
-    → answers s.history.phase ≡ true → (settled_once store now s).history.phase ≡ s.history.phase
-    → (settled_once store now s).history.pending ≡ without_due now s.history.pending
-unfolding settled_once
-taken_out store now s e is answering same = grind arith
-
--- ---- its message is sent
-
-pub answer_sent : (store : StoreValue) (now : ℕ) (s : Connection) (by : Responder) (token : List ℕ) (moment : ℕ)
-    → next_pending now s ≡ Some (Answer by token moment) → answers s.history.phase ≡ true
-    → (settled_once store now s).history.queued ≡ s.history.queued ++ (send (state_due now (state_now s.history))
-    (late_message by token) (bare_response (late_message by token))).queued
-unfolding settled_once
-answer_sent store now s by token moment is answering = grind (arith, append-nil)
-
-pub pong_sent : (store : StoreValue) (now : ℕ) (s : Connection) (token : List ℕ)
-    → next_pending now s ≡ Some (Pong token) → (settled_once store now s).history.queued ≡ s.history.queued
-    ++ (send (state_due now (state_now s.history)) (pong_with true token) (pong_with false token)).queued
-unfolding settled_once
-pong_sent store now s token is = grind arith

@@ -5,9 +5,9 @@ use Rattle.std.proofs.lemmas.Bool.{cases_Bool}
 use Rattle.std.proofs.lemmas.List.{append-nil, map-append}
 use Rattle.std.proofs.Math.Seq.{drop-append_seam}
 use Rattle.coap_model.specs.Prelude.{StreamFault, Stream, split, stream_after, continued, split_on, ConfigValues}
-use Rattle.coap_model.specs.Prelude.{new_world}
-use Rattle.coap_model.specs.Prelude.{after_steps, AcceptedCall, Took, Ended, taken_in, taken_on, size_by, size_on}
-use Rattle.coap_model.specs.Prelude.{stream_on, spelled_on, beyond, steps_by, later_steps, steps_of, world_after}
+use Rattle.coap_model.specs.Prelude.{new_world, after_steps, AcceptedCall, Took, Ended, taken_in, taken_on, size_by}
+use Rattle.coap_model.specs.Prelude.{size_on, stream_on, spelled_on, beyond, steps_by, later_steps, steps_of}
+use Rattle.coap_model.specs.Prelude.{world_after}
 use Rattle.coap_model.proofs.world.StepLaws.{taken_then, later_steps_more, size_then, sizes_then, read_before}
 use Rattle.coap_model.proofs.world.StepLaws.{stream_more, spelled_by, spelled_then}
 use Rattle.coap_model.proofs.world.TookLaws.{nothing_beyond}

@@ -1,27 +1,22 @@
 -- Facts that hold of every world, and the theorem that no change is lost in it.
-use Rattle.std.proofs.Common.{◌≡◌, ℕ, ◌≤◌, Bool, true, false, cond, List, [], ◌∷◌, map, Option, Some, None, refl, ◌==◌}
-use Rattle.std.proofs.Common.{not, is_none, nat_le, arith, ◌&&◌, sym, ap, ◌∙◌}
+use Rattle.std.proofs.Common.{◌≡◌, ℕ, ◌≤◌, Bool, false, List, [], ◌∷◌, map, Option, Some, refl, ◌==◌, not, is_none}
+use Rattle.std.proofs.Common.{nat_le, arith, ◌&&◌, sym, ap, ◌∙◌}
 use Rattle.coap_model.specs.Prelude.{AllByRecursion, LimitValues, StoreValue, found_in, Change, Put, Delete, changed}
-use Rattle.coap_model.specs.Prelude.{put_refusal, ConfigValues, Connection, side_after, change_after, side_faulted}
-use Rattle.coap_model.specs.Prelude.{side_written, side_ended, side_released, side_announced, side_responded}
-use Rattle.coap_model.specs.Prelude.{IsUpToDate, settled}
-use Rattle.coap_model.specs.Prelude.{with_history, ConnectionEntry, World, new_world, side_of, stored_after, Step}
-use Rattle.coap_model.specs.Prelude.{Handled}
-use Rattle.coap_model.specs.Prelude.{Faulted, Written, ticks, acted, settled_place, step, after_steps, AcceptedCall}
-use Rattle.coap_model.specs.Prelude.{steps_of, world_after, takes_messages, stop, end_reason}
-use Rattle.coap_model.specs.Prelude.{state_now, with_effect}
-use Rattle.coap_model.specs.Prelude.{takes_input, normalised_step, received_steps, normalised_steps}
-use Rattle.coap_model.specs.Prelude.{all_settled}
-use Rattle.std.proofs.lemmas.Bool.{and_parts, leb-true, eqb-true, cond_both}
+use Rattle.coap_model.specs.Prelude.{put_refusal, ConfigValues, Connection, side_after, change_after, side_ended}
+use Rattle.coap_model.specs.Prelude.{IsUpToDate, settled, ConnectionEntry, World, new_world, side_of, stored_after}
+use Rattle.coap_model.specs.Prelude.{Step, Handled, Faulted, Written, ticks, acted, settled_place, step, after_steps}
+use Rattle.coap_model.specs.Prelude.{AcceptedCall, steps_of, world_after, takes_messages, takes_input, normalised_step}
+use Rattle.coap_model.specs.Prelude.{received_steps, normalised_steps, all_settled, on_side}
+use Rattle.std.proofs.lemmas.Bool.Decides.{nat_tests}
+use Rattle.std.proofs.lemmas.Bool.{and_parts, leb-true, cond_both}
 use Rattle.coap_model.specs.world.World.{changed_at, Opened, Ticked, Stored, Removed, Ended, Released, Announced}
 use Rattle.coap_model.specs.world.World.{Responded, Dropped}
 use Rattle.coap_model.proofs.world.KnownLaws.{still_versioned, IsVersioned}
 use Rattle.coap_model.proofs.world.AcrossLaws.{world_keeps}
-use Rattle.coap_model.proofs.world.EntryLemmas.{all_to, all_append, all_filter, all_map}
-use Rattle.coap_model.proofs.world.EntryLemmas.{all_stay}
-use Rattle.coap_model.proofs.world.SideLaws.{IsKnownSide, still_known_side, calls_known, after_known, hears_at_rest}
-use Rattle.coap_model.proofs.world.SideLaws.{settled_rests, settled_known}
-use Rattle.coap_model.proofs.world.SideLaws.{side_at_rest_stays}
+use Rattle.coap_model.proofs.world.EntryLemmas.{all_to, all_append, all_filter, all_map, all_stay}
+use Rattle.coap_model.proofs.world.SideLaws.{IsKnownSide, still_known_side, plain_known, responded_known, after_known}
+use Rattle.coap_model.proofs.world.SideLaws.{hears_at_rest, settled_rests, settled_known, side_at_rest_stays}
+use Rattle.coap_model.proofs.world.WalkLaws.{there_or_not, Fault, Write, End, Release, Announcement}
 use Rattle.coap_model.proofs.world.PlaceLaws.{AreDistinct, of_each}
 use Rattle.coap_model.proofs.world.ReachedLaws.{step_distinct}
 use Rattle.coap_model.specs.world.World as world
@@ -46,11 +41,11 @@ with_places w sides known places = record { versioned = known.versioned; moment 
 
 on_side_known : (w : World) (id : ℕ) (f : Connection → Connection)
     → ((s : Connection) → IsKnownSide w.store s → IsKnownSide w.store (f s)) → IsKnownWorld w
-    → IsKnownWorld (record w { sides = map (changed_at id f) w.sides })
+    → IsKnownWorld (on_side id f w)
 on_side_known w id f keeps known =
-    with_places w _ known (all_map (IsKnownPlace w.store) (IsKnownPlace w.store) (changed_at id f)
-    (λ p is. cond_both (p.id == id) (record p { side = f p.side }) p (IsKnownPlace w.store) (λ here. keeps p.side is)
-    (λ apart. is)) w.sides known.places)
+    with_places w _ known (all_map (IsKnownPlace w.store) _ (changed_at id f)
+    (λ p is. cond_both (p.id == id) _ p (IsKnownPlace w.store) (λ here. keeps p.side is) (λ apart. is)) w.sides
+    known.places)
 
 -- Any change of the store keeps the facts.
 changed_known : (w : World) (change : Change) → IsKnownWorld w
@@ -77,18 +72,13 @@ acted_known limits w (Opened id) known =
     })
     (λ e. known)
 acted_known limits w (Handled id m) known =
-    let sides : List ConnectionEntry = map (changed_at id (λ s. side_after w.store w.now s m)) w.sides in
-    let after : IsKnownWorld (record w { sides = sides }) =
-    on_side_known w id (λ s. side_after w.store w.now s m)
+    let after = on_side_known w id (λ s. side_after w.store w.now s m)
     (λ s. after_known w.store w.now known.moment known.versioned s m) known in
-    elim (side_of id w.sides) as (λ found. IsKnownWorld (record w { sides = sides; store = stored_after w m found })) [
-      | None ↦ after
-      | Some s ↦ changed_known (record w { sides = sides }) (change_after w.store w.now s m) after
-    ]
-acted_known limits w (Faulted id fault) known =
-    on_side_known w id (λ s. side_faulted s fault) (λ s. (calls_known w.store).faulted s fault) known
-acted_known limits w (Written id n) known =
-    on_side_known w id (λ s. side_written s n) (λ s. (calls_known w.store).written s n) known
+    there_or_not (side_of id w.sides)
+    (λ found. IsKnownWorld (record (on_side id (λ s. side_after w.store w.now s m) w) { store = stored_after w m found }))
+    (λ e. after) (λ s e. changed_known _ (change_after w.store w.now s m) after)
+acted_known limits w (Faulted id fault) known = on_side_known w id _ (λ s. plain_known w.store s _ (Fault fault)) known
+acted_known limits w (Written id n) known = on_side_known w id _ (λ s. plain_known w.store s _ (Write n)) known
 acted_known limits w (Ticked now) known =
     cond_both (ticks w.now now) (record w { now = now }) w IsKnownWorld
     (λ e. record {
@@ -101,23 +91,20 @@ acted_known limits w (Stored path format bytes) known =
     cond_both (is_none (put_refusal w.store path bytes)) _ w IsKnownWorld
     (λ e. changed_known w (Put path format bytes) known) (λ e. known)
 acted_known limits w (Removed path) known = changed_known w (Delete path) known
-acted_known limits w (Ended id cut) known =
-    on_side_known w id (λ s. side_ended s cut) (λ s. (calls_known w.store).ended s cut) known
-acted_known limits w (Released id) known = on_side_known w id side_released (calls_known w.store).released known
+acted_known limits w (Ended id cut) known = on_side_known w id _ (λ s. plain_known w.store s _ (End cut)) known
+acted_known limits w (Released id) known = on_side_known w id _ (λ s. plain_known w.store s _ Release) known
 acted_known limits w (Announced id size) known =
-    on_side_known w id (λ s. side_announced s size) (λ s. (calls_known w.store).announced s size) known
-acted_known limits w (Responded id m) known =
-    on_side_known w id (λ s. side_responded s m) (λ s. (calls_known w.store).responded s m) known
+    on_side_known w id _ (λ s. plain_known w.store s _ (Announcement size)) known
+acted_known limits w (Responded id m) known = on_side_known w id _ (λ s. responded_known w.store s m) known
 acted_known limits w (Dropped id) known =
     with_places w _ known (all_filter (IsKnownPlace w.store) (λ p. not (p.id == id)) w.sides known.places)
 
 step_known : (limits : LimitValues) (w : World) (s : Step) → IsKnownWorld w → IsKnownWorld (step limits w s)
 unfolding step
 step_known limits w s before =
-    let v : World = acted limits w s in
-    let known : IsKnownWorld v = acted_known limits w s before in
-    let Known : ConnectionEntry → Type 0 = IsKnownPlace v.store in
-    with_places v _ known (all_map Known Known (settled_place v.store v.now)
+    let v = acted limits w s in
+    let known = acted_known limits w s before in
+    with_places v _ known (all_map (IsKnownPlace v.store) _ (settled_place v.store v.now)
     (λ p. settled_known v.store v.now known.moment known.versioned p.side) v.sides known.places)
 
 -- The facts hold of the world after any events.
@@ -164,19 +151,7 @@ world_stays w hear =
 -- After a stop, the end of input has no effect, whether it cuts a message or not.
 ends_if_taking : (s : Connection) (cut : Bool) → side_ended s (takes_messages s.history.phase && cut) ≡ side_ended s cut
 unfolding side_ended
-ends_if_taking s cut =
-    let ended : Bool → Bool → Connection = λ takes cut. with_history s
-    (cond takes (with_effect s.history (stop (state_now s.history) (end_reason cut) [])) s.history) in
-    elim (takes_messages s.history.phase) as (λ takes. ended takes (takes && cut) ≡ ended takes cut) [
-      | true ↦ refl
-      | false ↦ refl
-    ]
-
--- Two changes have the same effect on a place if they have the same effect on the connection with this id.
-place_same : (id : ℕ) (f g : Connection → Connection) (p : ConnectionEntry) (here : Bool) → (p.id == id) ≡ here
-    → (p.id ≡ id → f p.side ≡ g p.side) → changed_at id f p ≡ changed_at id g p
-place_same id f g p true is same = rw is (ap (λ (s : Connection). record p { side = s }) (same (eqb-true p.id id is)))
-place_same id f g p false is same = rw is refl
+ends_if_taking s cut = grind arith
 
 map_same : {B : Type 0} (f g : ConnectionEntry → B) (ps : List ConnectionEntry)
     → AllByRecursion (λ p. f p ≡ g p) ps → map f ps ≡ map g ps
@@ -197,13 +172,8 @@ received_acted : (limits : LimitValues) (w : World) (s : Step) → AreDistinct w
     → acted limits w (normalised_step w s) ≡ acted limits w s
 unfolding acted
 received_acted limits w (world.Ended id cut) distinct =
-    let f : Connection → Connection = λ t. side_ended t (takes_input (side_of id w.sides) && cut) in
-    let g : Connection → Connection = λ t. side_ended t cut in
-    ap (λ (ps : List ConnectionEntry). record w { sides = ps })
-    (each_same (changed_at id f) (changed_at id g) w.sides distinct (λ other s there.
-    place_same id f g (record { id = other; side = s }) (other == id) refl
-    (λ same. ap (λ (o : Option Connection). side_ended s (takes_input o && cut))
-    (ap (λ (n : ℕ). side_of n w.sides) (sym same) ∙ there) ∙ ends_if_taking s cut)))
+    ap (λ ps. record w { sides = ps }) (each_same _ (changed_at id (λ t. side_ended t cut)) w.sides distinct
+    (λ other s there. grind (arith, nat_tests, ends_if_taking s cut)))
 received_acted limits w other distinct = refl
 
 all_received : (limits : LimitValues) (w : World) (ss : List Step) → AreDistinct w.sides

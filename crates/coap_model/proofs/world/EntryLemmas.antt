@@ -1,9 +1,7 @@
 -- Lists of observers and other lists: facts on each element, and the first element that is due.
 use Rattle.std.proofs.Common.{◌≡◌, ℕ, ◌+◌, ◌≤◌, Bool, true, false, List, [], ◌∷◌, ◌++◌, length, map, Some, None, refl}
 use Rattle.std.proofs.Common.{subst, arith, filter, find, if◌then◌else◌, inl, inr}
-use Rattle.coap_model.specs.Prelude.{AllByRecursion}
-use Rattle.coap_model.specs.Prelude.{with_entry, first_becomes}
-use Rattle.coap_model.specs.Prelude.{asks_entry, Watch}
+use Rattle.coap_model.specs.Prelude.{AllByRecursion, with_entry, first_becomes, asks_entry, Watch}
 use Rattle.coap_store.specs.declared.plan.Watch.TheVariants as watch
 use Rattle.std.proofs.lemmas.Bool.{cases_Bool, cond_both}
 use Rattle.coap_model.proofs.OptionLemmas.{same_there}

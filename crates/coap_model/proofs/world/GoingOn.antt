@@ -4,24 +4,21 @@ use Rattle.std.proofs.Common.{◌≡◌, ℕ, ◌≤◌, Bool, true, false, List
 use Rattle.std.proofs.Common.{◌&&◌}
 use Rattle.std.proofs.lemmas.Bool.{both_ways, and_parts, true_from_ne_false}
 use Rattle.std.proofs.lemmas.List.{length-drop}
-use Rattle.coap_model.specs.Prelude.{Message, StreamFault, Reply, Server, LimitValues, takes_messages, answers}
-use Rattle.coap_model.specs.Prelude.{is_open, fit, bare_response, PendingEntryValue, first_due, ConnectionState}
-use Rattle.coap_model.specs.Prelude.{ReactionResult, send, send_as}
-use Rattle.coap_model.specs.Prelude.{pong_with, due_effect, History, IsHistory, state_now, with_effect, after}
-use Rattle.coap_model.specs.Prelude.{link_of, may_hold, bytes_of, own_csm, Call, call_effect, state_due}
-use Rattle.coap_model.specs.Prelude.{state_without, limit_now}
-use Rattle.coap_model.specs.Prelude.{StoreValue, ApplicationsValue, ConfigValues, Connection, new_side, handles}
-use Rattle.coap_model.specs.Prelude.{has_room}
-use Rattle.coap_model.specs.Prelude.{side_after, side_faulted, side_written, side_ended, side_released}
-use Rattle.coap_model.specs.Prelude.{side_announced, side_responded, late_message, after_sent, settled_once, settled}
-use Rattle.coap_model.specs.Prelude.{World, Step}
-use Rattle.coap_model.specs.Prelude.{side_of, AcceptedCall, world_after}
+use Rattle.coap_model.specs.Prelude.{Message, StreamFault, Reply, Server, LimitValues, takes_messages, answers, is_open}
+use Rattle.coap_model.specs.Prelude.{fit, bare_response, PendingEntryValue, first_due, ConnectionState, ReactionResult}
+use Rattle.coap_model.specs.Prelude.{send, send_as, pong_with, due_effect, History, IsHistory, state_now, with_effect}
+use Rattle.coap_model.specs.Prelude.{after, link_of, may_hold, bytes_of, own_csm, Call, call_effect, state_due}
+use Rattle.coap_model.specs.Prelude.{state_without, limit_now, StoreValue, ApplicationsValue, ConfigValues, Connection}
+use Rattle.coap_model.specs.Prelude.{new_side, handles, has_room, side_after, side_faulted, side_written, side_ended}
+use Rattle.coap_model.specs.Prelude.{side_released, side_announced, side_responded, late_message, after_sent}
+use Rattle.coap_model.specs.Prelude.{settled_once, settled, World, Step, side_of, AcceptedCall, world_after}
 use Rattle.coap_conn.specs.declared.phase.Reply.TheVariants as reply
 use Rattle.coap_conn.specs.PendingEntries as pending
 use Rattle.coap_conn.specs.Calls.{IsWithin}
 use Rattle.coap_conn.specs.Calls as call
 use Rattle.coap_conn.proofs.LinkLemmas.{new_shown, history_more}
 use Rattle.coap_model.proofs.world.WalkLaws.{sent, holding, without_first, Between, if_between, settled_between}
+use Rattle.coap_model.proofs.world.WalkLaws.{PlainCall, plain_between}
 use Rattle.coap_model.proofs.world.AcrossLaws.{kept_by, kept_where, applications_stay, HoldsOf, KeepsAll, all_across}
 
 -- ---- properties that are kept
@@ -139,6 +136,11 @@ sent_goes_on h now (pending.Pong token) = call_goes_on h (call.Due now) tt
 
 pub settled_goes_on : (store : StoreValue) (now : ℕ) (s : Connection) → Between GoesOn s (settled store now s)
 settled_goes_on = settled_between GoesOn all_go_on.composes all_go_on.replies all_go_on.lets_go all_go_on.pongs
+
+pub plain_goes_on : (s t : Connection) → PlainCall s t → Between GoesOn s t
+plain_goes_on =
+    plain_between GoesOn as_before all_go_on.rejects all_go_on.writes all_go_on.ends all_go_on.releases
+    all_go_on.announces
 
 -- ---- stops
 

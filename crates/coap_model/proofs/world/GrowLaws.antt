@@ -6,10 +6,8 @@ use Rattle.std.proofs.lemmas.List.{append-nil, take-append-le, take-append-drop}
 use Rattle.std.proofs.Math.Seq.{take-add, take-length}
 use Rattle.coap_model.specs.Prelude.{Message, StreamFault, Stream, LimitValues, History, IsHistory, bytes_of}
 use Rattle.coap_model.specs.Prelude.{StoreValue, Connection, waiting_on, side_after, side_faulted, side_written}
-use Rattle.coap_model.specs.Prelude.{settled}
-use Rattle.coap_model.specs.Prelude.{ConfigValues, World, side_of, after_steps, AcceptedCall, Took, stream_on}
-use Rattle.coap_model.specs.Prelude.{new_fault}
-use Rattle.coap_model.specs.Prelude.{steps_by, world_after}
+use Rattle.coap_model.specs.Prelude.{settled, ConfigValues, World, side_of, after_steps, AcceptedCall, Took, stream_on}
+use Rattle.coap_model.specs.Prelude.{new_fault, steps_by, world_after}
 use Rattle.coap_conn.proofs.GrowLaws.{Grows, same_queue, grows_self, grows_then}
 use Rattle.coap_conn.proofs.LinkLemmas.{bytes_more}
 use Rattle.coap_model.specs.world.World as world

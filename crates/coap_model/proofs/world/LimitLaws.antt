@@ -5,38 +5,36 @@ use Rattle.std.proofs.Common.{ap, ◌∙◌, arith, sym, subst, append_assoc, in
 use Rattle.std.proofs.lemmas.Bool.{cond_both, leb-true, ltb-true, eqb-true}
 use Rattle.std.proofs.lemmas.List.{length-append, length-drop, append-nil}
 use Rattle.std.proofs.lemmas.List.Sums.{length-filter, count_by-le-length}
-use Rattle.coap_model.specs.Prelude.{ApplicationsValue, Option}
-use Rattle.coap_model.specs.Prelude.{same_bytes, not, Message, spelling, Reply, Whole, LimitValues, AreInRange}
-use Rattle.coap_model.specs.Prelude.{takes_messages, stop_of, announced, bad_csm_option, size_unless, csm_size}
-use Rattle.coap_model.specs.Prelude.{announcement, size_limit, AllFit, fit, bare_response, PendingEntryValue, Answer}
-use Rattle.coap_model.specs.Prelude.{first_due, ConnectionState, send_as, send, react, pong_with, ReactionResult, stop}
-use Rattle.coap_model.specs.Prelude.{reaction_unless, live_reaction, reject_reason, History, IsHistory, limit_now}
-use Rattle.coap_model.specs.Prelude.{state_now, after, link_of, with_effect, bytes_of, own_csm, free_in, release}
-use Rattle.coap_model.specs.Prelude.{end_reason, StoreValue, response_with_observe, ConfigValues, Observer, is_due}
-use Rattle.coap_model.specs.Prelude.{without_token, entry_for, left_of, first_becomes, Connection, new_side, waiting_on}
-use Rattle.coap_model.specs.Prelude.{settled_once, settled, side_of, World, Step, AcceptedCall, stream_on, world_after}
-use Rattle.coap_model.specs.Prelude.{AreAccepted, size_on, kept_on, unwrap_or, Server}
+use Rattle.coap_model.specs.Prelude.{ApplicationsValue, Option, same_bytes, not, Message, spelling, Reply, Whole}
+use Rattle.coap_model.specs.Prelude.{LimitValues, AreInRange, takes_messages, stop_of, announced, bad_csm_option}
+use Rattle.coap_model.specs.Prelude.{size_unless, csm_size, announcement, size_limit, AllFit, fit, bare_response}
+use Rattle.coap_model.specs.Prelude.{PendingEntryValue, Answer, first_due, ConnectionState, send_as, send, react}
+use Rattle.coap_model.specs.Prelude.{pong_with, ReactionResult, stop, reaction_unless, live_reaction, reject_reason}
+use Rattle.coap_model.specs.Prelude.{History, IsHistory, limit_now, state_now, after, link_of, with_effect, bytes_of}
+use Rattle.coap_model.specs.Prelude.{own_csm, free_in, release, end_reason, StoreValue, response_with_observe}
+use Rattle.coap_model.specs.Prelude.{ConfigValues, Observer, is_due, without_token, entry_for, left_of, first_becomes}
+use Rattle.coap_model.specs.Prelude.{Connection, new_side, settled_once, settled, side_of, World, Step, AcceptedCall}
+use Rattle.coap_model.specs.Prelude.{stream_on, world_after, AreAccepted, size_on, kept_on, unwrap_or, Server}
+use Rattle.coap_model.specs.Prelude.{state_without}
 use Rattle.coap_model.proofs.world.SideLaws.{send_pending, observers_after, observers_settled}
 use Rattle.coap_wire.proofs.StreamSteps.{unfinished_below}
 use Rattle.coap_conn.proofs.LinkLemmas.{announced_more}
 use Rattle.coap_conn.proofs.WaitingLaws.{wait, one_small, limit_within, queued_waits, kept_small_by}
-use Rattle.coap_conn.proofs.SmallLemmas.{first_csm_bytes_small, release_bytes_small}
+use Rattle.coap_conn.proofs.SmallLemmas.{release_bytes_small}
 use Rattle.coap_conn.proofs.PendingLaws.{due_nothing, due_fewer, pending_few}
 use Rattle.coap_conn.proofs.HistoryLaws.{reaction_fits, sent_fits, stopped_fits, new_fits, released_fits}
 use Rattle.coap_model.proofs.world.WalkLaws.{there_or_not, there_where, settled_keeps, observers_kept, release_fits}
 use Rattle.coap_model.proofs.world.WalkLaws.{room_in, sent, without_first, Hears, Replies, Between, once_between}
 use Rattle.coap_model.proofs.world.WalkLaws.{after_between, faulted_between, written_between, ended_between}
 use Rattle.coap_model.proofs.world.WalkLaws.{released_between, announced_between, responded_between}
-use Rattle.coap_model.proofs.world.AcrossLaws.{KeepsAll, keeping_composes, kept_history, HoldsOf, step_across}
-use Rattle.coap_model.proofs.world.AcrossLaws.{opened_there}
-use Rattle.coap_model.proofs.world.GoingOn.{GoesOn, all_go_on, call_goes_on, side_is, Keeps, kept_after}
+use Rattle.coap_model.proofs.world.AcrossLaws.{KeepsAll, keeping_composes, HoldsOf, step_across, opened_there}
+use Rattle.coap_model.proofs.world.GoingOn.{GoesOn, all_go_on, call_goes_on, Keeps}
 use Rattle.coap_conn.proofs.ReactionLaws.{abort_one, react_so}
 use Rattle.coap_model.proofs.world.ReachedLaws.{accepted_is, IsReached}
 use Rattle.coap_model.proofs.world.StepLaws.{rest_unfinished, size_grows}
 use Rattle.coap_model.proofs.world.EntryLemmas.{all_append}
 use Rattle.coap_model.proofs.world.RespondedLaws.{request_fewer, responded_small, sent_is}
 use Rattle.coap_conn.proofs.ApplicationLaws.{responded_fits}
-use Rattle.coap_model.specs.Prelude.{state_without}
 use Rattle.coap_model.proofs.OptionLemmas.{same_there}
 use Rattle.coap_wire.proofs.NumberLaws.{none_or_some}
 use Rattle.coap_conn.specs.Calls as call
@@ -64,7 +62,7 @@ left_one : (store : StoreValue) (now : ℕ) (o : Observer) (stays : Bool) → le
 left_one store now o true = omega arith
 left_one store now o false = omega arith
 
-few_keeps : (limits : LimitValues) (a : Option ApplicationsValue)
+pub few_keeps : (limits : LimitValues) (a : Option ApplicationsValue)
     → Keeps limits a (λ s. length s.observers ≤ limits.observers)
 few_keeps limits a =
     let Few : List Observer → Type 0 = λ os. length os ≤ limits.observers in
@@ -91,14 +89,9 @@ few_keeps limits a =
           ));
     }
 
--- The observers do not exceed their limit.
-pub observers_within : (c : ConfigValues) (es : List AcceptedCall) (id : ℕ) (s : Connection)
-    → side_of id (world_after c es).sides ≡ Some s → length s.observers ≤ c.limits.observers
-observers_within c = kept_after c (λ t. length t.observers ≤ c.limits.observers) (few_keeps c.limits c.applications)
-
 -- ---- pending entries
 
-abbrev HoldsFew : History → Type 0
+abbrev pub HoldsFew : History → Type 0
 HoldsFew h = length h.pending ≤ h.limits.pending
 
 -- Sending a message adds no entry.
@@ -112,7 +105,7 @@ taken_few h now few = there_or_not (first_due now h.pending) (λ due. HoldsFew (
     (λ e is. omega (arith, few, due_fewer now h.pending e is))
 
 -- An entry is added only if the list has room, and a stop removes all.
-all_hold_few : KeepsAll (λ h k. HoldsFew h → HoldsFew k)
+pub all_hold_few : KeepsAll (λ h k. HoldsFew h → HoldsFew k)
 all_hold_few = record {
   composes = keeping_composes HoldsFew;
   takes_input = λ h m takes room few. pending_few (state_now h) m few;
@@ -142,13 +135,6 @@ all_hold_few = record {
   writes = λ h n within few. few;
 }
 
--- The pending entries do not exceed their limit.
-pub pending_within : (c : ConfigValues) (es : List AcceptedCall) (id : ℕ) (s : Connection)
-    → side_of id (world_after c es).sides ≡ Some s → length s.history.pending ≤ c.limits.pending
-pending_within c es id s there =
-    let few : HoldsFew s.history = kept_history c HoldsFew (omega arith) all_hold_few es id s there in
-    omega (arith, few, ap (λ (l : LimitValues). l.pending) (side_is c es id s there).same_limits)
-
 -- ---- queued bytes
 
 sent_one : (s : ConnectionState) (m less : Message) (r : Reply) → length (send_as s m less r).queued ≤ 1
@@ -166,9 +152,9 @@ message_one s m = react_so s m (λ e. length e.queued ≤ 1) (record {
 })
 
 -- The queued bytes do not exceed the size of the queue.
-record Waits (h : History) : Type 0 where
-  is : IsHistory h
-  few : wait h ≤ h.limits.queue
+pub record Waits (h : History) : Type 0 where
+  pub is : IsHistory h
+  pub few : wait h ≤ h.limits.queue
 
 waits_by : (h k : History) → GoesOn h k → (Waits h → wait k ≤ h.limits.queue) → Waits h → Waits k
 waits_by h k goes less w =
@@ -188,7 +174,7 @@ added_waits h k ms goes same room one each = waits_by h k goes (λ w.
       leb-true h.limits.max_sent (free_in (link_of h)) room,
     ))
 
-all_wait : KeepsAll (λ h k. Waits h → Waits k)
+pub all_wait : KeepsAll (λ h k. Waits h → Waits k)
 all_wait = record {
   composes = keeping_composes Waits;
   takes_input = λ h m takes room. added_waits h _ _ (all_go_on.takes_input h m takes room) refl room
@@ -240,15 +226,6 @@ all_wait = record {
         length-drop (h.written + n) (bytes_of h.queued),
       ));
 }
-
-pub waiting_within : (c : ConfigValues) (es : List AcceptedCall) (id : ℕ) (s : Connection) → AreInRange c.limits
-    → side_of id (world_after c es).sides ≡ Some s → length (waiting_on s) ≤ c.limits.queue
-waiting_within c es id s ranges there =
-    let new : length (waiting_on (new_side c.limits)) ≤ c.limits.queue =
-    omega (arith, first_csm_bytes_small c.limits.max_message, ranges.sent_low, ranges.queue_low) in
-    let waits : Waits s.history =
-    kept_history c Waits (record { is = omega arith; few = new }) all_wait es id s there in
-    omega (arith, waits.few, ap (λ (l : LimitValues). l.queue) (side_is c es id s there).same_limits)
 
 -- ---- bytes kept of an unfinished frame
 

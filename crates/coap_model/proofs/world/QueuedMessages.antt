@@ -1,22 +1,18 @@
 -- The last response with a token: messages queued after it do not change it, unless one is a response with that token.
 -- And the messages that each effect on a connection queues.
 use Rattle.std.proofs.Common.{◌≡◌, ℕ, true, false, cond, List, [], ◌∷◌, ◌++◌, Some, refl, sym, ap, ◌∙◌, arith, find}
-use Rattle.coap_model.specs.Prelude.{AllByRecursion, Message, Phase, Reply, Server}
-use Rattle.coap_model.specs.Prelude.{takes_messages, answers, is_open}
-use Rattle.coap_model.specs.Prelude.{fit, bare_response, PendingEntryValue}
-use Rattle.coap_model.specs.Prelude.{first_due, ConnectionState}
-use Rattle.coap_model.specs.Prelude.{send_as, react}
-use Rattle.coap_model.specs.Prelude.{due_effect}
-use Rattle.coap_model.specs.Prelude.{reject_reason, History}
-use Rattle.coap_model.specs.Prelude.{limit_now, state_now, after, own_csm, release, state_due, is_whole}
-use Rattle.coap_model.specs.Prelude.{responds, last_response}
+use Rattle.coap_model.specs.Prelude.{AllByRecursion, Message, Phase, Reply, Server, takes_messages, answers, is_open}
+use Rattle.coap_model.specs.Prelude.{fit, bare_response, PendingEntryValue, first_due, ConnectionState, send_as, react}
+use Rattle.coap_model.specs.Prelude.{due_effect, reject_reason, History, limit_now, state_now, after, own_csm, release}
+use Rattle.coap_model.specs.Prelude.{state_due, is_whole, responds, last_response, Connection}
 use Rattle.std.proofs.lemmas.List.{append-nil, append_assoc, reverse-append}
 use Rattle.coap_conn.specs.declared.phase.Phase.TheVariants as phase
 use Rattle.coap_conn.specs.declared.reason.Reason.TheVariants as reason
 use Rattle.coap_conn.specs.Calls as call
 use Rattle.coap_conn.proofs.ReactionLaws.{IsNoResponse, IsPlain, abort_plain, react_so}
 use Rattle.coap_model.proofs.world.EntryLemmas.{all_to}
-use Rattle.coap_model.proofs.world.WalkLaws.{if_between, announcing, Rejects, Ends, Releases}
+use Rattle.coap_model.proofs.world.WalkLaws.{if_between, announcing, Rejects, Ends, Releases, PlainCall, plain_between}
+use Rattle.coap_model.proofs.world.WalkLaws.{Between}
 
 -- ---- the last response
 
@@ -100,6 +96,11 @@ announcing_queues h size = queues_these IsPlain h _ (own_csm size ∷ []) refl r
 -- A write queues nothing.
 pub written_queues : (P : Message → Type 0) (h : History) (n : ℕ) → Queues P h (after h (call.Written n))
 written_queues P h n = queues_these P h _ [] (sym (append-nil h.queued)) refl tt
+
+pub plain_queues : (s t : Connection) → PlainCall s t → Between (Queues IsPlain) s t
+plain_queues =
+    plain_between (Queues IsPlain) (queues_none IsPlain) reject_queues (λ h n within. written_queues IsPlain h n)
+    end_queues release_queues (λ h size opened room fit. announcing_queues h size)
 
 -- Of the entries that are due, only a Pong is queued here.
 pub due_queues : (h : History) (now : ℕ) → Queues IsNoResponse h (after h (call.Due now))

@@ -1,40 +1,34 @@
 -- Properties of the world after any accepted events: each id is used once, and the stream of a connection that accepts
 -- messages has no error.
-use Rattle.std.proofs.Common.{◌≡◌, ℕ, ◌+◌, ◌<◌, ◌≤◌, Bool, true, false, cond, List, [], ◌∷◌, length, map, Option, Some}
-use Rattle.std.proofs.Common.{None, refl, sym, ap, subst, ◌∙◌, arith, is_none, ◌++◌, take, Result, Ok, Err, inl, inr}
-use Rattle.std.proofs.Common.{◌⊎◌, nat_lt, not, ◌==◌, if◌then◌else◌}
+use Rattle.std.proofs.Common.{◌≡◌, ℕ, ◌+◌, ◌<◌, ◌≤◌, true, cond, List, [], ◌∷◌, length, map, Option, Some, None, refl}
+use Rattle.std.proofs.Common.{sym, ap, subst, ◌∙◌, arith, is_none, ◌++◌, take, Result, Ok, Err, inl, inr, not, ◌==◌}
 use Rattle.coap_model.specs.Prelude.{AllByRecursion, StreamFault, Stream, frame_then, LimitValues, takes_messages}
 use Rattle.coap_model.specs.Prelude.{put_refusal, ConfigValues, Connection, new_side, handles, side_after, side_faulted}
 use Rattle.coap_model.specs.Prelude.{side_written, side_ended, side_released, side_announced, side_responded, settled}
-use Rattle.coap_model.specs.Prelude.{has_room}
-use Rattle.coap_model.specs.Prelude.{may_raise, ConnectionEntry, World, Step, new_world, side_of, on_side, ticks, acted}
-use Rattle.coap_model.specs.Prelude.{settled_place, AcceptedCall, steps_of, world_after, taken_in, size_on, stream_on}
-use Rattle.coap_model.specs.Prelude.{spelled_on, steps_by, takes, IfSide, IsAccepted, AreAccepted, Message}
-use Rattle.coap_model.specs.Prelude.{message_of, FormatFault, FrameEventValue, AFrame, AFault, History, link_of}
-use Rattle.coap_model.specs.Prelude.{may_announce, StoreValue, put_in, removed_in}
+use Rattle.coap_model.specs.Prelude.{has_room, may_raise, ConnectionEntry, World, Step, side_of, ticks, acted}
+use Rattle.coap_model.specs.Prelude.{AcceptedCall, world_after, taken_in, size_on, stream_on, spelled_on, steps_by}
+use Rattle.coap_model.specs.Prelude.{takes, IfSide, IsAccepted, AreAccepted, Message, message_of, FormatFault}
+use Rattle.coap_model.specs.Prelude.{FrameEventValue, AFrame, AFault, link_of, may_announce, StoreValue, settled_once}
 use Rattle.std.proofs.lemmas.List.Sums.{length-filter, count_by-le-length}
 use Rattle.std.proofs.lemmas.List.{length-append, length-map, nil_from_length}
 use Rattle.std.proofs.lemmas.Bool.Decides.{nat_tests}
-use Rattle.std.proofs.lemmas.Bool.{cases_Bool, cases_eq, cond_both, and_parts}
-use Rattle.coap_model.specs.world.World.{changed_at}
+use Rattle.std.proofs.lemmas.Bool.{cases_Bool, cases_eq, cond_both, and_parts, both_ways}
 use Rattle.coap_model.specs.world.Events.{front_of}
 use Rattle.coap_model.proofs.world.PlaceLaws.{but, changed_id, AreDistinct, distinct_mapped, distinct_more}
 use Rattle.coap_model.proofs.world.PlaceLaws.{distinct_but, of_number, nobody}
 use Rattle.coap_model.proofs.world.EntryLemmas.{all_to, all_append, all_filter, all_map}
 use Rattle.coap_model.proofs.world.AcrossLaws.{opened_world, faulted_there, settles_there, HoldsOf, step_across}
-use Rattle.coap_model.proofs.world.AcrossLaws.{all_across}
+use Rattle.coap_model.proofs.world.AcrossLaws.{all_across, world_keeps}
 use Rattle.coap_model.proofs.world.GoingOn.{settled_goes_on, faulted_stops, all_go_on, was_live, GoesOn}
 use Rattle.coap_model.proofs.OptionLemmas.{same_there}
 use Rattle.coap_frame.specs.Framing.{Nothing}
 use Rattle.coap_frame.proofs.FrontLaws.{added_by, front_whole}
 use Rattle.coap_conn.proofs.AskingLaws.{none_where}
-use Rattle.coap_model.proofs.world.StepLaws.{steps_keep, world_first, world_same, world_step, by_events, stream_same}
-use Rattle.coap_model.proofs.world.StepLaws.{size_then, size_stays, announced_here, announced_elsewhere}
-use Rattle.coap_model.proofs.world.StepLaws.{nothing_spelled, first_spelled, spelled_same, taken_elsewhere}
-use Rattle.coap_model.proofs.world.StepLaws.{stream_elsewhere, rest_unfinished}
+use Rattle.coap_model.proofs.world.StepLaws.{world_first, world_same, world_step, by_events, stream_same, size_then}
+use Rattle.coap_model.proofs.world.StepLaws.{size_stays, announced_elsewhere, nothing_spelled, first_spelled}
+use Rattle.coap_model.proofs.world.StepLaws.{spelled_same, taken_elsewhere, rest_unfinished}
 use Rattle.coap_model.proofs.world.TookLaws.{no_bytes_stream, no_bytes_steps, Adds, adds_frame}
-use Rattle.coap_model.proofs.world.WalkLaws.{responded_between, Between, once_between, settled_between, after_between}
-use Rattle.coap_model.proofs.world.WalkLaws.{faulted_between, written_between, ended_between, released_between}
+use Rattle.coap_model.proofs.world.WalkLaws.{there_or_not, settled_keeps, Between}
 use Rattle.coap_wire.proofs.NumberLaws.{none_or_some}
 use Rattle.coap_model.specs.world.World as world
 use Rattle.coap_model.specs.world.Events as event
@@ -51,43 +45,30 @@ pub record KeptByStep (P : World → Type 0) (limits : LimitValues) (w : World) 
   pub dropped : (id : ℕ) → P (record w { sides = but id w.sides })
 
 module _ (P : World → Type 0) (limits : LimitValues) (w : World) (holds : P w) where
-  one_changed : (st : Step) (id : ℕ) (f : Connection → Connection) → KeptByStep P limits w st → P (on_side id f w)
-  one_changed st id f keeps = keeps.changed w (changed_at id f) (changed_id id f) holds
-
   acted_keeps : (st : Step) → KeptByStep P limits w st → P (acted limits w st)
   unfolding acted
   acted_keeps (world.Opened id) keeps =
-      cond_both (is_none (side_of id w.sides)) (opened_world limits w id) w P
+      cond_both (is_none (side_of id w.sides)) _ w P
       (λ free. keeps.opened id refl (none_where (side_of id w.sides) free)) (λ given. holds)
-  acted_keeps (world.Handled id m) keeps =
-      keeps.reported _ _ w.now (one_changed _ id (λ s. side_after w.store w.now s m) keeps)
-  acted_keeps (world.Faulted id fault) keeps = one_changed _ id (λ s. side_faulted s fault) keeps
-  acted_keeps (world.Written id n) keeps = one_changed _ id (λ s. side_written s n) keeps
+  acted_keeps (world.Handled id m) keeps = keeps.reported _ _ w.now (keeps.changed w _ (changed_id id _) holds)
   acted_keeps (world.Ticked now) keeps =
-      cond_both (ticks w.now now) (record w { now = now }) w P (λ later. keeps.reported w w.store now holds)
-      (λ past. holds)
+      cond_both (ticks w.now now) _ w P (λ later. keeps.reported w w.store now holds) (λ past. holds)
   acted_keeps (world.Stored path format bytes) keeps =
-      let store : StoreValue = put_in w.store path format bytes in
-      cond_both (is_none (put_refusal w.store path bytes)) (record w { store = store }) w P
-      (λ free. keeps.reported w store w.now holds) (λ refused. holds)
-  acted_keeps (world.Removed path) keeps = keeps.reported w (removed_in w.store path) w.now holds
-  acted_keeps (world.Ended id cut) keeps = one_changed _ id (λ s. side_ended s cut) keeps
-  acted_keeps (world.Released id) keeps = one_changed _ id side_released keeps
-  acted_keeps (world.Announced id size) keeps = one_changed _ id (λ s. side_announced s size) keeps
-  acted_keeps (world.Responded id m) keeps = one_changed _ id (λ s. side_responded s m) keeps
+      cond_both (is_none (put_refusal w.store path bytes)) _ w P (λ free. keeps.reported w _ w.now holds)
+      (λ refused. holds)
+  acted_keeps (world.Removed path) keeps = keeps.reported w _ w.now holds
   acted_keeps (world.Dropped id) keeps = keeps.dropped id
+  acted_keeps _ keeps = keeps.changed w _ (changed_id _ _) holds
 
   pub step_keeps : (st : Step) → KeptByStep P limits w st → P (world.step limits w st)
   unfolding world.step
-  step_keeps st keeps =
-      keeps.changed (acted limits w st) (settled_place (acted limits w st).store (acted limits w st).now)
-      (λ p. refl) (acted_keeps st keeps)
+  step_keeps st keeps = keeps.changed (acted limits w st) _ (λ p. refl) (acted_keeps st keeps)
 
 -- The ids of connections are distinct.
 pub step_distinct : (limits : LimitValues) (w : World) (s : Step) → AreDistinct w.sides
     → AreDistinct (world.step limits w s).sides
 step_distinct limits w s distinct = step_keeps (λ v. AreDistinct v.sides) limits w distinct s (record {
-  opened = λ id is free. distinct_more w.sides (record { id = id; side = new_side limits }) distinct free;
+  opened = λ id is free. distinct_more w.sides _ distinct free;
   changed = λ v g keeps still. distinct_mapped g keeps v.sides still;
   reported = λ v store now still. still;
   dropped = λ id. distinct_but id w.sides distinct;
@@ -95,10 +76,7 @@ step_distinct limits w s distinct = step_keeps (λ v. AreDistinct v.sides) limit
 
 -- The same after any events, accepted or not.
 pub events_distinct : (c : ConfigValues) (es : List AcceptedCall) → AreDistinct (world_after c es).sides
-unfolding world_after
-events_distinct c es =
-    steps_keep (λ w. AreDistinct w.sides) c.limits (step_distinct c.limits) (new_world c)
-    (steps_of c.limits.max_message es) tt
+events_distinct c = world_keeps c (λ w. AreDistinct w.sides) (step_distinct c.limits) tt
 
 -- ---- after steps that use each id once
 
@@ -108,214 +86,222 @@ OpensNext c w (world.Opened id) = (id ≡ w.ids + 1) × (length w.sides < c.conn
 OpensNext c w other = Unit {0}
 
 -- The id was assigned, if `last` is the id assigned last.
-pub record IsGivenNumber (c : ConfigValues) (last id : ℕ) : Type 0 where
-  pub above : c.starts.ids < id
+pub record IsGivenNumber (last id : ℕ) : Type 0 where
   pub within : id ≤ last
 
 -- Every id was assigned, and the connection limit is not exceeded.
 pub record IsNumbered (c : ConfigValues) (w : World) : Type 0 where
   pub low : c.starts.ids ≤ w.ids
-  pub each : AllByRecursion (λ p. IsGivenNumber c w.ids p.id) w.sides
+  pub each : AllByRecursion (λ p. IsGivenNumber w.ids p.id) w.sides
   pub few : length w.sides ≤ c.connections
 
--- The id of an existing connection was assigned.
-pub number_given : (c : ConfigValues) (w : World) (id : ℕ) (s : Connection) → IsNumbered c w
-    → side_of id w.sides ≡ Some s → IsGivenNumber c w.ids id
-number_given c w id s is e = of_number (λ n t. IsGivenNumber c w.ids n) id s w.sides is.each e
+module _ (c : ConfigValues) (w : World) where
+  -- The id of an existing connection was assigned.
+  pub number_given : (id : ℕ) (s : Connection) → IsNumbered c w → side_of id w.sides ≡ Some s
+      → IsGivenNumber w.ids id
+  number_given id s is = of_number (λ n t. IsGivenNumber w.ids n) id s w.sides is.each
 
--- The next id is free, so it opens a connection.
-free_by : (c : ConfigValues) (w : World) (id : ℕ) (there : Option Connection) → side_of id w.sides ≡ there
-    → IsNumbered c w → w.ids < id → side_of id w.sides ≡ None
-free_by c w id None e is h = e
-free_by c w id (Some s) e is h = absurd (omega (arith, h, (number_given c w id s is e).within))
+  -- The next id is free, so it opens a connection.
+  pub opens : (id : ℕ) → IsNumbered c w → id ≡ w.ids + 1
+      → acted c.limits w (world.Opened id) ≡ opened_world c.limits w id
+  unfolding acted
+  opens id is next =
+      let opened = opened_world c.limits w id in
+      there_or_not (side_of id w.sides) (λ there. cond (is_none there) opened w ≡ opened) (λ free. refl)
+      (λ s there. absurd (omega (arith, next, (number_given id s is there).within)))
 
-pub opens : (c : ConfigValues) (w : World) (id : ℕ) → IsNumbered c w → id ≡ w.ids + 1
-    → acted c.limits w (world.Opened id) ≡ opened_world c.limits w id
-unfolding acted
-opens c w id is next = rw (free_by c w id (side_of id w.sides) refl is (omega (arith, next))) refl
+  -- The last id never decreases.
+  pub ids_grow : (s : Step) → OpensNext c w s → w.ids ≤ (world.step c.limits w s).ids
+  ids_grow s next = step_keeps (λ v. w.ids ≤ v.ids) c.limits w (omega arith) s (record {
+    opened = λ id opened free. omega (arith, (subst (OpensNext c w) opened next).0);
+    changed = λ v g keeps grown. grown;
+    reported = λ v store now grown. grown;
+    dropped = λ id. omega arith;
+  })
 
-step_numbered : (c : ConfigValues) (w : World) (s : Step) → IsNumbered c w → OpensNext c w s
-    → IsNumbered c (world.step c.limits w s)
-step_numbered c w s is next = step_keeps (IsNumbered c) c.limits w is s (record {
-  opened = λ id opened free.
-      let given : (id ≡ w.ids + 1) × (length w.sides < c.connections) = subst (OpensNext c w) opened next in
-      let new : ConnectionEntry = record { id = id; side = new_side c.limits } in
-      record {
-        low = omega (arith, is.low, given.0);
-        each = all_append (λ p. IsGivenNumber c id p.id) w.sides (new ∷ [])
-            (all_to (λ p. IsGivenNumber c w.ids p.id) (λ p. IsGivenNumber c id p.id)
-            (λ p before. record { above = before.above; within = omega (arith, before.within, given.0) }) w.sides
-            is.each)
-            (record { above = omega (arith, is.low, given.0); within = omega arith }, tt);
-        few = omega (arith, given.1, length-append w.sides (new ∷ []));
-      };
-  changed = λ v g keeps still. record {
-    low = still.low;
-    each =
-        all_map (λ p. IsGivenNumber c v.ids p.id) (λ p. IsGivenNumber c v.ids p.id) g
-        (λ p given. rw (keeps p) given) v.sides still.each;
-    few = omega (arith, still.few, length-map v.sides g);
-  };
-  reported = λ v store now still. record { low = still.low; each = still.each; few = still.few };
-  dropped = λ id. let others : ConnectionEntry → Bool = λ (p : ConnectionEntry). not (p.id == id) in record {
-    low = is.low;
-    each = all_filter (λ p. IsGivenNumber c w.ids p.id) others w.sides is.each;
-    few = omega (arith, is.few, length-filter others w.sides, count_by-le-length others w.sides);
-  };
-})
-
--- The last id never decreases.
-pub ids_grow : (c : ConfigValues) (w : World) (s : Step) → OpensNext c w s → w.ids ≤ (world.step c.limits w s).ids
-ids_grow c w s next = step_keeps (λ v. w.ids ≤ v.ids) c.limits w (omega arith) s (record {
-  opened = λ id opened free. let given : (id ≡ w.ids + 1) × (length w.sides < c.connections) =
-      subst (OpensNext c w) opened next in omega (arith, given.0);
-  changed = λ v g keeps grown. grown;
-  reported = λ v store now grown. grown;
-  dropped = λ id. omega arith;
-})
+  step_numbered : (s : Step) → IsNumbered c w → OpensNext c w s → IsNumbered c (world.step c.limits w s)
+  step_numbered s is next = step_keeps (IsNumbered c) c.limits w is s (record {
+    opened = λ id opened free.
+        let given = subst (OpensNext c w) opened next in
+        let new : ConnectionEntry = record { id = id; side = new_side c.limits } in
+        record {
+          low = omega (arith, is.low, given.0);
+          each = all_append _ w.sides (new ∷ []) (all_to (λ p. IsGivenNumber w.ids p.id) _
+              (λ p before. record { within = omega (arith, before.within, given.0) }) w.sides is.each)
+              (record { within = omega arith }, tt);
+          few = omega (arith, given.1, length-append w.sides (new ∷ []));
+        };
+    changed = λ v g keeps still. record {
+      low = still.low;
+      each = all_map (λ p. IsGivenNumber v.ids p.id) _ g (λ p given. rw (keeps p) given) v.sides still.each;
+      few = omega (arith, still.few, length-map v.sides g);
+    };
+    reported = λ v store now still. record { low = still.low; each = still.each; few = still.few };
+    dropped = λ id. let others = λ (p : ConnectionEntry). not (p.id == id) in record {
+      low = is.low;
+      each = all_filter _ others w.sides is.each;
+      few = omega (arith, is.few, length-filter others w.sides, count_by-le-length others w.sides);
+    };
+  })
 
 -- ---- worlds after accepted events
 
--- If a connection accepts messages, its stream has no error.
-abbrev pub HaveNoFault : ConfigValues → List AcceptedCall → World → Type 0
-HaveNoFault c es w =
-    (id : ℕ) (s : Connection) → side_of id w.sides ≡ Some s → takes_messages s.history.phase ≡ true
-    → (stream_on c.limits.max_message id es).fault ≡ None
-
--- A connection that is not yet opened has an empty stream.
-abbrev pub IsSilent : ConfigValues → List AcceptedCall → World → Type 0
-IsSilent c es w = (id : ℕ) → w.ids < id → spelled_on c.limits.max_message id es ≡ nothing_spelled c.limits.max_message
-
--- Each connection accepts messages of the size that was announced last on it.
-abbrev pub HaveSizes : ConfigValues → List AcceptedCall → World → Type 0
-HaveSizes c es w =
-    (id : ℕ) (s : Connection) → side_of id w.sides ≡ Some s → s.history.own_max ≡ size_on c.limits.max_message id es
-
--- The world after accepted events has these properties.
+-- The world after accepted events has these properties:
+-- - a connection that is not yet opened has an empty stream;
+-- - if a connection accepts messages, its stream has no error;
+-- - it accepts messages of the size that was announced last on it.
 pub record IsReached (c : ConfigValues) (es : List AcceptedCall) : Type 0 where
   pub numbered : IsNumbered c (world_after c es)
-  pub silent : IsSilent c es (world_after c es)
-  pub goes_on : HaveNoFault c es (world_after c es)
-  pub sizes : HaveSizes c es (world_after c es)
-
--- ---- at first
+  pub silent : (id : ℕ) → (world_after c es).ids < id
+      → spelled_on c.limits.max_message id es ≡ nothing_spelled c.limits.max_message
+  pub goes_on : (id : ℕ) (s : Connection) → side_of id (world_after c es).sides ≡ Some s
+      → takes_messages s.history.phase ≡ true → (stream_on c.limits.max_message id es).fault ≡ None
+  pub sizes : (id : ℕ) (s : Connection) → side_of id (world_after c es).sides ≡ Some s
+      → s.history.own_max ≡ size_on c.limits.max_message id es
 
 first_reached : (c : ConfigValues) → IsReached c []
 first_reached c = record {
   numbered = rw (world_first c) (record { low = omega arith; each = tt; few = omega arith });
   silent = λ id h. first_spelled c.limits.max_message id;
-  goes_on = λ id s e takes. ap (λ (s : Stream × ℕ). s.0.fault) (first_spelled c.limits.max_message id);
+  goes_on = λ id s e takes. ap (λ s. s.0.fault) (first_spelled c.limits.max_message id);
   sizes = rw (world_first c) (λ id s e. absurd (none_or_some s (sym (nobody id) ∙ e)));
 }
 
 -- ---- a step
 
--- A connection after a step existed before it, or its stream is empty.
-was_before : (R : Connection → Connection → Type 0) (c : ConfigValues) (es : List AcceptedCall) (st : Step) (id : ℕ)
-    (t : Connection) → IsReached c es → OpensNext c (world_after c es) st → HoldsOf R (world_after c es) st id
-    → side_of id (world.step c.limits (world_after c es) st).sides ≡ Some t
-    → ((s : Connection) × (side_of id (world_after c es).sides ≡ Some s) × R s t)
-    ⊎ ((spelled_on c.limits.max_message id es ≡ nothing_spelled c.limits.max_message) × R (new_side c.limits) t)
-was_before R c es st id t before next holds there =
-    let w : World = world_after c es in
-    elim (step_across R c.limits w st id holds t there) [
-      | inl old ↦ inl old
-      | inr new ↦
-          let opened : (id ≡ w.ids + 1) × (length w.sides < c.connections) = subst (OpensNext c w) new.1 next in
-          inr (before.silent id (omega (arith, opened.0)), new.2)
-    ]
-
--- If a connection accepts messages after a step, its stream had no error before.
-step_live : (c : ConfigValues) (es : List AcceptedCall) (s : Step) (id : ℕ) (t : Connection) → IsReached c es
-    → OpensNext c (world_after c es) s → side_of id (world.step c.limits (world_after c es) s).sides ≡ Some t
-    → takes_messages t.history.phase ≡ true → (stream_on c.limits.max_message id es).fault ≡ None
-step_live c es s id t before next there takes =
-    elim (was_before (Between GoesOn) c es s id t before next
-    (all_across GoesOn all_go_on (world_after c es) s id) there) [
-      | inl old ↦ before.goes_on id old.0 old.1 (was_live old.0.history t.history old.2 takes)
-      | inr new ↦ ap (λ (s : Stream × ℕ). s.0.fault) new.0
-    ]
-
--- ---- sizes
-
--- Only an announcement changes the size.
-abbrev SameSize : History → History → Type 0
-SameSize h k = k.own_max ≡ h.own_max
-
-settled_size : (store : StoreValue) (now : ℕ) (s : Connection) → Between SameSize s (settled store now s)
-settled_size =
-    settled_between SameSize (record { same = λ h. refl; then = λ h k g one two. two ∙ one })
-    (λ h token observe r does room. refl) (λ h now. refl) (λ h now token due room. refl)
-
 -- The step is no announcement of this connection.
 abbrev IsUnannounced : Step → ℕ → Type 0
 IsUnannounced st id = (size : ℕ) → st ≡ world.Announced id size → ⊥
 
-size_kept : (w : World) (st : Step) (id : ℕ) → IsUnannounced st id → HoldsOf (Between SameSize) w st id
-size_kept w st id none = record {
-  same = λ s. refl;
-  handled = λ m is s.
-      after_between SameSize SameSize (λ h. refl) (λ h k g one two. two ∙ one) (λ h n takes room. refl) (λ h. refl)
-      (λ h token observe r does room. refl) (λ h by token moment opened may. refl) w.store w.now s m;
-  faulted = λ fault is s. faulted_between SameSize (λ h. refl) (λ h r takes room. refl) s fault;
-  written = written_between SameSize (λ h. refl) (λ h n within. refl);
-  ended = ended_between SameSize (λ h. refl) (λ h cut takes. refl);
-  released = released_between SameSize (λ h. refl) (λ h opened may. refl);
-  announced = λ size is. absurd (none size is);
-  responded = responded_between SameSize (λ h. refl) (λ h m answering none. refl);
-  reported = λ store now s t is. (once_between SameSize SameSize (λ h. refl) (λ h k g one two. two ∙ one)
-      (λ h token observe r does room. refl) (λ h now. refl) (λ h now token due room. refl)) store now t ∙ is;
+-- A connection that accepts messages did so before, and only an announcement changes the size.
+abbrev Follows : Step → ℕ → Connection → Connection → Type 0
+Follows st id s t =
+    (takes_messages t.history.phase ≡ true → takes_messages s.history.phase ≡ true)
+    × (IsUnannounced st id → t.history.own_max ≡ s.history.own_max)
+
+once_sized : (store : StoreValue) (now : ℕ) (s : Connection)
+    → (settled_once store now s).history.own_max ≡ s.history.own_max
+unfolding settled_once
+once_sized store now s = grind arith
+
+settled_sized : (store : StoreValue) (now : ℕ) (s : Connection)
+    → (settled store now s).history.own_max ≡ s.history.own_max
+settled_sized store now s =
+    settled_keeps (λ t. t.history.own_max ≡ s.history.own_max) store now (λ t is. once_sized store now t ∙ is) s refl
+
+all_on : (w : World) (st : Step) (id : ℕ) → HoldsOf (Between GoesOn) w st id
+all_on = all_across GoesOn all_go_on
+
+follows_of : (w : World) (st : Step) (id : ℕ) → HoldsOf (Follows st id) w st id
+unfolding side_after side_faulted side_written side_ended side_released side_announced side_responded
+follows_of w st id = record {
+  same = λ s. (λ takes. takes, λ none. refl);
+  handled = λ m is s. (was_live _ _ ((all_on w st id).handled m is s), λ _. grind arith);
+  faulted = λ fault is s. (was_live _ _ ((all_on w st id).faulted fault is s), λ _. grind arith);
+  written = λ s n. (was_live _ _ ((all_on w st id).written s n), λ _. grind arith);
+  ended = λ s cut. (was_live _ _ ((all_on w st id).ended s cut), λ _. grind arith);
+  released = λ s. (was_live _ _ ((all_on w st id).released s), λ _. grind arith);
+  announced = λ size is s. (was_live _ _ ((all_on w st id).announced size is s), λ none. absurd (none size is));
+  responded = λ s m. (was_live _ _ ((all_on w st id).responded s m), λ _. grind arith);
+  reported = λ store now s t is. (
+    λ takes. is.0 (was_live _ _ ((all_on w st id).reported store now t t ((all_on w st id).same t)) takes),
+    λ none. once_sized store now t ∙ is.1 none,
+  );
 }
 
-step_sized : (c : ConfigValues) (es : List AcceptedCall) (st : Step) (id : ℕ) (t : Connection) → IsReached c es
-    → OpensNext c (world_after c es) st → IsUnannounced st id
-    → side_of id (world.step c.limits (world_after c es) st).sides ≡ Some t
-    → t.history.own_max ≡ size_on c.limits.max_message id es
-step_sized c es st id t before next none there =
-    elim (was_before (Between SameSize) c es st id t before next (size_kept (world_after c es) st id none) there) [
-      | inl old ↦ old.2 ∙ before.sizes id old.0 old.1
-      | inr new ↦ new.1 ∙ sym (ap (λ (s : Stream × ℕ). s.1) new.0)
-    ]
+-- The connection agrees with its stream and with the size announced last.
+abbrev Matches : Stream × ℕ → Connection → Type 0
+Matches spelled t =
+    (takes_messages t.history.phase ≡ true → spelled.0.fault ≡ None) × (t.history.own_max ≡ spelled.1)
 
--- ---- an event that makes one step
+module _ (c : ConfigValues) (es : List AcceptedCall) (before : IsReached c es) where
+  abbrev w : World
+  w = world_after c es
 
--- An event that adds no bytes to connections not yet opened, and w is the world after it.
-reached_more : (c : ConfigValues) (es : List AcceptedCall) (e : AcceptedCall) (w : World) → IsReached c es
-    → world_after c (es ++ e ∷ []) ≡ w → IsNumbered c w → (world_after c es).ids ≤ w.ids
-    → ((id : ℕ) → (world_after c es).ids < id → (taken_in id e ≡ []) × size_stays id e) → HaveNoFault c (es ++ e ∷ []) w
-    → HaveSizes c (es ++ e ∷ []) w → IsReached c (es ++ e ∷ [])
-reached_more c es e w before is numbered grow none goes_on sizes = record {
-  numbered = rw is numbered;
-  silent = rw is (λ id h.
-      let quiet = none id (omega (arith, h, grow)) in
-      spelled_same c.limits.max_message id es e quiet.0 quiet.1 ∙ before.silent id (omega (arith, h, grow)));
-  goes_on = rw is goes_on;
-  sizes = rw is sizes;
-}
+  abbrev M : ℕ
+  M = c.limits.max_message
 
--- An event without bytes.
-step_reached : (c : ConfigValues) (es : List AcceptedCall) (e : AcceptedCall) (s : Step) → IsReached c es
-    → steps_by c.limits.max_message es e ≡ s ∷ [] → OpensNext c (world_after c es) s → ((id : ℕ) → taken_in id e ≡ [])
-    → ((id : ℕ) → (world_after c es).ids < id → size_stays id e)
-    → HaveSizes c (es ++ e ∷ []) (world.step c.limits (world_after c es) s) → IsReached c (es ++ e ∷ [])
-step_reached c es e s before one next none stays sizes =
-    let w : World = world_after c es in
-    reached_more c es e (world.step c.limits w s) before (world_step c es e s one)
-    (step_numbered c w s before.numbered next) (ids_grow c w s next)
-    (λ id h. (none id, stays id h))
-    (λ id t there takes. ap (λ (u : Stream). u.fault) (stream_same c.limits.max_message id es e (none id))
-    ∙ step_live c es s id t before next there takes)
-    sizes
+  -- A connection after a step agrees with the stream before it, but for an announced size.
+  seen : (st : Step) → OpensNext c w st → (k : ℕ) (t : Connection) → side_of k (world.step c.limits w st).sides ≡ Some t
+      → (takes_messages t.history.phase ≡ true → (stream_on M k es).fault ≡ None)
+      × (IsUnannounced st k → t.history.own_max ≡ size_on M k es)
+  seen st next k t at =
+      elim (step_across (Follows st k) c.limits w st k (follows_of w st k) t at) [
+        | inl old ↦ (
+            λ takes. before.goes_on k old.0 old.1 (old.2.0 takes),
+            λ none. old.2.1 none ∙ before.sizes k old.0 old.1,
+          )
+        | inr new ↦
+            let silent = before.silent k (omega (arith, (subst (OpensNext c w) new.1 next).0)) in
+            (λ takes. ap (λ s. s.0.fault) silent, λ none. new.2.1 none ∙ sym (ap (λ s. s.1) silent))
+      ]
 
--- An event that also announces nothing.
-plain_reached : (c : ConfigValues) (es : List AcceptedCall) (e : AcceptedCall) (s : Step) → IsReached c es
-    → steps_by c.limits.max_message es e ≡ s ∷ [] → OpensNext c (world_after c es) s → ((id : ℕ) → taken_in id e ≡ [])
-    → ((id : ℕ) → size_stays id e) → ((id : ℕ) → IsUnannounced s id) → IsReached c (es ++ e ∷ [])
-plain_reached c es e s before one next none stays quiet =
-    let M : ℕ = c.limits.max_message in
-    step_reached c es e s before one next none (λ id h. stays id)
-    (λ id t there. step_sized c es s id t before next (quiet id) there
-    ∙ sym (size_then M id es e ∙ stays id (size_on M id es)))
+  -- The event e leads to a world v with such connections.
+  abbrev LeadsTo : AcceptedCall → World → Type 0
+  LeadsTo e v =
+      (k : ℕ) (t : Connection) → side_of k v.sides ≡ Some t → Matches (spelled_on M k (es ++ e ∷ [])) t
+
+  reached_by : (e : AcceptedCall) (v : World) → world_after c (es ++ e ∷ []) ≡ v → IsNumbered c v → w.ids ≤ v.ids
+      → ((k : ℕ) → w.ids < k → (taken_in k e ≡ []) × size_stays k e) → LeadsTo e v → IsReached c (es ++ e ∷ [])
+  reached_by e v is numbered grow quiet leads = record {
+    numbered = rw is numbered;
+    silent = rw is (λ k h.
+        let none = quiet k (omega (arith, h, grow)) in
+        spelled_same M k es e none.0 none.1 ∙ before.silent k (omega (arith, h, grow)));
+    goes_on = rw is (λ k t at. (leads k t at).0);
+    sizes = rw is (λ k t at. (leads k t at).1);
+  }
+
+  step_reached : (e : AcceptedCall) (st : Step) → steps_by M es e ≡ st ∷ [] → OpensNext c w st
+      → ((k : ℕ) → w.ids < k → (taken_in k e ≡ []) × size_stays k e) → LeadsTo e (world.step c.limits w st)
+      → IsReached c (es ++ e ∷ [])
+  step_reached e st one next =
+      reached_by e (world.step c.limits w st) (world_step c es e st one) (step_numbered c w st before.numbered next)
+      (ids_grow c w st next)
+
+  -- An event that brings a connection no bytes and no size.
+  quiet_matches : (e : AcceptedCall) (k : ℕ) (t : Connection) → taken_in k e ≡ [] → size_stays k e
+      → Matches (spelled_on M k es) t → Matches (spelled_on M k (es ++ e ∷ [])) t
+  quiet_matches e k t none stays = subst (λ u. Matches u t) (sym (spelled_same M k es e none stays))
+
+  step_matches : (e : AcceptedCall) (st : Step) (k : ℕ) → OpensNext c w st → IsUnannounced st k → taken_in k e ≡ []
+      → size_stays k e → (t : Connection) → side_of k (world.step c.limits w st).sides ≡ Some t
+      → Matches (spelled_on M k (es ++ e ∷ [])) t
+  step_matches e st k next unannounced none stays t at =
+      let old = seen st next k t at in quiet_matches e k t none stays (old.0, old.1 unannounced)
+
+  -- An event that brings no bytes and no size to any connection.
+  plain_reached : (e : AcceptedCall) (st : Step) → steps_by M es e ≡ st ∷ [] → OpensNext c w st
+      → ((k : ℕ) → taken_in k e ≡ []) → ((k : ℕ) → size_stays k e) → ((k : ℕ) → IsUnannounced st k)
+      → IsReached c (es ++ e ∷ [])
+  plain_reached e st one next none stays quiet =
+      step_reached e st one next (λ k h. (none k, stays k))
+      (λ k. step_matches e st k next (quiet k) (none k) (stays k))
+
+  -- After an announcement, the announced size is the one that applies.
+  announced_leads : (id size : ℕ) (s : Connection) → side_of id w.sides ≡ Some s → may_raise s size ≡ true
+      → LeadsTo (event.Announced id size) (world.step c.limits w (world.Announced id size))
+  unfolding world.step acted side_announced
+  announced_leads id size s there may k t at =
+      let e = event.Announced id size in
+      let st = world.Announced id size in
+      elim (cases_eq id k) [
+        | inl same ↦
+            let now = same_there _ t (sym (settles_there id w.store w.now (λ u. side_announced u size) w.sides s there)
+            ∙ rw (← same) at at) in
+            let lower : s.history.own_max ≤ size = grind (arith, nat_tests, may) in
+            let reported : may_announce (link_of s.history) size ≡ true = grind (arith, nat_tests, may) in
+            let raised : (side_announced s size).history.own_max ≡ size = rw (may, reported) refl in
+            let own = ap (λ u. u.history.own_max) (sym now) ∙ settled_sized w.store w.now (side_announced s size)
+            ∙ raised in
+            let risen : size_on M id es ≤ size = omega (arith, before.sizes id s there, lower) in (
+              λ takes. ap (λ u. u.fault) (stream_same M k es e refl) ∙ (seen st tt k t at).0 takes,
+              rw (← same) (own ∙ sym (size_then M id es e ∙ grind (arith, nat_tests))),
+            )
+        | inr apart ↦
+            step_matches e st k tt (λ other is. apart (let here : id ≡ k = cc in here)) refl
+            (announced_elsewhere k id size apart) t at
+      ]
 
 -- ---- a take
 
@@ -335,94 +321,91 @@ takes_there c es id piece s there = rw there refl
 
 module _ (c : ConfigValues) (es : List AcceptedCall) (id : ℕ) (bytes : List ℕ) (s : Connection)
     (before : IsReached c es) (there : side_of id (world_after c es).sides ≡ Some s) where
-  abbrev events_then : List AcceptedCall
-  events_then = es ++ event.Took id bytes ∷ []
+  abbrev e : AcceptedCall
+  e = event.Took id bytes
 
-  -- A take, with the world w after it.
-  take_reached : (w : World) → world_after c events_then ≡ w → IsNumbered c w → (world_after c es).ids ≤ w.ids
-      → ((t : Connection) → side_of id w.sides ≡ Some t → takes_messages t.history.phase ≡ true
-      → (stream_on c.limits.max_message id events_then).fault ≡ None)
-      → ((n : ℕ) (t : Connection) → side_of n w.sides ≡ Some t → takes_messages t.history.phase ≡ true
-      → (stream_on c.limits.max_message n es).fault ≡ None)
-      → HaveSizes c es w
-      → IsReached c events_then
-  take_reached w is numbered grow own others sizes =
-      let given : IsGivenNumber c (world_after c es).ids id =
-      number_given c (world_after c es) id s before.numbered there in
-      reached_more c es (event.Took id bytes) w before is numbered grow
-      (λ n h. (taken_elsewhere n id bytes (λ (same : id ≡ n). omega (arith, given.within, h, same)), λ M. refl))
-      (λ n t at takes. elim (cases_eq id n) [
-        | inl same ↦ rw (← same) (own t (rw (← same) at at) takes)
-        | inr apart ↦
-            ap (λ (u : Stream). u.fault) (stream_elsewhere c.limits.max_message n id es bytes apart)
-            ∙ others n t at takes
-      ])
-      (λ n t at. sizes n t at ∙ sym (size_then c.limits.max_message n es (event.Took id bytes)))
+  -- The stream of the connection has no error if the connection accepts messages in the world v.
+  abbrev NoFault : World → Type 0
+  NoFault v =
+      (t : Connection) → side_of id v.sides ≡ Some t → takes_messages t.history.phase ≡ true
+      → (stream_on c.limits.max_message id (es ++ e ∷ [])).fault ≡ None
+
+  quiet_elsewhere : (k : ℕ) → (world_after c es).ids < k → (taken_in k e ≡ []) × size_stays k e
+  quiet_elsewhere k h = (
+    taken_elsewhere k id bytes (λ same. omega (
+      arith,
+      (number_given c (world_after c es) id s before.numbered there).within,
+      h,
+      same,
+    )),
+    λ N. refl,
+  )
+
+  took_matches : (v : World) → NoFault v → (k : ℕ) (t : Connection) → side_of k v.sides ≡ Some t
+      → Matches (spelled_on c.limits.max_message k es) t
+      → Matches (spelled_on c.limits.max_message k (es ++ e ∷ [])) t
+  took_matches v own k t at old =
+      elim (cases_eq id k) [
+        | inl same ↦ (
+            λ takes. rw (← same) (own t (rw (← same) at at) takes),
+            old.1 ∙ sym (size_then c.limits.max_message k es e),
+          )
+        | inr apart ↦ quiet_matches c es before e k t (taken_elsewhere k id bytes apart) (λ N. refl) old
+      ]
 
   -- A take that makes no step.
-  quiet_reached : steps_by c.limits.max_message es (event.Took id bytes) ≡ []
-      → (takes_messages s.history.phase ≡ true → (stream_on c.limits.max_message id events_then).fault ≡ None)
-      → IsReached c events_then
+  quiet_reached : steps_by c.limits.max_message es e ≡ [] → NoFault (world_after c es) → IsReached c (es ++ e ∷ [])
   quiet_reached none own =
-      take_reached (world_after c es) (world_same c es (event.Took id bytes) none) before.numbered (omega arith)
-      (λ t at takes. own (let is : s ≡ t = same_there s t (sym there ∙ at) in rw is takes)) before.goes_on before.sizes
+      reached_by c es before e (world_after c es) (world_same c es e none) before.numbered (omega arith) quiet_elsewhere
+      (λ k t at. took_matches (world_after c es) own k t at (before.goes_on k t at, before.sizes k t at))
 
   -- A take that makes a step.
-  stepped_reached : (st : Step) → steps_by c.limits.max_message es (event.Took id bytes) ≡ st ∷ []
-      → OpensNext c (world_after c es) st → ((n : ℕ) → IsUnannounced st n)
-      → ((t : Connection) → side_of id (world.step c.limits (world_after c es) st).sides ≡ Some t
-      → takes_messages t.history.phase ≡ true → (stream_on c.limits.max_message id events_then).fault ≡ None)
-      → IsReached c events_then
-  stepped_reached st one next quiet own =
-      take_reached (world.step c.limits (world_after c es) st) (world_step c es (event.Took id bytes) st one)
-      (step_numbered c (world_after c es) st before.numbered next) (ids_grow c (world_after c es) st next)
-      own (λ n t at takes. step_live c es st n t before next at takes)
-      (λ n t at. step_sized c es st n t before next (quiet n) at)
+  stepped_reached : (st : Step) → steps_by c.limits.max_message es e ≡ st ∷ [] → OpensNext c (world_after c es) st
+      → ((k : ℕ) → IsUnannounced st k) → NoFault (world.step c.limits (world_after c es) st)
+      → IsReached c (es ++ e ∷ [])
+  stepped_reached st one next unannounced own =
+      step_reached c es before e st one next quiet_elsewhere (λ k t at.
+      let old = seen c es before st next k t at in
+      took_matches (world.step c.limits (world_after c es) st) own k t at (old.0, old.1 (unannounced k)))
 
   -- An error, which stops the connection.
   fault_reached : (rest : List ℕ) (fault : StreamFault) → handles s ≡ true
       → Adds c.limits.max_message id es bytes (record { messages = []; rest = rest; fault = Some fault })
-      → IsReached c events_then
+      → IsReached c (es ++ e ∷ [])
   fault_reached rest fault does adds =
-      let w : World = world_after c es in
+      let w = world_after c es in
       stepped_reached (world.Faulted id fault) adds.steps tt (λ n size is. cc) (λ t at takes.
-      let same : settled w.store w.now (side_faulted s fault) ≡ t =
-      same_there _ t (sym (faulted_there c.limits w id fault s there) ∙ at) in
-      let stops : takes_messages t.history.phase ≡ false =
-      rw same at ((settled_goes_on w.store w.now (side_faulted s fault)).over (faulted_stops s fault does)) in
-      absurd (let bad : true ≡ false = sym takes ∙ stops in cc))
+      let same = same_there _ t (sym (faulted_there c.limits w id fault s there) ∙ at) in
+      absurd (both_ways _ ((settled_goes_on w.store w.now (side_faulted s fault)).over (faulted_stops s fault does))
+      (rw (← same) at takes)))
 
   -- A frame, with the message that it encodes or its error.
   frame_reached : (frame : List ℕ) (read : Result Message FormatFault) → handles s ≡ true → Adds c.limits.max_message id
-      es bytes (frame_then frame read (record { messages = []; rest = []; fault = None })) → IsReached c events_then
+      es bytes (frame_then frame read (record { messages = []; rest = []; fault = None })) → IsReached c (es ++ e ∷ [])
   frame_reached frame (Ok m) does adds =
       stepped_reached (world.Handled id m) adds.steps tt (λ n size is. cc)
-      (λ t at takes. ap (λ (u : Stream). u.fault) adds.stream)
+      (λ t at takes. ap (λ u. u.fault) adds.stream)
   frame_reached frame (Err f) does adds = fault_reached frame _ does adds
 
   found_reached : (found : FrameEventValue) → handles s ≡ true
       → Adds c.limits.max_message id es bytes (added_by (stream_on c.limits.max_message id es).rest bytes found)
-      → IsReached c events_then
-  found_reached Nothing does adds = quiet_reached adds.steps (λ takes. ap (λ (u : Stream). u.fault) adds.stream)
+      → IsReached c (es ++ e ∷ [])
+  found_reached Nothing does adds = quiet_reached adds.steps (λ t at takes. ap (λ u. u.fault) adds.stream)
   found_reached (AFrame frame) does adds = frame_reached frame (message_of frame) does adds
   found_reached (AFault fault) does adds = fault_reached _ _ does adds
 
   -- All bytes that the connection accepts.
-  took_reached : takes c es id bytes ≡ length bytes → IsReached c events_then
+  took_reached : takes c es id bytes ≡ length bytes → IsReached c (es ++ e ∷ [])
   took_reached all =
-      let taken : cond (handles s)
-      (front_of (size_on c.limits.max_message id es) (stream_on c.limits.max_message id es).rest bytes) 0
-      ≡ length bytes =
-      rw (takes_there c es id bytes s there) at all in
+      let taken = rw (takes_there c es id bytes s there) at all in
       elim (cases_Bool (handles s)) [
         | inl does ↦
             found_reached _ does (adds_frame c.limits.max_message id es bytes
             (handling_goes_on c es id s before there does) (rw does at taken))
         | inr stopped ↦
-            let none : bytes ≡ [] = nil_from_length bytes (sym (rw stopped at taken)) in
-            quiet_reached (rw none (no_bytes_steps c.limits.max_message id es)) (λ takes.
-            rw none (ap (λ (u : Stream). u.fault) (no_bytes_stream c.limits.max_message id es)
-            ∙ before.goes_on id s there takes))
+            let none = nil_from_length bytes (sym (rw stopped at taken)) in
+            quiet_reached (rw none (no_bytes_steps c.limits.max_message id es)) (λ t at takes.
+            rw none (ap (λ u. u.fault) (no_bytes_stream c.limits.max_message id es) ∙ before.goes_on id t at takes))
       ]
 
 -- ---- any event
@@ -433,59 +416,26 @@ pub on_one : (P : Connection → Type 0) (there : Option Connection) → IfSide 
 on_one P None holds = absurd holds
 on_one P (Some s) holds = (s, refl, holds)
 
--- After an announcement, the announced size is the one that applies.
-announcing_has_sizes : (c : ConfigValues) (es : List AcceptedCall) (id size : ℕ) (s : Connection)
-    → side_of id (world_after c es).sides ≡ Some s → IsReached c es → may_raise s size ≡ true → HaveSizes c
-    (es ++ event.Announced id size ∷ []) (world.step c.limits (world_after c es) (world.Announced id size))
-unfolding world.step acted side_announced
-announcing_has_sizes c es id size s there before may k t at =
-    let w : World = world_after c es in
-    let M : ℕ = c.limits.max_message in
-    let e : AcceptedCall = event.Announced id size in
-    elim (cases_eq id k) [
-      | inl same ↦
-          let there_now : side_of id (world.step c.limits w (world.Announced id size)).sides ≡ Some t =
-          ap (λ (n : ℕ). side_of n (world.step c.limits w (world.Announced id size)).sides) same ∙ at in
-          let now : settled w.store w.now (side_announced s size) ≡ t = same_there _ t
-          (sym (settles_there id w.store w.now (λ u. side_announced u size) w.sides s there) ∙ there_now) in
-          let lower : s.history.own_max ≤ size = grind (arith, nat_tests, may) in
-          let reported : may_announce (link_of s.history) size ≡ true = grind (arith, nat_tests, may) in
-          let raised : (side_announced s size).history.own_max ≡ size = rw (may, reported) refl in
-          let own : t.history.own_max ≡ size = ap (λ (u : Connection). u.history.own_max) (sym now)
-          ∙ settled_size w.store w.now (side_announced s size) ∙ raised in
-          let N : ℕ = size_on M id es in
-          let risen : (if nat_lt N size then size else N) ≡ size =
-          grind (arith, nat_tests, before.sizes id s there, lower) in
-          rw (← same) (own ∙ sym (size_then M id es e ∙ announced_here id size N ∙ risen))
-      | inr apart ↦
-          step_sized c es (world.Announced id size) k t before tt
-          (λ other is. apart (let here : id ≡ k = cc in here)) at
-          ∙ sym (size_then M k es e ∙ announced_elsewhere k id size apart (size_on M k es))
-    ]
-
 event_reached : (c : ConfigValues) (es : List AcceptedCall) (e : AcceptedCall) → IsReached c es → IsAccepted c es e
     → IsReached c (es ++ e ∷ [])
 unfolding IsAccepted steps_by
-event_reached c es (event.Opened id) before is = plain_reached c es (event.Opened id) (world.Opened id) before refl (
-  is.0,
-  is.2,
-) (λ n. refl) (λ k N. refl) (λ k size is. cc)
+event_reached c es (event.Opened id) before is =
+    plain_reached c es before (event.Opened id) _ refl (is.0, is.2) (λ k. refl) (λ k N. refl) (λ k size is. cc)
 event_reached c es (event.Took id bytes) before is =
-    let at = on_one (λ s. takes c es id bytes ≡ length bytes) (side_of id (world_after c es).sides) is in
-    took_reached c es id bytes at.0 before at.1 at.2
+    let at = on_one _ (side_of id (world_after c es).sides) is in took_reached c es id bytes at.0 before at.1 at.2
 event_reached c es (event.Announced id size) before is =
-    let at = on_one (λ s. may_raise s size ≡ true) (side_of id (world_after c es).sides) is in
+    let at = on_one _ (side_of id (world_after c es).sides) is in
     let given = (number_given c (world_after c es) id at.0 before.numbered at.1).within in
-    step_reached c es (event.Announced id size) (world.Announced id size) before refl tt (λ k. refl)
-    (λ k h. announced_elsewhere k id size (λ (same : id ≡ k). omega (arith, given, h, same)))
-    (announcing_has_sizes c es id size at.0 at.1 before at.2)
-event_reached c es e before is = plain_reached c es e _ before refl tt (λ k. refl) (λ k N. refl) (λ k size is. cc)
+    step_reached c es before (event.Announced id size) _ refl tt
+    (λ k h. (refl, announced_elsewhere k id size (λ same. omega (arith, given, h, same))))
+    (announced_leads c es before id size at.0 at.1 at.2)
+event_reached c es e before is =
+    plain_reached c es before e _ refl tt (λ k. refl) (λ k N. refl) (λ k size is. cc)
 
 -- Each list of accepted events leads to such a world.
 pub accepted_is : (c : ConfigValues) (es : List AcceptedCall) → AreAccepted c es → IsReached c es
-accepted_is c es all =
-    by_events c (λ fs. IsReached c fs) (first_reached c)
-    (λ fs e accepted is before. event_reached c fs e before is) es all
+accepted_is c =
+    by_events c (λ es. IsReached c es) (first_reached c) (λ es e accepted is before. event_reached c es e before is)
 
 -- ---- takes that are accepted
 
@@ -495,9 +445,9 @@ pub piece_accepted : (c : ConfigValues) (es : List AcceptedCall) (id : ℕ) (pie
     → IsAccepted c es (event.Took id (take (takes c es id piece) piece))
 unfolding IsAccepted
 piece_accepted c es id piece s is there =
-    let M : ℕ = c.limits.max_message in
-    let N : ℕ = size_on M id es in
-    let rest : List ℕ = (stream_on M id es).rest in
+    let M = c.limits.max_message in
+    let N = size_on M id es in
+    let rest = (stream_on M id es).rest in
     rw (there, takes_there c es id piece s there) (elim (cases_Bool (handles s)) [
       | inl does ↦
           rw does (takes_there c es id (take (front_of N rest piece) piece) s there

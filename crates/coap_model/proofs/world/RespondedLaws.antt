@@ -3,10 +3,8 @@ use Rattle.std.proofs.Common.{◌≡◌, ◌+◌, ◌≤◌, Bool, true, false, 
 use Rattle.std.proofs.Common.{ap, ◌∙◌, arith, nat_lt, if◌then◌else◌}
 use Rattle.coap_model.specs.Prelude.{Message, Reply, Whole, Bare, Stopped, fit, fitted, bare_response}
 use Rattle.coap_model.specs.Prelude.{PendingEntryValue, Answer, Application, has_request, without_request}
-use Rattle.coap_model.specs.Prelude.{IsFirstRequest}
-use Rattle.coap_model.specs.Prelude.{is_plain_response, is_response, asks_custody, response_refusal, sent_length}
-use Rattle.coap_model.specs.Prelude.{free_in}
-use Rattle.coap_model.specs.Prelude.{limit_in, LinkValue, bytes_of, ConnectionState, send_as}
+use Rattle.coap_model.specs.Prelude.{IsFirstRequest, is_plain_response, is_response, asks_custody, response_refusal}
+use Rattle.coap_model.specs.Prelude.{sent_length, free_in, limit_in, LinkValue, bytes_of, ConnectionState, send_as}
 use Rattle.std.proofs.lemmas.Bool.{and_parts, ltb-false, eqb-true}
 use Rattle.std.proofs.lemmas.List.{length-append}
 use Rattle.coap_conn.specs.declared.phase.RespondFault.TheVariants as fault

@@ -2,36 +2,28 @@
 use Rattle.std.proofs.Common.{◌≡◌, ℕ, ◌+◌, ◌<◌, ◌≤◌, Bool, true, false, cond, List, [], length, Option, Some, None}
 use Rattle.std.proofs.Common.{refl, sym, ap, ◌∙◌, arith, ◌&&◌, nat_lt, not, zero, suc, ◌∷◌, ◌++◌, subst, ◌⊎◌, inl, inr}
 use Rattle.std.proofs.Common.{find, min}
-use Rattle.coap_model.specs.Prelude.{AllByRecursion, filter_map, reduce, Message, takes_messages}
-use Rattle.coap_model.specs.Prelude.{answers, is_open, fit, bare_response, PendingEntryValue}
-use Rattle.coap_model.specs.Prelude.{first_due, without_due, due_moment, answer_index, pong_index, else_index, entry_at}
-use Rattle.coap_model.specs.Prelude.{due_index, NothingIsDue, History, IsHistory, limit_now, state_now}
-use Rattle.coap_model.specs.Prelude.{after, state_due}
-use Rattle.coap_model.specs.Prelude.{StoreValue, path_of, prompt_answer}
-use Rattle.coap_model.specs.Prelude.{Change, changed, response_with_observe}
-use Rattle.coap_model.specs.Prelude.{Connection, handles, has_room, side_with, with_history, side_answered}
-use Rattle.coap_model.specs.Prelude.{moment_after, Delay, delay_of, hold_call, delay_for, side_replied, asks_answer}
-use Rattle.coap_model.specs.Prelude.{side_handled, side_after}
-use Rattle.coap_model.specs.Prelude.{next_due}
-use Rattle.coap_model.specs.Prelude.{notified, next_pending, late_message, after_sent, settled_so, settled_once}
-use Rattle.coap_model.specs.Prelude.{settled_within, settled, IsUpToDate}
-use Rattle.coap_model.specs.Prelude.{Observer, without_token, asks_entry, has_place, entry_for}
-use Rattle.coap_model.specs.Prelude.{is_whole, with_entry, is_due, goes_on, notification, notification_message}
-use Rattle.coap_model.specs.Prelude.{left_of, first_becomes}
-use Rattle.coap_model.specs.Prelude.{same_bytes, state_of, Watch}
+use Rattle.coap_model.specs.Prelude.{AllByRecursion, filter_map, reduce, Message, takes_messages, answers, is_open, fit}
+use Rattle.coap_model.specs.Prelude.{bare_response, PendingEntryValue, first_due, without_due, due_moment, answer_index}
+use Rattle.coap_model.specs.Prelude.{pong_index, else_index, entry_at, due_index, NothingIsDue, History, IsHistory}
+use Rattle.coap_model.specs.Prelude.{limit_now, state_now, after, state_due, StoreValue, path_of, prompt_answer, Change}
+use Rattle.coap_model.specs.Prelude.{changed, response_with_observe, Connection, handles, has_room, side_with}
+use Rattle.coap_model.specs.Prelude.{with_history, side_answered, moment_after, Delay, delay_of, hold_call, delay_for}
+use Rattle.coap_model.specs.Prelude.{side_replied, asks_answer, side_handled, side_after, next_due, notified}
+use Rattle.coap_model.specs.Prelude.{next_pending, late_message, after_sent, settled_so, settled_once, settled_within}
+use Rattle.coap_model.specs.Prelude.{settled, IsUpToDate, Observer, without_token, asks_entry, has_place, entry_for}
+use Rattle.coap_model.specs.Prelude.{is_whole, with_entry, is_due, goes_on, notification, notification_message, left_of}
+use Rattle.coap_model.specs.Prelude.{first_becomes, same_bytes, state_of, Watch, Reply, Whole, ConnectionState, send_as}
+use Rattle.coap_model.specs.Prelude.{due_effect, pong_with, side_responded}
 use Rattle.std.proofs.lemmas.Bool.{and_parts, cond_both, ltb-true}
 use Rattle.coap_conn.proofs.PendingLaws.{due_fewer, due_nothing}
-use Rattle.coap_model.specs.Prelude.{Reply, Whole, ConnectionState, send_as, due_effect, pong_with}
 use Rattle.coap_model.proofs.world.KnownLaws.{entry_watchable, IsKnown, IsVersioned, still_known, sent_known, sent_now}
 use Rattle.coap_model.proofs.world.KnownLaws.{not_due, left_watchable}
 use Rattle.coap_model.proofs.world.EntryLemmas.{asks_to_enter, all_to, all_append, all_filter, all_become, found_all}
-use Rattle.coap_model.proofs.world.EntryLemmas.{none_due, count_due, count_within, count_less}
-use Rattle.coap_model.proofs.world.EntryLemmas.{none_found}
-use Rattle.coap_model.proofs.world.GoingOn.{as_before, further, GoesOn, all_go_on, written_goes_on}
-use Rattle.coap_model.proofs.world.WalkLaws.{there_or_not, there_where, kept_open_has, once_between, HoldsOfCalls}
-use Rattle.coap_model.proofs.world.WalkLaws.{observers_kept, settled_keeps, written_between, ended_between}
-use Rattle.coap_model.proofs.world.WalkLaws.{released_between, announced_between, responded_between}
-use Rattle.coap_model.proofs.world.AcrossLaws.{faulted_all, after_all}
+use Rattle.coap_model.proofs.world.EntryLemmas.{none_due, count_due, count_within, count_less, none_found}
+use Rattle.coap_model.proofs.world.GoingOn.{as_before, further, GoesOn, all_go_on, plain_goes_on}
+use Rattle.coap_model.proofs.world.WalkLaws.{there_or_not, there_where, kept_open_has, once_between, PlainCall}
+use Rattle.coap_model.proofs.world.WalkLaws.{observers_kept, observers_plain, settled_keeps, responded_between}
+use Rattle.coap_model.proofs.world.AcrossLaws.{after_all}
 use Rattle.coap_conn.specs.PendingEntries as pending
 use Rattle.coap_conn.specs.Calls as call
 use Rattle.coap_store.specs.declared.plan.Watch.TheVariants as watch
@@ -119,34 +111,17 @@ still_known_side store change s is known = record {
 }
 
 -- All effects other than messages keep them.
-pub calls_known : (store : StoreValue) → HoldsOfCalls (λ s t. IsKnownSide store s → IsKnownSide store t)
-calls_known store = let reported = observers_kept (AreKnown store) tt in record {
-  faulted = λ s fault known. record {
-    is_history = (faulted_all GoesOn all_go_on s fault).history known.is_history;
-    reported = reported.faulted s fault known.reported;
-  };
-  written = λ s n known. record {
-    is_history = (written_between GoesOn as_before written_goes_on s n).history known.is_history;
-    reported = reported.written s n known.reported;
-  };
-  ended = λ s cut known. record {
-    is_history = (ended_between GoesOn as_before all_go_on.ends s cut).history known.is_history;
-    reported = reported.ended s cut known.reported;
-  };
-  released = λ s known. record {
-    is_history = (released_between GoesOn as_before all_go_on.releases s).history known.is_history;
-    reported = reported.released s known.reported;
-  };
-  announced = λ s size known.
-      record {
-        is_history = (announced_between GoesOn as_before all_go_on.announces s size).history known.is_history;
-        reported = reported.announced s size known.reported;
-      };
-  responded = λ s m known.
-      record {
-        is_history = (responded_between GoesOn as_before all_go_on.responds s m).history known.is_history;
-        reported = reported.responded s m known.reported;
-      };
+pub plain_known : (store : StoreValue) (s t : Connection) → PlainCall s t → IsKnownSide store s → IsKnownSide store t
+plain_known store s t call known = record {
+  is_history = (plain_goes_on s t call).history known.is_history;
+  reported = observers_plain (AreKnown store) tt s t call known.reported;
+}
+
+pub responded_known : (store : StoreValue) (s : Connection) (m : Message) → IsKnownSide store s
+    → IsKnownSide store (side_responded s m)
+responded_known store s m known = record {
+  is_history = (responded_between GoesOn as_before all_go_on.responds s m).history known.is_history;
+  reported = (observers_kept (AreKnown store) tt).responded s m known.reported;
 }
 
 -- A property of the observers after a message. It must hold of no observers, and of the observers before. It must also

@@ -2,10 +2,10 @@
 use Rattle.std.proofs.Common.{◌≡◌, ◌≢◌, ℕ, ◌-◌, ◌<◌, ◌≤◌, nat_lt, if◌then◌else◌, List, [], ◌∷◌, ◌++◌, length, map, drop}
 use Rattle.std.proofs.Common.{Option, Some, None, refl, sym, ap, subst, ◌∙◌, append_assoc, arith}
 use Rattle.coap_model.specs.Prelude.{AllByRecursion, Message, Unfinished, prefix_kind, constant_size, sizes_first}
-use Rattle.coap_model.specs.Prelude.{StreamFault, Stream, sized_split, split_on, LimitValues, ConfigValues, World}
-use Rattle.coap_model.specs.Prelude.{Step, new_world, after_steps, AcceptedCall, Took, Announced, taken_in, taken_on}
-use Rattle.coap_model.specs.Prelude.{size_by, size_on, sizes_on, stream_on, spelled_on, new_fault, beyond, steps_by}
-use Rattle.coap_model.specs.Prelude.{later_steps, steps_of, world_after, IsAccepted, AreAcceptedAfter, AreAccepted}
+use Rattle.coap_model.specs.Prelude.{StreamFault, Stream, sized_split, split_on, LimitValues, ConfigValues, World, Step}
+use Rattle.coap_model.specs.Prelude.{new_world, after_steps, AcceptedCall, Took, Announced, taken_in, taken_on, size_by}
+use Rattle.coap_model.specs.Prelude.{size_on, sizes_on, stream_on, spelled_on, new_fault, beyond, steps_by, later_steps}
+use Rattle.coap_model.specs.Prelude.{steps_of, world_after, IsAccepted, AreAcceptedAfter, AreAccepted}
 use Rattle.std.proofs.lemmas.Bool.Decides.{nat_tests}
 use Rattle.std.proofs.lemmas.Bool.{eq-eqb, ne_eqb}
 use Rattle.std.proofs.lemmas.List.{append-nil, length-append}

@@ -4,11 +4,10 @@ use Rattle.std.proofs.Common.{Err, refl, sym, ap, ◌∙◌, append_assoc, arith
 use Rattle.std.proofs.lemmas.Grind.{take_at_read}
 use Rattle.std.proofs.lemmas.List.{length-append, take_at}
 use Rattle.std.proofs.Math.Seq.{drop-length, drop-append_seam}
-use Rattle.coap_model.specs.Prelude.{Message, message_of, FormatFault, FrameFault, Unfinished, prefix_kind}
-use Rattle.coap_model.specs.Prelude.{fault_bytes, OfFrame, Format, Stream, split, stream_after, AFrame, AFault, Framing}
-use Rattle.coap_model.specs.Prelude.{framing_at, framing, without_last, AcceptedCall, Took, size_on, stream_on}
-use Rattle.coap_model.specs.Prelude.{new_fault}
-use Rattle.coap_model.specs.Prelude.{beyond, steps_by}
+use Rattle.coap_model.specs.Prelude.{Message, message_of, FormatFault, FrameFault, Unfinished, prefix_kind, fault_bytes}
+use Rattle.coap_model.specs.Prelude.{OfFrame, Format, Stream, split, stream_after, AFrame, AFault, Framing, framing_at}
+use Rattle.coap_model.specs.Prelude.{framing, without_last, AcceptedCall, Took, size_on, stream_on, new_fault, beyond}
+use Rattle.coap_model.specs.Prelude.{steps_by}
 use Rattle.coap_wire.proofs.StreamSteps.{whole_itself, split_unfinished}
 use Rattle.coap_frame.specs.Framing.{Nothing}
 use Rattle.coap_frame.proofs.FramingLemmas.{front_unfinished}

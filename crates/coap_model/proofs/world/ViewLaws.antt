@@ -6,15 +6,12 @@ use Rattle.std.proofs.lemmas.Bool.Decides.{nat_tests}
 use Rattle.std.proofs.lemmas.Bool.{eqb-false, cases_Bool, cond_both}
 use Rattle.coap_model.specs.Prelude.{Message, LimitValues, Path, Representation, StoreValue, put_in, removed_in}
 use Rattle.coap_model.specs.Prelude.{is_dynamic, kind_of_path, key_for, state_at, target_of, path_of, Change, Nothing}
-use Rattle.coap_model.specs.Prelude.{Put, Delete, changed, stored_under, deletion, answer_at, removes_watch}
-use Rattle.coap_model.specs.Prelude.{answer_of, immediate_answer, prompt_answer, put_refusal, remove_refusal}
-use Rattle.coap_model.specs.Prelude.{ConfigValues, Connection}
-use Rattle.coap_model.specs.Prelude.{new_side, handles, asks_answer, side_after, change_after, side_faulted}
+use Rattle.coap_model.specs.Prelude.{Put, Delete, changed, stored_under, deletion, answer_at, removes_watch, answer_of}
+use Rattle.coap_model.specs.Prelude.{immediate_answer, prompt_answer, put_refusal, remove_refusal, ConfigValues}
+use Rattle.coap_model.specs.Prelude.{Connection, new_side, handles, asks_answer, side_after, change_after, side_faulted}
 use Rattle.coap_model.specs.Prelude.{side_written, side_ended, side_released, side_announced, side_responded, settled}
-use Rattle.coap_model.specs.Prelude.{World, Step}
-use Rattle.coap_model.specs.Prelude.{new_world, side_of, stored_after, acted, after_steps, AcceptedCall, steps_of}
-use Rattle.coap_model.specs.Prelude.{world_after, change_steps, change_on, concerns, view_step, view_of, after_view}
-use Rattle.coap_model.specs.Prelude.{AllConcern}
+use Rattle.coap_model.specs.Prelude.{World, Step, new_world, side_of, stored_after, acted, after_steps, change_steps}
+use Rattle.coap_model.specs.Prelude.{change_on, concerns, view_step, view_of, after_view, AllConcern}
 use Rattle.coap_store.specs.Answer.{Answer}
 use Rattle.coap_store.proofs.AnswerLaws.{answer_cases, get_cases, store_cases, CanStore, key_is, state_dynamic}
 use Rattle.coap_store.proofs.AnswerLaws.{change_finally, change_without_hold}
@@ -145,7 +142,7 @@ step_share limits id w s =
 
 pub step_rests : (limits : LimitValues) (id : ℕ) (w : World) (s : Step) → SettlesAlike id (world.step limits w s)
 step_rests limits id w s =
-    let did : Share = share_of id (acted limits w s) in
+    let did = share_of id (acted limits w s) in
     ap settled_share (step_share limits id w s)
     ∙ ap (share did.store did.now) (settled_again did.store did.now did.side) ∙ sym (step_share limits id w s)
 
@@ -176,7 +173,7 @@ module _ (limits : LimitValues) (id n : ℕ) (w v : World) (alike : share_of id 
       ≡ share (store (share_of n v)) v.now (side_of n (map (changed_at n (f (share_of n v))) v.sides))
   changed_alike store f =
       rw (changed_here id (f (share_of id w)) w.sides, changed_here n (f (share_of n v)) v.sides)
-      (ap (λ (x : Share). share (store x) x.now (option_map (f x) x.side)) alike)
+      (ap (λ x. share (store x) x.now (option_map (f x) x.side)) alike)
 
   opened_here : (m : ℕ) (u : World) → is_none (side_of m u.sides) ≡ true
       → share_of m (opened_world limits u m) ≡ record (share_of m u) { side = Some (new_side limits) }
@@ -208,7 +205,7 @@ module _ (limits : LimitValues) (id n : ℕ) (w v : World) (alike : share_of id 
       → share_of id (world.step limits w s) ≡ share_of n (world.step limits v (renamed n s))
   own_alike s own =
       step_share limits id w s
-      ∙ ap settled_share (ap (λ (t : Step). share_of id (acted limits w t)) (sym (own_number id s own)) ∙ acted_alike s)
+      ∙ ap settled_share (ap (λ t. share_of id (acted limits w t)) (sym (own_number id s own)) ∙ acted_alike s)
       ∙ sym (step_share limits n v (renamed n s))
 
   -- A change of the store that another connection made.
@@ -218,7 +215,7 @@ module _ (limits : LimitValues) (id n : ℕ) (w v : World) (alike : share_of id 
   unfolding after_steps acted concerns
   change_alike Nothing rests passes = rests ∙ alike
   change_alike (Put path format bytes) rests passes =
-      let s : Step = world.Stored path format bytes in
+      let s = world.Stored path format bytes in
       let did : share (put_in w.store path format bytes) w.now (side_of id w.sides) ≡ share_of id (acted limits w s) =
       rw passes refl in
       ap settled_share did ∙ sym (step_share limits id w s) ∙ own_alike s refl
@@ -270,7 +267,7 @@ view_alike limits id w v s rests alike =
     elim (cases_Bool (concerns id s)) [
       | inl own ↦
           rw own (own_alike limits id id w v alike s own
-          ∙ ap (λ (t : Step). share_of id (world.step limits v t)) (own_number id s own))
+          ∙ ap (λ t. share_of id (world.step limits v t)) (own_number id s own))
       | inr apart ↦
           rw apart (step_share limits id w s ∙ ap settled_share (other_did limits id w s apart)
           ∙ change_alike limits id id w v alike (change_by w s) rests (by_passes w s))
@@ -314,36 +311,7 @@ view_concerns limits id w (s ∷ ss) =
 pub new_rests : (c : ConfigValues) (id : ℕ) → SettlesAlike id (new_world c)
 new_rests c id = rw (nobody id) refl
 
-view_shares : (c : ConfigValues) (id : ℕ) (ss : List Step)
+-- So after its view a connection has the same part as after all steps.
+pub view_shares : (c : ConfigValues) (id : ℕ) (ss : List Step)
     → share_of id (after_steps c.limits (new_world c) ss) ≡ share_of id (after_view c id ss)
 view_shares c id ss = views_alike c.limits id ss (new_world c) (new_world c) (new_rests c id) refl
-
-pub one_side_of_a_view : (c : ConfigValues) (id : ℕ) (ss : List Step)
-    → side_of id (after_steps c.limits (new_world c) ss).sides ≡ side_of id (after_view c id ss).sides
-one_side_of_a_view c id ss = ap (λ (x : Share). x.side) (view_shares c id ss)
-
-pub one_store_of_a_view : (c : ConfigValues) (id : ℕ) (ss : List Step)
-    → (after_steps c.limits (new_world c) ss).store ≡ (after_view c id ss).store
-one_store_of_a_view c id ss = ap (λ (x : Share). x.store) (view_shares c id ss)
-
-pub one_moment_of_a_view : (c : ConfigValues) (id : ℕ) (ss : List Step)
-    → (after_steps c.limits (new_world c) ss).now ≡ (after_view c id ss).now
-one_moment_of_a_view c id ss = ap (λ (x : Share). x.now) (view_shares c id ss)
-
--- ---- events
-
-pub one_side_of_events : (c : ConfigValues) (id : ℕ) (events : List AcceptedCall)
-    → side_of id (world_after c events).sides
-    ≡ side_of id (after_view c id (steps_of c.limits.max_message events)).sides
-unfolding world_after
-one_side_of_events c id events = one_side_of_a_view c id (steps_of c.limits.max_message events)
-
--- Lists of events with the same view lead to the same connection.
-pub one_side_of_one_view : (c : ConfigValues) (id : ℕ) (events others : List AcceptedCall)
-    → view_of c.limits id (new_world c) (steps_of c.limits.max_message events)
-    ≡ view_of c.limits id (new_world c) (steps_of c.limits.max_message others)
-    → side_of id (world_after c events).sides ≡ side_of id (world_after c others).sides
-one_side_of_one_view c id events others same =
-    one_side_of_events c id events
-    ∙ ap (λ (ss : List Step). side_of id (after_steps c.limits (new_world c) ss).sides) same
-    ∙ sym (one_side_of_events c id others)

@@ -6,24 +6,23 @@ use Rattle.std.proofs.Common.{refl, sym, ap, subst, zero, suc, ◌+◌, ◌&&◌
 use Rattle.std.proofs.lemmas.Bool.{cond_both, and_parts, leb-true}
 use Rattle.std.proofs.lemmas.Bool.Decides.{nat_tests}
 use Rattle.std.proofs.lemmas.List.{append-nil}
-use Rattle.coap_model.specs.Prelude.{Responder, Engine, Application, late_response, Delay, delay_of, hold_call}
-use Rattle.coap_model.specs.Prelude.{Message, StreamFault, LARGEST_MESSAGE, Reject, ReleasedHere, takes_messages}
-use Rattle.coap_model.specs.Prelude.{answers, is_open, fits, bare_response, VerdictValue, is_request, PendingEntryValue}
-use Rattle.coap_model.specs.Prelude.{Answer, Pong, first_due, without_due, stop, abort, send, react, pong_with}
-use Rattle.coap_model.specs.Prelude.{due_effect, reject_of, reject_reason, release_refusal, History, state_now}
-use Rattle.coap_model.specs.Prelude.{limit_now, with_effect, after, may_hold, link_of, state_due, end_reason}
-use Rattle.coap_model.specs.Prelude.{release, may_announce, LinkValue, own_csm, free_in, limit_in, StoreValue}
-use Rattle.coap_model.specs.Prelude.{Response, prompt_answer, response_with_observe}
-use Rattle.coap_model.specs.Prelude.{Observer, without_token, has_place, goes_on, notification, Connection, waiting_on}
-use Rattle.coap_model.specs.Prelude.{has_room, handles, kept_open, with_history, moment_after, delay_for}
-use Rattle.coap_model.specs.Prelude.{side_replied, asks_answer, side_handled, side_after, side_faulted, side_written}
-use Rattle.coap_model.specs.Prelude.{side_ended, side_released, may_raise, side_announced, next_due, notified}
-use Rattle.coap_model.specs.Prelude.{late_message, after_sent, settled_so, settled_once, settled_within, settled}
+use Rattle.coap_model.specs.Prelude.{Responder, Engine, Application, late_response, Delay, delay_of, hold_call, Message}
+use Rattle.coap_model.specs.Prelude.{StreamFault, LARGEST_MESSAGE, Reject, ReleasedHere, takes_messages, answers}
+use Rattle.coap_model.specs.Prelude.{is_open, fits, bare_response, VerdictValue, is_request, PendingEntryValue, Answer}
+use Rattle.coap_model.specs.Prelude.{Pong, first_due, without_due, stop, abort, send, react, pong_with, due_effect}
+use Rattle.coap_model.specs.Prelude.{reject_of, reject_reason, release_refusal, History, state_now, limit_now}
+use Rattle.coap_model.specs.Prelude.{with_effect, after, may_hold, link_of, state_due, end_reason, release}
+use Rattle.coap_model.specs.Prelude.{may_announce, LinkValue, own_csm, free_in, limit_in, StoreValue, Response}
+use Rattle.coap_model.specs.Prelude.{prompt_answer, response_with_observe, Observer, without_token, has_place, goes_on}
+use Rattle.coap_model.specs.Prelude.{notification, Connection, waiting_on, has_room, handles, kept_open, with_history}
+use Rattle.coap_model.specs.Prelude.{moment_after, delay_for, side_replied, asks_answer, side_handled, side_after}
+use Rattle.coap_model.specs.Prelude.{side_faulted, side_written, side_ended, side_released, may_raise, side_announced}
+use Rattle.coap_model.specs.Prelude.{next_due, notified, late_message, after_sent, settled_so, settled_once}
+use Rattle.coap_model.specs.Prelude.{settled_within, settled, side_responded, response_refusal, state_without}
 use Rattle.coap_conn.specs.Verdicts as verdict
 use Rattle.coap_conn.specs.Calls as call
 use Rattle.coap_conn.proofs.RequestLemmas.{react_asks}
 use Rattle.coap_conn.proofs.AskingLaws.{none_where}
-use Rattle.coap_model.specs.Prelude.{side_responded, response_refusal, state_without}
 
 -- ---- the parts
 
@@ -132,21 +131,17 @@ said_request other e = absurd cc
 -- A request queues nothing, so the room is the same afterwards.
 request_room : (h : History) (m : Message) → is_request (react (state_now h) m).verdict ≡ true → room_in h ≡ true
     → room_in (after h (call.Handle m)) ≡ true
-request_room h m asks room =
-    let none = (react_asks (state_now h) m (said_request (react (state_now h) m).verdict asks)).nothing in
-    cond_both (takes_messages h.phase) (received h m) h (λ (k : History). room_in k ≡ true)
-    (λ takes. rw (none, append-nil) room) (λ over. room)
+request_room h m asks room = grind (arith, react_asks (state_now h) m, said_request, append-nil)
 
 -- The effect of the entry that was found to be due first.
 pub due_is : (h : History) (now : ℕ) (found : Option PendingEntryValue) → first_due now h.pending ≡ found
     → after h (call.Due now) ≡ with_effect h (due_effect (state_due now (state_now h)) found)
-due_is h now found is =
-    ap (λ (o : Option PendingEntryValue). with_effect h (due_effect (state_due now (state_now h)) o)) is
+due_is h now found is = grind arith
 
 -- The first due entry is removed, and nothing else changes if it is no Pong.
 pub answer_goes : (h : History) (now : ℕ) (by : Responder) (token : List ℕ) (moment : ℕ)
     → first_due now h.pending ≡ Some (Answer by token moment) → after h (call.Due now) ≡ without_first h now
-answer_goes h now by token moment is = cc (due_is h now (Some (Answer by token moment)) is, append-nil h.queued)
+answer_goes h now by token moment is = grind (arith, due_is, append-nil)
 
 -- An entry is appended to the pending list, whoever responds.
 pub pending_is : (h : History) (by : Responder) (token : List ℕ) (moment : ℕ) → after h (hold_call by token moment)
@@ -162,15 +157,15 @@ module _ (P : Connection → Type 0) (store : StoreValue) (now : ℕ)
   within_keeps : (turns : ℕ) (s : Connection) → P s → P (settled_within turns store now s)
   unfolding settled_within
   within_keeps zero s is = is
-  within_keeps (suc turns) s is = within_keeps turns (settled_once store now s) (keeps s is)
+  within_keeps (suc turns) s is = grind (arith, within_keeps turns)
 
   pub settled_keeps : (s : Connection) → P s → P (settled store now s)
   unfolding settled
-  settled_keeps s = within_keeps (length s.history.pending + length s.observers) s
+  settled_keeps s = grind (arith, within_keeps)
 
 pub if_between : (R : History → History → Type 0) (does : Bool) (h k : History) → R h h
     → (does ≡ true → R h k) → R h (cond does k h)
-if_between R does h k same goes = cond_both does k h (R h) goes (λ none. same)
+if_between R does h k same goes = grind arith
 
 -- The removal of a due entry may need a weaker relation than a reply. R holds across the removal, and E, which
 -- continues R, across the reply.
@@ -179,37 +174,26 @@ module _ (R E : History → History → Type 0) (same : (h : History) → R h h)
     (lets_go : LetsGo R) (pongs : Pongs R) where
   reply_between : (h k : History) (token : List ℕ) (observe : Bool) (r : Response) → R h k → room_in k ≡ true
       → R h (after k (call.Reply (response_with_observe token observe r)))
-  reply_between h k token observe r before room =
-      cond_both (answers k.phase) _ k (R h)
-      (λ does. then h k _ before (replies k token observe r does room)) (λ none. before)
+  reply_between h k token observe r before room = grind arith
 
   sent_between : (h : History) (now : ℕ) (e : PendingEntryValue) → first_due now h.pending ≡ Some e → room_in h ≡ true
       → R h (after_sent h now e)
   sent_between h now (Answer by token moment) is room =
-      subst (λ (g : History). R h (after g (call.Reply (late_message by token))))
-      (sym (answer_goes h now by token moment is))
-      (reply_between h (without_first h now) token false (late_response by) (lets_go h now) room)
-  sent_between h now (Pong token) is room = rw (due_is h now (Some (Pong token)) is) (pongs h now token is room)
+      grind (arith, answer_goes h now by token moment is,
+      reply_between h (without_first h now) token false (late_response by))
+  sent_between h now (Pong token) is room = grind (arith, due_is h now (Some (Pong token)) is)
 
   module _ (store : StoreValue) (now : ℕ) (s : Connection) where
     notified_between : (found : Option Observer) → has_room s ≡ true → R s.history (notified store now s found).history
     notified_between None room = same s.history
-    notified_between (Some o) room =
-        reply_between s.history s.history o.token (goes_on (notification store now o))
-        (notification store now o) (same s.history) room
+    notified_between (Some o) room = grind (arith, reply_between)
 
     reported_between : R s.history (notified store now s (next_due store now s)).history
-    reported_between =
-        cond_both (has_room s) _ None (λ o. R s.history (notified store now s o).history)
-        (notified_between _) (λ none. same s.history)
+    reported_between = grind (arith, notified_between)
 
     pub once_between : R s.history (settled_once store now s).history
     unfolding settled_once
-    once_between =
-        let So : Option PendingEntryValue → Type 0 = λ found. R s.history (settled_so store now s found).history in
-        cond_both (has_room s) (first_due now s.history.pending) None So
-        (λ room. there_or_not (first_due now s.history.pending) So (λ none. reported_between)
-        (λ e is. sent_between s.history now e is room)) (λ none. reported_between)
+    once_between = grind (arith, reported_between, sent_between)
 
 pub settled_between : (R : History → History → Type 0) → Composes R → Replies R → LetsGo R → Pongs R
     → (store : StoreValue) (now : ℕ) (s : Connection) → R s.history (settled store now s).history
@@ -227,83 +211,61 @@ module _ (R E : History → History → Type 0) (same : (h : History) → R h h)
     (replies : Replies E) (holds : Holds E) where
   replied_between : (store : StoreValue) (now : ℕ) (h : History) (others : List Observer) (m : Message)
       (delay : Option Delay) → room_in h ≡ true → E h (side_replied store now h others m delay).history
-  replied_between store now h others m None room =
-      let a = prompt_answer store now m in
-      if_between E (answers h.phase) h _ (stays h)
-      (λ does. replies h m.token (has_place h.limits.observers others a.watch) a.response does room)
+  replied_between store now h others m None room = grind arith
   replied_between store now h others m (Some delay) room =
-      subst (E h) (sym (pending_is h delay.by m.token (moment_after now delay.seconds)))
-      (if_between E (is_open h.phase && may_hold h) h _ (stays h)
-      (λ does. (let both = and_parts (is_open h.phase) (may_hold h) does in
-      holds h delay.by m.token (moment_after now delay.seconds) both.0 both.1)))
+      grind (arith, pending_is h delay.by m.token (moment_after now delay.seconds))
 
   pub after_between : (store : StoreValue) (now : ℕ) (s : Connection) (m : Message)
       → R s.history (side_after store now s m).history
   unfolding side_after
-  after_between store now s m =
-      let h : History = after s.history (call.Handle m) in
-      cond_both (handles s) (side_handled store now s m) s (Between R s) (λ does. (
-      let room = (and_parts (takes_messages s.history.phase) (has_room s) does).1 in
-      let message : R s.history h = if_between R (takes_messages s.history.phase) s.history _ (same s.history)
-      (λ takes. takes_input s.history m takes room) in
-      cond_both (asks_answer s m) _ (with_history s h) (Between R s)
-      (λ asks. then s.history h _ message
-      (replied_between store now h (without_token m.token s.observers) m (delay_for h (delay_of store now m))
-      (request_room s.history m asks room)))
-      (λ other. message))) (λ none. same s.history)
+  after_between store now s m = grind (arith, replied_between store now, request_room s.history m)
 
 -- ---- other effects
 
 -- A connection that may be released has room for a Release, and the Release fits.
 pub release_fits : (v : LinkValue) → is_none (release_refusal v) ≡ true → (2 ≤ free_in v) × (2 ≤ limit_in v)
-release_fits v none = (grind (arith, nat_tests), grind (arith, nat_tests))
+release_fits v none = grind (arith, nat_tests)
+
+-- A call on a connection, other than a message and a response of the application.
+pub data PlainCall (s : Connection) : Connection → Type 0 where
+  Fault : (fault : StreamFault) → PlainCall s (side_faulted s fault)
+  Write : (n : ℕ) → PlainCall s (side_written s n)
+  End : (cut : Bool) → PlainCall s (side_ended s cut)
+  Release : PlainCall s (side_released s)
+  Announcement : (size : ℕ) → PlainCall s (side_announced s size)
 
 module _ (R : History → History → Type 0) (same : (h : History) → R h h) where
   pub faulted_between : Rejects R → (s : Connection) (fault : StreamFault) → R s.history (side_faulted s fault).history
   unfolding side_faulted
-  faulted_between rejects s fault =
-      cond_both (handles s) _ s (Between R s)
-      (λ does. if_between R (takes_messages s.history.phase) s.history _ (same s.history) (λ takes. rejects s.history
-      (reject_of fault) takes (and_parts (takes_messages s.history.phase) (has_room s) does).1))
-      (λ none. same s.history)
+  faulted_between rejects s fault = grind arith
 
   pub written_between : Writes R → (s : Connection) (n : ℕ) → R s.history (side_written s n).history
   unfolding side_written
-  written_between writes s n =
-      cond_both (nat_le n (length (waiting_on s))) _ s (Between R s)
-      (λ does. writes s.history n (leb-true n (length (waiting_on s)) does)) (λ none. same s.history)
+  written_between writes s n = grind (arith, leb-true n (length (waiting_on s)))
 
   pub ended_between : Ends R → (s : Connection) (cut : Bool) → R s.history (side_ended s cut).history
   unfolding side_ended
-  ended_between ends s cut =
-      if_between R (takes_messages s.history.phase) s.history _ (same s.history) (λ takes. ends s.history cut takes)
+  ended_between ends s cut = grind arith
 
   pub released_between : Releases R → (s : Connection) → R s.history (side_released s).history
   unfolding side_released
-  released_between releases s =
-      cond_both (is_none (release_refusal (link_of s.history))) _ s (Between R s)
-      (λ does. if_between R (is_open s.history.phase) s.history _ (same s.history)
-      (λ opened. releases s.history opened does)) (λ none. same s.history)
+  released_between releases s = grind arith
 
   pub responded_between : Responds R → (s : Connection) (m : Message) → R s.history (side_responded s m).history
   unfolding side_responded
-  responded_between responds s m =
-      let h : History = s.history in
-      let none : Bool = is_none (response_refusal (link_of h) m) in
-      if_between R (answers h.phase && none) h _ (same h)
-      (λ so. (let both = and_parts (answers h.phase) none so in
-      responds h m both.0 (none_where (response_refusal (link_of h) m) both.1)))
+  responded_between responds s m = grind (arith, none_where)
 
   pub announced_between : Announces R → (s : Connection) (size : ℕ) → R s.history (side_announced s size).history
   unfolding side_announced
-  announced_between announces s size =
-      let h : History = s.history in
-      let may : Bool = may_announce (link_of h) size in
-      cond_both (may_raise s size) _ s (Between R s) (λ does. if_between R may h (announcing h size) (same h) (λ so. (
-      let both = and_parts (is_open h.phase) (fits (limit_now h) (own_csm size)) so in
-      let room = (and_parts (has_room s) may
-      (and_parts (nat_le h.own_max size && nat_le size LARGEST_MESSAGE) (has_room s && may) does).1).0 in
-      announces h size both.0 room both.1))) (λ none. same h)
+  announced_between announces s size = grind arith
+
+  pub plain_between : Rejects R → Writes R → Ends R → Releases R → Announces R → (s t : Connection) → PlainCall s t
+      → R s.history t.history
+  plain_between rejects writes ends releases announces s _ (Fault fault) = faulted_between rejects s fault
+  plain_between rejects writes ends releases announces s _ (Write n) = written_between writes s n
+  plain_between rejects writes ends releases announces s _ (End cut) = ended_between ends s cut
+  plain_between rejects writes ends releases announces s _ Release = released_between releases s
+  plain_between rejects writes ends releases announces s _ (Announcement size) = announced_between announces s size
 
 -- ---- observers
 
@@ -318,20 +280,16 @@ pub record HoldsOfCalls (R : Connection → Connection → Type 0) : Type 0 wher
 
 -- A property of the observers, and of no observers, holds if they are removed unless the connection is open.
 pub kept_open_has : (P : List Observer → Type 0) → P [] → (h : History) (os : List Observer) → P os → P (kept_open h os)
-kept_open_has P none h os is = cond_both (is_open h.phase) os [] P (λ e. is) (λ e. none)
+kept_open_has P none h os is = grind arith
 
 pub observers_kept : (P : List Observer → Type 0) → P [] → HoldsOfCalls (λ s t. P s.observers → P t.observers)
 unfolding side_faulted side_written side_ended side_released side_announced side_responded
-observers_kept P none =
-    let kept_where : (does : Bool) (s : Connection) (h : History) → P s.observers
-    → P (cond does (with_history s h) s).observers =
-    λ does s h is.
-    cond_both does (with_history s h) s (λ t. P t.observers) (λ e. kept_open_has P none h s.observers is) (λ e. is) in
-    record {
-      faulted = λ s fault. kept_where (handles s) s _;
-      written = λ s n is. cond_both (nat_le n (length (waiting_on s))) _ s (λ t. P t.observers) (λ e. is) (λ e. is);
-      ended = λ s cut. kept_open_has P none (after s.history (call.End cut)) s.observers;
-      released = λ s. kept_where (is_none (release_refusal (link_of s.history))) s _;
-      announced = λ s size. kept_where (may_raise s size) s _;
-      responded = λ s m. kept_open_has P none (after s.history (call.Respond m)) s.observers;
-    }
+observers_kept P none = grind (arith, kept_open_has P none)
+
+pub observers_plain : (P : List Observer → Type 0) → P [] → (s t : Connection) → PlainCall s t → P s.observers
+    → P t.observers
+observers_plain P none s _ (Fault fault) = (observers_kept P none).faulted s fault
+observers_plain P none s _ (Write n) = (observers_kept P none).written s n
+observers_plain P none s _ (End cut) = (observers_kept P none).ended s cut
+observers_plain P none s _ Release = (observers_kept P none).released s
+observers_plain P none s _ (Announcement size) = (observers_kept P none).announced s size

@@ -2,31 +2,22 @@
 -- pending entries, and the fates of requests for the application.
 use Rattle.std.proofs.Common.{◌≡◌, ℕ, Bool, true, false, List, [], ◌∷◌, ◌++◌, map, Some, None, refl, sym, codes, inl}
 use Rattle.std.proofs.Common.{inr, true≢false}
-use Rattle.coap_model.specs.Prelude.{digits, kind_of, is_recognised, known_given, first_critical_given}
-use Rattle.coap_model.specs.Prelude.{announced, due_index, first_due, without_due, react, live_reaction, is_path}
-use Rattle.coap_model.specs.Prelude.{found_in, put_at}
+use Rattle.coap_model.specs.Prelude.{digits, kind_of, is_recognised, known_given, first_critical_given, announced}
+use Rattle.coap_model.specs.Prelude.{due_index, first_due, without_due, react, live_reaction, is_path, found_in, put_at}
 use Rattle.coap_model.specs.Prelude.{removed_at, encoded_byte, path_bytes, entry_bytes, listing, kind_of_path, key_for}
-use Rattle.coap_model.specs.Prelude.{state_at}
-use Rattle.coap_model.specs.Prelude.{has_option, value_of, number_of, match_holds, is_seconds, get_answer, store_answer}
-use Rattle.coap_model.specs.Prelude.{method_answer, resource_answer, answer_at, answer_of, immediate_answer}
-use Rattle.coap_model.specs.Prelude.{prompt_answer, application_deadline}
-use Rattle.coap_model.specs.Prelude.{notification_at, put_refusal, is_due, without_token, first_becomes, side_after}
-use Rattle.coap_model.specs.Prelude.{change_after}
+use Rattle.coap_model.specs.Prelude.{state_at, has_option, value_of, number_of, match_holds, is_seconds, get_answer}
+use Rattle.coap_model.specs.Prelude.{store_answer, method_answer, resource_answer, answer_at, answer_of}
+use Rattle.coap_model.specs.Prelude.{immediate_answer, prompt_answer, application_deadline, notification_at}
+use Rattle.coap_model.specs.Prelude.{put_refusal, is_due, without_token, first_becomes, side_after, change_after}
 use Rattle.coap_model.specs.Prelude.{side_faulted, side_written, side_ended, side_released, settled_once}
-use Rattle.coap_model.specs.Prelude.{settled_within, settled}
-use Rattle.coap_model.specs.Prelude.{side_announced, side_of, acted, step, after_steps, taken_on, size_on, sizes_on}
-use Rattle.coap_model.specs.Prelude.{stream_on}
-use Rattle.coap_model.specs.Prelude.{steps_by, later_steps, steps_of, world_after, takes, concerns, view_step, view_of}
-use Rattle.coap_model.specs.Prelude.{is_answered, response_refusal, without_request, side_responded, with_fate}
-use Rattle.coap_model.specs.Prelude.{requests_after}
-use Rattle.coap_model.specs.Prelude.{requests_responded, requests_once, requests_within, requests_settled}
-use Rattle.coap_model.specs.Prelude.{requests_acted}
-use Rattle.coap_model.specs.Prelude.{requests_then, requests_by, requests_on}
-use Rattle.coap_model.specs.Prelude.{ConfigValues, Message, new_world, PendingEntryValue, Answer, Pong, Engine}
-use Rattle.coap_model.specs.Prelude.{Application, CorrespondTo}
-use Rattle.coap_model.specs.Prelude.{AcceptedCall, Opened, Took, Wrote, Ticked, Ended, Responded, Dropped, Announced}
-use Rattle.coap_model.specs.Prelude.{Stored}
-use Rattle.coap_model.specs.Prelude.{Fate, Unanswered, Answered, ApplicationRequest, late_message, refusal_of}
+use Rattle.coap_model.specs.Prelude.{settled_within, settled, side_announced, side_of, acted, step, after_steps}
+use Rattle.coap_model.specs.Prelude.{taken_on, size_on, sizes_on, steps_by, later_steps, steps_of, world_after, takes}
+use Rattle.coap_model.specs.Prelude.{concerns, view_step, view_of, is_answered, response_refusal, without_request}
+use Rattle.coap_model.specs.Prelude.{side_responded, with_fate, requests_after, requests_responded, requests_once}
+use Rattle.coap_model.specs.Prelude.{requests_within, requests_settled, requests_acted, requests_then, requests_by}
+use Rattle.coap_model.specs.Prelude.{requests_on, ConfigValues, Message, new_world, Answer, Pong, Engine, Application}
+use Rattle.coap_model.specs.Prelude.{CorrespondTo, AcceptedCall, Opened, Took, Wrote, Ticked, Ended, Responded, Dropped}
+use Rattle.coap_model.specs.Prelude.{Announced, Stored, Fate, Unanswered, Answered, late_message, refusal_of}
 use Rattle.coap_store.specs.Requests.{values_of}
 use Rattle.coap_wire.specs.StreamPrefix.{prefix_kind}
 use Rattle.coap_wire.specs.Frames.{frames_within, sized_frames}

@@ -1,8 +1,8 @@
-use Rattle.coap_model.proofs.world.LastNotificationLaws.{observers_reported_last, observers_have_own_tokens}
+use Rattle.coap_model.proofs.world.LastNotificationLaws.{are_reported}
 use Rattle.coap_model.proofs.laws.last_notification_matches_state.Goals as goal
 
-pub returns-clause-reported : goal.returns-clause-reported
-returns-clause-reported c k events id s there = observers_reported_last k events id s there
-
-pub returns-clause-tokens : goal.returns-clause-tokens
-returns-clause-tokens c k events id s there = observers_have_own_tokens k events id s there
+pub returns : goal.returns
+returns c = record {
+  reported = λ k events id s there. (are_reported k events id s there).1.reported;
+  tokens = λ k events id s there. (are_reported k events id s there).1.own;
+}

@@ -1,27 +1,24 @@
-use Rattle.coap_model.proofs.world.CustodyLaws.{responded_keeps, written_same, notified_keeps, taken_out, answer_sent}
-use Rattle.coap_model.proofs.world.CustodyLaws.{pong_sent, if_over, handled_over, left_kept, Leaves}
-use Rattle.coap_model.proofs.laws.pending_entries_are_sent.Goals as goal
-use Rattle.coap_model.specs.Prelude.{side_after, handles, side_handled, side_faulted, side_ended, side_released}
-use Rattle.coap_model.specs.Prelude.{side_announced, reject_reason, end_reason, ReleasedHere}
-use Rattle.coap_model.proofs.world.WalkLaws.{faulted_between, ended_between, released_between, announced_between}
-use Rattle.coap_model.proofs.world.RespondedLaws.{answered_request}
+use Rattle.std.proofs.Common.{[], sym, inl, arith}
+use Rattle.std.proofs.lemmas.Bool.{cond_both}
+use Rattle.std.proofs.lemmas.List.{append-nil}
+use Rattle.coap_model.specs.Prelude.{handles, KeepsPendingOver, side_after, side_responded, settled_once, link_of}
 use Rattle.coap_conn.proofs.ApplicationLaws.{responds_fitted}
-use Rattle.coap_model.specs.Prelude.{link_of, side_responded}
-use Rattle.std.proofs.Common.{inl, refl, inr}
+use Rattle.coap_model.proofs.world.WalkLaws.{Fault, End, Release, Announcement}
+use Rattle.coap_model.proofs.world.RespondedLaws.{answered_request}
+use Rattle.coap_model.proofs.world.CustodyLaws.{responded_keeps, written_same, handled_hears, plain_keeps}
+use Rattle.coap_model.proofs.world.CustodyLaws.{notified_keeps}
+use Rattle.coap_model.proofs.laws.pending_entries_are_sent.Goals as goal
 
 pub returns : goal.returns
-unfolding side_after side_responded
+unfolding side_after side_responded settled_once
 returns c = record {
-  message = λ store now s m. if_over store.applications m (handles s) s (side_handled store now s m)
-      (handled_over store now s m);
-  faulted = λ s fault. left_kept s (side_faulted s fault)
-      (faulted_between Leaves (λ h. inl refl) (λ h r takes room. inr (reject_reason r, refl)) s fault);
-  ended = λ s cut. left_kept s (side_ended s cut)
-      (ended_between Leaves (λ h. inl refl) (λ h cut takes. inr (end_reason cut, refl)) s cut);
-  released = λ s. left_kept s (side_released s)
-      (released_between Leaves (λ h. inl refl) (λ h opened none. inr (ReleasedHere, refl)) s);
-  announced = λ s size. left_kept s (side_announced s size)
-      (announced_between Leaves (λ h. inl refl) (λ h n opened room fit. inl refl) s size);
+  message = λ store now s m. cond_both (handles s) _ s (KeepsPendingOver store.applications m s)
+      (λ does. grind (arith, handled_hears store now s m))
+      (λ off. inl ([], sym (append-nil s.history.pending), record { few = omega arith; requested = tt }));
+  faulted = λ s fault. plain_keeps s _ (Fault fault);
+  ended = λ s cut. plain_keeps s _ (End cut);
+  released = λ s. plain_keeps s _ Release;
+  announced = λ s size. plain_keeps s _ (Announcement size);
   written = written_same;
   responded = λ s m answering none. (
     answered_request (link_of s.history) m none,
@@ -29,7 +26,7 @@ returns c = record {
     responded_keeps s m answering none,
   );
   reported = notified_keeps;
-  taken = taken_out;
-  answer = answer_sent;
-  pong = pong_sent;
+  taken = λ store now s e is answering same. grind arith;
+  answer = λ store now s by token moment is answering. grind (arith, append-nil);
+  pong = λ store now s token is. grind arith;
 }
