@@ -61,7 +61,7 @@ custody_gives G s t gives custody =
 
 none_pass : {X : Type 0} (p : X → Bool) (xs : List X) → AllByRecursion (λ x. p x ≡ false) xs → list_any p xs ≡ false
 none_pass p [] none = refl
-none_pass p (x ∷ xs) none = or_from (p x) (list_any p xs) none.0 (none_pass p xs none.1)
+none_pass p (x ∷ xs) none = rw none.0 (none_pass p xs none.1)
 
 -- ---- responses
 
@@ -81,7 +81,7 @@ bare_no_pong m = grind arith
 -- A response is no Pong with Custody.
 reply_gives : Replies (Gives ⊥)
 reply_gives h token observe r does room =
-    let m : Message = response_with_observe token observe r in (
+    let m = response_with_observe token observe r in (
       (send (state_now h) m (bare_response m)).queued,
       refl,
       λ pong. grind (arith, response_no_pong token observe r, bare_no_pong m),
@@ -127,70 +127,71 @@ custody_comes_first store now s custody =
 
 -- ---- the order of pending entries
 
--- One more message.
-stand_skip : (a : Option ApplicationsValue) (m : Message) (ms : List Message) (es : List PendingEntryValue)
-    → CorrespondTo a ms es → CorrespondTo a (m ∷ ms) es
-unfolding CorrespondTo
-stand_skip a m ms [] stand = tt
-stand_skip a m ms (e ∷ es) stand = inr stand
+module _ (a : Option ApplicationsValue) where
+  -- One more message.
+  stand_skip : (m : Message) (ms : List Message) (es : List PendingEntryValue)
+      → CorrespondTo a ms es → CorrespondTo a (m ∷ ms) es
+  unfolding CorrespondTo
+  stand_skip m ms [] stand = tt
+  stand_skip m ms (e ∷ es) stand = inr stand
 
--- More messages, with the entries that they ask for.
-stand_append : (a : Option ApplicationsValue) (ms ns : List Message) (es fs : List PendingEntryValue)
-    → CorrespondTo a ms es → CorrespondTo a ns fs → CorrespondTo a (ms ++ ns) (es ++ fs)
-unfolding CorrespondTo
-stand_append a [] ns [] fs stand more = more
-stand_append a [] ns (e ∷ es) fs stand more = absurd stand
-stand_append a (m ∷ ms) ns [] fs stand more = stand_skip a m (ms ++ ns) fs (stand_append a ms ns [] fs tt more)
-stand_append a (m ∷ ms) ns (e ∷ es) fs (inl here) more = inl (here.0, stand_append a ms ns es fs here.1 more)
-stand_append a (m ∷ ms) ns (e ∷ es) fs (inr later) more = inr (stand_append a ms ns (e ∷ es) fs later more)
+  -- More messages, with the entries that they ask for.
+  stand_append : (ms ns : List Message) (es fs : List PendingEntryValue)
+      → CorrespondTo a ms es → CorrespondTo a ns fs → CorrespondTo a (ms ++ ns) (es ++ fs)
+  unfolding CorrespondTo
+  stand_append [] ns [] fs stand more = more
+  stand_append [] ns (e ∷ es) fs stand more = absurd stand
+  stand_append (m ∷ ms) ns [] fs stand more = stand_skip m (ms ++ ns) fs (stand_append ms ns [] fs tt more)
+  stand_append (m ∷ ms) ns (e ∷ es) fs (inl here) more = inl (here.0, stand_append ms ns es fs here.1 more)
+  stand_append (m ∷ ms) ns (e ∷ es) fs (inr later) more = inr (stand_append ms ns (e ∷ es) fs later more)
 
--- A message asks for the entry that it adds.
-stand_added : (a : Option ApplicationsValue) (m : Message) (es : List PendingEntryValue) → AddsRequested a m es
-    → CorrespondTo a (m ∷ []) es
-unfolding CorrespondTo
-stand_added a m [] adds = tt
-stand_added a m (e ∷ []) adds = inl (adds.requested.0, tt)
-stand_added a m (e ∷ d ∷ es) adds = absurd (omega (arith, adds.few))
+  -- A message asks for the entry that it adds.
+  stand_added : (m : Message) (es : List PendingEntryValue) → AddsRequested a m es
+      → CorrespondTo a (m ∷ []) es
+  unfolding CorrespondTo
+  stand_added m [] adds = tt
+  stand_added m (e ∷ []) adds = inl (adds.requested.0, tt)
+  stand_added m (e ∷ d ∷ es) adds = absurd (omega (arith, adds.few))
 
--- The same without the first entry, and without any entry.
-stand_tail : (a : Option ApplicationsValue) (ms : List Message) (e : PendingEntryValue) (es : List PendingEntryValue)
-    → CorrespondTo a ms (e ∷ es) → CorrespondTo a ms es
-unfolding CorrespondTo
-stand_tail a [] e es stand = absurd stand
-stand_tail a (m ∷ ms) e es (inl here) = stand_skip a m ms es here.1
-stand_tail a (m ∷ ms) e es (inr later) = stand_skip a m ms es (stand_tail a ms e es later)
+  -- The same without the first entry, and without any entry.
+  stand_tail : (ms : List Message) (e : PendingEntryValue) (es : List PendingEntryValue)
+      → CorrespondTo a ms (e ∷ es) → CorrespondTo a ms es
+  unfolding CorrespondTo
+  stand_tail [] e es stand = absurd stand
+  stand_tail (m ∷ ms) e es (inl here) = stand_skip m ms es here.1
+  stand_tail (m ∷ ms) e es (inr later) = stand_skip m ms es (stand_tail ms e es later)
 
-stand_removed : (a : Option ApplicationsValue) (ms : List Message) (es : List PendingEntryValue) (i : ℕ)
-    → CorrespondTo a ms es → CorrespondTo a ms (remove es i)
-unfolding CorrespondTo
-stand_removed a ms [] zero stand = stand
-stand_removed a ms [] (suc i) stand = stand
-stand_removed a ms (e ∷ es) zero stand = stand_tail a ms e es stand
-stand_removed a [] (e ∷ es) (suc i) stand = absurd stand
-stand_removed a (m ∷ ms) (e ∷ es) (suc i) (inl here) = inl (here.0, stand_removed a ms es i here.1)
-stand_removed a (m ∷ ms) (e ∷ es) (suc i) (inr later) = inr (stand_removed a ms (e ∷ es) (suc i) later)
+  stand_removed : (ms : List Message) (es : List PendingEntryValue) (i : ℕ)
+      → CorrespondTo a ms es → CorrespondTo a ms (remove es i)
+  unfolding CorrespondTo
+  stand_removed ms [] zero stand = stand
+  stand_removed ms [] (suc i) stand = stand
+  stand_removed ms (e ∷ es) zero stand = stand_tail ms e es stand
+  stand_removed [] (e ∷ es) (suc i) stand = absurd stand
+  stand_removed (m ∷ ms) (e ∷ es) (suc i) (inl here) = inl (here.0, stand_removed ms es i here.1)
+  stand_removed (m ∷ ms) (e ∷ es) (suc i) (inr later) = inr (stand_removed ms (e ∷ es) (suc i) later)
 
-stand_due : (a : Option ApplicationsValue) (ms : List Message) (now : ℕ) (es : List PendingEntryValue)
-    → CorrespondTo a ms es → CorrespondTo a ms (without_due now es)
-unfolding without_due
-stand_due a ms now es stand = grind (arith, stand_removed)
+  stand_due : (ms : List Message) (now : ℕ) (es : List PendingEntryValue)
+      → CorrespondTo a ms es → CorrespondTo a ms (without_due now es)
+  unfolding without_due
+  stand_due ms now es stand = grind (arith, stand_removed)
 
--- The same without the first request with a token that waits for the application.
-stand_request : (a : Option ApplicationsValue) (ms : List Message) (token : List ℕ) (es : List PendingEntryValue)
-    → CorrespondTo a ms es → CorrespondTo a ms (without_request token es)
-unfolding without_request
-stand_request a ms token es stand = grind (arith, stand_removed)
+  -- The same without the first request with a token that waits for the application.
+  stand_request : (ms : List Message) (token : List ℕ) (es : List PendingEntryValue)
+      → CorrespondTo a ms es → CorrespondTo a ms (without_request token es)
+  unfolding without_request
+  stand_request ms token es stand = grind (arith, stand_removed)
 
--- Each entry was asked for.
-pub each_requested : (a : Option ApplicationsValue) (ms : List Message) (before : List PendingEntryValue)
-    (e : PendingEntryValue) (after : List PendingEntryValue) → CorrespondTo a ms (before ++ e ∷ after)
-    → list_any (λ m. asks_pending a m e) ms ≡ true
-unfolding CorrespondTo
-each_requested a [] [] e after stand = absurd stand
-each_requested a [] (b ∷ before) e after stand = absurd stand
-each_requested a (m ∷ ms) [] e after stand = grind (arith, each_requested a ms [] e after)
-each_requested a (m ∷ ms) (b ∷ before) e after stand =
-    grind (arith, each_requested a ms before e after, each_requested a ms (b ∷ before) e after)
+  -- Each entry was asked for.
+  pub each_requested : (ms : List Message) (before : List PendingEntryValue) (e : PendingEntryValue)
+      (after : List PendingEntryValue) → CorrespondTo a ms (before ++ e ∷ after)
+      → list_any (λ m. asks_pending a m e) ms ≡ true
+  unfolding CorrespondTo
+  each_requested [] [] e after stand = absurd stand
+  each_requested [] (b ∷ before) e after stand = absurd stand
+  each_requested (m ∷ ms) [] e after stand = grind (arith, each_requested ms [] e after)
+  each_requested (m ∷ ms) (b ∷ before) e after stand =
+      grind (arith, each_requested ms before e after, each_requested ms (b ∷ before) e after)
 
 -- ---- a request
 
@@ -205,33 +206,34 @@ request_quiet s m asks =
 -- A delayed response is pending only if the list has a place for it.
 pub pending_where : (h : History) (delay : Option Delay) (d : Delay) → delay_for h delay ≡ Some d
     → (may_hold h ≡ true) × (delay ≡ Some d)
-pending_where h None d is = absurd cc
-pending_where h (Some e) d is = there_where (may_hold h) (Some e) d is
+pending_where h delay d is = grind arith
 
 -- The message asks for the responder of its delay.
 delayed_requested : (store : StoreValue) (now : ℕ) (m : Message) (d : Delay) → delay_of store now m ≡ Some d
     → asks_delayed store.applications d.by m ≡ true
 delayed_requested store now m d is = grind (arith, delay_of_answer store now m)
 
--- The possible cases of a message: no request, a request with a delayed response, and one with an immediate response.
-pub handled_cases : (store : StoreValue) (now : ℕ) (s : Connection) (m : Message) (P : Connection → Type 0)
-    → (asks_answer s m ≡ false → P (with_history s (after s.history (call.Handle m))))
-    → (asks_answer s m ≡ true → (by : Responder) (moment : ℕ) → asks_delayed store.applications by m ≡ true
-    → P (side_with (holding (after s.history (call.Handle m))
-    ((after s.history (call.Handle m)).pending ++ Answer by m.token moment ∷ [])) (without_token m.token s.observers)))
-    → (asks_answer s m ≡ true → P (side_answered store now (after s.history (call.Handle m))
-    (without_token m.token s.observers) m (prompt_answer store now m)))
-    → P (side_handled store now s m)
-handled_cases store now s m P other late prompt =
-    let h : History = after s.history (call.Handle m) in
-    let others : List Observer = without_token m.token s.observers in
-    let delay : Option Delay = delay_of store now m in
-    cond_both (asks_answer s m) _ _ P (λ asks. replied_cases store now h others m delay P (λ d is. (
-    let both : (may_hold h ≡ true) × (delay ≡ Some d) = pending_where h delay d is in
-    subst (λ (k : History). P (side_with k others)) (sym (pending_is h d.by m.token (moment_after now d.seconds)
-    ∙ cond-true _ _ h (and_from _ _ (request_quiet s m asks).1 both.0)))
-    (late asks d.by (moment_after now d.seconds) (delayed_requested store now m d both.1))
-    )) (λ none. prompt asks)) other
+module _ (store : StoreValue) (now : ℕ) (s : Connection) (m : Message) where
+  abbrev pub heard : History
+  heard = after s.history (call.Handle m)
+
+  -- The possible cases of a message: no request, a request with a delayed response, and one with an immediate response.
+  pub handled_cases : (P : Connection → Type 0) → (asks_answer s m ≡ false → P (with_history s heard))
+      → (asks_answer s m ≡ true → (by : Responder) (moment : ℕ) → asks_delayed store.applications by m ≡ true
+      → P (side_with (holding heard (heard.pending ++ Answer by m.token moment ∷ []))
+      (without_token m.token s.observers)))
+      → (asks_answer s m ≡ true
+      → P (side_answered store now heard (without_token m.token s.observers) m (prompt_answer store now m)))
+      → P (side_handled store now s m)
+  handled_cases P other late prompt =
+      let others = without_token m.token s.observers in
+      let delay = delay_of store now m in
+      cond_both (asks_answer s m) _ _ P (λ asks. replied_cases store now heard others m delay P (λ d is. (
+      let both = pending_where heard delay d is in
+      subst (λ k. P (side_with k others)) (sym (pending_is heard d.by m.token (moment_after now d.seconds)
+      ∙ cond-true _ _ heard (and_from _ _ (request_quiet s m asks).1 both.0)))
+      (late asks d.by (moment_after now d.seconds) (delayed_requested store now m d both.1))
+      )) (λ none. prompt asks)) other
 
 -- ---- the entries that a message adds
 
@@ -261,7 +263,7 @@ HasReceived a m h k = HandlesOne a m h k.handled k.pending k.phase
 
 message_hears : (a : Option ApplicationsValue) (h : History) (m : Message) → HasReceived a m h (after h (call.Handle m))
 message_hears a h m =
-    let s : ConnectionState = state_now h in
+    let s = state_now h in
     let does =
     react_so s m (λ e. (StopsAtMost s.phase → StopsAtMost e.phase) × Over a m s.pending e.pending e.phase) (record {
       stays = (λ is. is, adds_none a m s.pending s.phase);
@@ -284,9 +286,9 @@ message_hears a h m =
 pub handled_hears : (store : StoreValue) (now : ℕ) (s : Connection) (m : Message)
     → HasReceived store.applications m s.history (side_handled store now s m).history
 handled_hears store now s m =
-    let a : Option ApplicationsValue = store.applications in
-    let h : History = after s.history (call.Handle m) in
-    let received : HasReceived a m s.history h = message_hears a s.history m in
+    let a = store.applications in
+    let h = after s.history (call.Handle m) in
+    let received = message_hears a s.history m in
     handled_cases store now s m (λ t. HasReceived a m s.history t.history) (λ other. received)
     (λ asks by moment requested. record {
       handled_more = received.handled_more;
@@ -391,27 +393,20 @@ pub responded_keeps : (s : Connection) (m : Message) → answers s.history.phase
     → KeepsBut (without_request m.token s.history.pending) (side_responded s m)
 unfolding side_responded
 responded_keeps s m answering none =
-    let h : History = s.history in
-    let less : Message = bare_response m in
-    let e = send (state_without m.token (state_now h)) m less in
-    subst (λ (b : Bool). KeepsBut (without_request m.token h.pending) (with_history s (cond b (with_effect h e) h)))
-    (sym (and_from _ _ answering (ap (λ (o : Option RespondFault). is_none o) none)))
-    (sent_either (state_without m.token (state_now h)) m less (fit (limit_now h) m less)
-    (λ es now. (es ≡ without_request m.token h.pending) ⊎ ((why : Reason) × (now ≡ phase.Stopped why))) (inl refl)
-    (inr (PeerTooSmall, refl)))
+    let pending = without_request m.token s.history.pending in
+    rw (answering, none) (sent_either (state_without m.token (state_now s.history)) m (bare_response m)
+    (fit (limit_now s.history) m (bare_response m))
+    (λ es now. (es ≡ pending) ⊎ ((why : Reason) × (now ≡ phase.Stopped why))) (inl refl) (inr (PeerTooSmall, refl)))
 
 -- It queues no Pong.
 pub responded_no_custody : (s : Connection) (m : Message) → QueuesCustody s (side_responded s m) → ⊥
 responded_no_custody s m =
     custody_gives ⊥ s (side_responded s m)
     (responded_between (Gives ⊥) (λ h. gives_none ⊥ h h refl) (λ h n answering none. (
-    let codes = plain_codes n (allowed (link_of h) n none).plain in
-    let s : ConnectionState = state_without n.token (state_now h) in (
-      (send s n (bare_response n)).queued,
+      _,
       refl,
-      λ pong.
-          (let quiet = none_pass is_custody_pong (send s n (bare_response n)).queued
-          (sent_all IsNoPong s n (bare_response n) (fit (limit_now h) n (bare_response n))
-          (response_is_no_pong n codes.0) (response_is_no_pong (bare_response n) codes.1)) in
-          both_ways _ quiet pong),
-    ))) s m)
+      λ pong. (let codes = plain_codes n (allowed (link_of h) n none).plain in
+          both_ways _ (none_pass is_custody_pong _ (sent_all IsNoPong (state_without n.token (state_now h)) n
+          (bare_response n) (fit (limit_now h) n (bare_response n)) (response_is_no_pong n codes.0)
+          (response_is_no_pong (bare_response n) codes.1))) pong),
+    )) s m)
