@@ -1,12 +1,12 @@
 -- A flush leaves no queued bytes. If none are queued, a flush changes nothing.
-use Rattle.std.proofs.Common.{◌≡◌, ℕ, zero, suc, ◌+◌, ◌≤◌, List, [], ◌∷◌, ◌++◌, length, map, Option, Some, refl, sym}
-use Rattle.std.proofs.Common.{ap, subst, ◌∙◌, ◌⊎◌, inl, inr, arith, nat_le, append_assoc}
+use Rattle.std.proofs.Common.{◌≡◌, ℕ, zero, suc, ◌+◌, ◌≤◌, List, [], ◌∷◌, ◌++◌, length, map, Some, refl, sym, ap, subst}
+use Rattle.std.proofs.Common.{◌∙◌, ◌⊎◌, inl, inr, arith, append_assoc}
 use Rattle.coap_model.specs.Prelude.{AllByRecursion, Message, LimitValues, bytes_of, StoreValue, is_due, Connection}
-use Rattle.coap_model.specs.Prelude.{waiting_on, side_written, settled_once, settled_within, settled, IsUpToDate}
-use Rattle.coap_model.specs.Prelude.{ConnectionEntry, World, Step, side_of, acted, settled_place, all_settled, step}
-use Rattle.coap_model.specs.Prelude.{waiting_of, more_of, written_once, written_times, flushed}
+use Rattle.coap_model.specs.Prelude.{waiting_on, side_written, settled_once, settled_within, settled, World, Step}
+use Rattle.coap_model.specs.Prelude.{side_of, acted, settled_place, step, waiting_of, more_of, written_once}
+use Rattle.coap_model.specs.Prelude.{written_times, flushed}
 use Rattle.std.proofs.Math.Nat.{add-zero}
-use Rattle.std.proofs.lemmas.Bool.{le-leb, cases_eq, cond_both}
+use Rattle.std.proofs.lemmas.Bool.{le-leb}
 use Rattle.std.proofs.lemmas.List.{append-nil, length-drop, drop_all}
 use Rattle.coap_model.specs.world.World as world
 use Rattle.coap_model.proofs.world.GrowLaws.{settled_handled, written_handled}
@@ -25,17 +25,12 @@ use Rattle.coap_model.proofs.world.LimitLaws.{step_fits}
 -- A write does not change the observers.
 written_observers : (s : Connection) (n : ℕ) → (side_written s n).observers ≡ s.observers
 unfolding side_written
-written_observers s n =
-    cond_both (nat_le n (length (waiting_on s))) _ _ (λ (t : Connection). t.observers ≡ s.observers)
-    (λ does. refl) (λ fails. refl)
+written_observers s n = grind arith
 
 -- After all queued bytes were written, none are queued.
 written_empties : (s : Connection) → waiting_on (side_written s (length (waiting_on s))) ≡ []
 unfolding side_written
-written_empties s =
-    let n : ℕ = length (waiting_on s) in
-    rw (le-leb n n (omega arith)) (drop_all (s.history.written + n) (bytes_of s.history.queued)
-    (omega (arith, length-drop s.history.written (bytes_of s.history.queued))))
+written_empties s = grind (arith, le-leb, drop_all, length-drop s.history.written (bytes_of s.history.queued))
 
 -- Writing zero bytes does not change the connection.
 none_written : (s : Connection) → side_written s 0 ≡ s
@@ -94,16 +89,8 @@ once_turn : (store : StoreValue) (now : ℕ) (s : Connection) → IsFlushedAndAt
     ⊎ (left_on store now (side_once store now s) + 1 ≤ left_on store now s)
 unfolding settled
 once_turn store now s =
-    let n : ℕ = length (waiting_on s) in
-    let u : Connection = side_written s n in
-    let same : left_on store now u ≡ left_on store now s = cc (written_same s n, written_observers s n) in
-    elim (settled_less store now u) [
-      | inl rests ↦ inl (
-        ap waiting_on (at_rest (more_of (Some u)) store now u rests) ∙ written_empties s,
-        settled_rests store now u,
-      )
-      | inr less ↦ inr (omega (arith, less, same))
-    ]
+    grind (arith, left_on store now, left_on store now s, written_same s, written_observers s,
+    settled_less store now, at_rest, written_empties s, settled_rests store now)
 
 -- If nothing is pending and there is no observer, a round leaves this so and does not change the phase.
 once_alone : (store : StoreValue) (now : ℕ) (s : Connection) → more_of (Some s) ≡ 0
@@ -137,17 +124,7 @@ pub record IsLeft (id turns : ℕ) (w : World) (s : Connection) (v : World) : Ty
 turns_leave : (limits : LimitValues) (id turns : ℕ) (w : World) (s : Connection) → side_of id w.sides ≡ Some s
     → IsLeft id turns w s (written_times limits id turns w)
 unfolding written_times step acted
-turns_leave limits id zero w s there =
-    record {
-      side = s;
-      there = there;
-      distinct = λ are. are;
-      more = [];
-      queued = sym (append-nil s.history.queued);
-      handled = refl;
-      alone = λ none. (none, refl);
-      rests = inr (omega arith);
-    }
+turns_leave limits id zero w s there = grind (arith, append-nil s.history.queued)
 turns_leave limits id (suc turns) w s there =
     let v : World = written_times limits id turns w in
     let so_far = turns_leave limits id turns w s there in
@@ -180,7 +157,7 @@ turns_leave limits id (suc turns) w s there =
 pub flushed_so : (limits : LimitValues) (id : ℕ) (w : World) (s : Connection) → side_of id w.sides ≡ Some s
     → flushed limits id w ≡ written_times limits id (suc (more_of (Some s))) w
 unfolding flushed
-flushed_so limits id w s there = ap (λ (o : Option Connection). written_times limits id (suc (more_of o)) w) there
+flushed_so limits id w s there = grind arith
 
 -- A flush leaves no queued bytes: one round more than the number of pending entries and observers is enough.
 pub flush_leaves : (limits : LimitValues) (id : ℕ) (w : World) (s : Connection) → side_of id w.sides ≡ Some s
@@ -208,12 +185,7 @@ pub idle_step : (limits : LimitValues) (w : World) (st : Step) → AllHear w
     → acted limits w st ≡ w → step limits w st ≡ w
 unfolding step
 idle_step limits w st hear idle =
-    let stays =
-    all_to (λ (p : ConnectionEntry). IsUpToDate w.store w.now p.side) (λ p. settled_place w.store w.now p ≡ p)
-    (λ p takes_input. ap (λ (s : Connection). record p { side = s })
-    (side_at_rest_stays w.store w.now p.side takes_input)) w.sides hear in
-    ap all_settled idle ∙ ap (λ (ps : List ConnectionEntry). record w { sides = ps })
-    (map_stays (settled_place w.store w.now) w.sides stays)
+    grind (arith, all_to, side_at_rest_stays w.store w.now, map_stays (settled_place w.store w.now) w.sides)
 
 -- If no bytes are queued, a round does not change the world.
 quiet_once : (limits : LimitValues) (id : ℕ) (w : World) (s : Connection) → AllHear w → side_of id w.sides ≡ Some s
@@ -224,12 +196,8 @@ quiet_once limits id w s hear there none =
 
 -- A property of a number that passes on to the next number holds of all larger numbers.
 pub from_there_on : (P : ℕ → Type 0) (few many : ℕ) → few ≤ many → P few → ((n : ℕ) → P n → P (suc n)) → P many
-from_there_on P few zero within first on = let same : few ≡ 0 = omega (arith, within) in subst P same first
-from_there_on P few (suc many) within first on =
-    elim (cases_eq few (suc many)) [
-      | inl same ↦ subst P same first
-      | inr apart ↦ on many (from_there_on P few many (omega (arith, within, apart)) first on)
-    ]
+from_there_on P few zero within first on = grind arith
+from_there_on P few (suc many) within first on = grind (arith, from_there_on P few many)
 
 -- Further rounds of a flush do not change it either.
 pub times_further : (limits : LimitValues) (id turns most : ℕ) (w : World) (t : Connection) → AllHear w

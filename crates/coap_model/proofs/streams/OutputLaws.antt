@@ -1,14 +1,14 @@
 -- The world of one connection whose input steps are each followed by a flush. More input continues this world, the
 -- output only grows, and a stopped connection does not change.
 use Rattle.std.proofs.Common.{◌≡◌, ℕ, false, List, [], ◌∷◌, ◌++◌, map, Some, None, refl, sym, ap, subst, ◌∙◌, ◌==◌}
-use Rattle.std.proofs.Common.{append_assoc, length, is_none}
-use Rattle.coap_model.specs.Prelude.{AllByRecursion, Message, StreamFault, Stream, split_on, Reason, takes_messages}
-use Rattle.coap_model.specs.Prelude.{stop_of, LimitValues, bytes_of, ConfigValues, Connection, side_after, change_after}
+use Rattle.std.proofs.Common.{arith, append_assoc, length, is_none}
+use Rattle.coap_model.specs.Prelude.{AllByRecursion, Message, StreamFault, Stream, Reason, takes_messages, stop_of}
+use Rattle.coap_model.specs.Prelude.{LimitValues, bytes_of, ConfigValues, Connection, side_after, change_after}
 use Rattle.coap_model.specs.Prelude.{side_faulted, settled, new_side, waiting_on, settled_within, ConnectionEntry}
 use Rattle.coap_model.specs.Prelude.{World, side_of, acted, step, Step, new_world, AcceptedCall, Opened, Took}
-use Rattle.coap_model.specs.Prelude.{spelled_on, taken_in, size_by, beyond, steps_by, later_steps, steps_of}
-use Rattle.coap_model.specs.Prelude.{written_times, flushed, flushed_after, only_id, stream_of, steps_for, world_for}
-use Rattle.coap_model.specs.Prelude.{side_for, Outcome, outcome_on, outcome, stdio_output}
+use Rattle.coap_model.specs.Prelude.{spelled_on, beyond, steps_by, later_steps, steps_of, written_times, flushed}
+use Rattle.coap_model.specs.Prelude.{flushed_after, only_id, stream_of, steps_for, world_for, side_for, Outcome}
+use Rattle.coap_model.specs.Prelude.{outcome_on, outcome, stdio_output}
 use Rattle.std.proofs.lemmas.Bool.{eqb-true, cond_both}
 use Rattle.std.proofs.lemmas.List.{append-nil}
 use Rattle.coap_wire.proofs.StreamSteps.{unfinished_empty, split_unfinished, split_goes_on}
@@ -35,10 +35,8 @@ pub data IsOfBytes (id : ℕ) : Step → Type 0 where
 -- The connection exists after such a step.
 stays_there : (limits : LimitValues) (id : ℕ) (w : World) (st : Step) (s : Connection) → IsOfBytes id st
     → side_of id w.sides ≡ Some s → (t : Connection) × (side_of id (step limits w st).sides ≡ Some t)
-stays_there limits id w st s (OfMessage m) there =
-    let then = handled_there limits w id m s there in (settled then.0 w.now (side_after w.store w.now s m), then.1)
-stays_there limits id w st s (OfFault fault) there =
-    (settled w.store w.now (side_faulted s fault), faulted_there limits w id fault s there)
+stays_there limits id w st s (OfMessage m) there = grind (arith, handled_there limits w id m s there)
+stays_there limits id w st s (OfFault fault) there = grind (arith, faulted_there limits w id fault s there)
 
 -- ---- a connection that has stopped
 
@@ -55,10 +53,8 @@ one_stays id f s ps distinct there stays =
 nothing_acted : (limits : LimitValues) (id : ℕ) (w : World) (st : Step) (s : Connection) → AreDistinct w.sides
     → side_of id w.sides ≡ Some s → takes_messages s.history.phase ≡ false → IsOfBytes id st → acted limits w st ≡ w
 unfolding acted side_after change_after side_faulted
-nothing_acted limits id w st s distinct there over (OfMessage m) =
-    rw (one_stays id (λ t. side_after w.store w.now t m) s w.sides distinct there (rw over), there, over) refl
-nothing_acted limits id w st s distinct there over (OfFault fault) =
-    rw (one_stays id (λ t. side_faulted t fault) s w.sides distinct there (rw over)) refl
+nothing_acted limits id w st s distinct there over (OfMessage m) = grind (arith, one_stays id)
+nothing_acted limits id w st s distinct there over (OfFault fault) = grind (arith, one_stays id)
 
 -- ---- the state after each step and its flush
 
@@ -79,18 +75,7 @@ written_out : (limits : LimitValues) (id : ℕ) (w : World) (s t : Connection) (
     → IsWrittenOut id s (flushed limits id w)
 unfolding flushed written_times
 written_out limits id w s t more there distinct queued =
-    let left = flush_leaves limits id w t there in
-    record {
-      side = left.0.side;
-      there = left.0.there;
-      waits = left.1;
-      more = more ++ left.0.more;
-      queued =
-          left.0.queued ∙ ap (λ (ms : List Message). ms ++ left.0.more) queued
-          ∙ append_assoc s.history.queued more left.0.more;
-      distinct = left.0.distinct distinct;
-      takes_input = step_hears limits _ _;
-    }
+    grind (arith, flush_leaves limits id w t there, append_assoc s.history.queued more, step_hears limits)
 
 after_bytes : (limits : LimitValues) (id : ℕ) (w : World) (ss : List Step) (s : Connection)
     → AllByRecursion (IsOfBytes id) ss → IsWrittenOut id s w → IsWrittenOut id s (flushed_after limits id w ss)
@@ -110,11 +95,10 @@ after_stopped : (c : ConfigValues) (id : ℕ) (w : World) (ss : List Step) (s : 
 unfolding flushed_after
 after_stopped c id w [] s one all over = refl
 after_stopped c id w (st ∷ ss) s one all over =
-    ap (λ (v : World). flushed_after c.limits id (flushed c.limits id v) ss) (idle_step c.limits w st one.takes_input
-    (nothing_acted c.limits id w st one.side one.distinct one.there over all.0))
-    ∙ ap (λ (v : World). flushed_after c.limits id v ss)
-    (quiet_flush c.limits id w one.side one.takes_input one.there one.waits)
-    ∙ after_stopped c id w ss s one all.1 over
+    grind (arith,
+    idle_step c.limits w st one.takes_input (nothing_acted c.limits id w st one.side one.distinct one.there over all.0),
+    quiet_flush c.limits id w one.side one.takes_input one.there one.waits,
+    after_stopped c id w ss s one all.1 over)
 
 after_then : (limits : LimitValues) (id : ℕ) (w : World) (ss ts : List Step)
     → flushed_after limits id w (ss ++ ts) ≡ flushed_after limits id (flushed_after limits id w ss) ts
@@ -146,15 +130,11 @@ module _ (c : ConfigValues) where
   -- Events after which the stream has these bytes, and more bytes after them.
   module _ (es : List AcceptedCall) (bytes more : List ℕ) (spelled : spelled_on M id es ≡ (stream_of c bytes, M)) where
     pub spelled_more : spelled_on M id (es ++ Took id more ∷ []) ≡ (stream_of c (bytes ++ more), M)
-    spelled_more =
-        spelled_then M id es (Took id more)
-        ∙ ap (λ (s : Stream × ℕ). spelled_by s (taken_in id (Took id more)) (size_by id (Took id more))) spelled
-        ∙ ap (λ (s : Stream). (s, M))
-        (ap (split_on M (stream_of c bytes)) (taken_here id more) ∙ sym (split_goes_on M bytes more))
+    spelled_more = grind (arith, spelled_then M id, spelled_by, taken_here id, split_goes_on M)
 
     pub steps_taken : steps_by M es (Took id more) ≡ beyond id (stream_of c bytes) (stream_of c (bytes ++ more))
     unfolding steps_by
-    steps_taken = cc (ap (λ (s : Stream × ℕ). s.0) spelled, ap (λ (s : Stream × ℕ). s.0) spelled_more)
+    steps_taken = grind (arith, spelled_more)
 
   -- ---- the world for input bytes
 
@@ -175,9 +155,7 @@ module _ (c : ConfigValues) where
 
   more_written_out : (xs ys : List ℕ) (s : Connection) → IsWrittenOut id s (world_for c xs)
       → IsWrittenOut id s (world_for c (xs ++ ys))
-  more_written_out xs ys s before =
-      subst (IsWrittenOut id s) (sym (world_goes_on xs ys))
-      (after_bytes c.limits id (world_for c xs) _ s (beyond_are xs ys) before)
+  more_written_out xs ys s before = grind (arith, world_goes_on xs ys, after_bytes, beyond_are xs ys)
 
   -- The world in which the connection was opened: its CSM is queued.
   abbrev world_opened : World
@@ -185,7 +163,7 @@ module _ (c : ConfigValues) where
 
   pub opened_alone : side_of id world_opened.sides ≡ Some (new_side c.limits)
   unfolding step acted side_of settled settled_within
-  opened_alone = first_there id (record { id = id; side = new_side c.limits }) [] refl
+  opened_alone = grind (arith, first_there id)
 
   -- For no input, the world is the one in which the CSM was written.
   pub world_for_none : world_for c [] ≡ flushed c.limits id world_opened
@@ -213,9 +191,7 @@ module _ (c : ConfigValues) where
   -- The connection accepts messages until it stops.
   pub takes_unless_stopped : (bytes : List ℕ)
       → takes_messages (world_for_written bytes).side.history.phase ≡ is_none (outcome c bytes).stop
-  takes_unless_stopped bytes =
-      let all = world_for_written bytes in
-      ap (λ (o : Outcome). is_none o.stop) (sym (outcome_there bytes all.side all.there))
+  takes_unless_stopped bytes = grind (arith, world_for_written bytes, outcome_there bytes)
 
   -- At first no message was handled, and the connection has not stopped.
   pub outcome_at_first : ((outcome c []).messages ≡ 0) × ((outcome c []).stop ≡ None)
@@ -261,5 +237,4 @@ module _ (c : ConfigValues) where
   pub stopped_outcome : (xs ys : List ℕ) (why : Reason) → (outcome c xs).stop ≡ Some why
       → outcome c (xs ++ ys) ≡ outcome c xs
   unfolding outcome
-  stopped_outcome xs ys why stopped =
-      ap (λ (w : World). outcome_on (side_of id w.sides)) (stopped_output xs ys why stopped)
+  stopped_outcome xs ys why stopped = grind (arith, stopped_output xs ys why stopped)

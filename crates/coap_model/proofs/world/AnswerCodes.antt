@@ -1,12 +1,10 @@
 -- Each answer to a request has the code of a response: class 2, 4 or 5.
-use Rattle.std.proofs.Common.{◌≡◌, ℕ, Bool, true, ◌||◌, ◌==◌, Option, Some, None, refl, arith}
-use Rattle.coap_model.specs.Prelude.{Message, class_of, bare_code, Path, Representation, StoreValue, RequestTarget}
-use Rattle.coap_model.specs.Prelude.{target_of, path_of, get_answer, stored_under, store_answer, read_answer}
-use Rattle.coap_model.specs.Prelude.{method_answer, resource_answer, answer_at, answer_of, immediate_answer}
-use Rattle.coap_model.specs.Prelude.{prompt_answer}
+use Rattle.std.proofs.Common.{◌≡◌, ℕ, Bool, true, ◌||◌, ◌==◌, refl, arith}
+use Rattle.coap_model.specs.Prelude.{Message, class_of, bare_code, StoreValue, RequestTarget, target_of, path_of}
+use Rattle.coap_model.specs.Prelude.{get_answer, store_answer, method_answer, resource_answer, answer_at, answer_of}
+use Rattle.coap_model.specs.Prelude.{immediate_answer, prompt_answer}
 use Rattle.coap_store.specs.Answer.{Answer}
 use Rattle.coap_store.proofs.ApplicationLaws.{prompt_cases}
-use Rattle.coap_path.specs.declared.resource_kind.ResourceKind.{ResourceKind}
 
 abbrev pub coded : ℕ → Bool
 coded c = class_of c == 2 || (class_of c == 4 || class_of c == 5)
@@ -14,26 +12,9 @@ coded c = class_of c == 2 || (class_of c == 4 || class_of c == 5)
 abbrev IsCoded : Answer → Type 0
 IsCoded a = coded a.response.code ≡ true
 
-stored_coded : (key : Option Path) (state : Option Representation) (m : Message) → IsCoded (stored_under key state m)
-stored_coded None state m = refl
-stored_coded (Some path) None m = refl
-stored_coded (Some path) (Some r) m = refl
-
-store_coded : (s : StoreValue) (t : RequestTarget) (m : Message) → IsCoded (store_answer s t m)
-unfolding store_answer
-store_coded s t m = grind (arith, stored_coded t.key t.state m)
-
-get_coded : (place : ResourceKind) (r : Representation) (m : Message) → IsCoded (get_answer place r m)
-unfolding get_answer
-get_coded place r m = grind arith
-
-read_coded : (place : ResourceKind) (state : Option Representation) (m : Message) → IsCoded (read_answer place state m)
-read_coded place None m = refl
-read_coded place (Some r) m = get_coded place r m
-
 method_coded : (s : StoreValue) (t : RequestTarget) (m : Message) → IsCoded (method_answer s t m)
-unfolding method_answer
-method_coded s t m = grind (arith, read_coded t.place t.state m, store_coded s t m)
+unfolding method_answer get_answer store_answer
+method_coded s t m = grind arith
 
 resource_coded : (s : StoreValue) (t : RequestTarget) (m : Message) → IsCoded (resource_answer s t m)
 unfolding resource_answer

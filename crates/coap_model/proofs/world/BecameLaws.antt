@@ -4,12 +4,12 @@ use Rattle.std.proofs.Common.{◌≡◌, ℕ, Bool, true, false, List, [], ◌�
 use Rattle.std.proofs.Common.{arith, ◌≢◌}
 use Rattle.std.proofs.lemmas.Bool.{both_ways}
 use Rattle.std.proofs.lemmas.List.{append-nil}
-use Rattle.coap_model.specs.Prelude.{Message, StreamFault, Stream, Phase, Reject, Reason, takes_messages, answers}
-use Rattle.coap_model.specs.Prelude.{is_open, fit, pong_with, PendingEntryValue, without_due, due_index, reject_of}
-use Rattle.coap_model.specs.Prelude.{reject_reason, History, state_now, limit_now, StoreValue, ConfigValues, Connection}
-use Rattle.coap_model.specs.Prelude.{handles, side_after, side_faulted, settled, new_side, settled_once, World, Step}
-use Rattle.coap_model.specs.Prelude.{side_of, AcceptedCall, Took, stream_on, steps_by, world_after, spelled_on}
-use Rattle.coap_model.specs.Prelude.{message_reason, LimitValues, without_request, bare_response}
+use Rattle.coap_model.specs.Prelude.{Message, StreamFault, Stream, Phase, Reject, Reason, takes_messages, is_open, fit}
+use Rattle.coap_model.specs.Prelude.{pong_with, PendingEntryValue, without_due, due_index, reject_of, reject_reason}
+use Rattle.coap_model.specs.Prelude.{History, state_now, limit_now, StoreValue, ConfigValues, Connection, handles}
+use Rattle.coap_model.specs.Prelude.{side_after, side_faulted, settled, new_side, settled_once, World, Step, side_of}
+use Rattle.coap_model.specs.Prelude.{AcceptedCall, Took, stream_on, steps_by, world_after, spelled_on, message_reason}
+use Rattle.coap_model.specs.Prelude.{LimitValues, without_request, bare_response}
 use Rattle.coap_model.proofs.world.StepLaws.{world_same, world_step, nothing_spelled, world_first}
 use Rattle.coap_model.proofs.world.TookLaws.{Adds}
 use Rattle.coap_conn.proofs.ReactionLaws.{StopsAtMost}
@@ -43,7 +43,7 @@ abbrev pub HandlesNone : History → History → Type 0
 HandlesNone h k = HandlesNothing h k.handled k.phase k.pending
 
 rests_self : (h : History) → HandlesNone h h
-rests_self h = record { handled = refl; stopped = λ why is. is; stops = λ is. is }
+rests_self h = grind arith
 
 rests_then : (h k g : History) → HandlesNone h k → HandlesNone k g → HandlesNone h g
 rests_then h k g p q = record {
@@ -55,16 +55,11 @@ rests_then h k g p q = record {
 -- A message is sent on a connection that has not stopped.
 sent_rests : (h : History) (pending : List PendingEntryValue) (m less : Message)
     → ((why : Reason) → HasStopped h why → ⊥) → HandlesNone h (sent (holding h pending) m less)
-sent_rests h pending m less live = record {
-  handled = refl;
-  stopped = λ why is. absurd (live why is);
-  stops = λ is. sent_either (state_now (holding h pending)) m less (fit (limit_now h) m less)
-      (λ es now. StopsAtMost now) is refl;
-}
+sent_rests h pending m less live =
+    grind (arith, sent_either (state_now (holding h pending)) m less (fit (limit_now h) m less), holding h pending)
 
 response_rests : Replies HandlesNone
-response_rests h token observe r does room =
-    sent_rests h h.pending _ _ (λ why is. both_ways (answers h.phase) (ap answers is.0) does)
+response_rests h token observe r does room = grind (arith, sent_rests h h.pending)
 
 -- If nothing is pending, nothing is due.
 first_rests : LetsGo HandlesNone
@@ -73,13 +68,12 @@ first_rests h now = grind arith
 
 pong_rests : Pongs HandlesNone
 pong_rests h now token due room =
-    let there = due_pong now h.pending token due in
-    sent_rests h (without_due now h.pending) (pong_with true token) (pong_with false token) (λ why is. cc)
+    grind (arith, due_pong now h.pending token due,
+    sent_rests h (without_due now h.pending) (pong_with true token) (pong_with false token))
 
 respond_rests : Responds HandlesNone
 respond_rests h m answering none =
-    sent_rests h (without_request m.token h.pending) m (bare_response m)
-    (λ why is. both_ways (answers h.phase) (ap answers is.0) answering)
+    grind (arith, sent_rests h (without_request m.token h.pending) m (bare_response m))
 
 -- Settling handles no message.
 pub settled_handles_none : (store : StoreValue) (now : ℕ) (s : Connection)
@@ -240,5 +234,4 @@ AgreesOn c es id =
     (s : Connection) → side_of id (world_after c es).sides ≡ Some s → Agrees (stream_on c.limits.max_message id es) s
 
 pub first_agrees : (c : ConfigValues) (id : ℕ) → AgreesOn c [] id
-first_agrees c id s there =
-    absurd (none_or_some s (sym (ap (λ (w : World). side_of id w.sides) (world_first c) ∙ nobody id) ∙ there))
+first_agrees c id s there = grind (arith, none_or_some s, world_first c, nobody id)

@@ -1,25 +1,23 @@
 -- Pending entries are in the order of the messages that asked for them. A Pong with Custody is queued only if no entry
 -- from before its Ping is pending.
-use Rattle.std.proofs.Common.{◌≡◌, ℕ, zero, suc, Bool, true, false, cond, ◌&&◌, ◌==◌, List, [], ◌∷◌, ◌++◌, length}
-use Rattle.std.proofs.Common.{Option, Some, None, refl, sym, ap, subst, ◌∙◌, inl, inr, ◌⊎◌, arith, append_assoc}
+use Rattle.std.proofs.Common.{◌≡◌, ℕ, zero, suc, Bool, true, false, ◌&&◌, ◌==◌, List, [], ◌∷◌, ◌++◌, length, Option}
+use Rattle.std.proofs.Common.{Some, None, refl, sym, ap, subst, ◌∙◌, inl, inr, ◌⊎◌, arith, append_assoc}
 use Rattle.coap_model.specs.Prelude.{Responder, AllByRecursion, list_any, remove, Message, Phase, LimitValues}
 use Rattle.coap_model.specs.Prelude.{takes_messages, answers, is_open, fit, bare_response, PendingEntryValue, Answer}
-use Rattle.coap_model.specs.Prelude.{Pong, without_due, ConnectionState, send, is_custody_pong, History, limit_now}
-use Rattle.coap_model.specs.Prelude.{state_now, after, may_hold, StoreValue, Response, prompt_answer, each_at}
-use Rattle.coap_model.specs.Prelude.{ApplicationsValue, Delay, delay_of, asks_delayed, response_with_observe, Observer}
-use Rattle.coap_model.specs.Prelude.{without_token, Connection, handles, with_history, delay_for, moment_after}
-use Rattle.coap_model.specs.Prelude.{asks_answer, side_handled, side_after, settled_once, side_written, side_answered}
-use Rattle.coap_model.specs.Prelude.{side_with, asks_pending, CorrespondTo, QueuesCustody, IsFirstPending, KeepsPending}
-use Rattle.coap_model.specs.Prelude.{AddsRequested, Reason, PeerTooSmall, state_without, without_request}
-use Rattle.coap_model.specs.Prelude.{side_responded, response_refusal, link_of, with_effect, RespondFault, KeepsBut}
-use Rattle.coap_model.specs.Prelude.{reject_reason, end_reason, ReleasedHere, next_pending, next_due, notified}
-use Rattle.coap_model.specs.Prelude.{notification_message, notification}
+use Rattle.coap_model.specs.Prelude.{Pong, without_due, send, is_custody_pong, History, limit_now, state_now, after}
+use Rattle.coap_model.specs.Prelude.{may_hold, StoreValue, Response, prompt_answer, each_at, ApplicationsValue, Delay}
+use Rattle.coap_model.specs.Prelude.{delay_of, asks_delayed, response_with_observe, without_token, Connection, handles}
+use Rattle.coap_model.specs.Prelude.{with_history, delay_for, moment_after, asks_answer, side_handled, side_after}
+use Rattle.coap_model.specs.Prelude.{settled_once, side_written, side_answered, side_with, asks_pending, CorrespondTo}
+use Rattle.coap_model.specs.Prelude.{QueuesCustody, IsFirstPending, KeepsPending, AddsRequested, Reason, PeerTooSmall}
+use Rattle.coap_model.specs.Prelude.{state_without, without_request, side_responded, response_refusal, link_of}
+use Rattle.coap_model.specs.Prelude.{KeepsBut, reject_reason, end_reason, ReleasedHere, next_pending, next_due}
+use Rattle.coap_model.specs.Prelude.{notified, notification_message, notification}
 use Rattle.coap_model.proofs.world.WalkLaws.{there_or_not, PlainCall, Fault, Write, End, Release, Announcement}
-use Rattle.coap_model.proofs.world.WalkLaws.{plain_between, pending_is, there_where, said_request, sent, without_first}
-use Rattle.coap_model.proofs.world.WalkLaws.{Replies, after_between, responded_between, once_between, received, holding}
-use Rattle.std.proofs.lemmas.Bool.{and_from, both_ways, cond-true, cond_both, or_from}
+use Rattle.coap_model.proofs.world.WalkLaws.{plain_between, pending_is, said_request, sent, without_first, Replies}
+use Rattle.coap_model.proofs.world.WalkLaws.{after_between, responded_between, once_between, received, holding}
+use Rattle.std.proofs.lemmas.Bool.{and_from, both_ways, cond-true, cond_both}
 use Rattle.std.proofs.lemmas.List.{append_cancel_left, append-nil}
-use Rattle.std.specs.Prelude.{is_none}
 use lib.Pointwise.{bytes_decides}
 use Rattle.coap_conn.proofs.PendingLaws.{custody_at_once, due_pong}
 use Rattle.coap_conn.proofs.RequestLemmas.{react_asks}

@@ -1,13 +1,10 @@
 -- The split of the input does not matter: an input slice makes the same steps as its two parts in turn.
-use Rattle.std.proofs.Common.{◌≡◌, ℕ, List, [], ◌∷◌, ◌++◌, Option, Some, None, refl, sym, ap, ◌∙◌, append_assoc, ◌==◌}
-use Rattle.std.proofs.Common.{inl, inr}
-use Rattle.std.proofs.lemmas.Bool.{cases_Bool}
+use Rattle.std.proofs.Common.{◌≡◌, ℕ, List, [], ◌∷◌, ◌++◌, Option, Some, None, refl, sym, append_assoc, arith}
 use Rattle.std.proofs.lemmas.List.{append-nil, map-append}
 use Rattle.std.proofs.Math.Seq.{drop-append_seam}
-use Rattle.coap_model.specs.Prelude.{StreamFault, Stream, split, stream_after, continued, split_on, ConfigValues}
-use Rattle.coap_model.specs.Prelude.{new_world, after_steps, AcceptedCall, Took, Ended, taken_in, taken_on, size_by}
-use Rattle.coap_model.specs.Prelude.{size_on, stream_on, spelled_on, beyond, steps_by, later_steps, steps_of}
-use Rattle.coap_model.specs.Prelude.{world_after}
+use Rattle.coap_model.specs.Prelude.{StreamFault, Stream, stream_after, continued, split_on, ConfigValues, AcceptedCall}
+use Rattle.coap_model.specs.Prelude.{Took, Ended, taken_on, size_on, stream_on, spelled_on, beyond, steps_by}
+use Rattle.coap_model.specs.Prelude.{later_steps, steps_of, world_after}
 use Rattle.coap_model.proofs.world.StepLaws.{taken_then, later_steps_more, size_then, sizes_then, read_before}
 use Rattle.coap_model.proofs.world.StepLaws.{stream_more, spelled_by, spelled_then}
 use Rattle.coap_model.proofs.world.TookLaws.{nothing_beyond}
@@ -20,12 +17,10 @@ SpellAlike M es fs = (id : ℕ) → spelled_on M id es ≡ spelled_on M id fs
 
 alike_by : (M : ℕ) (es fs : List AcceptedCall) (e : AcceptedCall) → SpellAlike M es fs
     → SpellAlike M (es ++ e ∷ []) (fs ++ e ∷ [])
-alike_by M es fs e alike id =
-    spelled_then M id es e ∙ ap (λ (s : Stream × ℕ). spelled_by s (taken_in id e) (size_by id e)) (alike id)
-    ∙ sym (spelled_then M id fs e)
+alike_by M es fs e alike id = grind (arith, spelled_then M id es e, spelled_by, spelled_then M id fs e)
 
 pub stream_alike : (M id : ℕ) (es fs : List AcceptedCall) → SpellAlike M es fs → stream_on M id es ≡ stream_on M id fs
-stream_alike M id es fs alike = ap (λ (s : Stream × ℕ). s.0) (alike id)
+stream_alike M id es fs alike = grind arith
 
 by_alike : (M : ℕ) (es fs : List AcceptedCall) (e : AcceptedCall) → SpellAlike M es fs
     → steps_by M es e ≡ steps_by M fs e
@@ -62,46 +57,25 @@ parts id before s t (Some fault) none is =
 beyond_parts : (M id : ℕ) (before : Stream) (fault : Option StreamFault) (xs ys : List ℕ) → before.fault ≡ fault
     → beyond id before (split_on M (split_on M before xs) ys)
     ≡ beyond id before (split_on M before xs) ++ beyond id (split_on M before xs) (split_on M (split_on M before xs) ys)
-beyond_parts M id before None xs ys none =
-    let s : Stream = split M (before.rest ++ xs) in
-    let on : split_on M before xs ≡ stream_after before.messages s = rw none refl in
-    rw on (parts id before s (split M (s.rest ++ ys)) s.fault none refl)
-beyond_parts M id before (Some fault) xs ys is =
-    let on : (zs : List ℕ) → split_on M before zs ≡ before = λ zs. rw is refl in
-    rw (on xs, on ys, nothing_beyond id before) refl
+beyond_parts M id before None xs ys none = grind (arith, parts id before)
+beyond_parts M id before (Some fault) xs ys is = grind (arith, nothing_beyond id before)
 
 -- ---- an input slice in two parts
 
 pub spelled_twice : (M : ℕ) (es : List AcceptedCall) (other : ℕ) (xs ys : List ℕ)
     → SpellAlike M (es ++ Took other (xs ++ ys) ∷ []) ((es ++ Took other xs ∷ []) ++ Took other ys ∷ [])
 spelled_twice M es other xs ys id =
-    let half : List AcceptedCall = es ++ Took other xs ∷ [] in
-    rw (
-      read_before M id es (Took other (xs ++ ys)),
-      read_before M id half (Took other ys),
-      sizes_then M id es (Took other xs) (λ N. refl),
-    )
-    (rw (
-      taken_then id es (Took other xs),
-      size_then M id es (Took other (xs ++ ys)),
-      size_then M id half (Took other ys),
-      size_then M id es (Took other xs),
-    )
-    (elim (cases_Bool (other == id)) [
-      | inl here ↦ rw (here, append_assoc (taken_on id es) xs ys) refl
-      | inr away ↦ rw (away, append-nil (taken_on id es), append-nil (taken_on id es)) refl
-    ]))
+    grind (arith, read_before M id es (Took other (xs ++ ys)), read_before M id, sizes_then M id es (Took other xs),
+    taken_then id es (Took other xs), size_then M id es (Took other (xs ++ ys)), size_then M id,
+    size_then M id es (Took other xs), append_assoc (taken_on id es) xs ys, append-nil (taken_on id es))
 
 -- The steps of a slice are those of its parts.
 by_parts : (M : ℕ) (es : List AcceptedCall) (id : ℕ) (xs ys : List ℕ)
     → steps_by M es (Took id (xs ++ ys)) ≡ steps_by M es (Took id xs) ++ steps_by M (es ++ Took id xs ∷ []) (Took id ys)
 unfolding steps_by
 by_parts M es id xs ys =
-    let half : List AcceptedCall = es ++ Took id xs ∷ [] in
-    let whole =
-    stream_alike M id (es ++ Took id (xs ++ ys) ∷ []) (half ++ Took id ys ∷ []) (spelled_twice M es id xs ys) in
-    rw (whole, stream_more M id half ys, size_then M id es (Took id xs), stream_more M id es xs)
-    (beyond_parts (size_on M id es) id (stream_on M id es) (stream_on M id es).fault xs ys refl)
+    grind (arith, stream_alike M id (es ++ Took id (xs ++ ys) ∷ []), spelled_twice M es id xs ys, stream_more M id,
+    size_then M id es (Took id xs), stream_more M id es xs, beyond_parts (size_on M id es) id (stream_on M id es))
 
 -- ---- the theorem
 
@@ -122,4 +96,4 @@ cut_steps M es fs id xs ys =
 pub cut_worlds : (c : ConfigValues) (es fs : List AcceptedCall) (id : ℕ) (xs ys : List ℕ)
     → world_after c (es ++ Took id (xs ++ ys) ∷ fs) ≡ world_after c (es ++ Took id xs ∷ Took id ys ∷ fs)
 unfolding world_after
-cut_worlds c es fs id xs ys = ap (after_steps c.limits (new_world c)) (cut_steps c.limits.max_message es fs id xs ys)
+cut_worlds c es fs id xs ys = grind (arith, cut_steps c.limits.max_message es fs id xs ys)

@@ -1,14 +1,13 @@
 -- Facts that hold of every world, and the theorem that no change is lost in it.
-use Rattle.std.proofs.Common.{◌≡◌, ℕ, ◌≤◌, Bool, false, List, [], ◌∷◌, map, Option, Some, refl, ◌==◌, not, is_none}
-use Rattle.std.proofs.Common.{nat_le, arith, ◌&&◌, sym, ap, ◌∙◌}
+use Rattle.std.proofs.Common.{◌≡◌, ℕ, ◌≤◌, Bool, false, List, [], ◌∷◌, map, Some, refl, ◌==◌, arith, ◌&&◌}
 use Rattle.coap_model.specs.Prelude.{AllByRecursion, LimitValues, StoreValue, found_in, Change, Put, Delete, changed}
-use Rattle.coap_model.specs.Prelude.{put_refusal, ConfigValues, Connection, side_after, change_after, side_ended}
-use Rattle.coap_model.specs.Prelude.{IsUpToDate, settled, ConnectionEntry, World, new_world, side_of, stored_after}
-use Rattle.coap_model.specs.Prelude.{Step, Handled, Faulted, Written, ticks, acted, settled_place, step, after_steps}
-use Rattle.coap_model.specs.Prelude.{AcceptedCall, steps_of, world_after, takes_messages, takes_input, normalised_step}
-use Rattle.coap_model.specs.Prelude.{received_steps, normalised_steps, all_settled, on_side}
+use Rattle.coap_model.specs.Prelude.{ConfigValues, Connection, side_after, change_after, side_ended, IsUpToDate}
+use Rattle.coap_model.specs.Prelude.{settled, ConnectionEntry, World, new_world, side_of, stored_after, Step, Handled}
+use Rattle.coap_model.specs.Prelude.{Faulted, Written, acted, settled_place, step, after_steps, AcceptedCall, steps_of}
+use Rattle.coap_model.specs.Prelude.{world_after, takes_messages, normalised_step, received_steps, normalised_steps}
+use Rattle.coap_model.specs.Prelude.{all_settled, on_side}
 use Rattle.std.proofs.lemmas.Bool.Decides.{nat_tests}
-use Rattle.std.proofs.lemmas.Bool.{and_parts, leb-true, cond_both}
+use Rattle.std.proofs.lemmas.Bool.{leb-true, cond_both}
 use Rattle.coap_model.specs.world.World.{changed_at, Opened, Ticked, Stored, Removed, Ended, Released, Announced}
 use Rattle.coap_model.specs.world.World.{Responded, Dropped}
 use Rattle.coap_model.proofs.world.KnownLaws.{still_versioned, IsVersioned}
@@ -37,7 +36,7 @@ pub record IsKnownWorld (w : World) : Type 0 where
 -- A world with these connections has the facts.
 with_places : (w : World) (sides : List ConnectionEntry) → IsKnownWorld w → AllByRecursion (IsKnownPlace w.store) sides
     → IsKnownWorld (record w { sides = sides })
-with_places w sides known places = record { versioned = known.versioned; moment = known.moment; places = places }
+with_places w sides known places = grind arith
 
 on_side_known : (w : World) (id : ℕ) (f : Connection → Connection)
     → ((s : Connection) → IsKnownSide w.store s → IsKnownSide w.store (f s)) → IsKnownWorld w
@@ -50,27 +49,13 @@ on_side_known w id f keeps known =
 -- Any change of the store keeps the facts.
 changed_known : (w : World) (change : Change) → IsKnownWorld w
     → IsKnownWorld (record w { store = changed w.store change })
-changed_known w change known = record {
-  versioned = still_versioned w.store change known.versioned;
-  moment = known.moment;
-  places =
-      all_to (IsKnownPlace w.store) (IsKnownPlace (changed w.store change))
-      (λ p. still_known_side w.store change p.side known.versioned) w.sides known.places;
-}
+changed_known w change known =
+    grind (arith, still_versioned w.store change known.versioned,
+    all_to (IsKnownPlace w.store) (IsKnownPlace (changed w.store change)), still_known_side w.store change)
 
 pub acted_known : (limits : LimitValues) (w : World) (s : Step) → IsKnownWorld w → IsKnownWorld (acted limits w s)
 unfolding acted
-acted_known limits w (Opened id) known =
-    cond_both (is_none (side_of id w.sides)) _ w IsKnownWorld
-    (λ e. record {
-      versioned = known.versioned;
-      moment = known.moment;
-      places = all_append (IsKnownPlace w.store) w.sides _ known.places (
-        (record { is_history = omega arith; reported = tt }),
-        tt,
-      );
-    })
-    (λ e. known)
+acted_known limits w (Opened id) known = grind (arith, all_append (IsKnownPlace w.store) w.sides)
 acted_known limits w (Handled id m) known =
     let after = on_side_known w id (λ s. side_after w.store w.now s m)
     (λ s. after_known w.store w.now known.moment known.versioned s m) known in
@@ -79,25 +64,15 @@ acted_known limits w (Handled id m) known =
     (λ e. after) (λ s e. changed_known _ (change_after w.store w.now s m) after)
 acted_known limits w (Faulted id fault) known = on_side_known w id _ (λ s. plain_known w.store s _ (Fault fault)) known
 acted_known limits w (Written id n) known = on_side_known w id _ (λ s. plain_known w.store s _ (Write n)) known
-acted_known limits w (Ticked now) known =
-    cond_both (ticks w.now now) (record w { now = now }) w IsKnownWorld
-    (λ e. record {
-      versioned = known.versioned;
-      moment = leb-true now 18446744073709551615 (and_parts (nat_le w.now now) (nat_le now 18446744073709551615) e).1;
-      places = known.places;
-    })
-    (λ e. known)
-acted_known limits w (Stored path format bytes) known =
-    cond_both (is_none (put_refusal w.store path bytes)) _ w IsKnownWorld
-    (λ e. changed_known w (Put path format bytes) known) (λ e. known)
+acted_known limits w (Ticked now) known = grind (arith, leb-true now 18446744073709551615)
+acted_known limits w (Stored path format bytes) known = grind (arith, changed_known w (Put path format bytes) known)
 acted_known limits w (Removed path) known = changed_known w (Delete path) known
 acted_known limits w (Ended id cut) known = on_side_known w id _ (λ s. plain_known w.store s _ (End cut)) known
 acted_known limits w (Released id) known = on_side_known w id _ (λ s. plain_known w.store s _ Release) known
 acted_known limits w (Announced id size) known =
     on_side_known w id _ (λ s. plain_known w.store s _ (Announcement size)) known
 acted_known limits w (Responded id m) known = on_side_known w id _ (λ s. responded_known w.store s m) known
-acted_known limits w (Dropped id) known =
-    with_places w _ known (all_filter (IsKnownPlace w.store) (λ p. not (p.id == id)) w.sides known.places)
+acted_known limits w (Dropped id) known = grind (arith, with_places w, all_filter (IsKnownPlace w.store))
 
 step_known : (limits : LimitValues) (w : World) (s : Step) → IsKnownWorld w → IsKnownWorld (step limits w s)
 unfolding step
@@ -131,7 +106,7 @@ settled_hear store now (p ∷ ps) =
 
 pub step_hears : (limits : LimitValues) (w : World) (s : Step) → AllHear (step limits w s)
 unfolding step
-step_hears limits w s = settled_hear (acted limits w s).store (acted limits w s).now (acted limits w s).sides
+step_hears limits w s = grind (arith, settled_hear)
 
 -- The same after any events.
 pub world_hears : (c : ConfigValues) (events : List AcceptedCall) → AllHear (world_after c events)
@@ -139,12 +114,7 @@ world_hears c = world_keeps c AllHear (λ w s hear. step_hears c.limits w s) tt
 
 -- A world in which no change is lost is settled.
 pub world_stays : (w : World) → AllHear w → all_settled w ≡ w
-world_stays w hear =
-    let settles : ConnectionEntry → ConnectionEntry = settled_place w.store w.now in
-    ap (λ (ps : List ConnectionEntry). record w { sides = ps }) (all_stay settles w.sides
-    (all_to (λ p. IsUpToDate w.store w.now p.side) (λ p. settles p ≡ p)
-    (λ p takes_input. ap (λ (s : Connection). record p { side = s })
-    (side_at_rest_stays w.store w.now p.side takes_input)) w.sides hear))
+world_stays w hear = grind (arith, all_stay, all_to, side_at_rest_stays w.store w.now)
 
 -- ---- the end of input
 
@@ -171,9 +141,7 @@ each_same f g ps distinct same =
 received_acted : (limits : LimitValues) (w : World) (s : Step) → AreDistinct w.sides
     → acted limits w (normalised_step w s) ≡ acted limits w s
 unfolding acted
-received_acted limits w (world.Ended id cut) distinct =
-    ap (λ ps. record w { sides = ps }) (each_same _ (changed_at id (λ t. side_ended t cut)) w.sides distinct
-    (λ other s there. grind (arith, nat_tests, ends_if_taking s cut)))
+received_acted limits w (world.Ended id cut) distinct = grind (arith, each_same, nat_tests, ends_if_taking)
 received_acted limits w other distinct = refl
 
 all_received : (limits : LimitValues) (w : World) (ss : List Step) → AreDistinct w.sides
@@ -193,19 +161,16 @@ received_world c es = all_received c.limits (new_world c) (steps_of c.limits.max
 -- So if the received steps are equal, the worlds are equal.
 pub same_received : (c : ConfigValues) (es fs : List AcceptedCall) → normalised_steps c es ≡ normalised_steps c fs
     → world_after c es ≡ world_after c fs
-same_received c es fs alike = sym (received_world c es) ∙ ap (after_steps c.limits (new_world c)) alike
-    ∙ received_world c fs
+same_received c es fs alike = grind (arith, received_world c es, received_world c fs)
 
 -- Equal steps are received as equal steps.
 pub received_alike : (c : ConfigValues) (es fs : List AcceptedCall)
     → steps_of c.limits.max_message es ≡ steps_of c.limits.max_message fs
     → normalised_steps c es ≡ normalised_steps c fs
 unfolding normalised_steps
-received_alike c es fs alike = ap (received_steps c.limits (new_world c)) alike
+received_alike c es fs alike = grind arith
 
 -- The end of input after a stop.
 pub quiet_end : (w : World) (id : ℕ) (s : Connection) (cut : Bool) → side_of id w.sides ≡ Some s
     → takes_messages s.history.phase ≡ false → normalised_step w (world.Ended id cut) ≡ world.Ended id false
-quiet_end w id s cut there over =
-    ap (λ (o : Option Connection). world.Ended id (takes_input o && cut)) there
-    ∙ ap (λ (b : Bool). world.Ended id (b && cut)) over
+quiet_end w id s cut there over = grind arith

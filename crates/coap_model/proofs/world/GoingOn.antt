@@ -1,24 +1,23 @@
 -- A history that continues another one: it belongs to the same connection, and accepts no messages if the earlier one
 -- did not. Each call keeps these properties.
-use Rattle.std.proofs.Common.{◌≡◌, ℕ, ◌≤◌, Bool, true, false, List, [], ◌∷◌, length, Option, Some, refl, ◌∙◌, arith}
-use Rattle.std.proofs.Common.{◌&&◌}
-use Rattle.std.proofs.lemmas.Bool.{both_ways, and_parts, true_from_ne_false}
+use Rattle.std.proofs.Common.{◌≡◌, ℕ, ◌≤◌, Bool, true, false, List, length, Option, Some, refl, ◌∙◌, arith}
+use Rattle.std.proofs.lemmas.Bool.{true_from_ne_false}
 use Rattle.std.proofs.lemmas.List.{length-drop}
-use Rattle.coap_model.specs.Prelude.{Message, StreamFault, Reply, Server, LimitValues, takes_messages, answers, is_open}
-use Rattle.coap_model.specs.Prelude.{fit, bare_response, PendingEntryValue, first_due, ConnectionState, ReactionResult}
-use Rattle.coap_model.specs.Prelude.{send, send_as, pong_with, due_effect, History, IsHistory, state_now, with_effect}
-use Rattle.coap_model.specs.Prelude.{after, link_of, may_hold, bytes_of, own_csm, Call, call_effect, state_due}
-use Rattle.coap_model.specs.Prelude.{state_without, limit_now, StoreValue, ApplicationsValue, ConfigValues, Connection}
-use Rattle.coap_model.specs.Prelude.{new_side, handles, has_room, side_after, side_faulted, side_written, side_ended}
-use Rattle.coap_model.specs.Prelude.{side_released, side_announced, side_responded, late_message, after_sent}
-use Rattle.coap_model.specs.Prelude.{settled_once, settled, World, Step, side_of, AcceptedCall, world_after}
+use Rattle.coap_model.specs.Prelude.{Message, StreamFault, Reply, Server, LimitValues, takes_messages, fit}
+use Rattle.coap_model.specs.Prelude.{bare_response, PendingEntryValue, first_due, ConnectionState, ReactionResult}
+use Rattle.coap_model.specs.Prelude.{send_as, pong_with, due_effect, History, IsHistory, state_now, with_effect, after}
+use Rattle.coap_model.specs.Prelude.{link_of, bytes_of, Call, call_effect, state_due, state_without, limit_now}
+use Rattle.coap_model.specs.Prelude.{StoreValue, ApplicationsValue, ConfigValues, Connection, new_side, handles}
+use Rattle.coap_model.specs.Prelude.{side_after, side_faulted, side_written, side_ended, side_released, side_announced}
+use Rattle.coap_model.specs.Prelude.{side_responded, late_message, after_sent, settled_once, settled, World, Step}
+use Rattle.coap_model.specs.Prelude.{side_of, AcceptedCall, world_after}
 use Rattle.coap_conn.specs.declared.phase.Reply.TheVariants as reply
 use Rattle.coap_conn.specs.PendingEntries as pending
 use Rattle.coap_conn.specs.Calls.{IsWithin}
 use Rattle.coap_conn.specs.Calls as call
 use Rattle.coap_conn.proofs.LinkLemmas.{new_shown, history_more}
-use Rattle.coap_model.proofs.world.WalkLaws.{sent, holding, without_first, Between, if_between, settled_between}
-use Rattle.coap_model.proofs.world.WalkLaws.{PlainCall, plain_between}
+use Rattle.coap_model.proofs.world.WalkLaws.{sent, holding, without_first, Between, settled_between, PlainCall}
+use Rattle.coap_model.proofs.world.WalkLaws.{plain_between}
 use Rattle.coap_model.proofs.world.AcrossLaws.{kept_by, kept_where, applications_stay, HoldsOf, KeepsAll, all_across}
 
 -- ---- properties that are kept
@@ -31,27 +30,21 @@ pub record GoesOn (before after : History) : Type 0 where
   pub over : takes_messages before.phase ≡ false → takes_messages after.phase ≡ false
 
 pub as_before : (h : History) → GoesOn h h
-as_before h = record { role = refl; limits = refl; history = λ is. is; over = λ e. e }
+as_before h = grind arith
 
 pub further : (g h k : History) → GoesOn g h → GoesOn h k → GoesOn g k
-further g h k one two = record {
-  role = two.role ∙ one.role;
-  limits = two.limits ∙ one.limits;
-  history = λ is. two.history (one.history is);
-  over = λ e. two.over (one.over e);
-}
+further g h k one two = grind arith
 
 -- If it accepts messages, the earlier one did.
 pub was_live : (h k : History) → GoesOn h k → takes_messages k.phase ≡ true → takes_messages h.phase ≡ true
-was_live h k goes takes =
-    true_from_ne_false (takes_messages h.phase) (λ e. both_ways (takes_messages k.phase) (goes.over e) takes)
+was_live h k goes takes = grind (arith, true_from_ne_false (takes_messages h.phase))
 
 -- ---- each part of an effect
 
 -- More messages are queued.
 pub effect_goes_on : (h : History) (e : ReactionResult)
     → (takes_messages h.phase ≡ false → takes_messages e.phase ≡ false) → GoesOn h (with_effect h e)
-effect_goes_on h e over = record { role = refl; limits = refl; history = history_more h e.queued; over = over }
+effect_goes_on h e over = grind (arith, history_more h e.queued)
 
 sent_over : (s : ConnectionState) (m less : Message) (r : Reply) → takes_messages s.phase ≡ false
     → takes_messages (send_as s m less r).phase ≡ false
@@ -59,43 +52,18 @@ sent_over s m less reply.Stopped e = refl
 sent_over s m less other e = e
 
 pub sent_goes_so : (h : History) (m less : Message) → GoesOn h (sent h m less)
-sent_goes_so h m less = effect_goes_on h _ (sent_over (state_now h) m less (fit (state_now h).limit m less))
+sent_goes_so h m less = grind (arith, effect_goes_on h, sent_over (state_now h) m less)
 
 pub holding_so : (h : History) (pending : List PendingEntryValue) → GoesOn h (holding h pending)
-holding_so h pending = record { role = refl; limits = refl; history = λ is. is; over = λ e. e }
+holding_so h pending = grind arith
 
 pub written_goes_on : (h : History) (n : ℕ) → n ≤ length (link_of h).waiting → GoesOn h (after h (call.Written n))
-written_goes_on h n within = record {
-  role = refl;
-  limits = refl;
-  history = λ is. omega (arith, within, is, length-drop h.written (bytes_of h.queued));
-  over = λ e. e;
-}
+written_goes_on h n within = grind (arith, length-drop h.written (bytes_of h.queued))
 
 pub all_go_on : KeepsAll GoesOn
-all_go_on = record {
-  composes = record { same = as_before; then = further };
-  takes_input =
-      λ h m takes room. record { role = refl; limits = refl; history = history_more h _; over = λ none. absurd cc };
-  replies = λ h token observe r does room. sent_goes_so h _ _;
-  holds = λ h by token moment opened may. holding_so h _;
-  lets_go = λ h now. holding_so h _;
-  pongs = λ h now token due room. further h (without_first h now) _ (holding_so h _)
-      (sent_goes_so (without_first h now) _ _);
-  rejects = λ h fault takes room. effect_goes_on h _ (λ none. refl);
-  ends = λ h cut takes. effect_goes_on h _ (λ none. refl);
-  releases = λ h opened none. effect_goes_on h _ (λ none. refl);
-  responds = λ h m answering none.
-      effect_goes_on h _ (sent_over (state_without m.token (state_now h)) m (bare_response m)
-      (fit (limit_now h) m (bare_response m)));
-  announces = λ h size opened room fits. record {
-    role = refl;
-    limits = refl;
-    history = history_more h (own_csm size ∷ []);
-    over = λ e. e;
-  };
-  writes = written_goes_on;
-}
+all_go_on =
+    grind (arith, as_before, further, history_more, sent_goes_so, holding_so, without_first, effect_goes_on,
+    sent_over, written_goes_on)
 
 -- ---- each call
 
@@ -109,23 +77,16 @@ due_over s other e = e
 -- No call changes the fixed values of a connection, or makes it accept messages again.
 pub call_goes_on : (h : History) (c : Call) → IsWithin (link_of h) (call_effect (link_of h) c).deed
     → GoesOn h (after h c)
-call_goes_on h (call.Reply m) within =
-    if_between GoesOn (answers h.phase) h _ (as_before h) (λ does. sent_goes_so h m (bare_response m))
-call_goes_on h (call.Hold token moment) within =
-    if_between GoesOn (is_open h.phase && may_hold h) h _ (as_before h) (λ may. holding_so h _)
-call_goes_on h (call.HoldRequest token moment) within =
-    if_between GoesOn (is_open h.phase && may_hold h) h _ (as_before h) (λ may. holding_so h _)
+call_goes_on h (call.Reply m) within = grind (arith, as_before h, sent_goes_so h m (bare_response m))
+call_goes_on h (call.Hold token moment) within = grind (arith, as_before h, holding_so h)
+call_goes_on h (call.HoldRequest token moment) within = grind (arith, as_before h, holding_so h)
 call_goes_on h (call.Respond m) within =
-    let e : ReactionResult = send (state_without m.token (state_now h)) m (bare_response m) in
-    if_between GoesOn (call_effect (link_of h) (call.Respond m)).so h (with_effect h e) (as_before h)
-    (λ so. effect_goes_on h e
-    (sent_over (state_without m.token (state_now h)) m (bare_response m) (fit (limit_now h) m (bare_response m))))
+    grind (arith, as_before h, effect_goes_on h,
+    sent_over (state_without m.token (state_now h)) m (bare_response m) (fit (limit_now h) m (bare_response m)))
 call_goes_on h (call.Due now) within =
     effect_goes_on h _ (due_over (state_due now (state_now h)) (first_due now h.pending))
 call_goes_on h (call.Written n) within = written_goes_on h n within
-call_goes_on h other within =
-    if_between GoesOn _ h _ (as_before h)
-    (λ so. record { role = refl; limits = refl; history = history_more h _; over = λ e. cc })
+call_goes_on h other within = grind (arith, as_before h, history_more h)
 
 -- The first due entry is removed, and its message is sent.
 pub sent_goes_on : (h : History) (now : ℕ) (e : PendingEntryValue) → GoesOn h (after_sent h now e)
@@ -148,9 +109,7 @@ plain_goes_on =
 pub faulted_stops : (s : Connection) (fault : StreamFault) → handles s ≡ true
     → takes_messages (side_faulted s fault).history.phase ≡ false
 unfolding side_faulted
-faulted_stops s fault does =
-    let takes = (and_parts (takes_messages s.history.phase) (has_room s) does).0 in
-    rw does (rw takes refl)
+faulted_stops s fault does = grind arith
 
 -- ---- properties of every connection of a server
 
@@ -161,15 +120,10 @@ pub record IsSide (limits : LimitValues) (s : Connection) : Type 0 where
   pub is_server : s.history.role ≡ Server
 
 pub follower_is : (limits : LimitValues) (s t : Connection) → Between GoesOn s t → IsSide limits s → IsSide limits t
-follower_is limits s t goes is = record {
-  is_history = goes.history is.is_history;
-  same_limits = goes.limits ∙ is.same_limits;
-  is_server = goes.role ∙ is.is_server;
-}
+follower_is limits s t goes is = grind arith
 
 pub new_side_is : (limits : LimitValues) → IsSide limits (new_side limits)
-new_side_is limits =
-    record { is_history = (new_shown Server limits 0 _ refl).is_history; same_limits = refl; is_server = refl }
+new_side_is limits = grind (arith, new_shown Server limits 0)
 
 -- The connection with an id has these properties.
 pub side_is : (c : ConfigValues) (es : List AcceptedCall) (id : ℕ) (s : Connection)

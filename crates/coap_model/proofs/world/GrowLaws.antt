@@ -5,8 +5,8 @@ use Rattle.std.proofs.lemmas.Bool.{le-leb}
 use Rattle.std.proofs.lemmas.List.{append-nil, take-append-le, take-append-drop}
 use Rattle.std.proofs.Math.Seq.{take-add, take-length}
 use Rattle.coap_model.specs.Prelude.{Message, StreamFault, Stream, LimitValues, History, IsHistory, bytes_of}
-use Rattle.coap_model.specs.Prelude.{StoreValue, Connection, waiting_on, side_after, side_faulted, side_written}
-use Rattle.coap_model.specs.Prelude.{settled, ConfigValues, World, side_of, after_steps, AcceptedCall, Took, stream_on}
+use Rattle.coap_model.specs.Prelude.{StoreValue, Connection, waiting_on, side_after, side_written, settled}
+use Rattle.coap_model.specs.Prelude.{ConfigValues, World, side_of, after_steps, AcceptedCall, Took, stream_on}
 use Rattle.coap_model.specs.Prelude.{new_fault, steps_by, world_after}
 use Rattle.coap_conn.proofs.GrowLaws.{Grows, same_queue, grows_self, grows_then}
 use Rattle.coap_conn.proofs.LinkLemmas.{bytes_more}
@@ -42,8 +42,8 @@ front_written s = take s.history.written (bytes_of s.history.queued)
 
 pub same_front : (s t : Connection) → IsHistory s.history → SideGrows s t → front_written t ≡ front_written s
 same_front s t within grows =
-    rw (grows.written, grows.queued, bytes_more s.history.queued grows.more)
-    (take-append-le s.history.written (bytes_of s.history.queued) (bytes_of grows.more) within)
+    grind (arith, bytes_more s.history.queued grows.more,
+    take-append-le s.history.written (bytes_of s.history.queued) (bytes_of grows.more) within)
 
 -- All queued bytes are written.
 pub written_all : (s : Connection)
@@ -68,11 +68,8 @@ SomeGrown id w s = (t : Connection) × (side_of id w.sides ≡ Some t) × SideGr
 
 settles_grown : (id : ℕ) (w : World) (store : StoreValue) (now : ℕ) (s t : Connection)
     → side_of id w.sides ≡ Some (settled store now t) → SideGrows s t → SomeGrown id w s
-settles_grown id w store now s t there more = (
-  settled store now t,
-  there,
-  grows_then s.history t.history (settled store now t).history more (settled_grows store now t),
-)
+settles_grown id w store now s t there more =
+    grind (arith, grows_then s.history t.history, settled_grows store now t)
 
 messages_grown : (limits : LimitValues) (w : World) (id : ℕ) (ms : List Message) (before after : Option StreamFault)
     (s : Connection) → side_of id w.sides ≡ Some s
@@ -80,10 +77,8 @@ messages_grown : (limits : LimitValues) (w : World) (id : ℕ) (ms : List Messag
 unfolding after_steps
 messages_grown limits w id [] before None s is = (s, is, grows_self s.history)
 messages_grown limits w id [] None (Some fault) s is =
-    settles_grown id (world.step limits w (world.Faulted id fault)) w.store w.now s (side_faulted s fault)
-    (faulted_there limits w id fault s is)
-    (faulted_between Grows grows_self
-    (λ h fault takes room. record { more = _; queued = refl; written = refl }) s fault)
+    grind (arith, settles_grown id, faulted_there limits w id fault s is, faulted_between Grows grows_self,
+    grows_self)
 messages_grown limits w id [] (Some old) (Some fault) s is = (s, is, grows_self s.history)
 messages_grown limits w id (m ∷ ms) before after s is =
     let v : World = world.step limits w (world.Handled id m) in
@@ -112,9 +107,7 @@ SameHandled h k = k.handled ≡ h.handled
 
 pub settled_handled : (store : StoreValue) (now : ℕ) (s : Connection)
     → (settled store now s).history.handled ≡ s.history.handled
-settled_handled =
-    settled_between SameHandled (record { same = λ h. refl; then = λ h k g one two. two ∙ one })
-    (λ h token observe r does room. refl) (λ h now. refl) (λ h now token due room. refl)
+settled_handled = grind (arith, settled_between SameHandled)
 
 pub written_handled : (s : Connection) (n : ℕ) → (side_written s n).history.handled ≡ s.history.handled
-written_handled = written_between SameHandled (λ h. refl) (λ h n within. refl)
+written_handled = grind (arith, written_between SameHandled)

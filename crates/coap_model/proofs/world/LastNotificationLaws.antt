@@ -1,7 +1,7 @@
 -- After any events, the last response with an observer's token reports the state that its entry records. This holds if
 -- no request for a delayed response had that token.
-use Rattle.std.proofs.Common.{◌≡◌, ◌≢◌, ℕ, Bool, true, false, List, [], ◌∷◌, ◌++◌, Option, Some, None, refl, sym, ap}
-use Rattle.std.proofs.Common.{subst, ◌∙◌, filter, find, not, ◌&&◌, if◌then◌else◌, arith}
+use Rattle.std.proofs.Common.{◌≡◌, ◌≢◌, ℕ, Bool, true, false, List, [], ◌∷◌, ◌++◌, Option, Some, None, refl, sym, subst}
+use Rattle.std.proofs.Common.{filter, find, not, ◌&&◌, if◌then◌else◌, arith}
 use Rattle.coap_model.specs.Prelude.{list_any, Responder, Engine, Application, asks_pending, ApplicationsValue}
 use Rattle.coap_model.specs.Prelude.{AllByRecursion, Message, LimitValues, is_open, fit, bare_response}
 use Rattle.coap_model.specs.Prelude.{PendingEntryValue, Answer, Pong, first_due, History, limit_now, after, same_bytes}
@@ -11,8 +11,8 @@ use Rattle.coap_model.specs.Prelude.{notification, notification_message, left_of
 use Rattle.coap_model.specs.Prelude.{side_with, with_history, side_answered, side_handled, side_after, next_due}
 use Rattle.coap_model.specs.Prelude.{notified, late_message, after_sent, side_of, AcceptedCall, world_after, responds}
 use Rattle.coap_model.specs.Prelude.{is_response, ReportsState, requested_late, IsLastNotification, TokensAreDistinct}
-use Rattle.coap_model.specs.Prelude.{last_response, CorrespondTo, side_responded, response_refusal, link_of}
-use Rattle.coap_model.specs.Prelude.{with_effect, send, state_without, state_now, answers}
+use Rattle.coap_model.specs.Prelude.{CorrespondTo, side_responded, response_refusal, link_of, with_effect, send}
+use Rattle.coap_model.specs.Prelude.{state_without, state_now, answers}
 use Rattle.std.proofs.lemmas.Bool.{cond_both, and_parts, and_left}
 use Rattle.std.proofs.lemmas.List.Folds.{list_any-append}
 use lib.Pointwise.{bytes_decides}
@@ -41,26 +41,18 @@ HaveOtherTokens token os = AllByRecursion (λ o. token ≢ o.token) os
 
 own_filter : (test : Observer → Bool) (os : List Observer) → TokensAreDistinct os → TokensAreDistinct (filter test os)
 own_filter test [] own = tt
-own_filter test (o ∷ os) own =
-    cond_both (test o) _ _ TokensAreDistinct (λ e. (all_filter _ test os own.0, own_filter test os own.1))
-    (λ e. own_filter test os own.1)
+own_filter test (o ∷ os) own = grind (arith, all_filter, own_filter test os own.1)
 
 own_last : (os : List Observer) (e : Observer) → HaveOtherTokens e.token os → TokensAreDistinct os
     → TokensAreDistinct (os ++ e ∷ [])
 own_last [] e others own = (tt, tt)
-own_last (o ∷ os) e others own = (
-  all_append (λ other. o.token ≢ other.token) os (e ∷ []) own.0 ((λ same. others.0 (sym same)), tt),
-  own_last os e others.1 own.1,
-)
+own_last (o ∷ os) e others own = grind (arith, all_append, own_last os e others.1 own.1)
 
 -- The remaining observers have other tokens.
 pub filter_others : (token : List ℕ) (os : List Observer)
     → HaveOtherTokens token (filter (λ o. not (same_bytes o.token token)) os)
 filter_others token [] = tt
-filter_others token (o ∷ os) =
-    cond_both (not (same_bytes o.token token)) _ _ (HaveOtherTokens token)
-    (λ kept. ((λ same. grind (arith, (bytes_decides o.token token).1)), filter_others token os))
-    (λ gone. filter_others token os)
+filter_others token (o ∷ os) = grind (arith, bytes_decides o.token token, filter_others token os)
 
 -- ---- messages
 
@@ -68,7 +60,7 @@ filter_others token (o ∷ os) =
 reported_by_last : (o : Observer) (queued : List Message) (m : Message) → ReportsState o o.reported m
     → IsLastNotification (queued ++ m ∷ []) o
 reported_by_last o queued m reports =
-    (m, grind (arith, last_of_longer o.token queued m, reports_responds o o.reported m reports), reports)
+    grind (arith, last_of_longer o.token queued m, reports_responds o o.reported m reports)
 
 abbrev HasToken : List ℕ → Message → Type 0
 HasToken token m = m.token ≡ token
@@ -102,25 +94,20 @@ module _ (a : Option ApplicationsValue) where
   leaves : (P : Message → Type 0) (h k : History) (o : Observer) → Queues P h k
       → (requested_late a o.token h.handled ≡ false → (m : Message) → P m → responds o.token m ≡ false) → LeavesOf h k o
   leaves P h k o queues other reported none =
-      let before : requested_late a o.token h.handled ≡ false = grind (arith, queues.handled, list_any-append) in
-      let was = reported before in
-      let stays = last_stays o.token h.queued queues.more (all_to P _ (other before) queues.more queues.such) in
-      (was.0, ap (last_response o.token) queues.same ∙ stays ∙ was.1, was.2)
+      grind (arith, list_any-append, last_stays o.token h.queued queues.more, all_to P)
 
   all_left : (h k : History) (os : List Observer) → ((o : Observer) → LeavesOf h k o) → AreReported h os
       → AreReported k os
-  all_left h k os each are = record { own = are.own; reported = all_to (ReportedOn h) _ each os are.reported }
+  all_left h k os each are = grind (arith, all_to (ReportedOn h))
 
   -- Messages that are no responses keep it.
   signalled : (h k : History) (os : List Observer) → Queues IsNoResponse h k → AreReported h os → AreReported k os
-  signalled h k os queues =
-      all_left h k os (λ o. leaves IsNoResponse h k o queues (λ none m is. and_left (is_response m) _ is))
+  signalled h k os queues = grind (arith, all_left h k os, leaves IsNoResponse h k, and_left)
 
   -- Responses with another token keep it, and those with the token of a request for a delayed response.
   other_left : (token : List ℕ) (h k : History) (o : Observer) → Queues (HasToken token) h k → token ≢ o.token
       → LeavesOf h k o
-  other_left token h k o queues apart =
-      leaves (HasToken token) h k o queues (λ none m e. grind (arith, (bytes_decides m.token o.token).0))
+  other_left token h k o queues apart = grind (arith, leaves (HasToken token) h k o queues, bytes_decides)
 
   others_left : (token : List ℕ) (h k : History) (os : List Observer) → Queues (HasToken token) h k
       → HaveOtherTokens token os → AllByRecursion (ReportedOn h) os → AllByRecursion (ReportedOn k) os
@@ -142,16 +129,14 @@ module _ (a : Option ApplicationsValue) where
   -- If the connection is open, the observers stay; otherwise they are removed.
   kept_reported : (h : History) (os : List Observer) → (is_open h.phase ≡ true → AreReported h os)
       → AllReported (side_with h os)
-  kept_reported h os go = cond_both (is_open h.phase) os [] (AreReported h) go (λ e. record { own = tt; reported = tt })
+  kept_reported h os go = grind arith
 
   -- The entry of a request is appended if the response reports its state.
   entered_reported : (h : History) (os : List Observer) (entry : Observer) (enters : Bool)
       → HaveOtherTokens entry.token os → AreReported h os → (enters ≡ true → IsLastNotification h.queued entry)
       → AreReported h (with_entry enters os entry)
-  entered_reported h os entry true others are new = record {
-    own = own_last os entry others are.own;
-    reported = all_append (ReportedOn h) os (entry ∷ []) are.reported ((λ none. new refl), tt);
-  }
+  entered_reported h os entry true others are new =
+      grind (arith, own_last os entry others are.own, all_append (ReportedOn h) os (entry ∷ []) are.reported)
   entered_reported h os entry false others are new = are
 
   -- The response to the request reports it.
@@ -180,18 +165,9 @@ module _ (a : Option ApplicationsValue) where
       → IsSide limits s → AllReported s → AllReported (side_handled store now s m)
   unfolding without_token
   handled_reported limits store now s m is are =
-      let h = after s.history (call.Handle m) in
-      let others = without_token m.token s.observers in
-      let still : (os : List Observer) → AreReported s.history os → AreReported h os = λ os.
-      signalled s.history h os (message_queues s.history m is.is_server) in
-      let kept = still others (record {
-        own = own_filter _ s.observers are.own;
-        reported = all_filter (ReportedOn s.history) _ s.observers are.reported;
-      }) in
-      handled_cases store now s m AllReported (λ other. kept_reported h s.observers (λ opened. still s.observers are))
-      (λ asks by moment requested. kept_reported (holding h _) others
-      (λ opened. record { own = kept.own; reported = kept.reported }))
-      (λ asks. reported_with_answer store now h others m (filter_others m.token s.observers) kept)
+      grind (arith, signalled s.history, message_queues s.history m is.is_server, own_filter,
+      all_filter (ReportedOn s.history), handled_cases store now s m AllReported, kept_reported, holding,
+      reported_with_answer store now, filter_others m.token s.observers)
 
   -- ---- notifications
 
@@ -200,12 +176,10 @@ module _ (a : Option ApplicationsValue) where
       (stays : Bool) (new : AllByRecursion (ReportedOn k) (left_of store now o stays)) (due : Observer → Bool) where
     own_left : (os : List Observer) → HaveOtherTokens o.token os → TokensAreDistinct os
         → TokensAreDistinct (left_of store now o stays ++ os)
-    own_left os others own =
-        elim stays as (λ b. TokensAreDistinct (left_of store now o b ++ os)) [ true ↦ (others, own) | false ↦ own ]
+    own_left os others own = grind arith
 
     left_apart : (token : List ℕ) → token ≢ o.token → HaveOtherTokens token (left_of store now o stays)
-    left_apart token apart =
-        elim stays as (λ b. HaveOtherTokens token (left_of store now o b)) [ true ↦ (apart, tt) | false ↦ tt ]
+    left_apart token apart = grind arith
 
     reported_become : (os : List Observer) → find due os ≡ Some o → AreReported h os
         → AreReported k (first_becomes due (left_of store now o stays) os)
@@ -272,7 +246,7 @@ module _ (a : Option ApplicationsValue) where
       (subst (CorrespondTo a s.history.handled) first.there stand)
       (signalled s.history h s.observers (due_queues s.history now) are))
   sent_reported s now (Pong token) found stand are =
-      kept_reported _ s.observers (λ opened. signalled s.history _ s.observers (due_queues s.history now) are)
+      grind (arith, kept_reported, signalled s.history, due_queues s.history now)
 
   -- A response of the application has the token of a request that it answers.
   responded_reported : (s : Connection) (m : Message) → Corresponds a s.history → AllReported s

@@ -1,20 +1,18 @@
 -- No limit of a server is exceeded. After any events, this holds of the queued bytes, the pending entries and the
 -- observers of a connection. After accepted events, it also holds of the bytes kept of an unfinished frame.
 use Rattle.std.proofs.Common.{◌≡◌, ℕ, ◌+◌, ◌<◌, ◌≤◌, Bool, true, false, List, [], ◌∷◌, ◌++◌, length, Some, None, refl}
-use Rattle.std.proofs.Common.{ap, ◌∙◌, arith, sym, subst, append_assoc, inl, inr, ◌==◌}
-use Rattle.std.proofs.lemmas.Bool.{cond_both, leb-true, ltb-true, eqb-true}
+use Rattle.std.proofs.Common.{ap, ◌∙◌, arith, sym, subst, append_assoc}
+use Rattle.std.proofs.lemmas.Bool.{leb-true, ltb-true, eqb-true}
 use Rattle.std.proofs.lemmas.List.{length-append, length-drop, append-nil}
 use Rattle.std.proofs.lemmas.List.Sums.{length-filter, count_by-le-length}
-use Rattle.coap_model.specs.Prelude.{ApplicationsValue, Option, same_bytes, not, Message, spelling, Reply, Whole}
-use Rattle.coap_model.specs.Prelude.{LimitValues, AreInRange, takes_messages, stop_of, announced, bad_csm_option}
-use Rattle.coap_model.specs.Prelude.{size_unless, csm_size, announcement, size_limit, AllFit, fit, bare_response}
-use Rattle.coap_model.specs.Prelude.{PendingEntryValue, Answer, first_due, ConnectionState, send_as, send, react}
-use Rattle.coap_model.specs.Prelude.{pong_with, ReactionResult, stop, reaction_unless, live_reaction, reject_reason}
-use Rattle.coap_model.specs.Prelude.{History, IsHistory, limit_now, state_now, after, link_of, with_effect, bytes_of}
-use Rattle.coap_model.specs.Prelude.{own_csm, free_in, release, end_reason, StoreValue, response_with_observe}
-use Rattle.coap_model.specs.Prelude.{ConfigValues, Observer, is_due, without_token, entry_for, left_of, first_becomes}
-use Rattle.coap_model.specs.Prelude.{Connection, new_side, settled_once, settled, side_of, World, Step, AcceptedCall}
-use Rattle.coap_model.specs.Prelude.{stream_on, world_after, AreAccepted, size_on, kept_on, unwrap_or, Server}
+use Rattle.coap_model.specs.Prelude.{ApplicationsValue, Option, Message, spelling, Reply, Whole, LimitValues}
+use Rattle.coap_model.specs.Prelude.{AreInRange, announced, bad_csm_option, announcement, AllFit, fit, bare_response}
+use Rattle.coap_model.specs.Prelude.{Answer, ConnectionState, send_as, send, react, pong_with, ReactionResult, stop}
+use Rattle.coap_model.specs.Prelude.{live_reaction, reject_reason, History, IsHistory, limit_now, state_now, after}
+use Rattle.coap_model.specs.Prelude.{link_of, with_effect, bytes_of, own_csm, free_in, release, end_reason, StoreValue}
+use Rattle.coap_model.specs.Prelude.{response_with_observe, ConfigValues, Observer, is_due, without_token, entry_for}
+use Rattle.coap_model.specs.Prelude.{left_of, first_becomes, Connection, new_side, settled_once, settled, side_of}
+use Rattle.coap_model.specs.Prelude.{World, Step, AcceptedCall, stream_on, world_after, AreAccepted, kept_on, Server}
 use Rattle.coap_model.specs.Prelude.{state_without}
 use Rattle.coap_model.proofs.world.SideLaws.{send_pending, observers_after, observers_settled}
 use Rattle.coap_wire.proofs.StreamSteps.{unfinished_below}
@@ -23,14 +21,14 @@ use Rattle.coap_conn.proofs.WaitingLaws.{wait, one_small, limit_within, queued_w
 use Rattle.coap_conn.proofs.SmallLemmas.{release_bytes_small}
 use Rattle.coap_conn.proofs.PendingLaws.{due_nothing, due_fewer, pending_few}
 use Rattle.coap_conn.proofs.HistoryLaws.{reaction_fits, sent_fits, stopped_fits, new_fits, released_fits}
-use Rattle.coap_model.proofs.world.WalkLaws.{there_or_not, there_where, settled_keeps, observers_kept, release_fits}
-use Rattle.coap_model.proofs.world.WalkLaws.{room_in, sent, without_first, Hears, Replies, Between, once_between}
-use Rattle.coap_model.proofs.world.WalkLaws.{after_between, faulted_between, written_between, ended_between}
-use Rattle.coap_model.proofs.world.WalkLaws.{released_between, announced_between, responded_between}
+use Rattle.coap_model.proofs.world.WalkLaws.{settled_keeps, observers_kept, release_fits, room_in, sent, without_first}
+use Rattle.coap_model.proofs.world.WalkLaws.{Hears, Replies, Between, once_between, after_between, faulted_between}
+use Rattle.coap_model.proofs.world.WalkLaws.{written_between, ended_between, released_between, announced_between}
+use Rattle.coap_model.proofs.world.WalkLaws.{responded_between}
 use Rattle.coap_model.proofs.world.AcrossLaws.{KeepsAll, keeping_composes, HoldsOf, step_across, opened_there}
 use Rattle.coap_model.proofs.world.GoingOn.{GoesOn, all_go_on, call_goes_on, Keeps}
 use Rattle.coap_conn.proofs.ReactionLaws.{abort_one, react_so}
-use Rattle.coap_model.proofs.world.ReachedLaws.{accepted_is, IsReached}
+use Rattle.coap_model.proofs.world.ReachedLaws.{accepted_is}
 use Rattle.coap_model.proofs.world.StepLaws.{rest_unfinished, size_grows}
 use Rattle.coap_model.proofs.world.EntryLemmas.{all_append}
 use Rattle.coap_model.proofs.world.RespondedLaws.{request_fewer, responded_small, sent_is}
@@ -46,17 +44,13 @@ use Rattle.coap_model.specs.world.World as world
 
 token_fewer : (token : List ℕ) (os : List Observer) → length (without_token token os) ≤ length os
 unfolding without_token
-token_fewer token os =
-    let other : Observer → Bool = λ o. not (same_bytes o.token token) in
-    omega (arith, length-filter other os, count_by-le-length other os)
+token_fewer token os = grind (arith, length-filter, count_by-le-length)
 
 becomes_fewer : (due : Observer → Bool) (after : List Observer) (os : List Observer) → length after ≤ 1
     → length (first_becomes due after os) ≤ length os
 unfolding first_becomes
 becomes_fewer due after [] one = omega arith
-becomes_fewer due after (o ∷ os) one =
-    cond_both (due o) (after ++ os) (o ∷ first_becomes due after os) (λ ps. length ps ≤ length (o ∷ os))
-    (λ e. omega (arith, one, length-append after os)) (λ e. omega (arith, becomes_fewer due after os one))
+becomes_fewer due after (o ∷ os) one = grind (arith, length-append after os, becomes_fewer due after os one)
 
 left_one : (store : StoreValue) (now : ℕ) (o : Observer) (stays : Bool) → length (left_of store now o stays) ≤ 1
 left_one store now o true = omega arith
@@ -100,9 +94,7 @@ sent_few h m less few = omega (arith, few, send_pending (state_now h) m less (fi
 
 -- The due entry is removed.
 taken_few : (h : History) (now : ℕ) → HoldsFew h → HoldsFew (without_first h now)
-taken_few h now few = there_or_not (first_due now h.pending) (λ due. HoldsFew (without_first h now))
-    (λ none. omega (arith, few, ap (λ (es : List PendingEntryValue). length es) (due_nothing now h.pending none).1))
-    (λ e is. omega (arith, few, due_fewer now h.pending e is))
+taken_few h now few = grind (arith, without_first h now, due_nothing now h.pending, due_fewer now h.pending)
 
 -- An entry is added only if the list has room, and a stop removes all.
 pub all_hold_few : KeepsAll (λ h k. HoldsFew h → HoldsFew k)
@@ -157,22 +149,14 @@ pub record Waits (h : History) : Type 0 where
   pub few : wait h ≤ h.limits.queue
 
 waits_by : (h k : History) → GoesOn h k → (Waits h → wait k ≤ h.limits.queue) → Waits h → Waits k
-waits_by h k goes less w =
-    record { is = goes.history w.is; few = omega (arith, less w, ap (λ (l : LimitValues). l.queue) goes.limits) }
+waits_by h k goes less w = grind arith
 
 -- If there is room, a message that fits is queued.
 added_waits : (h k : History) (ms : List Message) → GoesOn h k → wait k ≡ wait (record h { queued = h.queued ++ ms })
     → room_in h ≡ true → length ms ≤ 1 → AllFit (limit_now h) ms → Waits h → Waits k
-added_waits h k ms goes same room one each = waits_by h k goes (λ w.
-    omega (
-      arith,
-      same,
-      w.few,
-      queued_waits h ms w.is,
-      one_small (limit_now h) ms one each,
-      limit_within h,
-      leb-true h.limits.max_sent (free_in (link_of h)) room,
-    ))
+added_waits h k ms goes same room one each =
+    grind (arith, waits_by h k goes, queued_waits h ms, one_small (limit_now h) ms one each, limit_within h,
+    leb-true h.limits.max_sent (free_in (link_of h)) room)
 
 pub all_wait : KeepsAll (λ h k. Waits h → Waits k)
 all_wait = record {
@@ -234,34 +218,18 @@ pub kept_within : (c : ConfigValues) (es : List AcceptedCall) (id : ℕ) (s : Co
     → AreAccepted c es → side_of id (world_after c es).sides ≡ Some s
     → length (kept_on s (stream_on c.limits.max_message id es).rest) < s.history.own_max
 kept_within c es id s ranges accepted there =
-    let M : ℕ = c.limits.max_message in
-    let N : ℕ = size_on M id es in
-    let is : IsReached c es = accepted_is c es accepted in
-    let low : 1152 ≤ N = omega (arith, ranges.message_low, size_grows M id es) in
-    let rest : List ℕ = (stream_on M id es).rest in
-    let few : takes_messages s.history.phase ≡ true → length rest < N =
-    λ takes. unfinished_below N rest (omega (arith, low)) (rest_unfinished M id es (is.goes_on id s there takes)) in
-    omega (arith, is.sizes id s there, kept_small_by N rest (takes_messages s.history.phase) (omega (arith, low)) few)
+    grind (arith, accepted_is c es accepted, size_grows, unfinished_below, rest_unfinished, kept_small_by)
 
 -- ---- a message that announces a size queues nothing
 
 -- The message is a CSM whose options are all allowed.
 announces : (m : Message) (n : ℕ) → announcement m ≡ Some n → (m.code ≡ code.csm) × (bad_csm_option m ≡ None)
-announces m n e =
-    let is = there_where (m.code == code.csm) (csm_size m) n e in
-    let no_bad = there_or_not (bad_csm_option m) (λ bad. size_unless bad m ≡ Some n → bad_csm_option m ≡ None)
-    (λ none said. none) (λ number bad said. absurd cc) in
-    (eqb-true m.code code.csm is.0, no_bad is.1)
+announces m n e = grind (arith, eqb-true m.code)
 
 announcing_quiet : (s : ConnectionState) (m : Message) (n : ℕ) → announcement m ≡ Some n
     → (react s m).effect.queued ≡ []
 unfolding react live_reaction
-announcing_quiet s m n e =
-    let is = announces m n e in
-    elim (stop_of s.phase) as (λ over. (reaction_unless s m over).effect.queued ≡ []) [
-      | None ↦ rw (is.0, is.1) refl
-      | Some why ↦ refl
-    ]
+announcing_quiet s m n e = grind (arith, announces m n e)
 
 -- ---- queued messages
 
@@ -278,41 +246,27 @@ pub record GrowsEvenly (h k : History) : Type 0 where
 
 -- Nothing was queued.
 same_evenly : (h k : History) → k.queued ≡ h.queued → limit_now k ≡ limit_now h → GrowsEvenly h k
-same_evenly h k queued limits =
-    record { grows = record { more = []; queued = queued ∙ sym (append-nil h.queued); fit = tt }; same = limits }
+same_evenly h k queued limits = grind (arith, append-nil h.queued)
 
 evenly_self : (h : History) → GrowsEvenly h h
 evenly_self h = same_evenly h h refl refl
 
 grows_fitting_then : (h k g : History) → GrowsFitting h k → GrowsEvenly k g → GrowsFitting h g
-grows_fitting_then h k g p q = record {
-  more = p.more ++ q.grows.more;
-  queued = cc (append_assoc h.queued p.more q.grows.more);
-  fit = all_append _ p.more q.grows.more (rw q.same p.fit) q.grows.fit;
-}
+grows_fitting_then h k g p q = grind (arith, append_assoc h.queued p.more q.grows.more, all_append)
 
 evenly_then : (h k g : History) → GrowsEvenly h k → GrowsEvenly k g → GrowsEvenly h g
-evenly_then h k g p q = record { grows = grows_fitting_then h k g p.grows q; same = q.same ∙ p.same }
+evenly_then h k g p q = grind (arith, grows_fitting_then h k g p.grows q)
 
 effect_evenly : (h : History) (e : ReactionResult) → AllFit (limit_now h) e.queued → GrowsEvenly h (with_effect h e)
-effect_evenly h e fit = record { grows = record { more = e.queued; queued = refl; fit = fit }; same = refl }
+effect_evenly h e fit = grind arith
 
 reply_evenly : Replies GrowsEvenly
-reply_evenly h token observe r does room =
-    let m : Message = response_with_observe token observe r in
-    effect_evenly h (send (state_now h) m (bare_response m)) (sent_fits h m (bare_response m))
+reply_evenly h token observe r does room = grind (arith, effect_evenly h, sent_fits h)
 
 -- A message that changes the limit queues nothing.
 message_grows : Hears GrowsFitting
 message_grows h m takes room =
-    let more : List Message = (react (state_now h) m).effect.queued in record {
-      more = more;
-      queued = refl;
-      fit =
-          rw (announced_more h.handled m) (there_or_not (announcement m)
-          (λ said. AllFit (size_limit h.limits.max_sent (unwrap_or said (announced h.handled))) more)
-          (λ none. reaction_fits h m) (λ n is. rw (announcing_quiet (state_now h) m n is) tt));
-    }
+    grind (arith, announced_more h.handled m, reaction_fits h m, announcing_quiet (state_now h) m)
 
 -- ---- a step
 
@@ -352,13 +306,7 @@ grows_of w st id = let same : (h : History) → GrowsFitting h h = λ h. (evenly
 pub step_fits : (limits : LimitValues) (w : World) (st : Step) (id : ℕ) (s t : Connection) → side_of id w.sides ≡ Some s
     → side_of id (world.step limits w st).sides ≡ Some t
     → (more : List Message) × (t.history.queued ≡ s.history.queued ++ more) × AllFit (limit_now t.history) more
-step_fits limits w st id s t there then =
-    let grows : Between GrowsFitting s t =
-    elim (step_across (Between GrowsFitting) limits w st id (grows_of w st id) t then) [
-      | inl old ↦ subst (λ (u : Connection). Between GrowsFitting u t) (same_there old.0 s (sym old.1 ∙ there)) old.2
-      | inr new ↦ absurd (none_or_some s (sym new.0 ∙ there))
-    ] in
-    (grows.more, grows.queued, grows.fit)
+step_fits limits w st id s t there then = grind (arith, step_across, grows_of w st id, same_there, none_or_some s)
 
 -- If the step opened the connection, all its queued messages fit.
 pub opening_fits : (limits : LimitValues) (w : World) (id : ℕ) (t : Connection) → AreInRange limits

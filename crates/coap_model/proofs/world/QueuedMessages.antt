@@ -1,10 +1,10 @@
 -- The last response with a token: messages queued after it do not change it, unless one is a response with that token.
 -- And the messages that each effect on a connection queues.
-use Rattle.std.proofs.Common.{◌≡◌, ℕ, true, false, cond, List, [], ◌∷◌, ◌++◌, Some, refl, sym, ap, ◌∙◌, arith, find}
+use Rattle.std.proofs.Common.{◌≡◌, ℕ, true, false, cond, List, [], ◌∷◌, ◌++◌, Some, refl, sym, arith}
 use Rattle.coap_model.specs.Prelude.{AllByRecursion, Message, Phase, Reply, Server, takes_messages, answers, is_open}
-use Rattle.coap_model.specs.Prelude.{fit, bare_response, PendingEntryValue, first_due, ConnectionState, send_as, react}
-use Rattle.coap_model.specs.Prelude.{due_effect, reject_reason, History, limit_now, state_now, after, own_csm, release}
-use Rattle.coap_model.specs.Prelude.{state_due, is_whole, responds, last_response, Connection}
+use Rattle.coap_model.specs.Prelude.{fit, bare_response, PendingEntryValue, ConnectionState, send_as, react}
+use Rattle.coap_model.specs.Prelude.{reject_reason, History, limit_now, state_now, after, is_whole, responds}
+use Rattle.coap_model.specs.Prelude.{last_response, Connection}
 use Rattle.std.proofs.lemmas.List.{append-nil, append_assoc, reverse-append}
 use Rattle.coap_conn.specs.declared.phase.Phase.TheVariants as phase
 use Rattle.coap_conn.specs.declared.reason.Reason.TheVariants as reason
@@ -20,15 +20,15 @@ use Rattle.coap_model.proofs.world.WalkLaws.{Between}
 pub last_of_longer : (token : List ℕ) (queued : List Message) (m : Message)
     → last_response token (queued ++ m ∷ []) ≡ cond (responds token m) (Some m) (last_response token queued)
 unfolding last_response
-last_of_longer token queued m = ap (find (responds token)) (reverse-append queued (m ∷ []))
+last_of_longer token queued m = grind (arith, reverse-append queued (m ∷ []))
 
 -- Other messages do not change it.
 pub last_stays : (token : List ℕ) (queued ms : List Message) → AllByRecursion (λ m. responds token m ≡ false) ms
     → last_response token (queued ++ ms) ≡ last_response token queued
-last_stays token queued [] none = ap (last_response token) (append-nil queued)
+last_stays token queued [] none = grind (arith, append-nil queued)
 last_stays token queued (m ∷ ms) none =
-    let later = last_stays token (queued ++ m ∷ []) ms none.1 in
-    grind (arith, append_assoc queued (m ∷ []) ms, last_of_longer token queued m)
+    grind (arith, last_stays token (queued ++ m ∷ []) ms none.1, append_assoc queued (m ∷ []) ms,
+    last_of_longer token queued m)
 
 -- ---- queued messages
 
@@ -43,8 +43,7 @@ pub record Queues (P : Message → Type 0) (h k : History) : Type 0 where
 -- No message is handled.
 pub queues_these : (P : Message → Type 0) (h k : History) (more : List Message) → k.queued ≡ h.queued ++ more
     → k.handled ≡ h.handled → AllByRecursion P more → Queues P h k
-queues_these P h k more same handled such =
-    record { more = more; same = same; such = such; received = []; handled = handled ∙ sym (append-nil h.handled) }
+queues_these P h k more same handled such = grind (arith, append-nil h.handled)
 
 pub queues_none : (P : Message → Type 0) (h : History) → Queues P h h
 queues_none P h = queues_these P h h [] (sym (append-nil h.queued)) refl tt
@@ -88,10 +87,10 @@ pub end_queues : Ends (Queues IsPlain)
 end_queues h cut takes = queues_these IsPlain h _ [] refl refl tt
 
 pub release_queues : Releases (Queues IsPlain)
-release_queues h opened none = queues_these IsPlain h _ (release ∷ []) refl refl ((refl, refl), tt)
+release_queues h opened none = grind (arith, queues_these IsPlain h)
 
 pub announcing_queues : (h : History) (size : ℕ) → Queues IsPlain h (announcing h size)
-announcing_queues h size = queues_these IsPlain h _ (own_csm size ∷ []) refl refl ((refl, refl), tt)
+announcing_queues h size = grind (arith, queues_these IsPlain h)
 
 -- A write queues nothing.
 pub written_queues : (P : Message → Type 0) (h : History) (n : ℕ) → Queues P h (after h (call.Written n))
@@ -104,19 +103,13 @@ plain_queues =
 
 -- Of the entries that are due, only a Pong is queued here.
 pub due_queues : (h : History) (now : ℕ) → Queues IsNoResponse h (after h (call.Due now))
-due_queues h now =
-    queues_these IsNoResponse h _ (due_effect (state_due now (state_now h)) (first_due now h.pending)).queued
-    refl refl (grind arith)
+due_queues h now = grind (arith, queues_these IsNoResponse h)
 
 -- ---- responses
 
 -- Every form in which a response is sent has its token.
 pub reply_queues : (h : History) (m : Message) → Queues (λ n. n.token ≡ m.token) h (after h (call.Reply m))
-reply_queues h m =
-    let P : Message → Type 0 = λ n. n.token ≡ m.token in
-    if_between (Queues P) (answers h.phase) h _ (queues_none P h)
-    (λ does. queues_these P h _ _ refl refl
-    (sent_all P (state_now h) m (bare_response m) (fit (limit_now h) m (bare_response m)) refl refl))
+reply_queues h m = grind (arith, queues_none, queues_these, sent_all)
 
 -- An open connection sends responses.
 pub open_answers : (p : Phase) → is_open p ≡ true → answers p ≡ true

@@ -1,18 +1,18 @@
 -- Properties of the world after any accepted events: each id is used once, and the stream of a connection that accepts
 -- messages has no error.
 use Rattle.std.proofs.Common.{◌≡◌, ℕ, ◌+◌, ◌<◌, ◌≤◌, true, cond, List, [], ◌∷◌, length, map, Option, Some, None, refl}
-use Rattle.std.proofs.Common.{sym, ap, subst, ◌∙◌, arith, is_none, ◌++◌, take, Result, Ok, Err, inl, inr, not, ◌==◌}
+use Rattle.std.proofs.Common.{sym, ap, subst, ◌∙◌, arith, ◌++◌, take, Result, Ok, Err, inl, inr, not, ◌==◌}
 use Rattle.coap_model.specs.Prelude.{AllByRecursion, StreamFault, Stream, frame_then, LimitValues, takes_messages}
-use Rattle.coap_model.specs.Prelude.{put_refusal, ConfigValues, Connection, new_side, handles, side_after, side_faulted}
+use Rattle.coap_model.specs.Prelude.{ConfigValues, Connection, new_side, handles, side_after, side_faulted}
 use Rattle.coap_model.specs.Prelude.{side_written, side_ended, side_released, side_announced, side_responded, settled}
-use Rattle.coap_model.specs.Prelude.{has_room, may_raise, ConnectionEntry, World, Step, side_of, ticks, acted}
-use Rattle.coap_model.specs.Prelude.{AcceptedCall, world_after, taken_in, size_on, stream_on, spelled_on, steps_by}
-use Rattle.coap_model.specs.Prelude.{takes, IfSide, IsAccepted, AreAccepted, Message, message_of, FormatFault}
-use Rattle.coap_model.specs.Prelude.{FrameEventValue, AFrame, AFault, link_of, may_announce, StoreValue, settled_once}
+use Rattle.coap_model.specs.Prelude.{may_raise, ConnectionEntry, World, Step, side_of, acted, AcceptedCall, world_after}
+use Rattle.coap_model.specs.Prelude.{taken_in, size_on, stream_on, spelled_on, steps_by, takes, IfSide, IsAccepted}
+use Rattle.coap_model.specs.Prelude.{AreAccepted, Message, message_of, FormatFault, FrameEventValue, AFrame, AFault}
+use Rattle.coap_model.specs.Prelude.{link_of, may_announce, StoreValue, settled_once}
 use Rattle.std.proofs.lemmas.List.Sums.{length-filter, count_by-le-length}
 use Rattle.std.proofs.lemmas.List.{length-append, length-map, nil_from_length}
 use Rattle.std.proofs.lemmas.Bool.Decides.{nat_tests}
-use Rattle.std.proofs.lemmas.Bool.{cases_Bool, cases_eq, cond_both, and_parts, both_ways}
+use Rattle.std.proofs.lemmas.Bool.{cases_Bool, cases_eq, both_ways}
 use Rattle.coap_model.specs.world.Events.{front_of}
 use Rattle.coap_model.proofs.world.PlaceLaws.{but, changed_id, AreDistinct, distinct_mapped, distinct_more}
 use Rattle.coap_model.proofs.world.PlaceLaws.{distinct_but, of_number, nobody}
@@ -28,7 +28,7 @@ use Rattle.coap_model.proofs.world.StepLaws.{world_first, world_same, world_step
 use Rattle.coap_model.proofs.world.StepLaws.{size_stays, announced_elsewhere, nothing_spelled, first_spelled}
 use Rattle.coap_model.proofs.world.StepLaws.{spelled_same, taken_elsewhere, rest_unfinished}
 use Rattle.coap_model.proofs.world.TookLaws.{no_bytes_stream, no_bytes_steps, Adds, adds_frame}
-use Rattle.coap_model.proofs.world.WalkLaws.{there_or_not, settled_keeps, Between}
+use Rattle.coap_model.proofs.world.WalkLaws.{settled_keeps, Between}
 use Rattle.coap_wire.proofs.NumberLaws.{none_or_some}
 use Rattle.coap_model.specs.world.World as world
 use Rattle.coap_model.specs.world.Events as event
@@ -47,22 +47,17 @@ pub record KeptByStep (P : World → Type 0) (limits : LimitValues) (w : World) 
 module _ (P : World → Type 0) (limits : LimitValues) (w : World) (holds : P w) where
   acted_keeps : (st : Step) → KeptByStep P limits w st → P (acted limits w st)
   unfolding acted
-  acted_keeps (world.Opened id) keeps =
-      cond_both (is_none (side_of id w.sides)) _ w P
-      (λ free. keeps.opened id refl (none_where (side_of id w.sides) free)) (λ given. holds)
+  acted_keeps (world.Opened id) keeps = grind (arith, none_where (side_of id w.sides))
   acted_keeps (world.Handled id m) keeps = keeps.reported _ _ w.now (keeps.changed w _ (changed_id id _) holds)
-  acted_keeps (world.Ticked now) keeps =
-      cond_both (ticks w.now now) _ w P (λ later. keeps.reported w w.store now holds) (λ past. holds)
-  acted_keeps (world.Stored path format bytes) keeps =
-      cond_both (is_none (put_refusal w.store path bytes)) _ w P (λ free. keeps.reported w _ w.now holds)
-      (λ refused. holds)
-  acted_keeps (world.Removed path) keeps = keeps.reported w _ w.now holds
+  acted_keeps (world.Ticked now) keeps = grind arith
+  acted_keeps (world.Stored path format bytes) keeps = grind arith
+  acted_keeps (world.Removed path) keeps = grind arith
   acted_keeps (world.Dropped id) keeps = keeps.dropped id
-  acted_keeps _ keeps = keeps.changed w _ (changed_id _ _) holds
+  acted_keeps _ keeps = grind (arith, changed_id)
 
   pub step_keeps : (st : Step) → KeptByStep P limits w st → P (world.step limits w st)
   unfolding world.step
-  step_keeps st keeps = keeps.changed (acted limits w st) _ (λ p. refl) (acted_keeps st keeps)
+  step_keeps st keeps = grind (arith, acted_keeps st keeps)
 
 -- The ids of connections are distinct.
 pub step_distinct : (limits : LimitValues) (w : World) (s : Step) → AreDistinct w.sides
@@ -105,10 +100,7 @@ module _ (c : ConfigValues) (w : World) where
   pub opens : (id : ℕ) → IsNumbered c w → id ≡ w.ids + 1
       → acted c.limits w (world.Opened id) ≡ opened_world c.limits w id
   unfolding acted
-  opens id is next =
-      let opened = opened_world c.limits w id in
-      there_or_not (side_of id w.sides) (λ there. cond (is_none there) opened w ≡ opened) (λ free. refl)
-      (λ s there. absurd (omega (arith, next, (number_given id s is there).within)))
+  opens id is next = grind (arith, opened_world, number_given id)
 
   -- The last id never decreases.
   pub ids_grow : (s : Step) → OpensNext c w s → w.ids ≤ (world.step c.limits w s).ids
@@ -160,12 +152,7 @@ pub record IsReached (c : ConfigValues) (es : List AcceptedCall) : Type 0 where
       → s.history.own_max ≡ size_on c.limits.max_message id es
 
 first_reached : (c : ConfigValues) → IsReached c []
-first_reached c = record {
-  numbered = rw (world_first c) (record { low = omega arith; each = tt; few = omega arith });
-  silent = λ id h. first_spelled c.limits.max_message id;
-  goes_on = λ id s e takes. ap (λ s. s.0.fault) (first_spelled c.limits.max_message id);
-  sizes = rw (world_first c) (λ id s e. absurd (none_or_some s (sym (nobody id) ∙ e)));
-}
+first_reached c = grind (arith, world_first c, first_spelled c.limits.max_message, none_or_some, nobody)
 
 -- ---- a step
 
@@ -255,20 +242,18 @@ module _ (c : ConfigValues) (es : List AcceptedCall) (before : IsReached c es) w
   step_reached : (e : AcceptedCall) (st : Step) → steps_by M es e ≡ st ∷ [] → OpensNext c w st
       → ((k : ℕ) → w.ids < k → (taken_in k e ≡ []) × size_stays k e) → LeadsTo e (world.step c.limits w st)
       → IsReached c (es ++ e ∷ [])
-  step_reached e st one next =
-      reached_by e (world.step c.limits w st) (world_step c es e st one) (step_numbered c w st before.numbered next)
-      (ids_grow c w st next)
+  step_reached e st one next = grind (arith, reached_by e, world_step, step_numbered, ids_grow)
 
   -- An event that brings a connection no bytes and no size.
   quiet_matches : (e : AcceptedCall) (k : ℕ) (t : Connection) → taken_in k e ≡ [] → size_stays k e
       → Matches (spelled_on M k es) t → Matches (spelled_on M k (es ++ e ∷ [])) t
-  quiet_matches e k t none stays = subst (λ u. Matches u t) (sym (spelled_same M k es e none stays))
+  quiet_matches e k t none stays = grind (arith, spelled_same M k)
 
   step_matches : (e : AcceptedCall) (st : Step) (k : ℕ) → OpensNext c w st → IsUnannounced st k → taken_in k e ≡ []
       → size_stays k e → (t : Connection) → side_of k (world.step c.limits w st).sides ≡ Some t
       → Matches (spelled_on M k (es ++ e ∷ [])) t
   step_matches e st k next unannounced none stays t at =
-      let old = seen st next k t at in quiet_matches e k t none stays (old.0, old.1 unannounced)
+      grind (arith, seen st next k t, quiet_matches e k t none stays)
 
   -- An event that brings no bytes and no size to any connection.
   plain_reached : (e : AcceptedCall) (st : Step) → steps_by M es e ≡ st ∷ [] → OpensNext c w st
@@ -309,8 +294,7 @@ module _ (c : ConfigValues) (es : List AcceptedCall) (before : IsReached c es) w
 pub handling_goes_on : (c : ConfigValues) (es : List AcceptedCall) (id : ℕ) (s : Connection) → IsReached c es
     → side_of id (world_after c es).sides ≡ Some s → handles s ≡ true
     → (stream_on c.limits.max_message id es).fault ≡ None
-handling_goes_on c es id s is there does =
-    is.goes_on id s there (and_parts (takes_messages s.history.phase) (has_room s) does).0
+handling_goes_on c es id s is there does = grind arith
 
 -- The number of bytes of an input slice that are accepted, if the connection exists.
 pub takes_there : (c : ConfigValues) (es : List AcceptedCall) (id : ℕ) (piece : List ℕ) (s : Connection)
@@ -344,14 +328,7 @@ module _ (c : ConfigValues) (es : List AcceptedCall) (id : ℕ) (bytes : List �
   took_matches : (v : World) → NoFault v → (k : ℕ) (t : Connection) → side_of k v.sides ≡ Some t
       → Matches (spelled_on c.limits.max_message k es) t
       → Matches (spelled_on c.limits.max_message k (es ++ e ∷ [])) t
-  took_matches v own k t at old =
-      elim (cases_eq id k) [
-        | inl same ↦ (
-            λ takes. rw (← same) (own t (rw (← same) at at) takes),
-            old.1 ∙ sym (size_then c.limits.max_message k es e),
-          )
-        | inr apart ↦ quiet_matches c es before e k t (taken_elsewhere k id bytes apart) (λ N. refl) old
-      ]
+  took_matches v own k t at old = grind (arith, size_then, quiet_matches, taken_elsewhere k)
 
   -- A take that makes no step.
   quiet_reached : steps_by c.limits.max_message es e ≡ [] → NoFault (world_after c es) → IsReached c (es ++ e ∷ [])
@@ -390,7 +367,7 @@ module _ (c : ConfigValues) (es : List AcceptedCall) (id : ℕ) (bytes : List �
   found_reached : (found : FrameEventValue) → handles s ≡ true
       → Adds c.limits.max_message id es bytes (added_by (stream_on c.limits.max_message id es).rest bytes found)
       → IsReached c (es ++ e ∷ [])
-  found_reached Nothing does adds = quiet_reached adds.steps (λ t at takes. ap (λ u. u.fault) adds.stream)
+  found_reached Nothing does adds = grind (arith, quiet_reached adds.steps)
   found_reached (AFrame frame) does adds = frame_reached frame (message_of frame) does adds
   found_reached (AFault fault) does adds = fault_reached _ _ does adds
 

@@ -1,11 +1,11 @@
 -- A response of the application: the request that it removes, the room that it needs, and the messages that it queues.
-use Rattle.std.proofs.Common.{◌≡◌, ◌+◌, ◌≤◌, Bool, true, false, ◌&&◌, ◌==◌, List, ◌∷◌, length, Some, None, refl, sym}
-use Rattle.std.proofs.Common.{ap, ◌∙◌, arith, nat_lt, if◌then◌else◌}
-use Rattle.coap_model.specs.Prelude.{Message, Reply, Whole, Bare, Stopped, fit, fitted, bare_response}
-use Rattle.coap_model.specs.Prelude.{PendingEntryValue, Answer, Application, has_request, without_request}
-use Rattle.coap_model.specs.Prelude.{IsFirstRequest, is_plain_response, is_response, asks_custody, response_refusal}
-use Rattle.coap_model.specs.Prelude.{sent_length, free_in, limit_in, LinkValue, bytes_of, ConnectionState, send_as}
-use Rattle.std.proofs.lemmas.Bool.{and_parts, ltb-false, eqb-true}
+use Rattle.std.proofs.Common.{◌≡◌, ◌+◌, ◌≤◌, Bool, true, false, ◌&&◌, ◌==◌, length, Some, None, refl, arith, nat_lt}
+use Rattle.std.proofs.Common.{if◌then◌else◌}
+use Rattle.coap_model.specs.Prelude.{Message, Reply, Whole, Bare, Stopped, fit, fitted, bare_response, has_request}
+use Rattle.coap_model.specs.Prelude.{without_request, IsFirstRequest, is_plain_response, is_response, asks_custody}
+use Rattle.coap_model.specs.Prelude.{response_refusal, sent_length, free_in, limit_in, LinkValue, bytes_of}
+use Rattle.coap_model.specs.Prelude.{ConnectionState, send_as}
+use Rattle.std.proofs.lemmas.Bool.{ltb-false, eqb-true}
 use Rattle.std.proofs.lemmas.List.{length-append}
 use Rattle.coap_conn.specs.declared.phase.RespondFault.TheVariants as fault
 use Rattle.coap_conn.proofs.ApplicationLaws.{first_request}
@@ -25,7 +25,7 @@ allowed_by : (v : LinkValue) (m : Message) (requested plain short : Bool) → ha
     → is_plain_response m ≡ plain → nat_lt (free_in v) (sent_length (limit_in v) m) ≡ short
     → (if requested then (if plain then (if short then Some fault.NoRoom else None) else Some fault.NotAResponse)
     else Some fault.NoSuchRequest) ≡ None → IsAllowed v m
-allowed_by v m true true false requested plain room none = record { requested = requested; plain = plain; room = room }
+allowed_by v m true true false requested plain room none = grind arith
 allowed_by v m true true true requested plain room none = absurd cc
 allowed_by v m true false short requested plain room none = absurd cc
 allowed_by v m false plain short requested is room none = absurd cc
@@ -44,16 +44,7 @@ answered_request v m none = first_request v.pending m.token (allowed v m none).r
 -- One entry fewer is pending.
 pub request_fewer : (v : LinkValue) (m : Message) → response_refusal v m ≡ None
     → length (without_request m.token v.pending) + 1 ≡ length v.pending
-request_fewer v m none =
-    let first = answered_request v m none in
-    let e : PendingEntryValue = Answer Application m.token first.moment in
-    omega (
-      arith,
-      ap (λ (es : List PendingEntryValue). length es) first.there,
-      ap (λ (es : List PendingEntryValue). length es) first.without,
-      length-append first.before first.after,
-      length-append first.before (e ∷ first.after),
-    )
+request_fewer v m none = grind (arith, answered_request v m none, length-append)
 
 -- ---- the messages queued
 
@@ -71,14 +62,13 @@ responded_small v m none = ltb-false (free_in v) (sent_length (limit_in v) m) (a
 
 pub plain_codes : (m : Message) → is_plain_response m ≡ true
     → (is_response m ≡ true) × (is_response (bare_response m) ≡ true)
-plain_codes m plain = let is = (and_parts _ _ plain).0 in (is, bare_coded m.code is)
+plain_codes m plain = grind (arith, bare_coded m.code)
 
 -- A Pong is no response.
 no_pong_by : (m : Message) (pong : Bool) → (m.code == code.pong) ≡ pong → is_response m ≡ true
     → (pong && asks_custody m) ≡ false
 no_pong_by m false other is = refl
-no_pong_by m true same is =
-    let bad : ◌≡◌ {A = Bool} false true = ap coded (sym (eqb-true m.code code.pong same)) ∙ is in absurd cc
+no_pong_by m true same is = grind (arith, coded, eqb-true m.code)
 
 pub response_is_no_pong : (m : Message) → is_response m ≡ true → IsNoPong m
-response_is_no_pong m = no_pong_by m (m.code == code.pong) refl
+response_is_no_pong m = grind (arith, no_pong_by m)

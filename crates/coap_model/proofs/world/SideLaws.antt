@@ -1,28 +1,25 @@
 -- A connection of the world: facts on it, its observers after a message, and how it settles.
 use Rattle.std.proofs.Common.{◌≡◌, ℕ, ◌+◌, ◌<◌, ◌≤◌, Bool, true, false, cond, List, [], length, Option, Some, None}
-use Rattle.std.proofs.Common.{refl, sym, ap, ◌∙◌, arith, ◌&&◌, nat_lt, not, zero, suc, ◌∷◌, ◌++◌, subst, ◌⊎◌, inl, inr}
-use Rattle.std.proofs.Common.{find, min}
-use Rattle.coap_model.specs.Prelude.{AllByRecursion, filter_map, reduce, Message, takes_messages, answers, is_open, fit}
-use Rattle.coap_model.specs.Prelude.{bare_response, PendingEntryValue, first_due, without_due, due_moment, answer_index}
-use Rattle.coap_model.specs.Prelude.{pong_index, else_index, entry_at, due_index, NothingIsDue, History, IsHistory}
-use Rattle.coap_model.specs.Prelude.{limit_now, state_now, after, state_due, StoreValue, path_of, prompt_answer, Change}
-use Rattle.coap_model.specs.Prelude.{changed, response_with_observe, Connection, handles, has_room, side_with}
-use Rattle.coap_model.specs.Prelude.{with_history, side_answered, moment_after, Delay, delay_of, hold_call, delay_for}
-use Rattle.coap_model.specs.Prelude.{side_replied, asks_answer, side_handled, side_after, next_due, notified}
-use Rattle.coap_model.specs.Prelude.{next_pending, late_message, after_sent, settled_so, settled_once, settled_within}
-use Rattle.coap_model.specs.Prelude.{settled, IsUpToDate, Observer, without_token, asks_entry, has_place, entry_for}
-use Rattle.coap_model.specs.Prelude.{is_whole, with_entry, is_due, goes_on, notification, notification_message, left_of}
-use Rattle.coap_model.specs.Prelude.{first_becomes, same_bytes, state_of, Watch, Reply, Whole, ConnectionState, send_as}
-use Rattle.coap_model.specs.Prelude.{due_effect, pong_with, side_responded}
-use Rattle.std.proofs.lemmas.Bool.{and_parts, cond_both, ltb-true}
+use Rattle.std.proofs.Common.{refl, arith, ◌&&◌, zero, suc, ◌∷◌, ◌++◌, ◌⊎◌, find}
+use Rattle.coap_model.specs.Prelude.{AllByRecursion, filter_map, Message, takes_messages, fit, bare_response}
+use Rattle.coap_model.specs.Prelude.{PendingEntryValue, first_due, without_due, due_moment, due_index, NothingIsDue}
+use Rattle.coap_model.specs.Prelude.{History, IsHistory, limit_now, state_now, after, state_due, StoreValue, path_of}
+use Rattle.coap_model.specs.Prelude.{prompt_answer, Change, changed, Connection, handles, has_room, side_with}
+use Rattle.coap_model.specs.Prelude.{with_history, side_answered, moment_after, Delay, hold_call, delay_for}
+use Rattle.coap_model.specs.Prelude.{side_replied, side_after, next_due, notified, next_pending, after_sent}
+use Rattle.coap_model.specs.Prelude.{settled_once, settled_within, settled, IsUpToDate, Observer, without_token}
+use Rattle.coap_model.specs.Prelude.{entry_for, is_whole, is_due, goes_on, notification, notification_message, left_of}
+use Rattle.coap_model.specs.Prelude.{first_becomes, Reply, Whole, ConnectionState, send_as, due_effect, pong_with}
+use Rattle.coap_model.specs.Prelude.{side_responded}
+use Rattle.std.proofs.lemmas.Bool.{and_parts, ltb-true}
 use Rattle.coap_conn.proofs.PendingLaws.{due_fewer, due_nothing}
 use Rattle.coap_model.proofs.world.KnownLaws.{entry_watchable, IsKnown, IsVersioned, still_known, sent_known, sent_now}
 use Rattle.coap_model.proofs.world.KnownLaws.{not_due, left_watchable}
 use Rattle.coap_model.proofs.world.EntryLemmas.{asks_to_enter, all_to, all_append, all_filter, all_become, found_all}
 use Rattle.coap_model.proofs.world.EntryLemmas.{none_due, count_due, count_within, count_less, none_found}
 use Rattle.coap_model.proofs.world.GoingOn.{as_before, further, GoesOn, all_go_on, plain_goes_on}
-use Rattle.coap_model.proofs.world.WalkLaws.{there_or_not, there_where, kept_open_has, once_between, PlainCall}
-use Rattle.coap_model.proofs.world.WalkLaws.{observers_kept, observers_plain, settled_keeps, responded_between}
+use Rattle.coap_model.proofs.world.WalkLaws.{there_or_not, kept_open_has, once_between, PlainCall, observers_kept}
+use Rattle.coap_model.proofs.world.WalkLaws.{observers_plain, settled_keeps, responded_between}
 use Rattle.coap_model.proofs.world.AcrossLaws.{after_all}
 use Rattle.coap_conn.specs.PendingEntries as pending
 use Rattle.coap_conn.specs.Calls as call
@@ -40,7 +37,7 @@ pub record IsKnownSide (store : StoreValue) (s : Connection) : Type 0 where
 -- ---- its parts
 
 pub handles_parts : (s : Connection) → handles s ≡ true → (takes_messages s.history.phase ≡ true) × (has_room s ≡ true)
-handles_parts s e = and_parts (takes_messages s.history.phase) (has_room s) e
+handles_parts s e = grind arith
 
 -- A request whose response is delayed, and one whose response is sent at once.
 pub replied_cases : (store : StoreValue) (now : ℕ) (h : History) (others : List Observer) (m : Message)
@@ -49,8 +46,7 @@ pub replied_cases : (store : StoreValue) (now : ℕ) (h : History) (others : Lis
     → P (side_with (after h (hold_call d.by m.token (moment_after now d.seconds))) others))
     → (delay_for h delay ≡ None → P (side_answered store now h others m (prompt_answer store now m)))
     → P (side_replied store now h others m (delay_for h delay))
-replied_cases store now h others m delay P pending prompt =
-    there_or_not (delay_for h delay) (λ found. P (side_replied store now h others m found)) prompt pending
+replied_cases store now h others m delay P pending prompt = grind arith
 
 -- ---- one round of settling
 
@@ -60,12 +56,11 @@ pub settled_cases : (store : StoreValue) (now : ℕ) (s : Connection) (P : Conne
     → (next_pending now s ≡ None → P (notified store now s (next_due store now s)))
     → P (settled_once store now s)
 unfolding settled_once
-settled_cases store now s P sends reports =
-    there_or_not (next_pending now s) (λ found. P (settled_so store now s found)) reports sends
+settled_cases store now s P sends reports = grind arith
 
 pub pending_room : (now : ℕ) (s : Connection) (e : PendingEntryValue) → next_pending now s ≡ Some e
     → (has_room s ≡ true) × (first_due now s.history.pending ≡ Some e)
-pending_room now s e is = there_where (has_room s) (first_due now s.history.pending) e is
+pending_room now s e is = grind arith
 
 -- Sending a message adds no pending entry.
 pub send_pending : (s : ConnectionState) (m less : Message) (r : Reply)
@@ -84,18 +79,12 @@ due_pending s (Some (pending.Pong token)) =
 
 reply_leaves : (h : History) (m : Message) → length (after h (call.Reply m)).pending ≤ length h.pending
 reply_leaves h m =
-    cond_both (answers h.phase) _ h (λ (k : History). length k.pending ≤ length h.pending)
-    (λ does. send_pending (state_now h) m (bare_response m) (fit (limit_now h) m (bare_response m)))
-    (λ none. omega arith)
+    grind (arith, send_pending (state_now h) m (bare_response m) (fit (limit_now h) m (bare_response m)))
 
 sent_leaves : (h : History) (now : ℕ) (e : PendingEntryValue)
     → length (after_sent h now e).pending ≤ length (without_due now h.pending)
 sent_leaves h now (pending.Answer by token moment) =
-    omega (
-      arith,
-      reply_leaves (after h (call.Due now)) (late_message by token),
-      due_pending (state_due now (state_now h)) (first_due now h.pending),
-    )
+    grind (arith, reply_leaves, due_pending (state_due now (state_now h)) (first_due now h.pending))
 sent_leaves h now (pending.Pong token) = due_pending (state_due now (state_now h)) (first_due now h.pending)
 
 -- ---- the facts are kept
@@ -103,26 +92,18 @@ sent_leaves h now (pending.Pong token) = due_pending (state_due now (state_now h
 -- Any change of the store keeps them.
 pub still_known_side : (store : StoreValue) (change : Change) (s : Connection) → IsVersioned store → IsKnownSide store s
     → IsKnownSide (changed store change) s
-still_known_side store change s is known = record {
-  is_history = known.is_history;
-  reported =
-      all_to (IsKnown store) (IsKnown (changed store change)) (λ o. still_known store change o is)
-      s.observers known.reported;
-}
+still_known_side store change s is known =
+    grind (arith, all_to (IsKnown store) (IsKnown (changed store change)), still_known store change)
 
 -- All effects other than messages keep them.
 pub plain_known : (store : StoreValue) (s t : Connection) → PlainCall s t → IsKnownSide store s → IsKnownSide store t
-plain_known store s t call known = record {
-  is_history = (plain_goes_on s t call).history known.is_history;
-  reported = observers_plain (AreKnown store) tt s t call known.reported;
-}
+plain_known store s t call known =
+    grind (arith, plain_goes_on s t call, observers_plain (AreKnown store) tt s t call known.reported)
 
 pub responded_known : (store : StoreValue) (s : Connection) (m : Message) → IsKnownSide store s
     → IsKnownSide store (side_responded s m)
-responded_known store s m known = record {
-  is_history = (responded_between GoesOn as_before all_go_on.responds s m).history known.is_history;
-  reported = (observers_kept (AreKnown store) tt).responded s m known.reported;
-}
+responded_known store s m known =
+    grind (arith, responded_between GoesOn as_before all_go_on.responds s m, observers_kept (AreKnown store) tt)
 
 -- A property of the observers after a message. It must hold of no observers, and of the observers before. It must also
 -- hold of those without the message's token, and of these with its entry if there is a place for it.
@@ -134,40 +115,16 @@ pub observers_after : (P : List Observer → Type 0) (store : StoreValue) (now :
     → P (side_after store now s m).observers
 unfolding side_after
 observers_after P store now s m none same others entered =
-    let h : History = after s.history (call.Handle m) in
-    let os : List Observer = without_token m.token s.observers in
-    let requested : Watch = (prompt_answer store now m).watch in
-    let observes : Bool = has_place h.limits.observers os requested in
-    let response : Message = response_with_observe m.token observes (prompt_answer store now m).response in
-    let enters : Bool = observes && is_whole (fit (limit_now h) response (bare_response response)) in
-    let HasThem : Connection → Type 0 = λ t. P t.observers in
-    let with_it : P (with_entry enters os (entry_for store now m)) =
-    elim enters as (λ so. enters ≡ so → P (with_entry so os (entry_for store now m))) [
-      | true ↦ λ so. (let place =
-          and_parts (asks_entry requested) (nat_lt (length os) h.limits.observers) (and_parts observes _ so).0 in
-          entered (asks_to_enter requested place.0) (ltb-true (length os) h.limits.observers place.1))
-      | false ↦ λ so. others
-    ] refl in
-    cond_both (handles s) (side_handled store now s m) s HasThem
-    (λ does. cond_both (asks_answer s m) _ (with_history s h) HasThem
-    (λ asks. replied_cases store now h os m (delay_of store now m) HasThem
-    (λ d pending. kept_open_has P none (after h (hold_call d.by m.token (moment_after now d.seconds))) os others)
-    (λ prompt. kept_open_has P none (after h (call.Reply response)) _ with_it))
-    (λ other. kept_open_has P none h s.observers same)) (λ idle. same)
+    grind (arith, asks_to_enter, ltb-true, replied_cases store now, kept_open_has P none)
 
 -- A message keeps the facts, before it changes the store.
 pub after_known : (store : StoreValue) (now : ℕ) → now ≤ 18446744073709551615 → IsVersioned store
     → (s : Connection) (m : Message) → IsKnownSide store s → IsKnownSide store (side_after store now s m)
 unfolding without_token
 after_known store now small is s m known =
-    let others : AreKnown store (without_token m.token s.observers) =
-    all_filter (IsKnown store) (λ o. not (same_bytes o.token m.token)) s.observers known.reported in
-    record {
-      is_history = (after_all GoesOn all_go_on store now s m).history known.is_history;
-      reported = observers_after (AreKnown store) store now s m tt known.reported others
-          (λ requested place. all_append (IsKnown store) _ _ others
-          (sent_known store now m.token (path_of m) small is (entry_watchable store now m requested), tt));
-    }
+    grind (arith, all_filter (IsKnown store), after_all GoesOn all_go_on store now s m,
+    observers_after (AreKnown store) store now s m tt known.reported, all_append (IsKnown store),
+    sent_known store now m.token (path_of m) small is, entry_watchable store now m)
 
 -- ---- settling of a connection: the facts are kept, and no change is lost
 
@@ -179,7 +136,7 @@ IsAtRest store now s = (next_pending now s ≡ None) × (next_due store now s �
 
 pub next_due_found : (store : StoreValue) (now : ℕ) (s : Connection) (o : Observer) → next_due store now s ≡ Some o
     → find (is_due store now) s.observers ≡ Some o
-next_due_found store now s o e = (there_where (has_room s) (find (is_due store now) s.observers) o e).1
+next_due_found store now s o e = grind arith
 
 -- A property of the observers after a round. It must hold of no observers, of the observers before, and of those after
 -- the first due one was notified.
@@ -203,15 +160,13 @@ observers_settled P store now s none same reported =
 module _ (store : StoreValue) (now : ℕ) (small : now ≤ 18446744073709551615) (is : IsVersioned store) where
   left_all : (o : Observer) (stays : Bool) → IsKnown store o
       → (stays ≡ true → goes_on (notification store now o) ≡ true) → AreKnown store (left_of store now o stays)
-  left_all o true known on =
-      (sent_known store now o.token o.path small is (left_watchable store now o known (on refl)), tt)
+  left_all o true known on = grind (arith, sent_known, left_watchable)
   left_all o false known on = tt
 
   -- The first due observer is one of the observers.
   pub next_known : (s : Connection) → IsKnownSide store s → (o : Observer)
       → next_due store now s ≡ Some o → IsKnown store o
-  next_known s known o e =
-      found_all (IsKnown store) (is_due store now) s.observers o known.reported (next_due_found store now s o e)
+  next_known s known o e = grind (arith, found_all, next_due_found)
 
   pub once_known : (s : Connection) → IsKnownSide store s → IsKnownSide store (settled_once store now s)
   once_known s known = record {
@@ -230,13 +185,13 @@ module _ (store : StoreValue) (now : ℕ) (small : now ≤ 18446744073709551615)
 
 count_if : (due : Observer → Bool) (b : Bool) (os : List Observer) → count_due due (cond b os []) ≤ count_due due os
 unfolding count_due
-count_if due b os = cond_both b os [] (λ ps. count_due due ps ≤ count_due due os) (λ e. omega arith) (λ e. omega arith)
+count_if due b os = grind (arith, count_due due, count_due due os)
 
 -- The updated entry of a notified observer is not due.
 left_quiet : (store : StoreValue) (now : ℕ) (o : Observer) (stays : Bool)
     → count_due (is_due store now) (left_of store now o stays) ≡ 0
 unfolding count_due
-left_quiet store now o true = rw (not_due store now (record o { reported = state_of store now o.path }) refl) refl
+left_quiet store now o true = grind (arith, not_due store now)
 left_quiet store now o false = refl
 
 -- If nothing is left to settle, further rounds change nothing.
@@ -255,39 +210,16 @@ pub once_less : (store : StoreValue) (now : ℕ) (s : Connection)
     → IsAtRest store now s ⊎ (left_on store now (settled_once store now s) + 1 ≤ left_on store now s)
 unfolding settled_once
 once_less store now s =
-    let Less : Connection → Type 0 = λ t. IsAtRest store now s ⊎ (left_on store now t + 1 ≤ left_on store now s) in
-    let due : Observer → Bool = is_due store now in
-    there_or_not (next_pending now s) (λ found. Less (settled_so store now s found))
-    (λ pending. there_or_not (next_due store now s) (λ found. Less (notified store now s found))
-    (λ is. inl (pending, is)) (λ o is. (
-    let m = notification_message o.token (notification store now o) in
-    let stays = goes_on (notification store now o) && is_whole (fit (limit_now s.history) m (bare_response m)) in
-    let left : List Observer = left_of store now o stays in
-    let less = count_less due s.observers o left (left_quiet store now o stays) (next_due_found store now s o is) in
-    inr (omega (
-      arith,
-      reply_leaves s.history m,
-      count_if due (is_open (after s.history (call.Reply m)).phase) (first_becomes due left s.observers),
-      less,
-    )))))
-    (λ e is. (let fewer = due_fewer now s.history.pending e (pending_room now s e is).1 in
-    inr (omega (
-      arith,
-      count_if due (is_open (after_sent s.history now e).phase) s.observers,
-      sent_leaves s.history now e,
-      fewer,
-    ))))
+    grind (arith, count_less, left_quiet store now, next_due_found store now s, reply_leaves s.history, count_if,
+    due_fewer now s.history.pending, pending_room now s, sent_leaves s.history now)
 
 rests_by : (turns : ℕ) (store : StoreValue) (now : ℕ) (s : Connection) → left_on store now s ≤ turns
     → IsAtRest store now (settled_within turns store now s)
 unfolding settled_within
-rests_by zero store now s few =
-    elim (once_less store now s) [ inl rests ↦ rests | inr less ↦ absurd (omega (arith, few, less)) ]
+rests_by zero store now s few = grind (arith, once_less store now s)
 rests_by (suc turns) store now s few =
-    elim (once_less store now s) [
-      | inl rests ↦ subst (IsAtRest store now) (sym (at_rest (suc turns) store now s rests)) rests
-      | inr less ↦ rests_by turns store now (settled_once store now s) (omega (arith, few, less))
-    ]
+    grind (arith, once_less store now s, at_rest (suc turns) store now s,
+    rests_by turns store now (settled_once store now s))
 
 -- Each round leaves fewer pending entries or due observers, so in the end nothing is left to settle.
 pub settled_rests : (store : StoreValue) (now : ℕ) (s : Connection) → IsAtRest store now (settled store now s)
@@ -298,12 +230,9 @@ settled_rests store now s =
 
 -- No change is lost: if there is room, each observer was last sent the current state, and no pending entry is due.
 pub hears_at_rest : (store : StoreValue) (now : ℕ) (s : Connection) → IsAtRest store now s → IsUpToDate store now s
-hears_at_rest store now s rests = record {
-  reported = λ room. all_to (λ o. is_due store now o ≡ false) (λ o. o.reported ≡ state_of store now o.path)
-      (sent_now store now) s.observers
-      (none_due (is_due store now) s.observers (rw room at rests.1));
-  sent = λ room. (due_nothing now s.history.pending (rw room at rests.0)).0;
-}
+hears_at_rest store now s rests =
+    grind (arith, all_to, sent_now store now, none_due (is_due store now) s.observers,
+    due_nothing now s.history.pending)
 
 -- If no entry of a list is due, the list of due times is empty.
 none_come_listed : (now : ℕ) (pending : List PendingEntryValue) → AllByRecursion (λ e. due_moment now e ≡ None) pending
@@ -314,23 +243,15 @@ none_come_listed now (e ∷ pending) none = rw none.0 (none_come_listed now pend
 pub nothing_due_first : (now : ℕ) (pending : List PendingEntryValue) → NothingIsDue now pending
     → first_due now pending ≡ None
 unfolding first_due due_index
-nothing_due_first now pending none =
-    ap (λ moments. entry_at pending (else_index (answer_index (reduce min moments) pending) (pong_index pending)))
-    (none_come_listed now pending none.0) ∙ ap (entry_at pending) none.1
+nothing_due_first now pending none = grind (arith, none_come_listed now pending none.0)
 
 pub hears_sent : (store : StoreValue) (now : ℕ) (s : Connection) → IsUpToDate store now s → next_pending now s ≡ None
-hears_sent store now s takes_input =
-    cond_both (has_room s) (first_due now s.history.pending) None (λ found. found ≡ None)
-    (λ room. nothing_due_first now s.history.pending (takes_input.sent room)) (λ room. refl)
+hears_sent store now s takes_input = grind (arith, nothing_due_first now s.history.pending)
 
 -- A connection on which no change is lost has nothing to settle.
 pub side_at_rest_stays : (store : StoreValue) (now : ℕ) (s : Connection) → IsUpToDate store now s
     → settled store now s ≡ s
 unfolding settled
 side_at_rest_stays store now s takes_input =
-    let quiet = all_to (λ o. o.reported ≡ state_of store now o.path) (λ o. is_due store now o ≡ false)
-    (not_due store now) s.observers in
-    let rests : next_due store now s ≡ None =
-    cond_both (has_room s) (find (is_due store now) s.observers) None (λ due. due ≡ None)
-    (λ room. none_found (is_due store now) s.observers (quiet (takes_input.reported room))) (λ full. refl) in
-    at_rest (length s.history.pending + length s.observers) store now s (hears_sent store now s takes_input, rests)
+    grind (arith, all_to, not_due store now, none_found (is_due store now) s.observers,
+    at_rest (length s.history.pending + length s.observers) store now s, hears_sent store now s takes_input)

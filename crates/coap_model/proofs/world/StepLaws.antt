@@ -1,11 +1,11 @@
 -- Events and steps in sequence: the steps, the world and the bytes of a longer list, and the lists that are accepted.
 use Rattle.std.proofs.Common.{◌≡◌, ◌≢◌, ℕ, ◌-◌, ◌<◌, ◌≤◌, nat_lt, if◌then◌else◌, List, [], ◌∷◌, ◌++◌, length, map, drop}
-use Rattle.std.proofs.Common.{Option, Some, None, refl, sym, ap, subst, ◌∙◌, append_assoc, arith}
-use Rattle.coap_model.specs.Prelude.{AllByRecursion, Message, Unfinished, prefix_kind, constant_size, sizes_first}
-use Rattle.coap_model.specs.Prelude.{StreamFault, Stream, sized_split, split_on, LimitValues, ConfigValues, World, Step}
-use Rattle.coap_model.specs.Prelude.{new_world, after_steps, AcceptedCall, Took, Announced, taken_in, taken_on, size_by}
-use Rattle.coap_model.specs.Prelude.{size_on, sizes_on, stream_on, spelled_on, new_fault, beyond, steps_by, later_steps}
-use Rattle.coap_model.specs.Prelude.{steps_of, world_after, IsAccepted, AreAcceptedAfter, AreAccepted}
+use Rattle.std.proofs.Common.{Option, Some, None, refl, sym, subst, ◌∙◌, append_assoc, arith}
+use Rattle.coap_model.specs.Prelude.{AllByRecursion, Message, Unfinished, prefix_kind, StreamFault, Stream, sized_split}
+use Rattle.coap_model.specs.Prelude.{split_on, LimitValues, ConfigValues, World, Step, new_world, after_steps}
+use Rattle.coap_model.specs.Prelude.{AcceptedCall, Took, Announced, taken_in, taken_on, size_by, size_on, sizes_on}
+use Rattle.coap_model.specs.Prelude.{stream_on, spelled_on, new_fault, beyond, steps_by, later_steps, steps_of}
+use Rattle.coap_model.specs.Prelude.{world_after, IsAccepted, AreAcceptedAfter, AreAccepted}
 use Rattle.std.proofs.lemmas.Bool.Decides.{nat_tests}
 use Rattle.std.proofs.lemmas.Bool.{eq-eqb, ne_eqb}
 use Rattle.std.proofs.lemmas.List.{append-nil, length-append}
@@ -40,7 +40,7 @@ steps_keep P l go w (s ∷ ss) holds = steps_keep P l go (world.step l w s) ss (
 pub later_steps_more : (M : ℕ) (a es fs : List AcceptedCall)
     → later_steps M a (es ++ fs) ≡ later_steps M a es ++ later_steps M (a ++ es) fs
 unfolding later_steps
-later_steps_more M a [] fs = ap (λ (b : List AcceptedCall). later_steps M b fs) (sym (append-nil a))
+later_steps_more M a [] fs = grind (arith, append-nil a)
 later_steps_more M a (e ∷ es) fs =
     rw (later_steps_more M (a ++ e ∷ []) es fs, append_assoc a (e ∷ []) es)
     (sym (append_assoc (steps_by M a e) (later_steps M (a ++ e ∷ []) es) (later_steps M (a ++ e ∷ es) fs)))
@@ -58,21 +58,19 @@ world_first c = refl
 pub world_more : (c : ConfigValues) (es : List AcceptedCall) (e : AcceptedCall)
     → world_after c (es ++ e ∷ []) ≡ after_steps c.limits (world_after c es) (steps_by c.limits.max_message es e)
 unfolding world_after
-world_more c es e =
-    let M : ℕ = c.limits.max_message in
-    rw (steps_of_more M es e) (steps_then c.limits (new_world c) (steps_of M es) (steps_by M es e))
+world_more c es e = grind (arith, steps_of_more, steps_then c.limits (new_world c))
 
 -- The same if the steps of the event are known: none, or one.
 pub world_same : (c : ConfigValues) (es : List AcceptedCall) (e : AcceptedCall)
     → steps_by c.limits.max_message es e ≡ [] → world_after c (es ++ e ∷ []) ≡ world_after c es
 unfolding after_steps
-world_same c es e none = world_more c es e ∙ ap (after_steps c.limits (world_after c es)) none
+world_same c es e none = grind (arith, world_more c es e)
 
 pub world_step : (c : ConfigValues) (es : List AcceptedCall) (e : AcceptedCall) (s : Step)
     → steps_by c.limits.max_message es e ≡ s ∷ []
     → world_after c (es ++ e ∷ []) ≡ world.step c.limits (world_after c es) s
 unfolding after_steps
-world_step c es e s one = world_more c es e ∙ ap (after_steps c.limits (world_after c es)) one
+world_step c es e s one = grind (arith, world_more c es e)
 
 -- ---- accepted events
 
@@ -136,11 +134,8 @@ size_stays id e = (M : ℕ) → size_by id e M ≡ M
 pub sizes_then : (M id : ℕ) (es : List AcceptedCall) (e : AcceptedCall) → size_stays id e
     → sizes_on M id (es ++ e ∷ []) ≡ sizes_on M id es
 unfolding sizes_on
-sizes_then M id [] e stays =
-    ap (λ (N : ℕ). sizes_first (length (taken_in id e)) M (constant_size N)) (stays M)
-    ∙ first_always (length (taken_in id e)) M
-sizes_then M id (d ∷ es) e stays =
-    ap (sizes_first (length (taken_in id d)) M) (sizes_then (size_by id d M) id es e stays)
+sizes_then M id [] e stays = grind (arith, first_always (length (taken_in id e)) M)
+sizes_then M id (d ∷ es) e stays = grind (arith, sizes_then (size_by id d M) id es e stays)
 
 -- No earlier size was larger than the current one.
 sizes_within : (M id : ℕ) (es : List AcceptedCall) (at : ℕ) → sizes_on M id es at ≤ size_on M id es
@@ -156,8 +151,8 @@ sizes_now : (M id : ℕ) (es : List AcceptedCall) (at : ℕ) → length (taken_o
 unfolding size_on sizes_on taken_on
 sizes_now M id [] at past = refl
 sizes_now M id (e ∷ es) at past =
-    let whole = length-append (taken_in id e) (taken_on id es) in
-    grind (arith, nat_tests, sizes_now (size_by id e M) id es (at - length (taken_in id e)))
+    grind (arith, length-append (taken_in id e) (taken_on id es), nat_tests,
+    sizes_now (size_by id e M) id es (at - length (taken_in id e)))
 
 -- An event does not change the sizes of its own and earlier bytes.
 sizes_before : (M id : ℕ) (es : List AcceptedCall) (e : AcceptedCall) (at : ℕ)
@@ -165,8 +160,8 @@ sizes_before : (M id : ℕ) (es : List AcceptedCall) (e : AcceptedCall) (at : �
 unfolding sizes_on taken_on
 sizes_before M id [] e at within = grind (arith, nat_tests, length-append (taken_in id e) [])
 sizes_before M id (d ∷ es) e at within =
-    let whole = length-append (taken_in id d) (taken_on id (es ++ e ∷ [])) in
-    grind (arith, nat_tests, sizes_before (size_by id d M) id es e (at - length (taken_in id d)))
+    grind (arith, length-append (taken_in id d) (taken_on id (es ++ e ∷ [])), nat_tests,
+    sizes_before (size_by id d M) id es e (at - length (taken_in id d)))
 
 -- ---- streams
 
@@ -192,7 +187,7 @@ rest_unfinished M id es none =
 -- All streams at once, for an event without bytes on any connection.
 pub streams_same : (M : ℕ) (es : List AcceptedCall) (e : AcceptedCall) → ((id : ℕ) → taken_in id e ≡ [])
     → ◌≡◌ {A = ℕ → Stream} (λ id. stream_on M id (es ++ e ∷ [])) (λ id. stream_on M id es)
-streams_same M es e none = λ i id. stream_same M id es e (none id) i
+streams_same M es e none = grind (arith, stream_same M)
 
 pub taken_elsewhere : (id other : ℕ) (bytes : List ℕ) → other ≢ id → taken_in id (Took other bytes) ≡ []
 taken_elsewhere id other bytes apart = rw (ne_eqb other id apart) refl
@@ -229,7 +224,7 @@ spelled_then M id es e = rw (stream_by M id es e, size_then M id es e) refl
 -- An event without bytes and announcement on a connection changes neither.
 pub spelled_same : (M id : ℕ) (es : List AcceptedCall) (e : AcceptedCall) → taken_in id e ≡ [] → size_stays id e
     → spelled_on M id (es ++ e ∷ []) ≡ spelled_on M id es
-spelled_same M id es e none stays = rw (stream_same M id es e none, size_then M id es e, stays (size_on M id es)) refl
+spelled_same M id es e none stays = grind (arith, stream_same M id es e none, size_then M id es e)
 
 -- At first the stream is empty.
 abbrev pub nothing_spelled : ℕ → Stream × ℕ
@@ -237,7 +232,7 @@ nothing_spelled M = (record { messages = []; rest = []; fault = None }, M)
 
 pub first_spelled : (M id : ℕ) → spelled_on M id [] ≡ nothing_spelled M
 unfolding sizes_on taken_on size_on
-first_spelled M id = ap (λ (s : Stream). (s, M)) (sym (split_is M []) ∙ split_unfinished M [] (unfinished_empty M))
+first_spelled M id = grind (arith, split_is M, split_unfinished M, unfinished_empty M)
 
 -- A property of each step that accepted bytes make.
 pub each_beyond : (P : Step → Type 0) (id : ℕ) (before after : Stream) → ((m : Message) → P (world.Handled id m))

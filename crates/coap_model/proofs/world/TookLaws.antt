@@ -44,13 +44,7 @@ module _ (M id : ℕ) (es : List AcceptedCall) (bytes : List ℕ) (none : (strea
   -- A take adds the messages of its bytes, read after the bytes left over.
   adds : (added : Stream) → split N ((stream_on M id es).rest ++ bytes) ≡ added → Adds M id es bytes added
   unfolding steps_by
-  adds added is =
-      let after : stream_on M id (es ++ Took id bytes ∷ []) ≡ stream_after (stream_on M id es).messages added =
-      stream_more M id es bytes ∙ rw (none, is) refl in
-      record {
-        steps = ap (beyond id (stream_on M id es)) after ∙ beyond_added id (stream_on M id es) added none;
-        stream = after;
-      }
+  adds added is = grind (arith, stream_more, beyond_added)
 
   -- The result of framing the bytes.
   abbrev pub framing_found : Framing
@@ -75,15 +69,14 @@ no_bytes_stream M id es = stream_same M id es (Took id []) (taken_here id [])
 
 pub no_bytes_steps : (M id : ℕ) (es : List AcceptedCall) → steps_by M es (Took id []) ≡ []
 unfolding steps_by
-no_bytes_steps M id es =
-    ap (beyond id (stream_on M id es)) (no_bytes_stream M id es) ∙ nothing_beyond id (stream_on M id es)
+no_bytes_steps M id es = grind (arith, no_bytes_stream M id es, nothing_beyond id (stream_on M id es))
 
 -- ---- a frame without its last byte
 
 module _ (M : ℕ) (kept piece frame : List ℕ) (n : ℕ) (u : prefix_kind M kept ≡ Unfinished)
     (is : (framing M kept piece).finding ≡ AFrame frame) (all : front_of M kept piece ≡ n + 1) where
   pub front_within : n + 1 ≤ length piece
-  front_within = rw all at (taken_within M kept piece u)
+  front_within = grind (arith, taken_within)
 
   -- Without the last byte of the frame nothing is found, and all bytes are accepted and kept.
   pub but_last_unfinished : framing M kept (take n piece) ≡ framing_at kept (take n piece) Unfinished

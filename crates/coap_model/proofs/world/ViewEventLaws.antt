@@ -1,15 +1,14 @@
 -- The view of accepted events is a list of accepted events. It leads to the same connection, store and time as all
 -- events.
 use Rattle.std.proofs.Common.{◌≡◌, ◌≢◌, ℕ, ◌≤◌, ◌<◌, true, false, List, [], ◌∷◌, ◌++◌, length, map, drop, Option, refl}
-use Rattle.std.proofs.Common.{sym, ap, ◌∙◌, append_assoc, arith, inl, inr}
+use Rattle.std.proofs.Common.{sym, ap, ◌∙◌, append_assoc, arith}
 use Rattle.coap_model.specs.Prelude.{AllByRecursion, Message, StreamFault, Stream, LimitValues, Change, Nothing, Put}
-use Rattle.coap_model.specs.Prelude.{Delete, changed, ConfigValues, is_cut, World, Step, side_of, after_steps}
-use Rattle.coap_model.specs.Prelude.{AcceptedCall, Opened, Took, Wrote, Ticked, Stored, Removed, Ended, Released}
-use Rattle.coap_model.specs.Prelude.{Announced, Responded, Dropped, taken_in, size_by, size_on, stream_on, spelled_on}
-use Rattle.coap_model.specs.Prelude.{new_fault, beyond, steps_by, world_after, takes, IsAccepted, AreAcceptedAfter}
-use Rattle.coap_model.specs.Prelude.{AreAccepted, concerns, first_number, change_events, changes_of, view_event}
-use Rattle.coap_model.specs.Prelude.{later_view, view_events}
-use Rattle.std.proofs.lemmas.Bool.{eq-eqb, ne_eqb, cases_eq}
+use Rattle.coap_model.specs.Prelude.{Delete, changed, ConfigValues, World, Step, side_of, after_steps, AcceptedCall}
+use Rattle.coap_model.specs.Prelude.{Opened, Took, Wrote, Ticked, Stored, Removed, Ended, Released, Announced}
+use Rattle.coap_model.specs.Prelude.{Responded, Dropped, taken_in, size_by, stream_on, spelled_on, new_fault, beyond}
+use Rattle.coap_model.specs.Prelude.{steps_by, world_after, takes, IsAccepted, AreAcceptedAfter, AreAccepted, concerns}
+use Rattle.coap_model.specs.Prelude.{first_number, change_events, changes_of, view_event, later_view, view_events}
+use Rattle.std.proofs.lemmas.Bool.{eq-eqb, ne_eqb}
 use Rattle.std.proofs.lemmas.Bool.Decides.{nat_tests}
 use Rattle.coap_model.proofs.world.AcrossLaws.{world_keeps}
 use Rattle.std.proofs.lemmas.List.{append-nil}
@@ -49,8 +48,7 @@ own_steps : (limits : LimitValues) (id n : ℕ) (ss : List Step) (w v : World)
 unfolding after_steps
 own_steps limits id n [] w v each alike = alike
 own_steps limits id n (s ∷ ss) w v each alike =
-    own_steps limits id n ss (world.step limits w s) (world.step limits v (renamed n s)) each.1
-    (own_alike limits id n w v alike s each.0)
+    grind (arith, own_steps limits id n ss, renamed n s, own_alike limits id n w v alike s each.0)
 
 -- The id of an event's connection; `id` for an event of no connection.
 abbrev number : ℕ → AcceptedCall → ℕ
@@ -100,7 +98,7 @@ opening_none : (M : ℕ) (es : List AcceptedCall) (e : AcceptedCall) → ((id : 
     → AllByRecursion OpensNone (steps_by M es e)
 unfolding steps_by
 opening_none M es (Opened id) none = absurd (none id refl)
-opening_none M es (Took id bytes) none = each_taken OpensNone M es id bytes (λ m n opens. cc) (λ fault n opens. cc)
+opening_none M es (Took id bytes) none = grind (arith, each_taken OpensNone M es id bytes, opens)
 opening_none M es e none = ((λ n opens. cc), tt)
 
 -- No connection exists, and no id was assigned.
@@ -112,26 +110,18 @@ abbrev Stays : ConfigValues → World → World → Type 0
 Stays c w v = (w.ids ≤ v.ids) × (IsFresh c w → IsFresh c v)
 
 step_stays : (c : ConfigValues) (w : World) (s : Step) → OpensNone s → Stays c w (world.step c.limits w s)
-step_stays c w s none = step_keeps (Stays c w) c.limits w (omega arith, λ fresh. fresh) s (record {
-  opened = λ id opens free. absurd (none id opens);
-  changed = λ v g keeps still. (still.0, λ fresh. (ap (map g) (still.1 fresh).0, (still.1 fresh).1));
-  reported = λ v store now still. still;
-  dropped = λ id. (omega arith, λ fresh. (rw fresh.0 refl, fresh.1));
-})
+step_stays c w s none = grind (arith, step_keeps (Stays c w) c.limits w, opens)
 
 steps_stay : (c : ConfigValues) (ss : List Step) (w : World) → AllByRecursion OpensNone ss
     → Stays c w (after_steps c.limits w ss)
 unfolding after_steps
-steps_stay c [] w each = (omega arith, λ fresh. fresh)
-steps_stay c (s ∷ ss) w each =
-    let one = step_stays c w s each.0 in
-    let more = steps_stay c ss (world.step c.limits w s) each.1 in
-    (omega (arith, one.0, more.0), λ fresh. more.1 (one.1 fresh))
+steps_stay c [] w each = grind arith
+steps_stay c (s ∷ ss) w each = grind (arith, step_stays c w s each.0, steps_stay c ss)
 
 event_stays : (c : ConfigValues) (es : List AcceptedCall) (e : AcceptedCall) → ((id : ℕ) → e ≡ Opened id → ⊥)
     → Stays c (world_after c es) (world_after c (es ++ e ∷ []))
 event_stays c es e none =
-    rw (world_more c es e) (steps_stay c _ (world_after c es) (opening_none c.limits.max_message es e none))
+    grind (arith, world_more c es e, steps_stay c, opening_none c.limits.max_message es e none)
 
 -- ---- a view
 
@@ -155,24 +145,15 @@ module _ (c : ConfigValues) (id : ℕ) where
     view_stored : (w' : World) (e : AcceptedCall) (s : Step) → steps_by M vs e ≡ s ∷ []
         → ((k : ℕ) → e ≡ Opened k → ⊥) → taken_in n e ≡ [] → size_stays n e → IsAccepted c vs e
         → share_of id w' ≡ share_of n (world.step c.limits (world_after c vs) s) → IsView w' spelled ids (vs ++ e ∷ [])
-    view_stored w' e s one none quiet stays ok same = record {
-      alike = same ∙ ap (share_of n) (sym (world_step c vs e s one));
-      spells = is.spells ∙ sym (spelled_same M n vs e quiet stays);
-      accepted = accepted_more c vs e is.accepted ok;
-      fresh = λ low. (event_stays c vs e none).1 (is.fresh low);
-    }
+    view_stored w' e s one none quiet stays ok same =
+        grind (arith, share_of n, world_step, spelled_same M n, accepted_more, event_stays)
 
     -- A change made by another connection.
     view_change : (w' : World) (change : Change) → IsNotRefused w.store change → SettlesAlike id w
         → share_of id w' ≡ settled_share (share (changed w.store change) w.now (side_of id w.sides))
         → IsView w' spelled ids (vs ++ change_events change)
     unfolding steps_by after_steps IsAccepted
-    view_change w' Nothing passes rests same = rw (append-nil vs) (record {
-      alike = same ∙ rests ∙ is.alike;
-      spells = is.spells;
-      accepted = is.accepted;
-      fresh = is.fresh;
-    })
+    view_change w' Nothing passes rests same = grind (arith, append-nil)
     view_change w' (Put path format bytes) passes rests same =
         view_stored w' (Stored path format bytes) _ refl (λ k opens. cc) refl (λ N. refl)
         (rw (ap (λ x. x.store) is.alike) at passes)
@@ -222,26 +203,18 @@ module _ (c : ConfigValues) (id : ℕ) where
 
     fresh_then : (e : AcceptedCall) → number id e ≡ id → IsAccepted c es e → (world_after c (es ++ e ∷ [])).ids < id
         → IsFresh c (world_after c (vs ++ moved n e ∷ []))
-    fresh_then (Opened k) own ok low = absurd (omega (arith, low, own, opened_last k ok))
-    fresh_then e own ok low =
-        (event_stays c vs (moved n e) (λ k opens. cc)).1 (sees.fresh (omega (arith, low, last_rises e ok)))
+    fresh_then (Opened k) own ok low = grind (arith, opened_last k ok)
+    fresh_then e own ok low = grind (arith, event_stays, opens, last_rises e ok)
 
     -- An event of the connection itself, or of none.
     spells_then : (e : AcceptedCall) → number id e ≡ id
         → spelled_on M id (es ++ e ∷ []) ≡ spelled_on M n (vs ++ moved n e ∷ [])
-    spells_then e own =
-        spelled_then M id es e ∙ ap (λ t. spelled_by t (taken_in id e) (size_by id e)) sees.spells
-        ∙ rw (same_taken id n e own, same_size id n e (size_on M n vs) own) (sym (spelled_then M n vs (moved n e)))
+    spells_then e own = grind (arith, spelled_then M, spelled_by, same_taken, same_size, spelled_then M n)
 
     own_makes : (e : AcceptedCall) → number id e ≡ id → steps_by M vs (moved n e) ≡ map (renamed n) (steps_by M es e)
     unfolding steps_by
-    own_makes (Took k bytes) own =
-        rw (
-          own,
-          ← (ap (λ s. s.0) sees.spells),
-          ← (ap (λ s. s.0) (spells_then (Took id bytes) refl)),
-        ) (beyond_renamed id n (stream_on M id es) (stream_on M id (es ++ Took id bytes ∷ [])))
-    own_makes (Ended k) own = rw own (ap (λ s. world.Ended n (is_cut s.0.rest) ∷ []) (sym sees.spells))
+    own_makes (Took k bytes) own = grind (arith, spells_then, beyond_renamed)
+    own_makes (Ended k) own = grind arith
     own_makes e own = refl
 
     own_concern : (e : AcceptedCall) → number id e ≡ id → AllByRecursion (λ s. concerns id s ≡ true) (steps_by M es e)
@@ -252,28 +225,17 @@ module _ (c : ConfigValues) (id : ℕ) where
 
     own_accepted : (e : AcceptedCall) → number id e ≡ id → IsAccepted c es e → IsAccepted c vs (moved n e)
     unfolding IsAccepted takes
-    own_accepted (Opened k) own ok =
-        let fresh = sees.fresh (omega (arith, ok.0, own)) in (
-          omega (arith, fresh.1),
-          omega (arith, (accepted_is c es all).numbered.low, ok.0, ok.1),
-          omega (arith, ok.2, ap length fresh.0),
-        )
-    own_accepted (Took k bytes) own ok =
-        rw (← (ap (λ x. x.side) sees.alike), ← (ap (λ s. s.0) sees.spells), ← (ap (λ s. s.1) sees.spells)) (rw own at ok)
-    own_accepted (Ticked now) own ok = rw (ap (λ x. x.now) sees.alike) at ok
-    own_accepted (Stored path format bytes) own ok = rw (ap (λ x. x.store) sees.alike) at ok
-    own_accepted (Removed path) own ok = rw (ap (λ x. x.store) sees.alike) at ok
-    own_accepted e own ok = rw (ap (λ x. x.side) sees.alike) at (rw own at ok)
+    own_accepted (Opened k) own ok = grind (arith, accepted_is)
+    own_accepted (Took k bytes) own ok = grind arith
+    own_accepted (Ticked now) own ok = grind arith
+    own_accepted (Stored path format bytes) own ok = grind arith
+    own_accepted (Removed path) own ok = grind arith
+    own_accepted e own ok = grind arith
 
     own_sees : (e : AcceptedCall) → number id e ≡ id → IsAccepted c es e → Sees (es ++ e ∷ []) (vs ++ moved n e ∷ [])
-    own_sees e own ok = record {
-      alike =
-          rw (world_more c es e, world_more c vs (moved n e), own_makes e own)
-          (own_steps c.limits id n (steps_by M es e) w v (own_concern e own) sees.alike);
-      spells = spells_then e own;
-      accepted = accepted_more c vs (moved n e) sees.accepted (own_accepted e own ok);
-      fresh = fresh_then e own ok;
-    }
+    own_sees e own ok =
+        grind (arith, world_more, own_makes e own, own_steps, own_concern e own, spells_then e own, accepted_more,
+        own_accepted e own ok, fresh_then e own ok)
 
     own_view : (e : AcceptedCall) → number id e ≡ id → view_event c id es e ≡ moved n e ∷ []
     unfolding view_event
@@ -304,22 +266,13 @@ module _ (c : ConfigValues) (id : ℕ) where
     other_view e apart = grind (arith, nat_tests)
 
     event_concerns : (e : AcceptedCall) → IsAccepted c es e → Sees (es ++ e ∷ []) (vs ++ view_event c id es e)
-    event_concerns e ok =
-        elim (cases_eq (number id e) id) [
-          | inl own ↦ rw (own_view e own) (own_sees e own ok)
-          | inr apart ↦ rw (other_view e apart) (other_sees e apart ok)
-        ]
+    event_concerns e ok = grind (arith, own_view e, own_sees e, other_view e, other_sees e)
 
   -- ---- all events
 
   sees_nothing : Sees [] (view_events c id [])
   unfolding view_events later_view AreAcceptedAfter
-  sees_nothing = record {
-    alike = rw (world_first c, nobody id, nobody n) refl;
-    spells = first_spelled M id ∙ sym (first_spelled M n);
-    accepted = tt;
-    fresh = λ low. rw (world_first c) (refl, refl);
-  }
+  sees_nothing = grind (arith, world_first, nobody, nobody n, first_spelled M, first_spelled M n)
 
   -- The view is accepted, and the connection is the same after it.
   pub events_concern : (es : List AcceptedCall) → AreAccepted c es → Sees es (view_events c id es)

@@ -1,17 +1,17 @@
 -- Other connections affect a connection through the store alone: after the steps that it views, it is the same as after
 -- all steps.
-use Rattle.std.proofs.Common.{◌≡◌, ℕ, ◌+◌, true, false, ◌&&◌, List, [], ◌∷◌, length, map, Option, Some, None, refl, sym}
-use Rattle.std.proofs.Common.{ap, subst, ◌∙◌, is_none, option_map, ◌==◌, inl, inr, arith}
+use Rattle.std.proofs.Common.{◌≡◌, ℕ, true, false, List, [], ◌∷◌, map, Option, Some, None, refl, ◌∙◌, is_none}
+use Rattle.std.proofs.Common.{option_map, ◌==◌, arith}
 use Rattle.std.proofs.lemmas.Bool.Decides.{nat_tests}
-use Rattle.std.proofs.lemmas.Bool.{eqb-false, cases_Bool, cond_both}
-use Rattle.coap_model.specs.Prelude.{Message, LimitValues, Path, Representation, StoreValue, put_in, removed_in}
-use Rattle.coap_model.specs.Prelude.{is_dynamic, kind_of_path, key_for, state_at, target_of, path_of, Change, Nothing}
-use Rattle.coap_model.specs.Prelude.{Put, Delete, changed, stored_under, deletion, answer_at, removes_watch, answer_of}
-use Rattle.coap_model.specs.Prelude.{immediate_answer, prompt_answer, put_refusal, remove_refusal, ConfigValues}
-use Rattle.coap_model.specs.Prelude.{Connection, new_side, handles, asks_answer, side_after, change_after, side_faulted}
-use Rattle.coap_model.specs.Prelude.{side_written, side_ended, side_released, side_announced, side_responded, settled}
-use Rattle.coap_model.specs.Prelude.{World, Step, new_world, side_of, stored_after, acted, after_steps, change_steps}
-use Rattle.coap_model.specs.Prelude.{change_on, concerns, view_step, view_of, after_view, AllConcern}
+use Rattle.std.proofs.lemmas.Bool.{eqb-false}
+use Rattle.coap_model.specs.Prelude.{Message, LimitValues, Path, Representation, StoreValue, is_dynamic, kind_of_path}
+use Rattle.coap_model.specs.Prelude.{key_for, state_at, target_of, path_of, Change, Nothing, Put, Delete, changed}
+use Rattle.coap_model.specs.Prelude.{stored_under, deletion, answer_at, removes_watch, answer_of, immediate_answer}
+use Rattle.coap_model.specs.Prelude.{prompt_answer, put_refusal, remove_refusal, ConfigValues, Connection, new_side}
+use Rattle.coap_model.specs.Prelude.{side_after, change_after, side_faulted, side_written, side_ended, side_released}
+use Rattle.coap_model.specs.Prelude.{side_announced, side_responded, settled, World, Step, new_world, side_of}
+use Rattle.coap_model.specs.Prelude.{stored_after, acted, after_steps, change_steps, change_on, concerns, view_step}
+use Rattle.coap_model.specs.Prelude.{view_of, after_view, AllConcern}
 use Rattle.coap_store.specs.Answer.{Answer}
 use Rattle.coap_store.proofs.AnswerLaws.{answer_cases, get_cases, store_cases, CanStore, key_is, state_dynamic}
 use Rattle.coap_store.proofs.AnswerLaws.{change_finally, change_without_hold}
@@ -40,15 +40,7 @@ put_passes : (s : StoreValue) (now : ℕ) (path q : Path) (m : Message) → is_d
     → CanStore s (target_of s now path) m → key_for path ≡ Some q → put_refusal s q m.payload ≡ None
 unfolding put_refusal
 put_passes s now path q m dynamic can key =
-    grind (
-      arith,
-      nat_tests,
-      key_is path q key,
-      state_dynamic s now (key_for path) (kind_of_path path) dynamic,
-      can.small,
-      can.room,
-      can.version_left,
-    )
+    grind (arith, nat_tests, key_is path q key, state_dynamic s now (key_for path) (kind_of_path path) dynamic)
 
 stored_passes : (s : StoreValue) (key : Option Path) (state : Option Representation) (m : Message)
     → ((q : Path) → key ≡ Some q → put_refusal s q m.payload ≡ None) → IsNotRefused s (stored_under key state m).change
@@ -80,10 +72,7 @@ answer_passes s now path m =
 immediate_passes : (s : StoreValue) (now : ℕ) (m : Message) → IsNotRefused s (immediate_answer s now m).change
 unfolding immediate_answer answer_of
 immediate_passes s now m =
-    let at = answer_at s (target_of s now (path_of m)) m in
-    let a = answer_of s now m in
-    subst (IsNotRefused s) (sym (change_without_hold a.hold a ∙ change_finally (removes_watch m) at))
-    (answer_passes s now (path_of m) m)
+    grind (arith, change_without_hold, change_finally (removes_watch m), answer_passes s now (path_of m) m)
 
 prompt_passes : (s : StoreValue) (now : ℕ) (m : Message) → IsNotRefused s (prompt_answer s now m).change
 prompt_passes s now m = prompt_cases s now m (λ a. IsNotRefused s a.change) tt (immediate_passes s now m)
@@ -91,9 +80,7 @@ prompt_passes s now m = prompt_cases s now m (λ a. IsNotRefused s a.change) tt 
 on_passes : (w : World) (m : Message) (there : Option Connection) → IsNotRefused w.store (change_on w m there)
 unfolding change_after
 on_passes w m None = tt
-on_passes w m (Some s) =
-    cond_both (handles s && asks_answer s m) (prompt_answer w.store w.now m).change Nothing (IsNotRefused w.store)
-    (λ asks. prompt_passes w.store w.now m) (λ other. tt)
+on_passes w m (Some s) = grind (arith, prompt_passes w.store w.now m)
 
 pub by_passes : (w : World) (s : Step) → IsNotRefused w.store (change_by w s)
 by_passes w (world.Handled id m) = on_passes w m (side_of id w.sides)
@@ -122,10 +109,7 @@ settled_again : (store : StoreValue) (now : ℕ) (there : Option Connection)
     → option_map (settled store now) (option_map (settled store now) there) ≡ option_map (settled store now) there
 unfolding settled
 settled_again store now None = refl
-settled_again store now (Some s) =
-    ap (λ (t : Connection). Some t)
-    (at_rest (length (settled store now s).history.pending + length (settled store now s).observers) store now
-    (settled store now s) (settled_rests store now s))
+settled_again store now (Some s) = grind (arith, at_rest, settled_rests store now s)
 
 -- Settling does not change this part.
 abbrev pub SettlesAlike : ℕ → World → Type 0
@@ -136,15 +120,10 @@ SettlesAlike id w = settled_share (share_of id w) ≡ share_of id w
 pub step_share : (limits : LimitValues) (id : ℕ) (w : World) (s : Step)
     → share_of id (world.step limits w s) ≡ settled_share (share_of id (acted limits w s))
 unfolding world.step
-step_share limits id w s =
-    ap (share (acted limits w s).store (acted limits w s).now)
-    (all_there id (settled (acted limits w s).store (acted limits w s).now) (acted limits w s).sides)
+step_share limits id w s = grind (arith, all_there id)
 
 pub step_rests : (limits : LimitValues) (id : ℕ) (w : World) (s : Step) → SettlesAlike id (world.step limits w s)
-step_rests limits id w s =
-    let did = share_of id (acted limits w s) in
-    ap settled_share (step_share limits id w s)
-    ∙ ap (share did.store did.now) (settled_again did.store did.now did.side) ∙ sym (step_share limits id w s)
+step_rests limits id w s = grind (arith, step_share limits id w s, settled_again)
 
 -- ---- a step that is viewed unchanged
 
@@ -171,20 +150,15 @@ module _ (limits : LimitValues) (id n : ℕ) (w v : World) (alike : share_of id 
   changed_alike : (store : Share → StoreValue) (f : Share → Connection → Connection)
       → share (store (share_of id w)) w.now (side_of id (map (changed_at id (f (share_of id w))) w.sides))
       ≡ share (store (share_of n v)) v.now (side_of n (map (changed_at n (f (share_of n v))) v.sides))
-  changed_alike store f =
-      rw (changed_here id (f (share_of id w)) w.sides, changed_here n (f (share_of n v)) v.sides)
-      (ap (λ x. share (store x) x.now (option_map (f x) x.side)) alike)
+  changed_alike store f = grind (arith, changed_here)
 
   opened_here : (m : ℕ) (u : World) → is_none (side_of m u.sides) ≡ true
       → share_of m (opened_world limits u m) ≡ record (share_of m u) { side = Some (new_side limits) }
-  opened_here m u free =
-      let new : world.ConnectionEntry = record { id = m; side = new_side limits } in
-      ap (share u.store u.now)
-      (new_there m u.sides (new ∷ []) (none_where (side_of m u.sides) free) ∙ first_there m new [] refl)
+  opened_here m u free = grind (arith, new_there m u.sides, none_where (side_of m u.sides) free, first_there m)
 
   acted_alike : (s : Step) → share_of id (acted limits w (renamed id s)) ≡ share_of n (acted limits v (renamed n s))
   unfolding acted
-  acted_alike (world.Opened k) = grind (arith, alike, opened_here id w, opened_here n v)
+  acted_alike (world.Opened k) = grind (arith, opened_here)
   acted_alike (world.Handled k m) =
       changed_alike (λ x. stored_after (record { sides = []; ids = 0; store = x.store; now = x.now }) m x.side)
       (λ x s. side_after x.store x.now s m)
@@ -192,21 +166,17 @@ module _ (limits : LimitValues) (id n : ℕ) (w v : World) (alike : share_of id 
   acted_alike (world.Written k bytes) = changed_alike (λ x. x.store) (λ x s. side_written s bytes)
   acted_alike (world.Ticked now) = grind (arith, alike)
   acted_alike (world.Stored path format bytes) = grind (arith, alike)
-  acted_alike (world.Removed path) = ap (λ (x : Share). record x { store = removed_in x.store path }) alike
+  acted_alike (world.Removed path) = grind arith
   acted_alike (world.Ended k cut) = changed_alike (λ x. x.store) (λ x s. side_ended s cut)
   acted_alike (world.Released k) = changed_alike (λ x. x.store) (λ x. side_released)
   acted_alike (world.Announced k size) = changed_alike (λ x. x.store) (λ x s. side_announced s size)
   acted_alike (world.Responded k m) = changed_alike (λ x. x.store) (λ x s. side_responded s m)
-  acted_alike (world.Dropped k) =
-      rw (dropped_here id w.sides, dropped_here n v.sides) (ap (λ (x : Share). record x { side = None }) alike)
+  acted_alike (world.Dropped k) = grind (arith, dropped_here)
 
   -- A step of the connection, or of none.
   pub own_alike : (s : Step) → concerns id s ≡ true
       → share_of id (world.step limits w s) ≡ share_of n (world.step limits v (renamed n s))
-  own_alike s own =
-      step_share limits id w s
-      ∙ ap settled_share (ap (λ t. share_of id (acted limits w t)) (sym (own_number id s own)) ∙ acted_alike s)
-      ∙ sym (step_share limits n v (renamed n s))
+  own_alike s own = grind (arith, step_share, own_number, acted_alike s)
 
   -- A change of the store that another connection made.
   pub change_alike : (change : Change) → SettlesAlike id w → IsNotRefused w.store change
@@ -214,13 +184,8 @@ module _ (limits : LimitValues) (id n : ℕ) (w v : World) (alike : share_of id 
       ≡ share_of n (after_steps limits v (change_steps change))
   unfolding after_steps acted concerns
   change_alike Nothing rests passes = rests ∙ alike
-  change_alike (Put path format bytes) rests passes =
-      let s = world.Stored path format bytes in
-      let did : share (put_in w.store path format bytes) w.now (side_of id w.sides) ≡ share_of id (acted limits w s) =
-      rw passes refl in
-      ap settled_share did ∙ sym (step_share limits id w s) ∙ own_alike s refl
-  change_alike (Delete path) rests passes =
-      sym (step_share limits id w (world.Removed path)) ∙ own_alike (world.Removed path) refl
+  change_alike (Put path format bytes) rests passes = grind (arith, step_share, own_alike)
+  change_alike (Delete path) rests passes = grind (arith, step_share, own_alike)
 
 -- ---- a step of another connection
 
@@ -231,30 +196,24 @@ stored_by_change w m there = grind arith
 
 changed_apart : (id other : ℕ) (w : World) (f : Connection → Connection) → (other == id) ≡ false
     → share w.store w.now (side_of id (map (changed_at other f) w.sides)) ≡ share_of id w
-changed_apart id other w f apart =
-    ap (share w.store w.now) (changed_elsewhere other id f w.sides (eqb-false other id apart))
+changed_apart id other w f apart = grind (arith, changed_elsewhere other id f w.sides (eqb-false other id apart))
 
 -- Only the store changes, and only by the change of the step.
 pub other_did : (limits : LimitValues) (id : ℕ) (w : World) (s : Step) → concerns id s ≡ false
     → share_of id (acted limits w s) ≡ share (changed w.store (change_by w s)) w.now (side_of id w.sides)
 unfolding concerns acted
 other_did limits id w (world.Opened other) apart =
-    cond_both (is_none (side_of other w.sides)) (opened_world limits w other) w (λ v. share_of id v ≡ share_of id w)
-    (λ free. ap (share w.store w.now)
-    (other_more id w.sides (record { id = other; side = new_side limits }) (eqb-false other id apart))) (λ given. refl)
+    grind (arith, opened_world limits w other, other_more id w.sides, eqb-false other id apart)
 other_did limits id w (world.Handled other m) apart =
-    rw (
-      changed_elsewhere other id (λ s. side_after w.store w.now s m) w.sides (eqb-false other id apart),
-      stored_by_change w m (side_of other w.sides),
-    ) refl
-other_did limits id w (world.Faulted other fault) apart = changed_apart id other w (λ s. side_faulted s fault) apart
-other_did limits id w (world.Written other n) apart = changed_apart id other w (λ s. side_written s n) apart
-other_did limits id w (world.Ended other cut) apart = changed_apart id other w (λ s. side_ended s cut) apart
+    grind (arith, changed_elsewhere other id, eqb-false other id apart, stored_by_change w m (side_of other w.sides))
+other_did limits id w (world.Faulted other fault) apart = grind (arith, changed_apart id other w)
+other_did limits id w (world.Written other n) apart = grind (arith, changed_apart id other w)
+other_did limits id w (world.Ended other cut) apart = grind (arith, changed_apart id other w)
 other_did limits id w (world.Released other) apart = changed_apart id other w side_released apart
-other_did limits id w (world.Announced other size) apart = changed_apart id other w (λ s. side_announced s size) apart
-other_did limits id w (world.Responded other m) apart = changed_apart id other w (λ s. side_responded s m) apart
+other_did limits id w (world.Announced other size) apart = grind (arith, changed_apart id other w)
+other_did limits id w (world.Responded other m) apart = grind (arith, changed_apart id other w)
 other_did limits id w (world.Dropped other) apart =
-    ap (share w.store w.now) (dropped_elsewhere other id w.sides (eqb-false other id apart))
+    grind (arith, dropped_elsewhere other id w.sides (eqb-false other id apart))
 other_did limits id w s apart = absurd cc
 
 -- ---- the view of a step has the same effect
@@ -264,14 +223,8 @@ view_alike : (limits : LimitValues) (id : ℕ) (w v : World) (s : Step) → Sett
     → share_of id (world.step limits w s) ≡ share_of id (after_steps limits v (view_step id w s))
 unfolding view_step after_steps
 view_alike limits id w v s rests alike =
-    elim (cases_Bool (concerns id s)) [
-      | inl own ↦
-          rw own (own_alike limits id id w v alike s own
-          ∙ ap (λ t. share_of id (world.step limits v t)) (own_number id s own))
-      | inr apart ↦
-          rw apart (step_share limits id w s ∙ ap settled_share (other_did limits id w s apart)
-          ∙ change_alike limits id id w v alike (change_by w s) rests (by_passes w s))
-    ]
+    grind (arith, own_alike limits id id w v alike s, own_number id s, step_share limits id w s,
+    other_did limits id w s, change_alike limits id id w v alike (change_by w s) rests (by_passes w s))
 
 -- Each step in turn, from two worlds in which the connection has the same part.
 views_alike : (limits : LimitValues) (id : ℕ) (ss : List Step) (w v : World) → SettlesAlike id w
@@ -280,9 +233,8 @@ views_alike : (limits : LimitValues) (id : ℕ) (ss : List Step) (w v : World) �
 unfolding after_steps view_of
 views_alike limits id [] w v rests alike = alike
 views_alike limits id (s ∷ ss) w v rests alike =
-    views_alike limits id ss (world.step limits w s) _ (step_rests limits id w s)
-    (view_alike limits id w v s rests alike)
-    ∙ ap (share_of id) (sym (steps_then limits v (view_step id w s) (view_of limits id (world.step limits w s) ss)))
+    grind (arith, views_alike limits id ss, step_rests limits id w s, view_alike limits id w v s rests alike,
+    steps_then limits v (view_step id w s))
 
 -- ---- each viewed step is one of the connection, or of none
 
@@ -294,9 +246,7 @@ changes_concern id (Delete path) = (refl, tt)
 
 step_concerns : (id : ℕ) (w : World) (s : Step) → AllConcern id (view_step id w s)
 unfolding view_step
-step_concerns id w s =
-    cond_both (concerns id s) (s ∷ []) (change_steps (change_by w s)) (AllConcern id) (λ own. (own, tt))
-    (λ apart. changes_concern id (change_by w s))
+step_concerns id w s = grind (arith, changes_concern id (change_by w s))
 
 pub view_concerns : (limits : LimitValues) (id : ℕ) (w : World) (ss : List Step)
     → AllConcern id (view_of limits id w ss)

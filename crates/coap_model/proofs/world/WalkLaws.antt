@@ -2,23 +2,21 @@
 -- server's call and across settling, if each part keeps it. If a part does not keep it, calls with this part are
 -- excluded.
 use Rattle.std.proofs.Common.{◌≡◌, ℕ, ◌≤◌, Bool, true, false, cond, List, [], ◌∷◌, ◌++◌, length, Option, Some, None}
-use Rattle.std.proofs.Common.{refl, sym, ap, subst, zero, suc, ◌+◌, ◌&&◌, nat_le, is_none, arith}
-use Rattle.std.proofs.lemmas.Bool.{cond_both, and_parts, leb-true}
+use Rattle.std.proofs.Common.{refl, zero, suc, ◌&&◌, nat_le, is_none, arith}
+use Rattle.std.proofs.lemmas.Bool.{leb-true}
 use Rattle.std.proofs.lemmas.Bool.Decides.{nat_tests}
 use Rattle.std.proofs.lemmas.List.{append-nil}
-use Rattle.coap_model.specs.Prelude.{Responder, Engine, Application, late_response, Delay, delay_of, hold_call, Message}
-use Rattle.coap_model.specs.Prelude.{StreamFault, LARGEST_MESSAGE, Reject, ReleasedHere, takes_messages, answers}
-use Rattle.coap_model.specs.Prelude.{is_open, fits, bare_response, VerdictValue, is_request, PendingEntryValue, Answer}
-use Rattle.coap_model.specs.Prelude.{Pong, first_due, without_due, stop, abort, send, react, pong_with, due_effect}
-use Rattle.coap_model.specs.Prelude.{reject_of, reject_reason, release_refusal, History, state_now, limit_now}
-use Rattle.coap_model.specs.Prelude.{with_effect, after, may_hold, link_of, state_due, end_reason, release}
-use Rattle.coap_model.specs.Prelude.{may_announce, LinkValue, own_csm, free_in, limit_in, StoreValue, Response}
-use Rattle.coap_model.specs.Prelude.{prompt_answer, response_with_observe, Observer, without_token, has_place, goes_on}
-use Rattle.coap_model.specs.Prelude.{notification, Connection, waiting_on, has_room, handles, kept_open, with_history}
-use Rattle.coap_model.specs.Prelude.{moment_after, delay_for, side_replied, asks_answer, side_handled, side_after}
-use Rattle.coap_model.specs.Prelude.{side_faulted, side_written, side_ended, side_released, may_raise, side_announced}
-use Rattle.coap_model.specs.Prelude.{next_due, notified, late_message, after_sent, settled_so, settled_once}
-use Rattle.coap_model.specs.Prelude.{settled_within, settled, side_responded, response_refusal, state_without}
+use Rattle.coap_model.specs.Prelude.{Responder, Engine, Application, late_response, Delay, hold_call, Message}
+use Rattle.coap_model.specs.Prelude.{StreamFault, Reject, ReleasedHere, takes_messages, answers, is_open, fits}
+use Rattle.coap_model.specs.Prelude.{bare_response, VerdictValue, is_request, PendingEntryValue, Answer, Pong}
+use Rattle.coap_model.specs.Prelude.{first_due, without_due, stop, abort, send, react, pong_with, due_effect}
+use Rattle.coap_model.specs.Prelude.{reject_reason, release_refusal, History, state_now, limit_now, with_effect, after}
+use Rattle.coap_model.specs.Prelude.{may_hold, link_of, state_due, end_reason, release, LinkValue, own_csm, free_in}
+use Rattle.coap_model.specs.Prelude.{limit_in, StoreValue, Response, response_with_observe, Observer, Connection}
+use Rattle.coap_model.specs.Prelude.{waiting_on, has_room, kept_open, moment_after, side_replied, side_after}
+use Rattle.coap_model.specs.Prelude.{side_faulted, side_written, side_ended, side_released, side_announced, next_due}
+use Rattle.coap_model.specs.Prelude.{notified, after_sent, settled_once, settled_within, settled, side_responded}
+use Rattle.coap_model.specs.Prelude.{response_refusal, state_without}
 use Rattle.coap_conn.specs.Verdicts as verdict
 use Rattle.coap_conn.specs.Calls as call
 use Rattle.coap_conn.proofs.RequestLemmas.{react_asks}
