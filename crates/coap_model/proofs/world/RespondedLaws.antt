@@ -1,16 +1,15 @@
 -- A response of the application: the request that it removes, the room that it needs, and the messages that it queues.
-use Rattle.std.proofs.Common.{◌≡◌, ◌+◌, ◌≤◌, Bool, true, false, ◌&&◌, ◌==◌, length, Some, None, refl, arith, nat_lt}
-use Rattle.std.proofs.Common.{if◌then◌else◌}
-use Rattle.coap_model.specs.Prelude.{Message, Reply, Whole, Bare, Stopped, fit, fitted, bare_response, has_request}
-use Rattle.coap_model.specs.Prelude.{without_request, IsFirstRequest, is_plain_response, is_response, asks_custody}
-use Rattle.coap_model.specs.Prelude.{response_refusal, sent_length, free_in, limit_in, LinkValue, bytes_of}
-use Rattle.coap_model.specs.Prelude.{ConnectionState, send_as}
-use Rattle.std.proofs.lemmas.Bool.{ltb-false, eqb-true}
+use Rattle.std.proofs.Common.{◌≡◌, ◌+◌, ◌≤◌, true, false, length, None, arith, nat_lt}
+use Rattle.coap_model.specs.Prelude.{Message, Reply, fit, fitted, bare_response, has_request, without_request}
+use Rattle.coap_model.specs.Prelude.{IsFirstRequest, is_plain_response, is_response, response_refusal, sent_length}
+use Rattle.coap_model.specs.Prelude.{free_in, limit_in, LinkValue, bytes_of, ConnectionState, send_as}
+use Rattle.std.proofs.lemmas.Bool.Decides.{nat_tests}
+use Rattle.std.proofs.lemmas.Bool.{ltb-false}
 use Rattle.std.proofs.lemmas.List.{length-append}
 use Rattle.coap_conn.specs.declared.phase.RespondFault.TheVariants as fault
 use Rattle.coap_conn.proofs.ApplicationLaws.{first_request}
 use Rattle.coap_conn.proofs.ReactionLaws.{IsNoPong}
-use Rattle.coap_model.proofs.world.AnswerCodes.{coded, bare_coded}
+use Rattle.coap_model.proofs.world.AnswerCodes.{bare_coded}
 use Rattle.coap_wire.specs.Codes as code
 
 -- ---- a response without an error
@@ -21,20 +20,9 @@ pub record IsAllowed (v : LinkValue) (m : Message) : Type 0 where
   pub plain : is_plain_response m ≡ true
   pub room : nat_lt (free_in v) (sent_length (limit_in v) m) ≡ false
 
-allowed_by : (v : LinkValue) (m : Message) (requested plain short : Bool) → has_request m.token v.pending ≡ requested
-    → is_plain_response m ≡ plain → nat_lt (free_in v) (sent_length (limit_in v) m) ≡ short
-    → (if requested then (if plain then (if short then Some fault.NoRoom else None) else Some fault.NotAResponse)
-    else Some fault.NoSuchRequest) ≡ None → IsAllowed v m
-allowed_by v m true true false requested plain room none = grind arith
-allowed_by v m true true true requested plain room none = absurd cc
-allowed_by v m true false short requested plain room none = absurd cc
-allowed_by v m false plain short requested is room none = absurd cc
-
 pub allowed : (v : LinkValue) (m : Message) → response_refusal v m ≡ None → IsAllowed v m
 unfolding response_refusal
-allowed v m =
-    allowed_by v m (has_request m.token v.pending) (is_plain_response m)
-    (nat_lt (free_in v) (sent_length (limit_in v) m)) refl refl refl
+allowed v m none = grind arith
 
 -- The request is the first with the token that waits for the application.
 pub answered_request : (v : LinkValue) (m : Message) → response_refusal v m ≡ None
@@ -49,9 +37,7 @@ request_fewer v m none = grind (arith, answered_request v m none, length-append)
 -- ---- the messages queued
 
 pub sent_is : (s : ConnectionState) (m less : Message) (r : Reply) → (send_as s m less r).queued ≡ fitted m less r
-sent_is s m less Whole = refl
-sent_is s m less Bare = refl
-sent_is s m less Stopped = refl
+sent_is s m less r = grind arith
 
 -- They need no more than the free space.
 pub responded_small : (v : LinkValue) (m : Message) → response_refusal v m ≡ None
@@ -65,10 +51,5 @@ pub plain_codes : (m : Message) → is_plain_response m ≡ true
 plain_codes m plain = grind (arith, bare_coded m.code)
 
 -- A Pong is no response.
-no_pong_by : (m : Message) (pong : Bool) → (m.code == code.pong) ≡ pong → is_response m ≡ true
-    → (pong && asks_custody m) ≡ false
-no_pong_by m false other is = refl
-no_pong_by m true same is = grind (arith, coded, eqb-true m.code)
-
 pub response_is_no_pong : (m : Message) → is_response m ≡ true → IsNoPong m
-response_is_no_pong m = grind (arith, no_pong_by m)
+response_is_no_pong m is = grind (arith, nat_tests)

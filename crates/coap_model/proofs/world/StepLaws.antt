@@ -1,6 +1,6 @@
 -- Events and steps in sequence: the steps, the world and the bytes of a longer list, and the lists that are accepted.
-use Rattle.std.proofs.Common.{◌≡◌, ◌≢◌, ℕ, ◌-◌, ◌<◌, ◌≤◌, nat_lt, if◌then◌else◌, List, [], ◌∷◌, ◌++◌, length, map, drop}
-use Rattle.std.proofs.Common.{Option, Some, None, refl, sym, subst, ◌∙◌, append_assoc, arith}
+use Rattle.std.proofs.Common.{◌≡◌, ◌≢◌, ℕ, ◌-◌, ◌<◌, ◌≤◌, List, [], ◌∷◌, ◌++◌, length, map, drop, Option, Some, None}
+use Rattle.std.proofs.Common.{refl, sym, subst, ◌∙◌, append_assoc, arith}
 use Rattle.coap_model.specs.Prelude.{AllByRecursion, Message, Unfinished, prefix_kind, StreamFault, Stream, sized_split}
 use Rattle.coap_model.specs.Prelude.{split_on, LimitValues, ConfigValues, World, Step, new_world, after_steps}
 use Rattle.coap_model.specs.Prelude.{AcceptedCall, Took, Announced, taken_in, taken_on, size_by, size_on, sizes_on}
@@ -120,10 +120,7 @@ unfolding size_on
 size_grows M id [] = omega arith
 size_grows M id (e ∷ es) = omega (arith, size_rises id e M, size_grows (size_by id e M) id es)
 
--- A size announced on the connection, and one announced on another.
-pub announced_here : (id size M : ℕ) → size_by id (Announced id size) M ≡ (if nat_lt M size then size else M)
-announced_here id size M = rw (eq-eqb id id refl) refl
-
+-- A size announced on another connection.
 pub announced_elsewhere : (id other size : ℕ) → other ≢ id → (M : ℕ) → size_by id (Announced other size) M ≡ M
 announced_elsewhere id other size apart M = rw (ne_eqb other id apart) refl
 
@@ -142,7 +139,7 @@ sizes_within : (M id : ℕ) (es : List AcceptedCall) (at : ℕ) → sizes_on M i
 unfolding size_on sizes_on
 sizes_within M id [] at = omega arith
 sizes_within M id (e ∷ es) at =
-    let N : ℕ = size_by id e M in
+    let N = size_by id e M in
     grind (arith, nat_tests, size_rises id e M, size_grows N id es, sizes_within N id es (at - length (taken_in id e)))
 
 -- The current size applies to the bytes that follow.

@@ -6,17 +6,16 @@ use Rattle.std.proofs.Common.{refl, zero, suc, ◌&&◌, nat_le, is_none, arith}
 use Rattle.std.proofs.lemmas.Bool.{leb-true}
 use Rattle.std.proofs.lemmas.Bool.Decides.{nat_tests}
 use Rattle.std.proofs.lemmas.List.{append-nil}
-use Rattle.coap_model.specs.Prelude.{Responder, Engine, Application, late_response, Delay, hold_call, Message}
-use Rattle.coap_model.specs.Prelude.{StreamFault, Reject, ReleasedHere, takes_messages, answers, is_open, fits}
-use Rattle.coap_model.specs.Prelude.{bare_response, VerdictValue, is_request, PendingEntryValue, Answer, Pong}
-use Rattle.coap_model.specs.Prelude.{first_due, without_due, stop, abort, send, react, pong_with, due_effect}
-use Rattle.coap_model.specs.Prelude.{reject_reason, release_refusal, History, state_now, limit_now, with_effect, after}
-use Rattle.coap_model.specs.Prelude.{may_hold, link_of, state_due, end_reason, release, LinkValue, own_csm, free_in}
-use Rattle.coap_model.specs.Prelude.{limit_in, StoreValue, Response, response_with_observe, Observer, Connection}
-use Rattle.coap_model.specs.Prelude.{waiting_on, has_room, kept_open, moment_after, side_replied, side_after}
-use Rattle.coap_model.specs.Prelude.{side_faulted, side_written, side_ended, side_released, side_announced, next_due}
-use Rattle.coap_model.specs.Prelude.{notified, after_sent, settled_once, settled_within, settled, side_responded}
-use Rattle.coap_model.specs.Prelude.{response_refusal, state_without}
+use Rattle.coap_model.specs.Prelude.{Responder, Engine, Application, late_response, hold_call, Message, StreamFault}
+use Rattle.coap_model.specs.Prelude.{Reject, ReleasedHere, takes_messages, answers, is_open, fits, bare_response}
+use Rattle.coap_model.specs.Prelude.{VerdictValue, is_request, PendingEntryValue, Answer, Pong, first_due, without_due}
+use Rattle.coap_model.specs.Prelude.{stop, abort, send, react, pong_with, due_effect, reject_reason, release_refusal}
+use Rattle.coap_model.specs.Prelude.{History, state_now, limit_now, with_effect, after, may_hold, link_of, state_due}
+use Rattle.coap_model.specs.Prelude.{end_reason, release, LinkValue, own_csm, free_in, limit_in, StoreValue, Response}
+use Rattle.coap_model.specs.Prelude.{response_with_observe, Observer, Connection, waiting_on, kept_open, side_after}
+use Rattle.coap_model.specs.Prelude.{side_faulted, side_written, side_ended, side_released, side_announced, after_sent}
+use Rattle.coap_model.specs.Prelude.{settled_once, settled_within, settled, side_responded, response_refusal}
+use Rattle.coap_model.specs.Prelude.{state_without}
 use Rattle.coap_conn.specs.Verdicts as verdict
 use Rattle.coap_conn.specs.Calls as call
 use Rattle.coap_conn.proofs.RequestLemmas.{react_asks}
@@ -115,11 +114,6 @@ pub there_or_not : {A : Type 0} (o : Option A) (P : Option A → Type 0) → (o 
 there_or_not None P none some = none refl
 there_or_not (Some x) P none some = some x refl
 
--- A value that is present only if a test is true.
-pub there_where : {A : Type 0} (b : Bool) (o : Option A) (x : A) → cond b o None ≡ Some x → (b ≡ true) × (o ≡ Some x)
-there_where true o x e = (refl, e)
-there_where false o x e = absurd cc
-
 -- ---- room
 
 pub said_request : (v : VerdictValue) → is_request v ≡ true → v ≡ verdict.Request
@@ -181,17 +175,9 @@ module _ (R E : History → History → Type 0) (same : (h : History) → R h h)
       reply_between h (without_first h now) token false (late_response by))
   sent_between h now (Pong token) is room = grind (arith, due_is h now (Some (Pong token)) is)
 
-  module _ (store : StoreValue) (now : ℕ) (s : Connection) where
-    notified_between : (found : Option Observer) → has_room s ≡ true → R s.history (notified store now s found).history
-    notified_between None room = same s.history
-    notified_between (Some o) room = grind (arith, reply_between)
-
-    reported_between : R s.history (notified store now s (next_due store now s)).history
-    reported_between = grind (arith, notified_between)
-
-    pub once_between : R s.history (settled_once store now s).history
-    unfolding settled_once
-    once_between = grind (arith, reported_between, sent_between)
+  pub once_between : (store : StoreValue) (now : ℕ) (s : Connection) → R s.history (settled_once store now s).history
+  unfolding settled_once
+  once_between store now s = grind (arith, reply_between s.history, sent_between)
 
 pub settled_between : (R : History → History → Type 0) → Composes R → Replies R → LetsGo R → Pongs R
     → (store : StoreValue) (now : ℕ) (s : Connection) → R s.history (settled store now s).history
@@ -207,16 +193,10 @@ settled_between R composes replies lets_go pongs store now s =
 module _ (R E : History → History → Type 0) (same : (h : History) → R h h)
     (then : (h k g : History) → R h k → E k g → R h g) (takes_input : Hears R) (stays : (h : History) → E h h)
     (replies : Replies E) (holds : Holds E) where
-  replied_between : (store : StoreValue) (now : ℕ) (h : History) (others : List Observer) (m : Message)
-      (delay : Option Delay) → room_in h ≡ true → E h (side_replied store now h others m delay).history
-  replied_between store now h others m None room = grind arith
-  replied_between store now h others m (Some delay) room =
-      grind (arith, pending_is h delay.by m.token (moment_after now delay.seconds))
-
   pub after_between : (store : StoreValue) (now : ℕ) (s : Connection) (m : Message)
       → R s.history (side_after store now s m).history
   unfolding side_after
-  after_between store now s m = grind (arith, replied_between store now, request_room s.history m)
+  after_between store now s m = grind (arith, pending_is (after s.history (call.Handle m)), request_room s.history m)
 
 -- ---- other effects
 
@@ -259,11 +239,15 @@ module _ (R : History → History → Type 0) (same : (h : History) → R h h) w
 
   pub plain_between : Rejects R → Writes R → Ends R → Releases R → Announces R → (s t : Connection) → PlainCall s t
       → R s.history t.history
-  plain_between rejects writes ends releases announces s _ (Fault fault) = faulted_between rejects s fault
-  plain_between rejects writes ends releases announces s _ (Write n) = written_between writes s n
-  plain_between rejects writes ends releases announces s _ (End cut) = ended_between ends s cut
-  plain_between rejects writes ends releases announces s _ Release = released_between releases s
-  plain_between rejects writes ends releases announces s _ (Announcement size) = announced_between announces s size
+  plain_between rejects writes ends releases announces s t call =
+      grind (
+        arith,
+        faulted_between rejects s,
+        written_between writes s,
+        ended_between ends s,
+        released_between releases s,
+        announced_between announces s,
+      )
 
 -- ---- observers
 
@@ -286,8 +270,5 @@ observers_kept P none = grind (arith, kept_open_has P none)
 
 pub observers_plain : (P : List Observer → Type 0) → P [] → (s t : Connection) → PlainCall s t → P s.observers
     → P t.observers
-observers_plain P none s _ (Fault fault) = (observers_kept P none).faulted s fault
-observers_plain P none s _ (Write n) = (observers_kept P none).written s n
-observers_plain P none s _ (End cut) = (observers_kept P none).ended s cut
-observers_plain P none s _ Release = (observers_kept P none).released s
-observers_plain P none s _ (Announcement size) = (observers_kept P none).announced s size
+unfolding side_faulted side_written side_ended side_released side_announced
+observers_plain P none s t call is = grind (arith, kept_open_has P none)
