@@ -3,34 +3,28 @@ use Rattle.std.proofs.Common.{◌≡◌, ℕ, zero, suc, ◌<◌, Bool, true, fa
 use Rattle.std.proofs.Common.{refl, arith, option_map, is_some, slice_get, if◌then◌else◌}
 
 pub there_is : {A : Type 0} (o : Option A) → is_some o ≡ true → (x : A) × (o ≡ Some x)
-there_is None e = absurd cc
-there_is (Some x) e = (x, refl)
+there_is o e = grind arith
 
 pub there_is_none : {A : Type 0} (o : Option A) → is_some o ≡ false → o ≡ None
-there_is_none None e = refl
-there_is_none (Some x) e = absurd cc
+there_is_none o e = grind arith
 
 pub same_there : {A : Type 0} (x y : A) → Some x ≡ Some y → x ≡ y
 same_there x y e = cc
 
 -- An optional value that is kept only if a flag is true: if it is absent, so is the result.
 pub none_made_where : {A : Type 0} (so : Bool) (o : Option A) → o ≡ None → (if so then o else None) ≡ None
-none_made_where true o none = none
-none_made_where false o none = refl
+none_made_where so o none = grind arith
 
 pub some_where : {A : Type 0} (so : Bool) (o : Option A) (x : A) → (if so then o else None) ≡ Some x → o ≡ Some x
-some_where true o x some = some
-some_where false o x some = absurd cc
+some_where so o x some = grind arith
 
 -- If the image of an optional value is absent, the value is absent.
 pub none_made : {A B : Type 0} (f : A → B) (o : Option A) → option_map f o ≡ None → o ≡ None
-none_made f None e = refl
-none_made f (Some x) e = absurd cc
+none_made f o e = grind arith
 
 pub one_made : {A B : Type 0} (f : A → B) (o : Option A) (y : B) → option_map f o ≡ Some y
     → (x : A) × (o ≡ Some x) × (f x ≡ y)
-one_made f None y e = absurd cc
-one_made f (Some x) y e = (x, refl, cc)
+one_made f o y e = grind arith
 
 -- A list has an element at each index below its length.
 pub there_at : {A : Type 0} (xs : List A) (i : ℕ) → i < length xs → (x : A) × (slice_get xs i ≡ Some x)

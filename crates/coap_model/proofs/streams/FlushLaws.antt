@@ -55,9 +55,7 @@ within_left (suc turns) store now s = grind (
 within_less : (turns : ℕ) (store : StoreValue) (now : ℕ) (s : Connection) → left_on store now s ≤ turns
     → IsAtRest store now s ⊎ (left_on store now (settled_within turns store now s) + 1 ≤ left_on store now s)
 unfolding settled_within
-within_less zero store now s few = grind (arith, once_less store now s)
-within_less (suc turns) store now s few =
-    grind (arith, once_less store now s, within_left turns store now (settled_once store now s))
+within_less turns store now s few = grind (arith, once_less, within_left)
 
 -- The number is at most that of pending entries and observers together.
 left_within : (store : StoreValue) (now : ℕ) (s : Connection) → left_on store now s ≤ more_of (Some s)
@@ -89,20 +87,29 @@ once_turn : (store : StoreValue) (now : ℕ) (s : Connection) → IsFlushedAndAt
     ⊎ (left_on store now (side_once store now s) + 1 ≤ left_on store now s)
 unfolding settled
 once_turn store now s =
-    grind (arith, left_on store now, left_on store now s, written_same s, written_observers s,
-    settled_less store now, at_rest, written_empties s, settled_rests store now)
+    grind (
+      arith,
+      left_on store now,
+      left_on store now s,
+      written_same s,
+      written_observers s,
+      settled_less store now,
+      at_rest,
+      written_empties s,
+      settled_rests store now,
+    )
 
 -- If nothing is pending and there is no observer, a round leaves this so and does not change the phase.
 once_alone : (store : StoreValue) (now : ℕ) (s : Connection) → more_of (Some s) ≡ 0
     → (more_of (Some (side_once store now s)) ≡ 0) × ((side_once store now s).history.phase ≡ s.history.phase)
 unfolding settled settled_within
 once_alone store now s none =
-    let n : ℕ = length (waiting_on s) in
-    let u : Connection = side_written s n in
+    let n = length (waiting_on s) in
+    let u = side_written s n in
     let none_left : more_of (Some u) ≡ 0 = cc (written_same s n, written_observers s n, none) in
-    let stays : side_once store now s ≡ u = ap (λ (turns : ℕ). settled_within turns store now u) none_left in (
-      ap (λ (t : Connection). more_of (Some t)) stays ∙ none_left,
-      ap (λ (t : Connection). t.history.phase) stays
+    let stays : side_once store now s ≡ u = ap (λ turns. settled_within turns store now u) none_left in (
+      ap (λ t. more_of (Some t)) stays ∙ none_left,
+      ap (λ t. t.history.phase) stays
           ∙ written_between (λ h k. k.phase ≡ h.phase) (λ h. refl) (λ h n within. refl) s n,
     )
 
@@ -126,12 +133,12 @@ turns_leave : (limits : LimitValues) (id turns : ℕ) (w : World) (s : Connectio
 unfolding written_times step acted
 turns_leave limits id zero w s there = grind (arith, append-nil s.history.queued)
 turns_leave limits id (suc turns) w s there =
-    let v : World = written_times limits id turns w in
+    let v = written_times limits id turns w in
     let so_far = turns_leave limits id turns w s there in
-    let t : Connection = so_far.side in
-    let st : Step = world.Written id (length (waiting_of (side_of id v.sides))) in
-    let n : ℕ = length (waiting_on t) in
-    let next : Connection = side_once v.store v.now t in
+    let t = so_far.side in
+    let st = world.Written id (length (waiting_of (side_of id v.sides))) in
+    let n = length (waiting_on t) in
+    let next = side_once v.store v.now t in
     let there_now : side_of id (written_once limits id v).sides ≡ Some next =
     rw so_far.there (written_there limits v id n t so_far.there) in
     let fits = step_fits limits v st id t next so_far.there there_now in
@@ -141,16 +148,10 @@ turns_leave limits id (suc turns) w s there =
       distinct = λ are. step_distinct limits v st (so_far.distinct are);
       more = so_far.more ++ fits.0;
       queued =
-          fits.1 ∙ ap (λ (ms : List Message). ms ++ fits.0) so_far.queued
-          ∙ append_assoc s.history.queued so_far.more fits.0;
+          grind (arith, append_assoc s.history.queued so_far.more fits.0);
       handled = settled_handled v.store v.now (side_written t n) ∙ written_handled t n ∙ so_far.handled;
-      alone = λ none. (let before = so_far.alone none in let after = once_alone v.store v.now t before.0 in
-          (after.0, after.1 ∙ before.1));
-      rests = elim so_far.rests [
-        | inl rests ↦ inl (subst (IsFlushedAndAtRest v.store v.now) (sym (once_stays v.store v.now t rests)) rests)
-        | inr few ↦
-            elim (once_turn v.store v.now t) [ inl rests ↦ inl rests | inr less ↦ inr (omega (arith, few, less)) ]
-      ];
+      alone = λ none. grind (arith, once_alone v.store v.now t);
+      rests = grind (arith, once_stays v.store v.now t, once_turn v.store v.now t);
     }
 
 -- The number of rounds that a flush has on this connection.
@@ -163,13 +164,13 @@ flushed_so limits id w s there = grind arith
 pub flush_leaves : (limits : LimitValues) (id : ℕ) (w : World) (s : Connection) → side_of id w.sides ≡ Some s
     → (left : IsLeft id (suc (more_of (Some s))) w s (flushed limits id w)) × (waiting_on left.side ≡ [])
 flush_leaves limits id w s there =
-    let turns : ℕ = suc (more_of (Some s)) in
+    let turns = suc (more_of (Some s)) in
     let left =
     subst (IsLeft id turns w s) (sym (flushed_so limits id w s there)) (turns_leave limits id turns w s there) in (
       left,
       elim left.rests [
         | inl rests ↦ rests.0
-        | inr few ↦ absurd (omega (arith, few, left_within (flushed limits id w).store (flushed limits id w).now s))
+        | inr few ↦ grind (arith, left_within)
       ],
     )
 
@@ -205,11 +206,11 @@ pub times_further : (limits : LimitValues) (id turns most : ℕ) (w : World) (t 
     → written_times limits id turns w ≡ written_times limits id most w
 unfolding written_times
 times_further limits id turns most w t hear there none within =
-    let v : World = written_times limits id turns w in
+    let v = written_times limits id turns w in
     let takes_input : AllHear v = from_there_on (λ n. AllHear (written_times limits id n w)) 0 turns (omega arith) hear
     (λ n is. step_hears limits (written_times limits id n w) _) in
     from_there_on (λ n. v ≡ written_times limits id n w) turns most within refl
-    (λ n same. sym (quiet_once limits id v t takes_input there none) ∙ ap (written_once limits id) same)
+    (λ n same. grind (arith, quiet_once limits id v t takes_input there none))
 
 -- A flush does not change it either.
 pub quiet_flush : (limits : LimitValues) (id : ℕ) (w : World) (s : Connection) → AllHear w → side_of id w.sides ≡ Some s

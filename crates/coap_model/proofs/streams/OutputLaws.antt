@@ -1,14 +1,13 @@
 -- The world of one connection whose input steps are each followed by a flush. More input continues this world, the
 -- output only grows, and a stopped connection does not change.
 use Rattle.std.proofs.Common.{◌≡◌, ℕ, false, List, [], ◌∷◌, ◌++◌, map, Some, None, refl, sym, ap, subst, ◌∙◌, ◌==◌}
-use Rattle.std.proofs.Common.{arith, append_assoc, length, is_none}
-use Rattle.coap_model.specs.Prelude.{AllByRecursion, Message, StreamFault, Stream, Reason, takes_messages, stop_of}
-use Rattle.coap_model.specs.Prelude.{LimitValues, bytes_of, ConfigValues, Connection, side_after, change_after}
-use Rattle.coap_model.specs.Prelude.{side_faulted, settled, new_side, waiting_on, settled_within, ConnectionEntry}
-use Rattle.coap_model.specs.Prelude.{World, side_of, acted, step, Step, new_world, AcceptedCall, Opened, Took}
-use Rattle.coap_model.specs.Prelude.{spelled_on, beyond, steps_by, later_steps, steps_of, written_times, flushed}
-use Rattle.coap_model.specs.Prelude.{flushed_after, only_id, stream_of, steps_for, world_for, side_for, Outcome}
-use Rattle.coap_model.specs.Prelude.{outcome_on, outcome, stdio_output}
+use Rattle.std.proofs.Common.{arith, append_assoc, is_none}
+use Rattle.coap_model.specs.Prelude.{AllByRecursion, Message, StreamFault, Reason, takes_messages, LimitValues}
+use Rattle.coap_model.specs.Prelude.{bytes_of, ConfigValues, Connection, side_after, change_after, side_faulted}
+use Rattle.coap_model.specs.Prelude.{settled, new_side, waiting_on, settled_within, ConnectionEntry, World, side_of}
+use Rattle.coap_model.specs.Prelude.{acted, step, Step, new_world, AcceptedCall, Opened, Took, spelled_on, beyond}
+use Rattle.coap_model.specs.Prelude.{steps_by, later_steps, steps_of, written_times, flushed, flushed_after, only_id}
+use Rattle.coap_model.specs.Prelude.{stream_of, world_for, side_for, outcome_on, outcome, stdio_output}
 use Rattle.std.proofs.lemmas.Bool.{eqb-true, cond_both}
 use Rattle.std.proofs.lemmas.List.{append-nil}
 use Rattle.coap_wire.proofs.StreamSteps.{unfinished_empty, split_unfinished, split_goes_on}
@@ -53,8 +52,7 @@ one_stays id f s ps distinct there stays =
 nothing_acted : (limits : LimitValues) (id : ℕ) (w : World) (st : Step) (s : Connection) → AreDistinct w.sides
     → side_of id w.sides ≡ Some s → takes_messages s.history.phase ≡ false → IsOfBytes id st → acted limits w st ≡ w
 unfolding acted side_after change_after side_faulted
-nothing_acted limits id w st s distinct there over (OfMessage m) = grind (arith, one_stays id)
-nothing_acted limits id w st s distinct there over (OfFault fault) = grind (arith, one_stays id)
+nothing_acted limits id w st s distinct there over is = grind (arith, one_stays)
 
 -- ---- the state after each step and its flush
 
@@ -87,7 +85,7 @@ after_bytes limits id w (st ∷ ss) s all one =
     after_bytes limits id (flushed limits id (step limits w st)) ss s all.1
     (written_out limits id (step limits w st) s now.0 (one.more ++ fits.0) now.1
     (step_distinct limits w st one.distinct)
-    (fits.1 ∙ ap (λ (ms : List Message). ms ++ fits.0) one.queued ∙ append_assoc s.history.queued one.more fits.0))
+    (fits.1 ∙ ap (λ ms. ms ++ fits.0) one.queued ∙ append_assoc s.history.queued one.more fits.0))
 
 after_stopped : (c : ConfigValues) (id : ℕ) (w : World) (ss : List Step) (s : Connection) (one : IsWrittenOut id s w)
     → AllByRecursion (IsOfBytes id) ss → takes_messages one.side.history.phase ≡ false
@@ -95,10 +93,13 @@ after_stopped : (c : ConfigValues) (id : ℕ) (w : World) (ss : List Step) (s : 
 unfolding flushed_after
 after_stopped c id w [] s one all over = refl
 after_stopped c id w (st ∷ ss) s one all over =
-    grind (arith,
-    idle_step c.limits w st one.takes_input (nothing_acted c.limits id w st one.side one.distinct one.there over all.0),
-    quiet_flush c.limits id w one.side one.takes_input one.there one.waits,
-    after_stopped c id w ss s one all.1 over)
+    grind (
+      arith,
+      idle_step c.limits w st one.takes_input (nothing_acted c.limits id w st one.side one.distinct one.there over
+          all.0),
+      quiet_flush c.limits id w one.side one.takes_input one.there one.waits,
+      after_stopped c id w ss s one all.1 over,
+    )
 
 after_then : (limits : LimitValues) (id : ℕ) (w : World) (ss ts : List Step)
     → flushed_after limits id w (ss ++ ts) ≡ flushed_after limits id (flushed_after limits id w ss) ts
@@ -125,7 +126,7 @@ module _ (c : ConfigValues) where
   pub nothing_yet : spelled_on M id opening ≡ (stream_of c [], M)
   nothing_yet =
       spelled_same M id [] (Opened id) refl (λ N. refl) ∙ first_spelled M id
-      ∙ ap (λ (s : Stream). (s, M)) (sym no_bytes_spell)
+      ∙ ap (λ s. (s, M)) (sym no_bytes_spell)
 
   -- Events after which the stream has these bytes, and more bytes after them.
   module _ (es : List AcceptedCall) (bytes more : List ℕ) (spelled : spelled_on M id es ≡ (stream_of c bytes, M)) where
@@ -143,11 +144,14 @@ module _ (c : ConfigValues) where
       ≡ flushed_after c.limits id (world_for c xs) (beyond id (stream_of c xs) (stream_of c (xs ++ ys)))
   unfolding world_for
   world_goes_on xs ys =
-      let fed : List AcceptedCall = opening ++ Took id xs ∷ [] in
-      ap (flushed_after c.limits id (new_world c))
-      (cut_steps M opening [] id xs ys ∙ steps_of_more M fed (Took id ys)
-      ∙ ap (λ (ss : List Step). steps_for c xs ++ ss) (steps_taken fed xs ys (spelled_more opening [] xs nothing_yet)))
-      ∙ after_then c.limits id (new_world c) (steps_for c xs) (beyond id (stream_of c xs) (stream_of c (xs ++ ys)))
+      let fed = opening ++ Took id xs ∷ [] in
+      grind (
+        arith,
+        cut_steps M opening,
+        steps_of_more M fed (Took id ys),
+        steps_taken fed xs ys (spelled_more opening [] xs nothing_yet),
+        after_then,
+      )
 
   -- More bytes make only steps of input bytes.
   beyond_are : (xs ys : List ℕ) → AllByRecursion (IsOfBytes id) (beyond id (stream_of c xs) (stream_of c (xs ++ ys)))
@@ -170,13 +174,13 @@ module _ (c : ConfigValues) where
   unfolding world_for flushed_after steps_of later_steps steps_by
   world_for_none =
       ap (flushed_after c.limits id (new_world c))
-      (steps_of_more M opening (Took id []) ∙ ap (λ (ss : List Step). world.Opened id ∷ ss)
-      (steps_taken opening [] [] nothing_yet ∙ ap (λ (s : Stream). beyond id s s) no_bytes_spell))
+      (steps_of_more M opening (Took id []) ∙ ap (λ ss. world.Opened id ∷ ss)
+      (steps_taken opening [] [] nothing_yet ∙ ap (λ s. beyond id s s) no_bytes_spell))
 
   -- The connection exists, and no bytes are queued on it.
   pub world_for_written : (bytes : List ℕ) → IsWrittenOut id (new_side c.limits) (world_for c bytes)
   world_for_written bytes =
-      let new : Connection = new_side c.limits in
+      let new = new_side c.limits in
       more_written_out [] bytes new
       (subst (IsWrittenOut id new) (sym world_for_none) (written_out c.limits id world_opened new new [] opened_alone
       (step_distinct c.limits (new_world c) (world.Opened id) tt) (sym (append-nil new.history.queued))))
@@ -197,16 +201,14 @@ module _ (c : ConfigValues) where
   pub outcome_at_first : ((outcome c []).messages ≡ 0) × ((outcome c []).stop ≡ None)
   outcome_at_first =
       let left = flush_leaves c.limits id world_opened (new_side c.limits) opened_alone in
-      let is = outcome_there [] left.0.side (ap (λ (w : World). side_of id w.sides) world_for_none ∙ left.0.there) in (
-        ap (λ (o : Outcome). o.messages) is ∙ ap length left.0.handled,
-        ap (λ (o : Outcome). o.stop) is ∙ ap stop_of (left.0.alone refl).1,
-      )
+      let is = outcome_there [] left.0.side (ap (λ w. side_of id w.sides) world_for_none ∙ left.0.there) in
+      grind arith
 
   -- The output for some bytes is a prefix of the output for more bytes.
   pub output_grows : (xs ys : List ℕ) → (more : List ℕ) × (stdio_output c (xs ++ ys) ≡ stdio_output c xs ++ more)
   output_grows xs ys =
       let all = world_for_written xs in
-      let s : Connection = all.side in
+      let s = all.side in
       let before : IsWrittenOut id s (world_for c xs) = record {
         side = s;
         there = all.there;

@@ -1,15 +1,14 @@
 -- A connection after it accepted bytes: a message was handled, an error stopped it, or it is unchanged. Settling
 -- handles no message.
-use Rattle.std.proofs.Common.{◌≡◌, ℕ, Bool, true, false, List, [], ◌∷◌, ◌++◌, Some, None, refl, sym, ap, subst, ◌∙◌}
-use Rattle.std.proofs.Common.{arith, ◌≢◌}
-use Rattle.std.proofs.lemmas.Bool.{both_ways}
+use Rattle.std.proofs.Common.{◌≡◌, ℕ, Bool, true, false, List, [], ◌∷◌, ◌++◌, Some, None, refl, sym, ap, ◌∙◌, arith}
+use Rattle.std.proofs.Common.{◌≢◌}
 use Rattle.std.proofs.lemmas.List.{append-nil}
-use Rattle.coap_model.specs.Prelude.{Message, StreamFault, Stream, Phase, Reject, Reason, takes_messages, is_open, fit}
-use Rattle.coap_model.specs.Prelude.{pong_with, PendingEntryValue, without_due, due_index, reject_of, reject_reason}
-use Rattle.coap_model.specs.Prelude.{History, state_now, limit_now, StoreValue, ConfigValues, Connection, handles}
-use Rattle.coap_model.specs.Prelude.{side_after, side_faulted, settled, new_side, settled_once, World, Step, side_of}
-use Rattle.coap_model.specs.Prelude.{AcceptedCall, Took, stream_on, steps_by, world_after, spelled_on, message_reason}
-use Rattle.coap_model.specs.Prelude.{LimitValues, without_request, bare_response}
+use Rattle.coap_model.specs.Prelude.{Message, StreamFault, Stream, Phase, Reject, Reason, fit, pong_with}
+use Rattle.coap_model.specs.Prelude.{PendingEntryValue, without_due, due_index, reject_of, reject_reason, History}
+use Rattle.coap_model.specs.Prelude.{state_now, limit_now, StoreValue, ConfigValues, Connection, handles, side_after}
+use Rattle.coap_model.specs.Prelude.{side_faulted, settled, new_side, World, Step, side_of, AcceptedCall, Took}
+use Rattle.coap_model.specs.Prelude.{stream_on, steps_by, world_after, spelled_on, message_reason, LimitValues}
+use Rattle.coap_model.specs.Prelude.{without_request, bare_response}
 use Rattle.coap_model.proofs.world.StepLaws.{world_same, world_step, nothing_spelled, world_first}
 use Rattle.coap_model.proofs.world.TookLaws.{Adds}
 use Rattle.coap_conn.proofs.ReactionLaws.{StopsAtMost}
@@ -68,8 +67,11 @@ first_rests h now = grind arith
 
 pong_rests : Pongs HandlesNone
 pong_rests h now token due room =
-    grind (arith, due_pong now h.pending token due,
-    sent_rests h (without_due now h.pending) (pong_with true token) (pong_with false token))
+    grind (
+      arith,
+      due_pong now h.pending token due,
+      sent_rests h (without_due now h.pending) (pong_with true token) (pong_with false token),
+    )
 
 respond_rests : Responds HandlesNone
 respond_rests h m answering none =
@@ -143,7 +145,7 @@ module _ (c : ConfigValues) (es : List AcceptedCall) (id : ℕ) (bytes : List �
   unfolding side_after
   became (NoStep e steps messages fault) = (
     s,
-    ap (λ (v : World). side_of id v.sides) (world_same c es (Took id bytes) steps) ∙ there,
+    ap (λ v. side_of id v.sides) (world_same c es (Took id bytes) steps) ∙ there,
     Stayed e refl messages fault,
   )
   became (OneMessage e does m adds) =
@@ -152,24 +154,24 @@ module _ (c : ConfigValues) (es : List AcceptedCall) (id : ℕ) (bytes : List �
       rw does (handled_hears w.store w.now s m) in
       let rests = settled_handles_none after.0 w.now (side_after w.store w.now s m) in (
         settled after.0 w.now (side_after w.store w.now s m),
-        ap (λ (v : World). side_of id v.sides) (world_step c es (Took id bytes) (world.Handled id m) adds.steps)
+        ap (λ v. side_of id v.sides) (world_step c es (Took id bytes) (world.Handled id m) adds.steps)
             ∙ after.1,
         Reacted e does m (rests.handled ∙ received.handled_more (handles_parts s does).0)
             (rests.stops (received.stops (live_stop s does)))
-            (ap (λ (u : Stream). u.messages) adds.stream) (ap (λ (u : Stream). u.fault) adds.stream),
+            (ap (λ u. u.messages) adds.stream) (ap (λ u. u.fault) adds.stream),
       )
   became (OneFault e does fault rest adds) =
       let rejects = side_rejects s fault does in
       let rests = settled_handles_none w.store w.now (side_faulted s fault) in (
         settled w.store w.now (side_faulted s fault),
-        ap (λ (v : World). side_of id v.sides) (world_step c es (Took id bytes) (world.Faulted id fault) adds.steps)
+        ap (λ v. side_of id v.sides) (world_step c es (Took id bytes) (world.Faulted id fault) adds.steps)
             ∙ faulted_there c.limits w id fault s there,
         Rejected e does fault (record {
-          handled = rests.handled ∙ rejects.handled;
+          handled = grind arith;
           stopped = rests.stopped (reject_reason (reject_of fault)) rejects.stopped;
         })
-            (ap (λ (u : Stream). u.messages) adds.stream ∙ append-nil (stream_on c.limits.max_message id es).messages)
-            (ap (λ (u : Stream). u.fault) adds.stream),
+            (ap (λ u. u.messages) adds.stream ∙ append-nil (stream_on c.limits.max_message id es).messages)
+            (ap (λ u. u.fault) adds.stream),
       )
 
 -- ---- other steps
@@ -183,25 +185,19 @@ IsElsewhere other id = Unit {0}
 pub rests_of : (w : World) (st : Step) (id : ℕ) → IsElsewhere st id → HoldsOf (Between HandlesNone) w st id
 rests_of w st id away = record {
   same = λ s. rests_self s.history;
-  handled = λ m is s. absurd (subst (λ (did : Step). IsElsewhere did id) is away refl);
-  faulted = λ fault is s. absurd (subst (λ (did : Step). IsElsewhere did id) is away refl);
+  handled = λ m is s. grind arith;
+  faulted = λ fault is s. grind arith;
   written = written_between HandlesNone rests_self (λ h n within. rests_self h);
-  ended = ended_between HandlesNone rests_self
-      (λ h cut takes. record {
-        handled = refl;
-        stopped = λ why is. absurd (both_ways _ (ap takes_messages is.0) takes);
-        stops = λ is. grind arith;
-      });
-  released = released_between HandlesNone rests_self
-      (λ h opened none. record {
-        handled = refl;
-        stopped = λ why is. absurd (both_ways _ (ap is_open is.0) opened);
-        stops = λ is. refl;
-      });
-  announced = λ size is s. announced_between HandlesNone rests_self (λ h n opened room fit. rests_self h) s size;
+  ended = grind (arith, ended_between HandlesNone rests_self, rests_self);
+  released = grind (arith, released_between HandlesNone rests_self, rests_self);
+  announced = λ size is s. grind (arith, announced_between HandlesNone rests_self, rests_self);
   responded = responded_between HandlesNone rests_self respond_rests;
-  reported = λ store now s t is. rests_then s.history t.history (settled_once store now t).history is
-      (once_between HandlesNone HandlesNone rests_self rests_then response_rests first_rests pong_rests store now t);
+  reported = λ store now s t is.
+      grind (
+        arith,
+        rests_then s.history t.history,
+        once_between HandlesNone HandlesNone rests_self rests_then response_rests first_rests pong_rests store now t,
+      );
 }
 
 -- ---- a connection handled the messages of its stream
@@ -212,7 +208,7 @@ pub record Agrees (u : Stream) (s : Connection) : Type 0 where
 
 pub rests_agrees : (u : Stream) (s t : Connection) → Agrees u s → Between HandlesNone s t → Agrees u t
 rests_agrees u s t is rests = record {
-  handled = rests.handled ∙ is.handled;
+  handled = grind arith;
   stopped = λ fault e. rests.stopped (reject_reason (reject_of fault)) (is.stopped fault e);
 }
 

@@ -1,22 +1,21 @@
 -- Pending entries are in the order of the messages that asked for them. A Pong with Custody is queued only if no entry
 -- from before its Ping is pending.
 use Rattle.std.proofs.Common.{◌≡◌, ℕ, zero, suc, Bool, true, false, ◌&&◌, ◌==◌, List, [], ◌∷◌, ◌++◌, length, Option}
-use Rattle.std.proofs.Common.{Some, None, refl, sym, ap, subst, ◌∙◌, inl, inr, ◌⊎◌, arith, append_assoc}
+use Rattle.std.proofs.Common.{Some, None, refl, sym, ◌∙◌, inl, inr, ◌⊎◌, arith, append_assoc}
 use Rattle.coap_model.specs.Prelude.{Responder, AllByRecursion, list_any, remove, Message, Phase, LimitValues}
 use Rattle.coap_model.specs.Prelude.{takes_messages, answers, is_open, fit, bare_response, PendingEntryValue, Answer}
-use Rattle.coap_model.specs.Prelude.{Pong, without_due, send, is_custody_pong, History, limit_now, state_now, after}
-use Rattle.coap_model.specs.Prelude.{may_hold, StoreValue, Response, prompt_answer, each_at, ApplicationsValue, Delay}
-use Rattle.coap_model.specs.Prelude.{delay_of, asks_delayed, response_with_observe, without_token, Connection, handles}
-use Rattle.coap_model.specs.Prelude.{with_history, delay_for, moment_after, asks_answer, side_handled, side_after}
-use Rattle.coap_model.specs.Prelude.{settled_once, side_written, side_answered, side_with, asks_pending, CorrespondTo}
-use Rattle.coap_model.specs.Prelude.{QueuesCustody, IsFirstPending, KeepsPending, AddsRequested, Reason, PeerTooSmall}
-use Rattle.coap_model.specs.Prelude.{state_without, without_request, side_responded, response_refusal, link_of}
-use Rattle.coap_model.specs.Prelude.{KeepsBut, reject_reason, end_reason, ReleasedHere, next_pending, next_due}
-use Rattle.coap_model.specs.Prelude.{notified, notification_message, notification}
+use Rattle.coap_model.specs.Prelude.{Pong, without_due, is_custody_pong, History, limit_now, state_now, after, may_hold}
+use Rattle.coap_model.specs.Prelude.{StoreValue, Response, prompt_answer, each_at, ApplicationsValue, Delay, delay_of}
+use Rattle.coap_model.specs.Prelude.{asks_delayed, response_with_observe, without_token, Connection, with_history}
+use Rattle.coap_model.specs.Prelude.{delay_for, asks_answer, side_handled, side_after, settled_once, side_written}
+use Rattle.coap_model.specs.Prelude.{side_answered, side_with, asks_pending, CorrespondTo, QueuesCustody}
+use Rattle.coap_model.specs.Prelude.{IsFirstPending, KeepsPending, AddsRequested, Reason, PeerTooSmall, state_without}
+use Rattle.coap_model.specs.Prelude.{without_request, side_responded, response_refusal, link_of, KeepsBut, next_pending}
+use Rattle.coap_model.specs.Prelude.{next_due, notified, notification_message, notification}
 use Rattle.coap_model.proofs.world.WalkLaws.{there_or_not, PlainCall, Fault, Write, End, Release, Announcement}
 use Rattle.coap_model.proofs.world.WalkLaws.{plain_between, pending_is, said_request, sent, without_first, Replies}
 use Rattle.coap_model.proofs.world.WalkLaws.{after_between, responded_between, once_between, received, holding}
-use Rattle.std.proofs.lemmas.Bool.{and_from, both_ways, cond-true, cond_both}
+use Rattle.std.proofs.lemmas.Bool.{and_from, both_ways}
 use Rattle.std.proofs.lemmas.List.{append_cancel_left, append-nil}
 use lib.Pointwise.{bytes_decides}
 use Rattle.coap_conn.proofs.PendingLaws.{custody_at_once, due_pong}
@@ -42,15 +41,11 @@ abbrev Gives : Type 0 → History → History → Type 0
 Gives G h k = (more : List Message) × (k.queued ≡ h.queued ++ more) × (list_any is_custody_pong more ≡ true → G)
 
 gives_none : (G : Type 0) (h k : History) → k.queued ≡ h.queued → Gives G h k
-gives_none G h k same = ([], same ∙ sym (append-nil h.queued), λ pong. absurd cc)
+gives_none G h k same = grind (arith, append-nil h.queued)
 
 -- Further messages without such a Pong do not change this.
 gives_then : (G : Type 0) (h k g : History) → Gives G h k → Gives ⊥ k g → Gives G h g
-gives_then G h k g one two = (
-  one.0 ++ two.0,
-  two.1 ∙ ap (λ ms. ms ++ two.0) one.1 ∙ append_assoc h.queued one.0 two.0,
-  λ pong. grind (arith, list_any-append),
-)
+gives_then G h k g one two = grind (arith, append_assoc h.queued one.0 two.0, list_any-append)
 
 custody_gives : (G : Type 0) (s t : Connection) → Gives G s.history t.history → QueuesCustody s t → G
 custody_gives G s t gives custody =
@@ -78,12 +73,7 @@ bare_no_pong m = grind arith
 
 -- A response is no Pong with Custody.
 reply_gives : Replies (Gives ⊥)
-reply_gives h token observe r does room =
-    let m = response_with_observe token observe r in (
-      (send (state_now h) m (bare_response m)).queued,
-      refl,
-      λ pong. grind (arith, response_no_pong token observe r, bare_no_pong m),
-    )
+reply_gives h token observe r does room = grind (arith, response_no_pong token observe r, bare_no_pong)
 
 -- ---- effects that queue such a Pong
 
@@ -119,9 +109,9 @@ custody_comes_first store now s custody =
     (once_between (λ h. Gives (IsPongFirst h) h) (Gives ⊥) (λ h. gives_none (IsPongFirst h) h h refl)
     (λ h. gives_then (IsPongFirst h) h) reply_gives
     (λ h now. gives_none (IsPongFirst h) h (without_first h now) refl)
-    (λ h now token due room. (_, refl, λ pong. (token, without_due now h.pending, due_pong now h.pending token due)))
+    (λ h now token due room. grind (arith, due_pong now h.pending token due))
     store now s) custody in
-    (first.0, record { rest = first.1; first = first.2 })
+    grind arith
 
 -- ---- the order of pending entries
 
@@ -148,8 +138,8 @@ module _ (a : Option ApplicationsValue) where
       → CorrespondTo a (m ∷ []) es
   unfolding CorrespondTo
   stand_added m [] adds = tt
-  stand_added m (e ∷ []) adds = inl (adds.requested.0, tt)
-  stand_added m (e ∷ d ∷ es) adds = absurd (omega (arith, adds.few))
+  stand_added m (e ∷ []) adds = grind arith
+  stand_added m (e ∷ d ∷ es) adds = grind arith
 
   -- The same without the first entry, and without any entry.
   stand_tail : (ms : List Message) (e : PendingEntryValue) (es : List PendingEntryValue)
@@ -198,8 +188,7 @@ pub request_quiet : (s : Connection) (m : Message) → asks_answer s m ≡ true
     → ((after s.history (call.Handle m)).pending ≡ s.history.pending)
     × (is_open (after s.history (call.Handle m)).phase ≡ true)
 request_quiet s m asks =
-    let quiet = react_asks (state_now s.history) m (said_request _ asks) in
-    grind (arith, stopped_over (state_now s.history) m)
+    grind (arith, react_asks (state_now s.history) m (said_request _ asks), stopped_over (state_now s.history) m)
 
 -- A delayed response is pending only if the list has a place for it.
 pub pending_where : (h : History) (delay : Option Delay) (d : Delay) → delay_for h delay ≡ Some d
@@ -224,14 +213,7 @@ module _ (store : StoreValue) (now : ℕ) (s : Connection) (m : Message) where
       → P (side_answered store now heard (without_token m.token s.observers) m (prompt_answer store now m)))
       → P (side_handled store now s m)
   handled_cases P other late prompt =
-      let others = without_token m.token s.observers in
-      let delay = delay_of store now m in
-      cond_both (asks_answer s m) _ _ P (λ asks. replied_cases store now heard others m delay P (λ d is. (
-      let both = pending_where heard delay d is in
-      subst (λ k. P (side_with k others)) (sym (pending_is heard d.by m.token (moment_after now d.seconds)
-      ∙ cond-true _ _ heard (and_from _ _ (request_quiet s m asks).1 both.0)))
-      (late asks d.by (moment_after now d.seconds) (delayed_requested store now m d both.1))
-      )) (λ none. prompt asks)) other
+      grind (arith, replied_cases, pending_where heard, pending_is heard, and_from, request_quiet, delayed_requested)
 
 -- ---- the entries that a message adds
 
@@ -243,11 +225,11 @@ Over a m before after now =
 
 adds_none : (a : Option ApplicationsValue) (m : Message) (es : List PendingEntryValue) (now : Phase)
     → Over a m es es now
-adds_none a m es now = inl ([], sym (append-nil es), record { few = omega arith; requested = tt })
+adds_none a m es now = grind (arith, append-nil es)
 
 adds_one : (a : Option ApplicationsValue) (m : Message) (before : List PendingEntryValue) (e : PendingEntryValue)
     (now : Phase) → asks_pending a m e ≡ true → Over a m before (before ++ e ∷ []) now
-adds_one a m before e now asks = inl (e ∷ [], refl, record { few = omega arith; requested = (asks, tt) })
+adds_one a m before e now asks = grind arith
 
 -- A message was handled while messages were accepted, and it may have stopped the connection.
 pub record HandlesOne (a : Option ApplicationsValue) (m : Message) (before : History) (handled : List Message)
@@ -266,20 +248,14 @@ message_hears a h m =
     react_so s m (λ e. (StopsAtMost s.phase → StopsAtMost e.phase) × Over a m s.pending e.pending e.phase) (record {
       stays = (λ is. is, adds_none a m s.pending s.phase);
       silent = λ now outstanding silent. (silent, adds_none a m s.pending now);
-      stops = λ why farewell plain one may. (λ is. may, inr (why, refl, refl));
+      stops = λ why farewell plain one may. grind arith;
       queues = λ n none. (λ is. is, adds_none a m s.pending s.phase);
       keeps = λ ping custody some. (
         λ is. is,
         adds_one a m s.pending (Pong m.token) s.phase (rw (ping, custody, (bytes_decides m.token m.token).1 refl) refl),
       );
     }) in
-    cond_both (takes_messages h.phase) (received h m) h (HasReceived a m h)
-    (λ takes. record { handled_more = λ takes. refl; stops = does.0; adds = does.1 })
-    (λ off. record {
-      handled_more = λ takes. absurd (both_ways _ off takes);
-      stops = λ is. is;
-      adds = adds_none a m h.pending h.phase;
-    })
+    grind (arith, received h m, adds_none a m h.pending h.phase)
 
 pub handled_hears : (store : StoreValue) (now : ℕ) (s : Connection) (m : Message)
     → HasReceived store.applications m s.history (side_handled store now s m).history
@@ -288,15 +264,17 @@ handled_hears store now s m =
     let h = after s.history (call.Handle m) in
     let received = message_hears a s.history m in
     handled_cases store now s m (λ t. HasReceived a m s.history t.history) (λ other. received)
-    (λ asks by moment requested. record {
-      handled_more = received.handled_more;
-      stops = received.stops;
-      adds =
-          rw (request_quiet s m asks).0 (adds_one a m s.history.pending (Answer by m.token moment) h.phase
-          (rw (requested, (bytes_decides m.token m.token).1 refl) refl));
-    })
+    (λ asks by moment requested.
+    grind (
+      arith,
+      request_quiet s m asks,
+      adds_one a m s.history.pending (Answer by m.token moment) h.phase (rw (
+        requested,
+        (bytes_decides m.token m.token).1 refl,
+      ) refl),
+    ))
     (λ asks. reply_either h _ (HandlesOne a m s.history) received
-    (record { handled_more = received.handled_more; stops = λ is. refl; adds = inr (PeerTooSmall, refl, refl) }))
+    (record { handled_more = received.handled_more; stops = λ is. refl; adds = grind arith }))
 
 -- ---- histories
 
@@ -306,18 +284,14 @@ Corresponds a h = CorrespondTo a h.handled h.pending
 sent_corresponds : (a : Option ApplicationsValue) (h : History) (m less : Message) → Corresponds a h
     → Corresponds a (sent h m less)
 unfolding CorrespondTo
-sent_corresponds a h m less stand =
-    sent_either (state_now h) m less (fit (limit_now h) m less) (λ es now. CorrespondTo a h.handled es) stand tt
+sent_corresponds a h m less stand = grind (arith, sent_either (state_now h) m less (fit (limit_now h) m less))
 
 -- The message asks for the entries that it added.
 received_corresponds : (a : Option ApplicationsValue) (m : Message) (h k : History) → takes_messages h.phase ≡ true
     → HasReceived a m h k → Corresponds a h → Corresponds a k
 unfolding CorrespondTo
-received_corresponds a m h k takes received stand = rw (received.handled_more takes) (by received.adds)
-  where
-    by : Over a m h.pending k.pending k.phase → CorrespondTo a (h.handled ++ m ∷ []) k.pending
-    by (inl more) = rw more.1 (stand_append a h.handled (m ∷ []) h.pending more.0 stand (stand_added a m more.0 more.2))
-    by (inr over) = rw over.2 tt
+received_corresponds a m h k takes received stand =
+    grind (arith, stand_append a h.handled (m ∷ []) h.pending, stand_added a m)
 
 pub corresponds_plain : (a : Option ApplicationsValue) (s t : Connection) → PlainCall s t → Corresponds a s.history
     → Corresponds a t.history
@@ -333,25 +307,16 @@ unfolding side_after CorrespondTo
 corresponds_keeps limits a = let R : History → History → Type 0 = λ h k. Corresponds a h → Corresponds a k in record {
   first = tt;
   handled =
-      λ store now s m same is stand. cond_both (handles s) (side_handled store now s m) s (λ t. Corresponds a t.history)
-      (λ does. received_corresponds a m s.history (side_handled store now s m).history (handles_parts s does).0
-      (subst (λ b. HasReceived b m s.history (side_handled store now s m).history) same (handled_hears store now s m))
-      stand) (λ off. stand);
+      λ store now s m same is stand.
+      grind (arith, received_corresponds a m s.history, handles_parts s, handled_hears store now s m);
   faulted = λ s fault. corresponds_plain a s _ (Fault fault);
   written = λ s n. corresponds_plain a s _ (Write n);
   ended = λ s cut. corresponds_plain a s _ (End cut);
   released = λ s. corresponds_plain a s _ Release;
   announced = λ s size. corresponds_plain a s _ (Announcement size);
-  responded = responded_between R (λ h stand. stand) (λ h m answering none stand.
-      sent_either (state_without m.token (state_now h)) m (bare_response m)
-      (fit (limit_now h) m (bare_response m)) (λ es now. CorrespondTo a h.handled es)
-      (stand_request a h.handled m.token h.pending stand) tt);
+  responded = grind (arith, responded_between R, sent_either, stand_request a);
   reported =
-      once_between R R (λ h stand. stand) (λ h k g one two stand. two (one stand))
-      (λ h token observe r does room. sent_corresponds a h _ _)
-      (λ h now. stand_due a h.handled now h.pending)
-      (λ h now token due room stand. sent_corresponds a (without_first h now) _ _
-      (stand_due a h.handled now h.pending stand));
+      grind (arith, once_between R R, sent_corresponds a, stand_due a, without_first);
 }
 
 -- ---- effects that do not change the pending entries
@@ -365,10 +330,7 @@ left_kept : (s t : Connection) → Leaves s.history t.history → KeepsPending s
 left_kept s t leaves = let none = append-nil s.history.pending in grind arith
 
 pub plain_keeps : (s t : Connection) → PlainCall s t → KeepsPending s t
-plain_keeps s t call =
-    left_kept s t (plain_between Leaves (λ h. inl refl) (λ h fault takes room. inr (reject_reason fault, refl))
-    (λ h n within. inl refl) (λ h cut takes. inr (end_reason cut, refl)) (λ h opened none. inr (ReleasedHere, refl))
-    (λ h size opened room fit. inl refl) s t call)
+plain_keeps s t call = grind (arith, left_kept s t, plain_between Leaves)
 
 -- If no entry is due, settling only notifies an observer.
 pub notified_keeps : (store : StoreValue) (now : ℕ) (s : Connection) → next_pending now s ≡ None

@@ -1,10 +1,10 @@
 -- The split of the input does not matter: an input slice makes the same steps as its two parts in turn.
-use Rattle.std.proofs.Common.{◌≡◌, ℕ, List, [], ◌∷◌, ◌++◌, Option, Some, None, refl, sym, append_assoc, arith}
+use Rattle.std.proofs.Common.{◌≡◌, ℕ, List, [], ◌∷◌, ◌++◌, Option, None, refl, append_assoc, arith}
 use Rattle.std.proofs.lemmas.List.{append-nil, map-append}
 use Rattle.std.proofs.Math.Seq.{drop-append_seam}
 use Rattle.coap_model.specs.Prelude.{StreamFault, Stream, stream_after, continued, split_on, ConfigValues, AcceptedCall}
-use Rattle.coap_model.specs.Prelude.{Took, Ended, taken_on, size_on, stream_on, spelled_on, beyond, steps_by}
-use Rattle.coap_model.specs.Prelude.{later_steps, steps_of, world_after}
+use Rattle.coap_model.specs.Prelude.{Took, taken_on, size_on, stream_on, spelled_on, beyond, steps_by, later_steps}
+use Rattle.coap_model.specs.Prelude.{steps_of, world_after}
 use Rattle.coap_model.proofs.world.StepLaws.{taken_then, later_steps_more, size_then, sizes_then, read_before}
 use Rattle.coap_model.proofs.world.StepLaws.{stream_more, spelled_by, spelled_then}
 use Rattle.coap_model.proofs.world.TookLaws.{nothing_beyond}
@@ -25,13 +25,7 @@ stream_alike M id es fs alike = grind arith
 by_alike : (M : ℕ) (es fs : List AcceptedCall) (e : AcceptedCall) → SpellAlike M es fs
     → steps_by M es e ≡ steps_by M fs e
 unfolding steps_by
-by_alike M es fs (Took id bytes) alike =
-    cc (
-      stream_alike M id es fs alike,
-      stream_alike M id (es ++ Took id bytes ∷ []) (fs ++ Took id bytes ∷ []) (alike_by M es fs (Took id bytes) alike),
-    )
-by_alike M es fs (Ended id) alike = cc (stream_alike M id es fs alike)
-by_alike M es fs e alike = refl
+by_alike M es fs e alike = grind (arith, stream_alike, alike_by)
 
 after_alike : (M : ℕ) (es fs gs : List AcceptedCall) → SpellAlike M es fs → later_steps M es gs ≡ later_steps M fs gs
 unfolding later_steps
@@ -46,36 +40,47 @@ parts : (id : ℕ) (before s t : Stream) (fault : Option StreamFault) → before
     → beyond id before (continued (stream_after before.messages s) fault t)
     ≡ beyond id before (stream_after before.messages s)
     ++ beyond id (stream_after before.messages s) (continued (stream_after before.messages s) fault t)
-parts id before s t None none is =
-    rw (drop-append_seam (before.messages ++ s.messages) t.messages)
-    (simp (none, is, append_assoc, drop-append_seam, map-append, append-nil))
-parts id before s t (Some fault) none is =
-    rw (nothing_beyond id (stream_after before.messages s)) (sym
-    (append-nil (beyond id before (stream_after before.messages s))))
+parts id before s t fault none is =
+    grind (arith, drop-append_seam, append_assoc, map-append, append-nil, nothing_beyond)
 
 -- A stream continued by xs and then by ys.
 beyond_parts : (M id : ℕ) (before : Stream) (fault : Option StreamFault) (xs ys : List ℕ) → before.fault ≡ fault
     → beyond id before (split_on M (split_on M before xs) ys)
     ≡ beyond id before (split_on M before xs) ++ beyond id (split_on M before xs) (split_on M (split_on M before xs) ys)
-beyond_parts M id before None xs ys none = grind (arith, parts id before)
-beyond_parts M id before (Some fault) xs ys is = grind (arith, nothing_beyond id before)
+beyond_parts M id before fault xs ys none = grind (arith, parts, nothing_beyond)
 
 -- ---- an input slice in two parts
 
 pub spelled_twice : (M : ℕ) (es : List AcceptedCall) (other : ℕ) (xs ys : List ℕ)
     → SpellAlike M (es ++ Took other (xs ++ ys) ∷ []) ((es ++ Took other xs ∷ []) ++ Took other ys ∷ [])
 spelled_twice M es other xs ys id =
-    grind (arith, read_before M id es (Took other (xs ++ ys)), read_before M id, sizes_then M id es (Took other xs),
-    taken_then id es (Took other xs), size_then M id es (Took other (xs ++ ys)), size_then M id,
-    size_then M id es (Took other xs), append_assoc (taken_on id es) xs ys, append-nil (taken_on id es))
+    grind (
+      arith,
+      read_before M id es (Took other (xs ++ ys)),
+      read_before M id,
+      sizes_then M id es (Took other xs),
+      taken_then id es (Took other xs),
+      size_then M id es (Took other (xs ++ ys)),
+      size_then M id,
+      size_then M id es (Took other xs),
+      append_assoc (taken_on id es) xs ys,
+      append-nil (taken_on id es),
+    )
 
 -- The steps of a slice are those of its parts.
 by_parts : (M : ℕ) (es : List AcceptedCall) (id : ℕ) (xs ys : List ℕ)
     → steps_by M es (Took id (xs ++ ys)) ≡ steps_by M es (Took id xs) ++ steps_by M (es ++ Took id xs ∷ []) (Took id ys)
 unfolding steps_by
 by_parts M es id xs ys =
-    grind (arith, stream_alike M id (es ++ Took id (xs ++ ys) ∷ []), spelled_twice M es id xs ys, stream_more M id,
-    size_then M id es (Took id xs), stream_more M id es xs, beyond_parts (size_on M id es) id (stream_on M id es))
+    grind (
+      arith,
+      stream_alike M id (es ++ Took id (xs ++ ys) ∷ []),
+      spelled_twice M es id xs ys,
+      stream_more M id,
+      size_then M id es (Took id xs),
+      stream_more M id es xs,
+      beyond_parts (size_on M id es) id (stream_on M id es),
+    )
 
 -- ---- the theorem
 
@@ -83,15 +88,15 @@ pub cut_steps : (M : ℕ) (es fs : List AcceptedCall) (id : ℕ) (xs ys : List �
     → steps_of M (es ++ Took id (xs ++ ys) ∷ fs) ≡ steps_of M (es ++ Took id xs ∷ Took id ys ∷ fs)
 unfolding steps_of later_steps
 cut_steps M es fs id xs ys =
-    let half : List AcceptedCall = es ++ Took id xs ∷ [] in
-    rw (
-      later_steps_more M [] es (Took id (xs ++ ys) ∷ fs),
-      later_steps_more M [] es (Took id xs ∷ Took id ys ∷ fs),
+    let half = es ++ Took id xs ∷ [] in
+    grind (
+      arith,
+      later_steps_more M,
       by_parts M es id xs ys,
       after_alike M (es ++ Took id (xs ++ ys) ∷ []) (half ++ Took id ys ∷ []) fs (spelled_twice M es id xs ys),
       append_assoc (steps_by M es (Took id xs)) (steps_by M half (Took id ys))
           (later_steps M (half ++ Took id ys ∷ []) fs),
-    ) refl
+    )
 
 pub cut_worlds : (c : ConfigValues) (es fs : List AcceptedCall) (id : ℕ) (xs ys : List ℕ)
     → world_after c (es ++ Took id (xs ++ ys) ∷ fs) ≡ world_after c (es ++ Took id xs ∷ Took id ys ∷ fs)

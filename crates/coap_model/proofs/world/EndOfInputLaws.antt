@@ -1,5 +1,5 @@
 -- Facts that hold of every world, and the theorem that no change is lost in it.
-use Rattle.std.proofs.Common.{◌≡◌, ℕ, ◌≤◌, Bool, false, List, [], ◌∷◌, map, Some, refl, ◌==◌, arith, ◌&&◌}
+use Rattle.std.proofs.Common.{◌≡◌, ℕ, ◌≤◌, Bool, false, List, [], ◌∷◌, map, Some, refl, arith, ◌&&◌}
 use Rattle.coap_model.specs.Prelude.{AllByRecursion, LimitValues, StoreValue, found_in, Change, Put, Delete, changed}
 use Rattle.coap_model.specs.Prelude.{ConfigValues, Connection, side_after, change_after, side_ended, IsUpToDate}
 use Rattle.coap_model.specs.Prelude.{settled, ConnectionEntry, World, new_world, side_of, stored_after, Step, Handled}
@@ -7,7 +7,7 @@ use Rattle.coap_model.specs.Prelude.{Faulted, Written, acted, settled_place, ste
 use Rattle.coap_model.specs.Prelude.{world_after, takes_messages, normalised_step, received_steps, normalised_steps}
 use Rattle.coap_model.specs.Prelude.{all_settled, on_side}
 use Rattle.std.proofs.lemmas.Bool.Decides.{nat_tests}
-use Rattle.std.proofs.lemmas.Bool.{leb-true, cond_both}
+use Rattle.std.proofs.lemmas.Bool.{leb-true}
 use Rattle.coap_model.specs.world.World.{changed_at, Opened, Ticked, Stored, Removed, Ended, Released, Announced}
 use Rattle.coap_model.specs.world.World.{Responded, Dropped}
 use Rattle.coap_model.proofs.world.KnownLaws.{still_versioned, IsVersioned}
@@ -43,15 +43,19 @@ on_side_known : (w : World) (id : ℕ) (f : Connection → Connection)
     → IsKnownWorld (on_side id f w)
 on_side_known w id f keeps known =
     with_places w _ known (all_map (IsKnownPlace w.store) _ (changed_at id f)
-    (λ p is. cond_both (p.id == id) _ p (IsKnownPlace w.store) (λ here. keeps p.side is) (λ apart. is)) w.sides
+    (λ p is. grind arith) w.sides
     known.places)
 
 -- Any change of the store keeps the facts.
 changed_known : (w : World) (change : Change) → IsKnownWorld w
     → IsKnownWorld (record w { store = changed w.store change })
 changed_known w change known =
-    grind (arith, still_versioned w.store change known.versioned,
-    all_to (IsKnownPlace w.store) (IsKnownPlace (changed w.store change)), still_known_side w.store change)
+    grind (
+      arith,
+      still_versioned w.store change known.versioned,
+      all_to (IsKnownPlace w.store) (IsKnownPlace (changed w.store change)),
+      still_known_side w.store change,
+    )
 
 pub acted_known : (limits : LimitValues) (w : World) (s : Step) → IsKnownWorld w → IsKnownWorld (acted limits w s)
 unfolding acted
@@ -60,7 +64,8 @@ acted_known limits w (Handled id m) known =
     let after = on_side_known w id (λ s. side_after w.store w.now s m)
     (λ s. after_known w.store w.now known.moment known.versioned s m) known in
     there_or_not (side_of id w.sides)
-    (λ found. IsKnownWorld (record (on_side id (λ s. side_after w.store w.now s m) w) { store = stored_after w m found }))
+    (λ found. IsKnownWorld
+    (record (on_side id (λ s. side_after w.store w.now s m) w) { store = stored_after w m found }))
     (λ e. after) (λ s e. changed_known _ (change_after w.store w.now s m) after)
 acted_known limits w (Faulted id fault) known = on_side_known w id _ (λ s. plain_known w.store s _ (Fault fault)) known
 acted_known limits w (Written id n) known = on_side_known w id _ (λ s. plain_known w.store s _ (Write n)) known
@@ -141,8 +146,7 @@ each_same f g ps distinct same =
 received_acted : (limits : LimitValues) (w : World) (s : Step) → AreDistinct w.sides
     → acted limits w (normalised_step w s) ≡ acted limits w s
 unfolding acted
-received_acted limits w (world.Ended id cut) distinct = grind (arith, each_same, nat_tests, ends_if_taking)
-received_acted limits w other distinct = refl
+received_acted limits w s distinct = grind (arith, each_same, nat_tests, ends_if_taking)
 
 all_received : (limits : LimitValues) (w : World) (ss : List Step) → AreDistinct w.sides
     → after_steps limits w (received_steps limits w ss) ≡ after_steps limits w ss

@@ -1,9 +1,8 @@
 -- Lists of observers and other lists: facts on each element, and the first element that is due.
 use Rattle.std.proofs.Common.{◌≡◌, ℕ, ◌+◌, ◌≤◌, Bool, true, false, List, [], ◌∷◌, ◌++◌, length, map, Some, None, refl}
-use Rattle.std.proofs.Common.{subst, arith, filter, find, if◌then◌else◌, inl, inr}
+use Rattle.std.proofs.Common.{arith, filter, find, if◌then◌else◌}
 use Rattle.coap_model.specs.Prelude.{AllByRecursion, with_entry, first_becomes, asks_entry, Watch}
 use Rattle.coap_store.specs.declared.plan.Watch.TheVariants as watch
-use Rattle.std.proofs.lemmas.Bool.{cases_Bool, cond_both}
 use Rattle.coap_model.proofs.OptionLemmas.{same_there}
 
 -- ---- properties of each element
@@ -21,10 +20,7 @@ all_append P (o ∷ os) ps all more = (all.0, all_append P os ps all.1 more)
 pub all_filter : {O : Type 0} (P : O → Type 0) (test : O → Bool) (os : List O) → AllByRecursion P os
     → AllByRecursion P (filter test os)
 all_filter P test [] all = tt
-all_filter P test (o ∷ os) all = elim (cases_Bool (test o)) [
-  | inl is ↦ rw is (all.0, all_filter P test os all.1)
-  | inr is ↦ rw is (all_filter P test os all.1)
-]
+all_filter P test (o ∷ os) all = grind (arith, all_filter P test os all.1)
 
 pub all_map : {O R : Type 0} (P : O → Type 0) (Q : R → Type 0) (f : O → R) → ((o : O) → P o → Q (f o)) → (os : List O)
     → AllByRecursion P os → AllByRecursion Q (map f os)
@@ -33,28 +29,23 @@ all_map P Q f to (o ∷ os) all = (to o all.0, all_map P Q f to os all.1)
 
 pub all_if : {O : Type 0} (P : O → Type 0) (b : Bool) (os : List O) → AllByRecursion P os
     → AllByRecursion P (if b then os else [])
-all_if P b os all = cond_both b os [] (AllByRecursion P) (λ is. all) (λ is. tt)
+all_if P b os all = grind arith
 
 pub all_entered : {O : Type 0} (P : O → Type 0) (enters : Bool) (os : List O) (o : O) → AllByRecursion P os
     → (enters ≡ true → P o) → AllByRecursion P (with_entry enters os o)
-all_entered P true os o all new = all_append P os (o ∷ []) all (new refl, tt)
-all_entered P false os o all new = all
+all_entered P enters os o all new = grind (arith, all_append)
 
 pub all_become : {O : Type 0} (P : O → Type 0) (due : O → Bool) (after os : List O) → AllByRecursion P os
     → AllByRecursion P after → AllByRecursion P (first_becomes due after os)
 unfolding first_becomes
 all_become P due after [] all new = tt
 all_become P due after (o ∷ os) all new =
-    elim (due o) as (λ b. AllByRecursion P (if b then after ++ os else o ∷ first_becomes due after os)) [
-      | true ↦ all_append P after os new all.1
-      | false ↦ (all.0, all_become P due after os all.1 new)
-    ]
+    grind (arith, all_append P after os new all.1, all_become P due after os all.1 new)
 
 -- ---- the entry that a request asks for
 
 pub asks_to_enter : (requested : Watch) → asks_entry requested ≡ true → requested ≡ watch.Add
-asks_to_enter watch.Add e = refl
-asks_to_enter other e = absurd cc
+asks_to_enter requested e = grind arith
 
 -- ---- lists that functions compute
 
@@ -77,13 +68,11 @@ mapped_filter f test (x ∷ xs) = grind (arith, mapped_filter f test xs)
 pub found_all : {O : Type 0} (P : O → Type 0) (due : O → Bool) (os : List O) (o : O) → AllByRecursion P os
     → find due os ≡ Some o → P o
 found_all P due [] o all e = absurd cc
-found_all P due (p ∷ os) o all e =
-    cond_both (due p) (Some p) (find due os) (λ found. found ≡ Some o → P o)
-    (λ is first. subst P (same_there p o first) all.0) (λ is later. found_all P due os o all.1 later) e
+found_all P due (p ∷ os) o all e = grind (arith, same_there p o, found_all P due os o all.1)
 
 pub none_due : {O : Type 0} (due : O → Bool) (os : List O) → find due os ≡ None → AllByRecursion (λ o. due o ≡ false) os
 none_due due [] e = tt
-none_due due (o ∷ os) e = elim (cases_Bool (due o)) [ inl is ↦ absurd cc | inr is ↦ (is, none_due due os (rw is at e)) ]
+none_due due (o ∷ os) e = grind (arith, none_due due os)
 
 pub none_found : {O : Type 0} (due : O → Bool) (os : List O)
     → AllByRecursion (λ o. due o ≡ false) os → find due os ≡ None

@@ -3,10 +3,9 @@
 use Rattle.std.proofs.Common.{◌≡◌, ℕ, ◌≤◌, Bool, true, false, List, length, Option, Some, refl, ◌∙◌, arith}
 use Rattle.std.proofs.lemmas.Bool.{true_from_ne_false}
 use Rattle.std.proofs.lemmas.List.{length-drop}
-use Rattle.coap_model.specs.Prelude.{Message, StreamFault, Reply, Server, LimitValues, takes_messages, fit}
-use Rattle.coap_model.specs.Prelude.{bare_response, PendingEntryValue, first_due, ConnectionState, ReactionResult}
-use Rattle.coap_model.specs.Prelude.{send_as, pong_with, due_effect, History, IsHistory, state_now, with_effect, after}
-use Rattle.coap_model.specs.Prelude.{link_of, bytes_of, Call, call_effect, state_due, state_without, limit_now}
+use Rattle.coap_model.specs.Prelude.{Message, StreamFault, Reply, Server, LimitValues, takes_messages}
+use Rattle.coap_model.specs.Prelude.{PendingEntryValue, ConnectionState, ReactionResult, send_as, due_effect, History}
+use Rattle.coap_model.specs.Prelude.{IsHistory, state_now, with_effect, after, link_of, bytes_of, Call, call_effect}
 use Rattle.coap_model.specs.Prelude.{StoreValue, ApplicationsValue, ConfigValues, Connection, new_side, handles}
 use Rattle.coap_model.specs.Prelude.{side_after, side_faulted, side_written, side_ended, side_released, side_announced}
 use Rattle.coap_model.specs.Prelude.{side_responded, late_message, after_sent, settled_once, settled, World, Step}
@@ -48,8 +47,7 @@ effect_goes_on h e over = grind (arith, history_more h e.queued)
 
 sent_over : (s : ConnectionState) (m less : Message) (r : Reply) → takes_messages s.phase ≡ false
     → takes_messages (send_as s m less r).phase ≡ false
-sent_over s m less reply.Stopped e = refl
-sent_over s m less other e = e
+sent_over s m less r e = grind arith
 
 pub sent_goes_so : (h : History) (m less : Message) → GoesOn h (sent h m less)
 sent_goes_so h m less = grind (arith, effect_goes_on h, sent_over (state_now h) m less)
@@ -62,36 +60,45 @@ written_goes_on h n within = grind (arith, length-drop h.written (bytes_of h.que
 
 pub all_go_on : KeepsAll GoesOn
 all_go_on =
-    grind (arith, as_before, further, history_more, sent_goes_so, holding_so, without_first, effect_goes_on,
-    sent_over, written_goes_on)
+    grind (
+      arith,
+      as_before,
+      further,
+      history_more,
+      sent_goes_so,
+      holding_so,
+      without_first,
+      effect_goes_on,
+      sent_over,
+      written_goes_on,
+    )
 
 -- ---- each call
 
 due_over : (s : ConnectionState) (first : Option PendingEntryValue) → takes_messages s.phase ≡ false
     → takes_messages (due_effect s first).phase ≡ false
-due_over s (Some (pending.Pong token)) e =
-    sent_over s (pong_with true token) (pong_with false token)
-    (fit s.limit (pong_with true token) (pong_with false token)) e
-due_over s other e = e
+due_over s first e = grind (arith, sent_over)
 
 -- No call changes the fixed values of a connection, or makes it accept messages again.
 pub call_goes_on : (h : History) (c : Call) → IsWithin (link_of h) (call_effect (link_of h) c).deed
     → GoesOn h (after h c)
-call_goes_on h (call.Reply m) within = grind (arith, as_before h, sent_goes_so h m (bare_response m))
-call_goes_on h (call.Hold token moment) within = grind (arith, as_before h, holding_so h)
-call_goes_on h (call.HoldRequest token moment) within = grind (arith, as_before h, holding_so h)
-call_goes_on h (call.Respond m) within =
-    grind (arith, as_before h, effect_goes_on h,
-    sent_over (state_without m.token (state_now h)) m (bare_response m) (fit (limit_now h) m (bare_response m)))
-call_goes_on h (call.Due now) within =
-    effect_goes_on h _ (due_over (state_due now (state_now h)) (first_due now h.pending))
-call_goes_on h (call.Written n) within = written_goes_on h n within
-call_goes_on h other within = grind (arith, as_before h, history_more h)
+call_goes_on h c within =
+    grind (
+      arith,
+      as_before,
+      sent_goes_so,
+      holding_so,
+      effect_goes_on,
+      sent_over,
+      due_over,
+      written_goes_on,
+      history_more,
+    )
 
 -- The first due entry is removed, and its message is sent.
 pub sent_goes_on : (h : History) (now : ℕ) (e : PendingEntryValue) → GoesOn h (after_sent h now e)
 sent_goes_on h now (pending.Answer by token moment) =
-    let k : History = after h (call.Due now) in
+    let k = after h (call.Due now) in
     further h k _ (call_goes_on h (call.Due now) tt) (call_goes_on k (call.Reply (late_message by token)) tt)
 sent_goes_on h now (pending.Pong token) = call_goes_on h (call.Due now) tt
 
@@ -152,21 +159,18 @@ GoesOnKeeping limits P s t = Between GoesOn s t × (IsSide limits s → P s → 
 keeps_hold : (limits : LimitValues) (a : Option ApplicationsValue) (P : Connection → Type 0) → Keeps limits a P
     → (w : World) (st : Step) (id : ℕ) → w.store.applications ≡ a → HoldsOf (GoesOnKeeping limits P) w st id
 keeps_hold limits a P keeps w st id same =
-    let goes : HoldsOf (Between GoesOn) w st id = all_across GoesOn all_go_on w st id in
+    let goes = all_across GoesOn all_go_on w st id in
     record {
-      same = λ s. (goes.same s, λ side is. is);
+      same = λ s. grind arith;
       handled = λ m at s. (goes.handled m at s, keeps.handled w.store w.now s m same);
       faulted = λ fault at s. (goes.faulted fault at s, λ side. keeps.faulted s fault);
       written = λ s n. (goes.written s n, λ side. keeps.written s n);
       ended = λ s cut. (goes.ended s cut, λ side. keeps.ended s cut);
-      released = λ s. (goes.released s, λ side. keeps.released s);
-      announced = λ size at s. (goes.announced size at s, λ side. keeps.announced s size);
-      responded = λ s m. (goes.responded s m, λ side. keeps.responded s m);
+      released = λ s. grind arith;
+      announced = λ size at s. grind arith;
+      responded = λ s m. grind arith;
       reported =
-          λ store now s t before. (
-            goes.reported store now s t before.0,
-            λ side is. keeps.reported store now t (before.1 side is),
-          );
+          λ store now s t before. grind arith;
     }
 
 -- So each connection has the property after any events.

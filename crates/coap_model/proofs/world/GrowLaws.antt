@@ -1,13 +1,12 @@
 -- The messages queued on a connection remain in its history, and only a write counts bytes as written.
-use Rattle.std.proofs.Common.{◌≡◌, ℕ, List, [], ◌∷◌, ◌++◌, length, take, drop, Option, Some, None, refl, ap, ◌∙◌, arith}
-use Rattle.std.proofs.Common.{map}
+use Rattle.std.proofs.Common.{◌≡◌, ℕ, List, [], ◌∷◌, ◌++◌, length, take, drop, Option, Some, None, refl, arith, map}
 use Rattle.std.proofs.lemmas.Bool.{le-leb}
 use Rattle.std.proofs.lemmas.List.{append-nil, take-append-le, take-append-drop}
 use Rattle.std.proofs.Math.Seq.{take-add, take-length}
-use Rattle.coap_model.specs.Prelude.{Message, StreamFault, Stream, LimitValues, History, IsHistory, bytes_of}
-use Rattle.coap_model.specs.Prelude.{StoreValue, Connection, waiting_on, side_after, side_written, settled}
-use Rattle.coap_model.specs.Prelude.{ConfigValues, World, side_of, after_steps, AcceptedCall, Took, stream_on}
-use Rattle.coap_model.specs.Prelude.{new_fault, steps_by, world_after}
+use Rattle.coap_model.specs.Prelude.{Message, StreamFault, LimitValues, History, IsHistory, bytes_of, StoreValue}
+use Rattle.coap_model.specs.Prelude.{Connection, waiting_on, side_after, side_written, settled, ConfigValues, World}
+use Rattle.coap_model.specs.Prelude.{side_of, after_steps, AcceptedCall, Took, stream_on, new_fault, steps_by}
+use Rattle.coap_model.specs.Prelude.{world_after}
 use Rattle.coap_conn.proofs.GrowLaws.{Grows, same_queue, grows_self, grows_then}
 use Rattle.coap_conn.proofs.LinkLemmas.{bytes_more}
 use Rattle.coap_model.specs.world.World as world
@@ -23,16 +22,16 @@ SideGrows = Between Grows
 after_grows : (store : StoreValue) (now : ℕ) (s : Connection) (m : Message) → SideGrows s (side_after store now s m)
 after_grows =
     after_between Grows Grows grows_self grows_then
-    (λ h m takes room. record { more = _; queued = refl; written = refl }) grows_self
-    (λ h token observe r does room. record { more = _; queued = refl; written = refl })
+    (λ h m takes room. grind arith) grows_self
+    (λ h token observe r does room. grind arith)
     (λ h by token moment opened may. same_queue h _ refl refl)
 
 pub settled_grows : (store : StoreValue) (now : ℕ) (s : Connection) → SideGrows s (settled store now s)
 settled_grows =
     settled_between Grows (record { same = grows_self; then = grows_then })
-    (λ h token observe r does room. record { more = _; queued = refl; written = refl })
+    (λ h token observe r does room. grind arith)
     (λ h now. same_queue h _ refl refl)
-    (λ h now token due room. record { more = _; queued = refl; written = refl })
+    (λ h now token due room. grind arith)
 
 -- ---- written bytes
 
@@ -42,23 +41,25 @@ front_written s = take s.history.written (bytes_of s.history.queued)
 
 pub same_front : (s t : Connection) → IsHistory s.history → SideGrows s t → front_written t ≡ front_written s
 same_front s t within grows =
-    grind (arith, bytes_more s.history.queued grows.more,
-    take-append-le s.history.written (bytes_of s.history.queued) (bytes_of grows.more) within)
+    grind (
+      arith,
+      bytes_more s.history.queued grows.more,
+      take-append-le s.history.written (bytes_of s.history.queued) (bytes_of grows.more) within,
+    )
 
 -- All queued bytes are written.
 pub written_all : (s : Connection)
     → front_written (side_written s (length (waiting_on s))) ≡ front_written s ++ waiting_on s
 unfolding side_written
 written_all s =
-    let n : ℕ = length (waiting_on s) in
-    let B : List ℕ = bytes_of s.history.queued in
-    rw (le-leb n n (omega arith)) (take-add s.history.written n B
-    ∙ ap (λ (w : List ℕ). take s.history.written B ++ w) (take-length (drop s.history.written B)))
+    let n = length (waiting_on s) in
+    let B = bytes_of s.history.queued in
+    grind (arith, le-leb n n (omega arith), take-add s.history.written n B, take-length (drop s.history.written B))
 
 -- If no bytes are queued, all were written.
 pub none_waits_all_written : (s : Connection) → waiting_on s ≡ [] → front_written s ≡ bytes_of s.history.queued
 none_waits_all_written s none =
-    let B : List ℕ = bytes_of s.history.queued in
+    let B = bytes_of s.history.queued in
     cc (append-nil (take s.history.written B), take-append-drop s.history.written B)
 
 -- ---- a take
@@ -77,13 +78,18 @@ messages_grown : (limits : LimitValues) (w : World) (id : ℕ) (ms : List Messag
 unfolding after_steps
 messages_grown limits w id [] before None s is = (s, is, grows_self s.history)
 messages_grown limits w id [] None (Some fault) s is =
-    grind (arith, settles_grown id, faulted_there limits w id fault s is, faulted_between Grows grows_self,
-    grows_self)
+    grind (
+      arith,
+      settles_grown id,
+      faulted_there limits w id fault s is,
+      faulted_between Grows grows_self,
+      grows_self,
+    )
 messages_grown limits w id [] (Some old) (Some fault) s is = (s, is, grows_self s.history)
 messages_grown limits w id (m ∷ ms) before after s is =
-    let v : World = world.step limits w (world.Handled id m) in
+    let v = world.step limits w (world.Handled id m) in
     let there = handled_there limits w id m s is in
-    let one : SomeGrown id v s =
+    let one =
     settles_grown id v there.0 w.now s (side_after w.store w.now s m) there.1 (after_grows w.store w.now s m) in
     let rest = messages_grown limits v id ms before after one.0 one.1 in
     (rest.0, rest.1, grows_then s.history one.0.history rest.0.history one.2 rest.2)
@@ -94,8 +100,8 @@ pub took_grows : (c : ConfigValues) (es : List AcceptedCall) (id : ℕ) (bytes :
     → (t : Connection) × (side_of id (world_after c (es ++ Took id bytes ∷ [])).sides ≡ Some t) × SideGrows s t
 unfolding steps_by
 took_grows c es id bytes s is =
-    let before : Stream = stream_on c.limits.max_message id es in
-    let after : Stream = stream_on c.limits.max_message id (es ++ Took id bytes ∷ []) in
+    let before = stream_on c.limits.max_message id es in
+    let after = stream_on c.limits.max_message id (es ++ Took id bytes ∷ []) in
     rw (world_more c es (Took id bytes))
     (messages_grown c.limits (world_after c es) id (drop (length before.messages) after.messages)
     before.fault after.fault s is)

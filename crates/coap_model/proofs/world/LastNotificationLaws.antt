@@ -7,9 +7,9 @@ use Rattle.coap_model.specs.Prelude.{AllByRecursion, Message, LimitValues, is_op
 use Rattle.coap_model.specs.Prelude.{PendingEntryValue, Answer, Pong, first_due, History, limit_now, after, same_bytes}
 use Rattle.coap_model.specs.Prelude.{StoreValue, state_of, prompt_answer, response_with_observe, ConfigValues, Observer}
 use Rattle.coap_model.specs.Prelude.{is_due, without_token, has_place, entry_for, is_whole, with_entry, goes_on}
-use Rattle.coap_model.specs.Prelude.{notification, notification_message, left_of, first_becomes, Connection, handles}
-use Rattle.coap_model.specs.Prelude.{side_with, with_history, side_answered, side_handled, side_after, next_due}
-use Rattle.coap_model.specs.Prelude.{notified, late_message, after_sent, side_of, AcceptedCall, world_after, responds}
+use Rattle.coap_model.specs.Prelude.{notification, notification_message, left_of, first_becomes, Connection, side_with}
+use Rattle.coap_model.specs.Prelude.{with_history, side_answered, side_handled, side_after, next_due, notified}
+use Rattle.coap_model.specs.Prelude.{late_message, after_sent, side_of, AcceptedCall, world_after, responds}
 use Rattle.coap_model.specs.Prelude.{is_response, ReportsState, requested_late, IsLastNotification, TokensAreDistinct}
 use Rattle.coap_model.specs.Prelude.{CorrespondTo, side_responded, response_refusal, link_of, with_effect, send}
 use Rattle.coap_model.specs.Prelude.{state_without, state_now, answers}
@@ -135,9 +135,7 @@ module _ (a : Option ApplicationsValue) where
   entered_reported : (h : History) (os : List Observer) (entry : Observer) (enters : Bool)
       → HaveOtherTokens entry.token os → AreReported h os → (enters ≡ true → IsLastNotification h.queued entry)
       → AreReported h (with_entry enters os entry)
-  entered_reported h os entry true others are new =
-      grind (arith, own_last os entry others are.own, all_append (ReportedOn h) os (entry ∷ []) are.reported)
-  entered_reported h os entry false others are new = are
+  entered_reported h os entry enters others are new = grind (arith, own_last, all_append)
 
   -- The response to the request reports it.
   reported_with_answer : (store : StoreValue) (now : ℕ) (h : History) (os : List Observer) (m : Message)
@@ -154,10 +152,12 @@ module _ (a : Option ApplicationsValue) where
       (λ e. (
       let both = and_parts observes (is_whole (fit (limit_now h) response (bare_response response))) e in
       let asks = asks_to_enter r.watch (and_parts _ _ both.0).0 in
-      subst (λ queued. IsLastNotification queued entry) (sym (whole_last h response both.1 opened))
-      (reported_by_last entry h.queued response
-      (subst (λ b. ReportsState entry entry.reported (response_with_observe m.token b r.response)) (sym both.0)
-      (entry_reports store now m asks))))))
+      grind (
+        arith,
+        whole_last h response both.1 opened,
+        reported_by_last entry h.queued response,
+        entry_reports store now m asks,
+      ))))
 
   -- ---- messages
 
@@ -165,9 +165,18 @@ module _ (a : Option ApplicationsValue) where
       → IsSide limits s → AllReported s → AllReported (side_handled store now s m)
   unfolding without_token
   handled_reported limits store now s m is are =
-      grind (arith, signalled s.history, message_queues s.history m is.is_server, own_filter,
-      all_filter (ReportedOn s.history), handled_cases store now s m AllReported, kept_reported, holding,
-      reported_with_answer store now, filter_others m.token s.observers)
+      grind (
+        arith,
+        signalled s.history,
+        message_queues s.history m is.is_server,
+        own_filter,
+        all_filter (ReportedOn s.history),
+        handled_cases store now s m AllReported,
+        kept_reported,
+        holding,
+        reported_with_answer store now,
+        filter_others m.token s.observers,
+      )
 
   -- ---- notifications
 
@@ -194,14 +203,15 @@ module _ (a : Option ApplicationsValue) where
               let others = subst (λ q. HaveOtherTokens q.token os) same are.own.0 in
               record {
                 own = own_left os others are.own.1;
-                reported = all_append (ReportedOn k) left os new (others_left o.token h k os queues others are.reported.1);
+                reported = all_append (ReportedOn k) left os new
+                    (others_left o.token h k os queues others are.reported.1);
               }
               )
           | false ↦ λ is. (
               let apart : p.token ≢ o.token = found_all (λ q. p.token ≢ q.token) due os o are.own.0 is in
               let later = reported_become os is (record { own = are.own.1; reported = are.reported.1 }) in
               record {
-                own = (all_become (λ q. p.token ≢ q.token) due left os are.own.0 (left_apart p.token apart), later.own);
+                own = grind (arith, all_become, left_apart p.token apart);
                 reported = (other_left o.token h k p queues (λ same. apart (sym same)) are.reported.0, later.reported);
               }
               )
@@ -216,10 +226,11 @@ module _ (a : Option ApplicationsValue) where
   left_reported store now h o true both opened =
       let m = notification_message o.token (notification store now o) in
       let is = and_parts _ _ (both refl) in
-      let left = record o { reported = state_of store now o.path } in (
-        (λ none. subst (λ queued. IsLastNotification queued left) (sym (whole_last h m is.1 opened))
-            (reported_by_last left h.queued m (notification_reports_observer store now o is.0))),
-        tt,
+      let left = record o { reported = state_of store now o.path } in
+      grind (
+        arith,
+        whole_last h m is.1 opened,
+        reported_by_last left h.queued m (notification_reports_observer store now o is.0),
       )
   left_reported store now h o false both opened = tt
 
@@ -230,8 +241,13 @@ module _ (a : Option ApplicationsValue) where
   notified_reported store now s (Some o) there are =
       let m = notification_message o.token (notification store now o) in
       let h = after s.history (call.Reply m) in
-      kept_reported h _ (λ opened. reported_become store now s.history h o (reply_queues s.history m) _
-      (left_reported store now s.history o _ (λ e. e) opened) (is_due store now) s.observers (there o refl) are)
+      grind (
+        arith,
+        kept_reported h,
+        reported_become store now s.history h o (reply_queues s.history m),
+        reply_queues s.history m,
+        left_reported store now s.history o,
+      )
 
   -- ---- pending entries
 
@@ -241,10 +257,13 @@ module _ (a : Option ApplicationsValue) where
   sent_reported s now (Answer by token moment) found stand are =
       let h = after s.history (call.Due now) in
       let first = due_answer now s.history.pending by token moment found in
-      kept_reported _ s.observers (λ opened. late_left by token moment h _ s.observers
-      (reply_queues h (late_message by token)) first.before first.after
-      (subst (CorrespondTo a s.history.handled) first.there stand)
-      (signalled s.history h s.observers (due_queues s.history now) are))
+      grind (
+        arith,
+        kept_reported,
+        late_left by token moment h,
+        reply_queues h (late_message by token),
+        signalled s.history h s.observers (due_queues s.history now) are,
+      )
   sent_reported s now (Pong token) found stand are =
       grind (arith, kept_reported, signalled s.history, due_queues s.history now)
 
@@ -285,23 +304,22 @@ module _ (a : Option ApplicationsValue) where
   reported_side_keeps limits =
       let corresponds = corresponds_keeps limits a in
       record {
-        first = (corresponds.first, record { own = tt; reported = tt });
-        handled = λ store now s m same is of. (
-          corresponds.handled store now s m same is of.0,
-          cond_both (handles s) (side_handled store now s m) s AllReported
-              (λ does. handled_reported limits store now s m is of.1) (λ off. of.1),
-        );
+        first = grind arith;
+        handled = λ store now s m same is of. grind (arith, handled_reported limits store now s m is of.1);
         faulted = λ s fault. plain_reported s _ (Fault fault);
         written = λ s n. plain_reported s _ (Write n);
         ended = λ s cut. plain_reported s _ (End cut);
         released = λ s. plain_reported s _ Release;
         announced = λ s size. plain_reported s _ (Announcement size);
-        responded = λ s m of. (corresponds.responded s m of.0, responded_reported s m of.0 of.1);
-        reported = λ store now s of. (
-          corresponds.reported store now s of.0,
-          settled_cases store now s AllReported (λ e is. sent_reported s now e (pending_room now s e is).1 of.0 of.1)
-              (λ is. notified_reported store now s (next_due store now s) (next_due_found store now s) of.1),
-        );
+        responded = λ s m of. grind (arith, responded_reported s m of.0 of.1);
+        reported = λ store now s of.
+            grind (
+              arith,
+              settled_cases store now s AllReported,
+              sent_reported s now,
+              pending_room now s,
+              notified_reported store now s (next_due store now s) (next_due_found store now s) of.1,
+            );
       }
 
 pub are_reported : (c : ConfigValues) (es : List AcceptedCall) (id : ℕ) (s : Connection)

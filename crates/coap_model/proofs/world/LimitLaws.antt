@@ -1,19 +1,18 @@
 -- No limit of a server is exceeded. After any events, this holds of the queued bytes, the pending entries and the
 -- observers of a connection. After accepted events, it also holds of the bytes kept of an unfinished frame.
 use Rattle.std.proofs.Common.{◌≡◌, ℕ, ◌+◌, ◌<◌, ◌≤◌, Bool, true, false, List, [], ◌∷◌, ◌++◌, length, Some, None, refl}
-use Rattle.std.proofs.Common.{ap, ◌∙◌, arith, sym, subst, append_assoc}
+use Rattle.std.proofs.Common.{◌∙◌, arith, sym, subst, append_assoc}
 use Rattle.std.proofs.lemmas.Bool.{leb-true, ltb-true, eqb-true}
 use Rattle.std.proofs.lemmas.List.{length-append, length-drop, append-nil}
 use Rattle.std.proofs.lemmas.List.Sums.{length-filter, count_by-le-length}
-use Rattle.coap_model.specs.Prelude.{ApplicationsValue, Option, Message, spelling, Reply, Whole, LimitValues}
-use Rattle.coap_model.specs.Prelude.{AreInRange, announced, bad_csm_option, announcement, AllFit, fit, bare_response}
-use Rattle.coap_model.specs.Prelude.{Answer, ConnectionState, send_as, send, react, pong_with, ReactionResult, stop}
-use Rattle.coap_model.specs.Prelude.{live_reaction, reject_reason, History, IsHistory, limit_now, state_now, after}
-use Rattle.coap_model.specs.Prelude.{link_of, with_effect, bytes_of, own_csm, free_in, release, end_reason, StoreValue}
+use Rattle.coap_model.specs.Prelude.{ApplicationsValue, Option, Message, spelling, Reply, LimitValues, AreInRange}
+use Rattle.coap_model.specs.Prelude.{announced, bad_csm_option, announcement, AllFit, fit, bare_response, Answer}
+use Rattle.coap_model.specs.Prelude.{ConnectionState, send_as, react, pong_with, ReactionResult, stop, live_reaction}
+use Rattle.coap_model.specs.Prelude.{reject_reason, History, IsHistory, limit_now, state_now, after, link_of}
+use Rattle.coap_model.specs.Prelude.{with_effect, bytes_of, own_csm, free_in, release, end_reason, StoreValue}
 use Rattle.coap_model.specs.Prelude.{response_with_observe, ConfigValues, Observer, is_due, without_token, entry_for}
 use Rattle.coap_model.specs.Prelude.{left_of, first_becomes, Connection, new_side, settled_once, settled, side_of}
 use Rattle.coap_model.specs.Prelude.{World, Step, AcceptedCall, stream_on, world_after, AreAccepted, kept_on, Server}
-use Rattle.coap_model.specs.Prelude.{state_without}
 use Rattle.coap_model.proofs.world.SideLaws.{send_pending, observers_after, observers_settled}
 use Rattle.coap_wire.proofs.StreamSteps.{unfinished_below}
 use Rattle.coap_conn.proofs.LinkLemmas.{announced_more}
@@ -53,8 +52,7 @@ becomes_fewer due after [] one = omega arith
 becomes_fewer due after (o ∷ os) one = grind (arith, length-append after os, becomes_fewer due after os one)
 
 left_one : (store : StoreValue) (now : ℕ) (o : Observer) (stays : Bool) → length (left_of store now o stays) ≤ 1
-left_one store now o true = omega arith
-left_one store now o false = omega arith
+left_one store now o stays = grind arith
 
 pub few_keeps : (limits : LimitValues) (a : Option ApplicationsValue)
     → Keeps limits a (λ s. length s.observers ≤ limits.observers)
@@ -65,22 +63,25 @@ few_keeps limits a =
       first = omega arith;
       -- An entry is added only if there is a place for it.
       handled = λ store now s m same is few. observers_after Few store now s m (omega arith) few
-          (omega (arith, few, token_fewer m.token s.observers)) (λ requested place. (
-          let same : (after s.history (call.Handle m)).limits.observers ≡ limits.observers =
-          ap (λ (l : LimitValues). l.observers) ((call_goes_on s.history (call.Handle m) tt).limits ∙ is.same_limits) in
-          omega (arith, place, same, length-append (without_token m.token s.observers) (entry_for store now m ∷ []))));
+          (omega (arith, few, token_fewer m.token s.observers)) (λ requested place.
+          grind (
+            arith,
+            call_goes_on s.history,
+            length-append (without_token m.token s.observers) (entry_for store now m ∷ []),
+          ));
       faulted = kept.faulted;
       written = kept.written;
       ended = kept.ended;
       released = kept.released;
       announced = kept.announced;
       responded = kept.responded;
-      reported = λ store now s few. observers_settled Few store now s (omega arith) few
-          (λ o stays due on. omega (
+      reported = λ store now s few.
+          grind (
             arith,
-            few,
-            becomes_fewer (is_due store now) (left_of store now o stays) s.observers (left_one store now o stays),
-          ));
+            observers_settled Few store now s (omega arith) few,
+            becomes_fewer (is_due store now),
+            left_one store now,
+          );
     }
 
 -- ---- pending entries
@@ -102,7 +103,7 @@ all_hold_few = record {
   composes = keeping_composes HoldsFew;
   takes_input = λ h m takes room few. pending_few (state_now h) m few;
   replies =
-      λ h token observe r does room. (let m = response_with_observe token observe r in sent_few h m (bare_response m));
+      λ h token observe r does room. grind (arith, sent_few h);
   holds = λ h by token moment opened may few.
       omega (
         arith,
@@ -117,21 +118,14 @@ all_hold_few = record {
   releases = λ h opened none few. omega arith;
   announces = λ h size opened room fit few. few;
   responds = λ h m answering none few.
-      (let s : ConnectionState = state_without m.token (state_now h) in
-      omega (
-        arith,
-        few,
-        send_pending s m (bare_response m) (fit (limit_now h) m (bare_response m)),
-        request_fewer (link_of h) m none,
-      ));
+      grind (arith, send_pending, request_fewer (link_of h) m none);
   writes = λ h n within few. few;
 }
 
 -- ---- queued bytes
 
 sent_one : (s : ConnectionState) (m less : Message) (r : Reply) → length (send_as s m less r).queued ≤ 1
-sent_one s m less Whole = omega arith
-sent_one s m less other = omega arith
+sent_one s m less r = grind arith
 
 -- A message queues at most one message.
 message_one : (s : ConnectionState) (m : Message) → length (react s m).effect.queued ≤ 1
@@ -155,8 +149,14 @@ waits_by h k goes less w = grind arith
 added_waits : (h k : History) (ms : List Message) → GoesOn h k → wait k ≡ wait (record h { queued = h.queued ++ ms })
     → room_in h ≡ true → length ms ≤ 1 → AllFit (limit_now h) ms → Waits h → Waits k
 added_waits h k ms goes same room one each =
-    grind (arith, waits_by h k goes, queued_waits h ms, one_small (limit_now h) ms one each, limit_within h,
-    leb-true h.limits.max_sent (free_in (link_of h)) room)
+    grind (
+      arith,
+      waits_by h k goes,
+      queued_waits h ms,
+      one_small (limit_now h) ms one each,
+      limit_within h,
+      leb-true h.limits.max_sent (free_in (link_of h)) room,
+    )
 
 pub all_wait : KeepsAll (λ h k. Waits h → Waits k)
 all_wait = record {
@@ -178,37 +178,36 @@ all_wait = record {
   rejects = λ h fault takes room.
       added_waits h _ _ (all_go_on.rejects h fault takes room) refl room (abort_one (limit_now h) _)
       (stopped_fits h (reject_reason fault));
-  ends = λ h cut takes. waits_by h _ (all_go_on.ends h cut takes) (λ w. omega (arith, w.few, queued_waits h [] w.is));
+  ends = λ h cut takes. grind (arith, waits_by h, all_go_on.ends h cut takes, queued_waits h);
   releases = λ h opened none.
-      waits_by h _ (all_go_on.releases h opened none) (λ w. omega (
+      grind (
         arith,
-        w.few,
-        queued_waits h (release ∷ []) w.is,
+        waits_by h,
+        all_go_on.releases h opened none,
+        queued_waits h (release ∷ []),
         release_bytes_small,
-        (release_fits (link_of h) none).0,
-      ));
-  responds = λ h m answering none. waits_by h _ (all_go_on.responds h m answering none) (λ w. (
-      let s : ConnectionState = state_without m.token (state_now h) in
-      let ms : List Message = (send s m (bare_response m)).queued in
-      let small = responded_small (link_of h) m none in
-      omega (
+        release_fits (link_of h) none,
+      );
+  responds = λ h m answering none.
+      grind (
         arith,
-        w.few,
-        queued_waits h ms w.is,
-        small,
-        ap (λ (ns : List Message). length (bytes_of ns))
-            (sent_is s m (bare_response m) (fit (limit_now h) m (bare_response m))),
-      )));
+        waits_by h,
+        all_go_on.responds h m answering none,
+        responded_small (link_of h) m none,
+        queued_waits h,
+        sent_is,
+      );
   announces = λ h size opened room fit.
       added_waits h _ _ (all_go_on.announces h size opened room fit) refl room (omega arith)
       (leb-true (length (spelling (own_csm size))) (limit_now h) fit, tt);
   writes = λ h n within.
-      waits_by h _ (all_go_on.writes h n within) (λ w. omega (
+      grind (
         arith,
-        w.few,
+        waits_by h,
+        all_go_on.writes h n within,
         length-drop h.written (bytes_of h.queued),
         length-drop (h.written + n) (bytes_of h.queued),
-      ));
+      );
 }
 
 -- ---- bytes kept of an unfinished frame
@@ -289,16 +288,11 @@ grows_of w st id = let same : (h : History) → GrowsFitting h h = λ h. (evenly
       ended_between GrowsFitting same
       (λ h cut takes. (effect_evenly h (stop (state_now h) (end_reason cut) []) tt).grows);
   released = released_between GrowsFitting same (λ h opened none.
-      (effect_evenly h (stop (state_now h) reason.ReleasedHere (release ∷ []))
-      (released_fits h (release_fits (link_of h) none).1)).grows);
+      grind (arith, effect_evenly h, released_fits h (release_fits (link_of h) none).1));
   responded =
       responded_between GrowsFitting same (λ h m answering none. (effect_evenly h _ (responded_fits h m)).grows);
   announced = λ size is s. announced_between GrowsFitting same
-      (λ h n opened room fit. record {
-        more = own_csm n ∷ [];
-        queued = refl;
-        fit = (leb-true (length (spelling (own_csm n))) (limit_now h) fit, tt);
-      }) s size;
+      (λ h n opened room fit. grind (arith, leb-true (length (spelling (own_csm n))) (limit_now h) fit)) s size;
   reported = λ store now s t is. grows_fitting_then s.history t.history _ is (once_evenly store now t);
 }
 

@@ -1,18 +1,17 @@
 -- The last response with a token: messages queued after it do not change it, unless one is a response with that token.
 -- And the messages that each effect on a connection queues.
 use Rattle.std.proofs.Common.{◌≡◌, ℕ, true, false, cond, List, [], ◌∷◌, ◌++◌, Some, refl, sym, arith}
-use Rattle.coap_model.specs.Prelude.{AllByRecursion, Message, Phase, Reply, Server, takes_messages, answers, is_open}
-use Rattle.coap_model.specs.Prelude.{fit, bare_response, PendingEntryValue, ConnectionState, send_as, react}
-use Rattle.coap_model.specs.Prelude.{reject_reason, History, limit_now, state_now, after, is_whole, responds}
-use Rattle.coap_model.specs.Prelude.{last_response, Connection}
+use Rattle.coap_model.specs.Prelude.{AllByRecursion, Message, Phase, Reply, Server, answers, is_open, fit}
+use Rattle.coap_model.specs.Prelude.{bare_response, PendingEntryValue, ConnectionState, send_as, react, reject_reason}
+use Rattle.coap_model.specs.Prelude.{History, limit_now, state_now, after, is_whole, responds, last_response}
+use Rattle.coap_model.specs.Prelude.{Connection}
 use Rattle.std.proofs.lemmas.List.{append-nil, append_assoc, reverse-append}
 use Rattle.coap_conn.specs.declared.phase.Phase.TheVariants as phase
 use Rattle.coap_conn.specs.declared.reason.Reason.TheVariants as reason
 use Rattle.coap_conn.specs.Calls as call
 use Rattle.coap_conn.proofs.ReactionLaws.{IsNoResponse, IsPlain, abort_plain, react_so}
 use Rattle.coap_model.proofs.world.EntryLemmas.{all_to}
-use Rattle.coap_model.proofs.world.WalkLaws.{if_between, announcing, Rejects, Ends, Releases, PlainCall, plain_between}
-use Rattle.coap_model.proofs.world.WalkLaws.{Between}
+use Rattle.coap_model.proofs.world.WalkLaws.{announcing, Rejects, Ends, Releases, PlainCall, plain_between, Between}
 
 -- ---- the last response
 
@@ -27,8 +26,12 @@ pub last_stays : (token : List ℕ) (queued ms : List Message) → AllByRecursio
     → last_response token (queued ++ ms) ≡ last_response token queued
 last_stays token queued [] none = grind (arith, append-nil queued)
 last_stays token queued (m ∷ ms) none =
-    grind (arith, last_stays token (queued ++ m ∷ []) ms none.1, append_assoc queued (m ∷ []) ms,
-    last_of_longer token queued m)
+    grind (
+      arith,
+      last_stays token (queued ++ m ∷ []) ms none.1,
+      append_assoc queued (m ∷ []) ms,
+      last_of_longer token queued m,
+    )
 
 -- ---- queued messages
 
@@ -73,12 +76,11 @@ message_queues h m server =
     react_so (state_now h) m (λ e. AllByRecursion IsNoResponse e.queued) (record {
       stays = tt;
       silent = λ now outstanding silent. tt;
-      stops = λ why farewell plain one may. all_to IsPlain IsNoResponse (λ n is. is.0) farewell plain;
+      stops = λ why farewell plain one may. grind (arith, all_to IsPlain IsNoResponse);
       queues = λ n is. (is server, tt);
       keeps = λ ping custody some. tt;
     }) in
-    if_between (Queues IsNoResponse) (takes_messages h.phase) h _ (queues_none IsNoResponse h)
-    (λ takes. record { more = _; same = refl; such = signals; received = m ∷ []; handled = refl })
+    grind (arith, queues_none IsNoResponse h)
 
 pub reject_queues : Rejects (Queues IsPlain)
 reject_queues h r takes room = queues_these IsPlain h _ _ refl refl (abort_plain (limit_now h) (reject_reason r))

@@ -1,14 +1,14 @@
 -- Properties of the world after any accepted events: each id is used once, and the stream of a connection that accepts
 -- messages has no error.
 use Rattle.std.proofs.Common.{◌≡◌, ℕ, ◌+◌, ◌<◌, ◌≤◌, true, cond, List, [], ◌∷◌, length, map, Option, Some, None, refl}
-use Rattle.std.proofs.Common.{sym, ap, subst, ◌∙◌, arith, ◌++◌, take, Result, Ok, Err, inl, inr, not, ◌==◌}
+use Rattle.std.proofs.Common.{sym, ap, ◌∙◌, arith, ◌++◌, take, Result, Ok, Err, inl, inr}
 use Rattle.coap_model.specs.Prelude.{AllByRecursion, StreamFault, Stream, frame_then, LimitValues, takes_messages}
-use Rattle.coap_model.specs.Prelude.{ConfigValues, Connection, new_side, handles, side_after, side_faulted}
-use Rattle.coap_model.specs.Prelude.{side_written, side_ended, side_released, side_announced, side_responded, settled}
-use Rattle.coap_model.specs.Prelude.{may_raise, ConnectionEntry, World, Step, side_of, acted, AcceptedCall, world_after}
-use Rattle.coap_model.specs.Prelude.{taken_in, size_on, stream_on, spelled_on, steps_by, takes, IfSide, IsAccepted}
-use Rattle.coap_model.specs.Prelude.{AreAccepted, Message, message_of, FormatFault, FrameEventValue, AFrame, AFault}
-use Rattle.coap_model.specs.Prelude.{link_of, may_announce, StoreValue, settled_once}
+use Rattle.coap_model.specs.Prelude.{ConfigValues, Connection, handles, side_after, side_faulted, side_written}
+use Rattle.coap_model.specs.Prelude.{side_ended, side_released, side_announced, side_responded, settled, may_raise}
+use Rattle.coap_model.specs.Prelude.{ConnectionEntry, World, Step, side_of, acted, AcceptedCall, world_after, taken_in}
+use Rattle.coap_model.specs.Prelude.{size_on, stream_on, spelled_on, steps_by, takes, IfSide, IsAccepted, AreAccepted}
+use Rattle.coap_model.specs.Prelude.{Message, message_of, FormatFault, FrameEventValue, AFrame, AFault, link_of}
+use Rattle.coap_model.specs.Prelude.{may_announce, StoreValue, settled_once}
 use Rattle.std.proofs.lemmas.List.Sums.{length-filter, count_by-le-length}
 use Rattle.std.proofs.lemmas.List.{length-append, length-map, nil_from_length}
 use Rattle.std.proofs.lemmas.Bool.Decides.{nat_tests}
@@ -105,7 +105,7 @@ module _ (c : ConfigValues) (w : World) where
   -- The last id never decreases.
   pub ids_grow : (s : Step) → OpensNext c w s → w.ids ≤ (world.step c.limits w s).ids
   ids_grow s next = step_keeps (λ v. w.ids ≤ v.ids) c.limits w (omega arith) s (record {
-    opened = λ id opened free. omega (arith, (subst (OpensNext c w) opened next).0);
+    opened = λ id opened free. grind arith;
     changed = λ v g keeps grown. grown;
     reported = λ v store now grown. grown;
     dropped = λ id. omega arith;
@@ -114,26 +114,14 @@ module _ (c : ConfigValues) (w : World) where
   step_numbered : (s : Step) → IsNumbered c w → OpensNext c w s → IsNumbered c (world.step c.limits w s)
   step_numbered s is next = step_keeps (IsNumbered c) c.limits w is s (record {
     opened = λ id opened free.
-        let given = subst (OpensNext c w) opened next in
-        let new : ConnectionEntry = record { id = id; side = new_side c.limits } in
-        record {
-          low = omega (arith, is.low, given.0);
-          each = all_append _ w.sides (new ∷ []) (all_to (λ p. IsGivenNumber w.ids p.id) _
-              (λ p before. record { within = omega (arith, before.within, given.0) }) w.sides is.each)
-              (record { within = omega arith }, tt);
-          few = omega (arith, given.1, length-append w.sides (new ∷ []));
-        };
+        grind (arith, all_append, all_to, length-append w.sides);
     changed = λ v g keeps still. record {
       low = still.low;
       each = all_map (λ p. IsGivenNumber v.ids p.id) _ g (λ p given. rw (keeps p) given) v.sides still.each;
-      few = omega (arith, still.few, length-map v.sides g);
+      few = grind (arith, length-map);
     };
-    reported = λ v store now still. record { low = still.low; each = still.each; few = still.few };
-    dropped = λ id. let others = λ (p : ConnectionEntry). not (p.id == id) in record {
-      low = is.low;
-      each = all_filter _ others w.sides is.each;
-      few = omega (arith, is.few, length-filter others w.sides, count_by-le-length others w.sides);
-    };
+    reported = λ v store now still. grind arith;
+    dropped = λ id. grind (arith, all_filter, length-filter, count_by-le-length);
   })
 
 -- ---- worlds after accepted events
@@ -182,14 +170,14 @@ all_on = all_across GoesOn all_go_on
 follows_of : (w : World) (st : Step) (id : ℕ) → HoldsOf (Follows st id) w st id
 unfolding side_after side_faulted side_written side_ended side_released side_announced side_responded
 follows_of w st id = record {
-  same = λ s. (λ takes. takes, λ none. refl);
+  same = λ s. grind arith;
   handled = λ m is s. (was_live _ _ ((all_on w st id).handled m is s), λ _. grind arith);
-  faulted = λ fault is s. (was_live _ _ ((all_on w st id).faulted fault is s), λ _. grind arith);
-  written = λ s n. (was_live _ _ ((all_on w st id).written s n), λ _. grind arith);
-  ended = λ s cut. (was_live _ _ ((all_on w st id).ended s cut), λ _. grind arith);
-  released = λ s. (was_live _ _ ((all_on w st id).released s), λ _. grind arith);
-  announced = λ size is s. (was_live _ _ ((all_on w st id).announced size is s), λ none. absurd (none size is));
-  responded = λ s m. (was_live _ _ ((all_on w st id).responded s m), λ _. grind arith);
+  faulted = λ fault is s. grind (arith, was_live, all_on w st id);
+  written = λ s n. grind (arith, was_live, all_on w st id);
+  ended = λ s cut. grind (arith, was_live, all_on w st id);
+  released = λ s. grind (arith, was_live, all_on w st id);
+  announced = λ size is s. grind (arith, was_live, all_on w st id);
+  responded = λ s m. grind (arith, was_live, all_on w st id);
   reported = λ store now s t is. (
     λ takes. is.0 (was_live _ _ ((all_on w st id).reported store now t t ((all_on w st id).same t)) takes),
     λ none. once_sized store now t ∙ is.1 none,
@@ -214,13 +202,9 @@ module _ (c : ConfigValues) (es : List AcceptedCall) (before : IsReached c es) w
       × (IsUnannounced st k → t.history.own_max ≡ size_on M k es)
   seen st next k t at =
       elim (step_across (Follows st k) c.limits w st k (follows_of w st k) t at) [
-        | inl old ↦ (
-            λ takes. before.goes_on k old.0 old.1 (old.2.0 takes),
-            λ none. old.2.1 none ∙ before.sizes k old.0 old.1,
-          )
+        | inl old ↦ grind arith
         | inr new ↦
-            let silent = before.silent k (omega (arith, (subst (OpensNext c w) new.1 next).0)) in
-            (λ takes. ap (λ s. s.0.fault) silent, λ none. new.2.1 none ∙ sym (ap (λ s. s.1) silent))
+            grind arith
       ]
 
   -- The event e leads to a world v with such connections.
@@ -232,10 +216,8 @@ module _ (c : ConfigValues) (es : List AcceptedCall) (before : IsReached c es) w
       → ((k : ℕ) → w.ids < k → (taken_in k e ≡ []) × size_stays k e) → LeadsTo e v → IsReached c (es ++ e ∷ [])
   reached_by e v is numbered grow quiet leads = record {
     numbered = rw is numbered;
-    silent = rw is (λ k h.
-        let none = quiet k (omega (arith, h, grow)) in
-        spelled_same M k es e none.0 none.1 ∙ before.silent k (omega (arith, h, grow)));
-    goes_on = rw is (λ k t at. (leads k t at).0);
+    silent = grind (arith, spelled_same M);
+    goes_on = grind arith;
     sizes = rw is (λ k t at. (leads k t at).1);
   }
 
@@ -279,10 +261,8 @@ module _ (c : ConfigValues) (es : List AcceptedCall) (before : IsReached c es) w
             let raised : (side_announced s size).history.own_max ≡ size = rw (may, reported) refl in
             let own = ap (λ u. u.history.own_max) (sym now) ∙ settled_sized w.store w.now (side_announced s size)
             ∙ raised in
-            let risen : size_on M id es ≤ size = omega (arith, before.sizes id s there, lower) in (
-              λ takes. ap (λ u. u.fault) (stream_same M k es e refl) ∙ (seen st tt k t at).0 takes,
-              rw (← same) (own ∙ sym (size_then M id es e ∙ grind (arith, nat_tests))),
-            )
+            let risen : size_on M id es ≤ size = omega (arith, before.sizes id s there, lower) in
+            grind (arith, stream_same M k, seen st tt k t, size_then M id, nat_tests)
         | inr apart ↦
             step_matches e st k tt (λ other is. apart (let here : id ≡ k = cc in here)) refl
             (announced_elsewhere k id size apart) t at
@@ -375,23 +355,23 @@ module _ (c : ConfigValues) (es : List AcceptedCall) (id : ℕ) (bytes : List �
   took_reached : takes c es id bytes ≡ length bytes → IsReached c (es ++ e ∷ [])
   took_reached all =
       let taken = rw (takes_there c es id bytes s there) at all in
-      elim (cases_Bool (handles s)) [
-        | inl does ↦
-            found_reached _ does (adds_frame c.limits.max_message id es bytes
-            (handling_goes_on c es id s before there does) (rw does at taken))
-        | inr stopped ↦
-            let none = nil_from_length bytes (sym (rw stopped at taken)) in
-            quiet_reached (rw none (no_bytes_steps c.limits.max_message id es)) (λ t at takes.
-            rw none (ap (λ u. u.fault) (no_bytes_stream c.limits.max_message id es) ∙ before.goes_on id t at takes))
-      ]
+      grind (
+        arith,
+        found_reached,
+        adds_frame,
+        handling_goes_on,
+        nil_from_length,
+        quiet_reached,
+        no_bytes_steps,
+        no_bytes_stream,
+      )
 
 -- ---- any event
 
 -- The connection that exists.
 pub on_one : (P : Connection → Type 0) (there : Option Connection) → IfSide there P
     → (s : Connection) × (there ≡ Some s) × P s
-on_one P None holds = absurd holds
-on_one P (Some s) holds = (s, refl, holds)
+on_one P there holds = grind arith
 
 event_reached : (c : ConfigValues) (es : List AcceptedCall) (e : AcceptedCall) → IsReached c es → IsAccepted c es e
     → IsReached c (es ++ e ∷ [])
@@ -404,7 +384,7 @@ event_reached c es (event.Announced id size) before is =
     let at = on_one _ (side_of id (world_after c es).sides) is in
     let given = (number_given c (world_after c es) id at.0 before.numbered at.1).within in
     step_reached c es before (event.Announced id size) _ refl tt
-    (λ k h. (refl, announced_elsewhere k id size (λ same. omega (arith, given, h, same))))
+    (λ k h. grind (arith, announced_elsewhere k id size))
     (announced_leads c es before id size at.0 at.1 at.2)
 event_reached c es e before is =
     plain_reached c es before e _ refl tt (λ k. refl) (λ k N. refl) (λ k size is. cc)

@@ -1,25 +1,24 @@
 -- A connection of the world: facts on it, its observers after a message, and how it settles.
-use Rattle.std.proofs.Common.{◌≡◌, ℕ, ◌+◌, ◌<◌, ◌≤◌, Bool, true, false, cond, List, [], length, Option, Some, None}
-use Rattle.std.proofs.Common.{refl, arith, ◌&&◌, zero, suc, ◌∷◌, ◌++◌, ◌⊎◌, find}
+use Rattle.std.proofs.Common.{◌≡◌, ℕ, ◌+◌, ◌<◌, ◌≤◌, Bool, true, cond, List, [], length, Option, Some, None, refl}
+use Rattle.std.proofs.Common.{arith, zero, suc, ◌∷◌, ◌++◌, ◌⊎◌, find}
 use Rattle.coap_model.specs.Prelude.{AllByRecursion, filter_map, Message, takes_messages, fit, bare_response}
 use Rattle.coap_model.specs.Prelude.{PendingEntryValue, first_due, without_due, due_moment, due_index, NothingIsDue}
-use Rattle.coap_model.specs.Prelude.{History, IsHistory, limit_now, state_now, after, state_due, StoreValue, path_of}
+use Rattle.coap_model.specs.Prelude.{History, IsHistory, limit_now, state_now, after, StoreValue, path_of}
 use Rattle.coap_model.specs.Prelude.{prompt_answer, Change, changed, Connection, handles, has_room, side_with}
 use Rattle.coap_model.specs.Prelude.{with_history, side_answered, moment_after, Delay, hold_call, delay_for}
 use Rattle.coap_model.specs.Prelude.{side_replied, side_after, next_due, notified, next_pending, after_sent}
 use Rattle.coap_model.specs.Prelude.{settled_once, settled_within, settled, IsUpToDate, Observer, without_token}
-use Rattle.coap_model.specs.Prelude.{entry_for, is_whole, is_due, goes_on, notification, notification_message, left_of}
-use Rattle.coap_model.specs.Prelude.{first_becomes, Reply, Whole, ConnectionState, send_as, due_effect, pong_with}
-use Rattle.coap_model.specs.Prelude.{side_responded}
-use Rattle.std.proofs.lemmas.Bool.{and_parts, ltb-true}
+use Rattle.coap_model.specs.Prelude.{entry_for, is_due, goes_on, notification, left_of, first_becomes, Reply}
+use Rattle.coap_model.specs.Prelude.{ConnectionState, send_as, due_effect, side_responded}
+use Rattle.std.proofs.lemmas.Bool.{ltb-true}
 use Rattle.coap_conn.proofs.PendingLaws.{due_fewer, due_nothing}
 use Rattle.coap_model.proofs.world.KnownLaws.{entry_watchable, IsKnown, IsVersioned, still_known, sent_known, sent_now}
 use Rattle.coap_model.proofs.world.KnownLaws.{not_due, left_watchable}
 use Rattle.coap_model.proofs.world.EntryLemmas.{asks_to_enter, all_to, all_append, all_filter, all_become, found_all}
 use Rattle.coap_model.proofs.world.EntryLemmas.{none_due, count_due, count_within, count_less, none_found}
 use Rattle.coap_model.proofs.world.GoingOn.{as_before, further, GoesOn, all_go_on, plain_goes_on}
-use Rattle.coap_model.proofs.world.WalkLaws.{there_or_not, kept_open_has, once_between, PlainCall, observers_kept}
-use Rattle.coap_model.proofs.world.WalkLaws.{observers_plain, settled_keeps, responded_between}
+use Rattle.coap_model.proofs.world.WalkLaws.{kept_open_has, once_between, PlainCall, observers_kept, observers_plain}
+use Rattle.coap_model.proofs.world.WalkLaws.{settled_keeps, responded_between}
 use Rattle.coap_model.proofs.world.AcrossLaws.{after_all}
 use Rattle.coap_conn.specs.PendingEntries as pending
 use Rattle.coap_conn.specs.Calls as call
@@ -65,17 +64,12 @@ pending_room now s e is = grind arith
 -- Sending a message adds no pending entry.
 pub send_pending : (s : ConnectionState) (m less : Message) (r : Reply)
     → length (send_as s m less r).pending ≤ length s.pending
-send_pending s m less Whole = omega arith
-send_pending s m less other = omega arith
+send_pending s m less r = grind arith
 
 -- Sending the entry that was due first adds none either.
 pub due_pending : (s : ConnectionState) (e : Option PendingEntryValue)
     → length (due_effect s e).pending ≤ length s.pending
-due_pending s None = omega arith
-due_pending s (Some (pending.Answer by token moment)) = omega arith
-due_pending s (Some (pending.Pong token)) =
-    send_pending s (pong_with true token) (pong_with false token)
-    (fit s.limit (pong_with true token) (pong_with false token))
+due_pending s e = grind (arith, send_pending)
 
 reply_leaves : (h : History) (m : Message) → length (after h (call.Reply m)).pending ≤ length h.pending
 reply_leaves h m =
@@ -83,9 +77,7 @@ reply_leaves h m =
 
 sent_leaves : (h : History) (now : ℕ) (e : PendingEntryValue)
     → length (after_sent h now e).pending ≤ length (without_due now h.pending)
-sent_leaves h now (pending.Answer by token moment) =
-    grind (arith, reply_leaves, due_pending (state_due now (state_now h)) (first_due now h.pending))
-sent_leaves h now (pending.Pong token) = due_pending (state_due now (state_now h)) (first_due now h.pending)
+sent_leaves h now e = grind (arith, reply_leaves, due_pending)
 
 -- ---- the facts are kept
 
@@ -122,9 +114,15 @@ pub after_known : (store : StoreValue) (now : ℕ) → now ≤ 18446744073709551
     → (s : Connection) (m : Message) → IsKnownSide store s → IsKnownSide store (side_after store now s m)
 unfolding without_token
 after_known store now small is s m known =
-    grind (arith, all_filter (IsKnown store), after_all GoesOn all_go_on store now s m,
-    observers_after (AreKnown store) store now s m tt known.reported, all_append (IsKnown store),
-    sent_known store now m.token (path_of m) small is, entry_watchable store now m)
+    grind (
+      arith,
+      all_filter (IsKnown store),
+      after_all GoesOn all_go_on store now s m,
+      observers_after (AreKnown store) store now s m tt known.reported,
+      all_append (IsKnown store),
+      sent_known store now m.token (path_of m) small is,
+      entry_watchable store now m,
+    )
 
 -- ---- settling of a connection: the facts are kept, and no change is lost
 
@@ -149,19 +147,14 @@ pub observers_settled : (P : List Observer → Type 0) (store : StoreValue) (now
 observers_settled P store now s none same reported =
     settled_cases store now s (λ t. P t.observers)
     (λ e is. kept_open_has P none (after_sent s.history now e) s.observers same) (λ rests.
-    there_or_not (next_due store now s) (λ o. P (notified store now s o).observers) (λ none_due. same) (λ o is. (
-    let m = notification_message o.token (notification store now o) in
-    let stays = goes_on (notification store now o) && is_whole (fit (limit_now s.history) m (bare_response m)) in
-    kept_open_has P none (after s.history (call.Reply m)) _
-    (reported o stays is (λ e. (and_parts (goes_on (notification store now o)) _ e).0)))))
+    grind (arith, kept_open_has P none))
 
 -- ---- facts
 
 module _ (store : StoreValue) (now : ℕ) (small : now ≤ 18446744073709551615) (is : IsVersioned store) where
   left_all : (o : Observer) (stays : Bool) → IsKnown store o
       → (stays ≡ true → goes_on (notification store now o) ≡ true) → AreKnown store (left_of store now o stays)
-  left_all o true known on = grind (arith, sent_known, left_watchable)
-  left_all o false known on = tt
+  left_all o stays known on = grind (arith, sent_known, left_watchable)
 
   -- The first due observer is one of the observers.
   pub next_known : (s : Connection) → IsKnownSide store s → (o : Observer)
@@ -174,8 +167,7 @@ module _ (store : StoreValue) (now : ℕ) (small : now ≤ 18446744073709551615)
         (once_between GoesOn GoesOn as_before further all_go_on.replies all_go_on.lets_go all_go_on.pongs store now
         s).history known.is_history;
     reported = observers_settled (AreKnown store) store now s tt known.reported (λ o stays due on.
-        all_become (IsKnown store) (is_due store now) (left_of store now o stays) s.observers known.reported
-        (left_all o stays (next_known s known o due) on));
+        grind (arith, all_become, left_all o stays (next_known s known o due) on));
   }
 
   pub settled_known : (s : Connection) → IsKnownSide store s → IsKnownSide store (settled store now s)
@@ -191,8 +183,7 @@ count_if due b os = grind (arith, count_due due, count_due due os)
 left_quiet : (store : StoreValue) (now : ℕ) (o : Observer) (stays : Bool)
     → count_due (is_due store now) (left_of store now o stays) ≡ 0
 unfolding count_due
-left_quiet store now o true = grind (arith, not_due store now)
-left_quiet store now o false = refl
+left_quiet store now o stays = grind (arith, not_due)
 
 -- If nothing is left to settle, further rounds change nothing.
 pub at_rest : (turns : ℕ) (store : StoreValue) (now : ℕ) (s : Connection) → IsAtRest store now s
@@ -210,16 +201,29 @@ pub once_less : (store : StoreValue) (now : ℕ) (s : Connection)
     → IsAtRest store now s ⊎ (left_on store now (settled_once store now s) + 1 ≤ left_on store now s)
 unfolding settled_once
 once_less store now s =
-    grind (arith, count_less, left_quiet store now, next_due_found store now s, reply_leaves s.history, count_if,
-    due_fewer now s.history.pending, pending_room now s, sent_leaves s.history now)
+    grind (
+      arith,
+      count_less,
+      left_quiet store now,
+      next_due_found store now s,
+      reply_leaves s.history,
+      count_if,
+      due_fewer now s.history.pending,
+      pending_room now s,
+      sent_leaves s.history now,
+    )
 
 rests_by : (turns : ℕ) (store : StoreValue) (now : ℕ) (s : Connection) → left_on store now s ≤ turns
     → IsAtRest store now (settled_within turns store now s)
 unfolding settled_within
 rests_by zero store now s few = grind (arith, once_less store now s)
 rests_by (suc turns) store now s few =
-    grind (arith, once_less store now s, at_rest (suc turns) store now s,
-    rests_by turns store now (settled_once store now s))
+    grind (
+      arith,
+      once_less store now s,
+      at_rest (suc turns) store now s,
+      rests_by turns store now (settled_once store now s),
+    )
 
 -- Each round leaves fewer pending entries or due observers, so in the end nothing is left to settle.
 pub settled_rests : (store : StoreValue) (now : ℕ) (s : Connection) → IsAtRest store now (settled store now s)
@@ -231,8 +235,13 @@ settled_rests store now s =
 -- No change is lost: if there is room, each observer was last sent the current state, and no pending entry is due.
 pub hears_at_rest : (store : StoreValue) (now : ℕ) (s : Connection) → IsAtRest store now s → IsUpToDate store now s
 hears_at_rest store now s rests =
-    grind (arith, all_to, sent_now store now, none_due (is_due store now) s.observers,
-    due_nothing now s.history.pending)
+    grind (
+      arith,
+      all_to,
+      sent_now store now,
+      none_due (is_due store now) s.observers,
+      due_nothing now s.history.pending,
+    )
 
 -- If no entry of a list is due, the list of due times is empty.
 none_come_listed : (now : ℕ) (pending : List PendingEntryValue) → AllByRecursion (λ e. due_moment now e ≡ None) pending
@@ -253,5 +262,11 @@ pub side_at_rest_stays : (store : StoreValue) (now : ℕ) (s : Connection) → I
     → settled store now s ≡ s
 unfolding settled
 side_at_rest_stays store now s takes_input =
-    grind (arith, all_to, not_due store now, none_found (is_due store now) s.observers,
-    at_rest (length s.history.pending + length s.observers) store now s, hears_sent store now s takes_input)
+    grind (
+      arith,
+      all_to,
+      not_due store now,
+      none_found (is_due store now) s.observers,
+      at_rest (length s.history.pending + length s.observers) store now s,
+      hears_sent store now s takes_input,
+    )

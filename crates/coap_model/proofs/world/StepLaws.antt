@@ -148,8 +148,12 @@ sizes_now : (M id : ℕ) (es : List AcceptedCall) (at : ℕ) → length (taken_o
 unfolding size_on sizes_on taken_on
 sizes_now M id [] at past = refl
 sizes_now M id (e ∷ es) at past =
-    grind (arith, length-append (taken_in id e) (taken_on id es), nat_tests,
-    sizes_now (size_by id e M) id es (at - length (taken_in id e)))
+    grind (
+      arith,
+      length-append (taken_in id e) (taken_on id es),
+      nat_tests,
+      sizes_now (size_by id e M) id es (at - length (taken_in id e)),
+    )
 
 -- An event does not change the sizes of its own and earlier bytes.
 sizes_before : (M id : ℕ) (es : List AcceptedCall) (e : AcceptedCall) (at : ℕ)
@@ -157,8 +161,12 @@ sizes_before : (M id : ℕ) (es : List AcceptedCall) (e : AcceptedCall) (at : �
 unfolding sizes_on taken_on
 sizes_before M id [] e at within = grind (arith, nat_tests, length-append (taken_in id e) [])
 sizes_before M id (d ∷ es) e at within =
-    grind (arith, length-append (taken_in id d) (taken_on id (es ++ e ∷ [])), nat_tests,
-    sizes_before (size_by id d M) id es e (at - length (taken_in id d)))
+    grind (
+      arith,
+      length-append (taken_in id d) (taken_on id (es ++ e ∷ [])),
+      nat_tests,
+      sizes_before (size_by id d M) id es e (at - length (taken_in id d)),
+    )
 
 -- ---- streams
 

@@ -1,6 +1,6 @@
 -- The effect of a `Took` event on the stream of its connection, and the steps that it makes.
 use Rattle.std.proofs.Common.{◌≡◌, ℕ, ◌+◌, ◌-◌, ◌≤◌, List, [], ◌∷◌, ◌++◌, length, map, take, get_or, Some, None, Ok}
-use Rattle.std.proofs.Common.{Err, refl, sym, ap, ◌∙◌, append_assoc, arith}
+use Rattle.std.proofs.Common.{Err, refl, sym, ◌∙◌, append_assoc, arith}
 use Rattle.std.proofs.lemmas.Grind.{take_at_read}
 use Rattle.std.proofs.lemmas.List.{length-append, take_at}
 use Rattle.std.proofs.Math.Seq.{drop-length, drop-append_seam}
@@ -90,8 +90,7 @@ module _ (M : ℕ) (kept piece frame : List ℕ) (n : ℕ) (u : prefix_kind M ke
       frame_taken M kept piece frame u is ∙ rw (all, cut) (sym (append_assoc kept (take n piece) last)) in
       let but_last : without_last frame ≡ front =
       rw bytes (take_at front last (length (front ++ last) - 1) (omega (arith, length-append front last))) in
-      ap (framing_at kept (take n piece)) (ap (prefix_kind M) (sym but_last)
-      ∙ front_unfinished M frame (whole_itself M (kept ++ piece) frame first.0 first.1))
+      grind (arith, front_unfinished, whole_itself)
 
 -- ---- the bytes accepted of an input slice
 

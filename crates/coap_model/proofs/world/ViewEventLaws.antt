@@ -4,9 +4,9 @@ use Rattle.std.proofs.Common.{◌≡◌, ◌≢◌, ℕ, ◌≤◌, ◌<◌, tru
 use Rattle.std.proofs.Common.{sym, ap, ◌∙◌, append_assoc, arith}
 use Rattle.coap_model.specs.Prelude.{AllByRecursion, Message, StreamFault, Stream, LimitValues, Change, Nothing, Put}
 use Rattle.coap_model.specs.Prelude.{Delete, changed, ConfigValues, World, Step, side_of, after_steps, AcceptedCall}
-use Rattle.coap_model.specs.Prelude.{Opened, Took, Wrote, Ticked, Stored, Removed, Ended, Released, Announced}
-use Rattle.coap_model.specs.Prelude.{Responded, Dropped, taken_in, size_by, stream_on, spelled_on, new_fault, beyond}
-use Rattle.coap_model.specs.Prelude.{steps_by, world_after, takes, IsAccepted, AreAcceptedAfter, AreAccepted, concerns}
+use Rattle.coap_model.specs.Prelude.{Opened, Took, Wrote, Stored, Removed, Ended, Released, Announced, Responded}
+use Rattle.coap_model.specs.Prelude.{Dropped, taken_in, size_by, stream_on, spelled_on, new_fault, beyond, steps_by}
+use Rattle.coap_model.specs.Prelude.{world_after, takes, IsAccepted, AreAcceptedAfter, AreAccepted, concerns}
 use Rattle.coap_model.specs.Prelude.{first_number, change_events, changes_of, view_event, later_view, view_events}
 use Rattle.std.proofs.lemmas.Bool.{eq-eqb, ne_eqb}
 use Rattle.std.proofs.lemmas.Bool.Decides.{nat_tests}
@@ -172,10 +172,17 @@ module _ (c : ConfigValues) (id : ℕ) where
   view_others (s ∷ ss) w spelled ids vs each rests is =
       let next = world.step c.limits w s in
       let changes = change_events (change_by w s) in
-      rw (← append_assoc vs changes (changes_of c.limits next ss))
-      (view_others ss next spelled ids (vs ++ changes) each.1 (step_rests c.limits id w s)
-      (view_change w spelled ids vs is next (change_by w s) (by_passes w s) rests
-      (step_share c.limits id w s ∙ ap settled_share (other_did c.limits id w s each.0))))
+      grind (
+        arith,
+        append_assoc vs changes,
+        view_others ss next spelled ids (vs ++ changes) each.1,
+        step_rests,
+        view_change w spelled ids vs is next (change_by w s) (by_passes w s) rests,
+        by_passes w s,
+        step_share,
+        settled_share,
+        other_did,
+      )
 
   -- ---- one more event
 
@@ -198,13 +205,11 @@ module _ (c : ConfigValues) (id : ℕ) where
     -- The last id does not decrease. If it is lower than the connection's, the event of the connection opened none.
     last_rises : (e : AcceptedCall) → IsAccepted c es e → w.ids ≤ (world_after c (es ++ e ∷ [])).ids
     unfolding IsAccepted
-    last_rises (Opened k) ok = omega (arith, ok.0, opened_last k ok)
-    last_rises e ok = (event_stays c es e (λ k opens. cc)).0
+    last_rises e ok = grind (arith, opened_last, event_stays, opens)
 
     fresh_then : (e : AcceptedCall) → number id e ≡ id → IsAccepted c es e → (world_after c (es ++ e ∷ [])).ids < id
         → IsFresh c (world_after c (vs ++ moved n e ∷ []))
-    fresh_then (Opened k) own ok low = grind (arith, opened_last k ok)
-    fresh_then e own ok low = grind (arith, event_stays, opens, last_rises e ok)
+    fresh_then e own ok low = grind (arith, opened_last, event_stays, opens, last_rises)
 
     -- An event of the connection itself, or of none.
     spells_then : (e : AcceptedCall) → number id e ≡ id
@@ -213,9 +218,7 @@ module _ (c : ConfigValues) (id : ℕ) where
 
     own_makes : (e : AcceptedCall) → number id e ≡ id → steps_by M vs (moved n e) ≡ map (renamed n) (steps_by M es e)
     unfolding steps_by
-    own_makes (Took k bytes) own = grind (arith, spells_then, beyond_renamed)
-    own_makes (Ended k) own = grind arith
-    own_makes e own = refl
+    own_makes e own = grind (arith, spells_then, beyond_renamed)
 
     own_concern : (e : AcceptedCall) → number id e ≡ id → AllByRecursion (λ s. concerns id s ≡ true) (steps_by M es e)
     unfolding steps_by concerns
@@ -225,17 +228,21 @@ module _ (c : ConfigValues) (id : ℕ) where
 
     own_accepted : (e : AcceptedCall) → number id e ≡ id → IsAccepted c es e → IsAccepted c vs (moved n e)
     unfolding IsAccepted takes
-    own_accepted (Opened k) own ok = grind (arith, accepted_is)
-    own_accepted (Took k bytes) own ok = grind arith
-    own_accepted (Ticked now) own ok = grind arith
-    own_accepted (Stored path format bytes) own ok = grind arith
-    own_accepted (Removed path) own ok = grind arith
-    own_accepted e own ok = grind arith
+    own_accepted e own ok = grind (arith, accepted_is)
 
     own_sees : (e : AcceptedCall) → number id e ≡ id → IsAccepted c es e → Sees (es ++ e ∷ []) (vs ++ moved n e ∷ [])
     own_sees e own ok =
-        grind (arith, world_more, own_makes e own, own_steps, own_concern e own, spells_then e own, accepted_more,
-        own_accepted e own ok, fresh_then e own ok)
+        grind (
+          arith,
+          world_more,
+          own_makes e own,
+          own_steps,
+          own_concern e own,
+          spells_then e own,
+          accepted_more,
+          own_accepted e own ok,
+          fresh_then e own ok,
+        )
 
     own_view : (e : AcceptedCall) → number id e ≡ id → view_event c id es e ≡ moved n e ∷ []
     unfolding view_event
@@ -253,12 +260,7 @@ module _ (c : ConfigValues) (id : ℕ) where
     other_sees e apart ok =
         let rests = world_keeps c (SettlesAlike id) (λ u s was. step_rests c.limits id u s) (new_rests c id) es in
         let is = view_others (steps_by M es e) w (spelled_on M id es) w.ids vs (other_steps e apart) rests sees in
-        record {
-          alike = ap (share_of id) (world_more c es e) ∙ is.alike;
-          spells = spelled_same M id es e (grind (arith, nat_tests)) (λ N. grind (arith, nat_tests)) ∙ is.spells;
-          accepted = is.accepted;
-          fresh = λ low. is.fresh (omega (arith, low, last_rises e ok));
-        }
+        grind (arith, share_of, world_more, spelled_same M, nat_tests, last_rises e ok)
 
     other_view : (e : AcceptedCall) → number id e ≢ id
         → view_event c id es e ≡ changes_of c.limits w (steps_by M es e)
@@ -279,5 +281,5 @@ module _ (c : ConfigValues) (id : ℕ) where
   unfolding view_events
   events_concern es all =
       by_events c (λ fs. Sees fs (view_events c id fs)) sees_nothing
-      (λ fs e before ok sees. rw (view_more c id [] fs e) (event_concerns fs (view_events c id fs) before sees e ok)) es
+      (λ fs e before ok sees. grind (arith, view_more, event_concerns fs)) es
       all

@@ -1,7 +1,7 @@
 -- Other connections affect a connection through the store alone: after the steps that it views, it is the same as after
 -- all steps.
-use Rattle.std.proofs.Common.{◌≡◌, ℕ, true, false, List, [], ◌∷◌, map, Option, Some, None, refl, ◌∙◌, is_none}
-use Rattle.std.proofs.Common.{option_map, ◌==◌, arith}
+use Rattle.std.proofs.Common.{◌≡◌, ℕ, true, false, List, [], ◌∷◌, map, Option, Some, None, refl, is_none, option_map}
+use Rattle.std.proofs.Common.{◌==◌, arith}
 use Rattle.std.proofs.lemmas.Bool.Decides.{nat_tests}
 use Rattle.std.proofs.lemmas.Bool.{eqb-false}
 use Rattle.coap_model.specs.Prelude.{Message, LimitValues, Path, Representation, StoreValue, is_dynamic, kind_of_path}
@@ -44,9 +44,7 @@ put_passes s now path q m dynamic can key =
 
 stored_passes : (s : StoreValue) (key : Option Path) (state : Option Representation) (m : Message)
     → ((q : Path) → key ≡ Some q → put_refusal s q m.payload ≡ None) → IsNotRefused s (stored_under key state m).change
-stored_passes s None state m passes = tt
-stored_passes s (Some path) None m passes = passes path refl
-stored_passes s (Some path) (Some r) m passes = passes path refl
+stored_passes s key state m passes = grind arith
 
 deletion_by : (s : StoreValue) (now : ℕ) (path : Path) (key : Option Path) (state : Option Representation)
     → is_dynamic (kind_of_path path) ≡ true → key_for path ≡ key
@@ -62,11 +60,11 @@ answer_passes s now path m =
     let t = target_of s now path in
     let P : Answer → Type 0 = λ a. IsNotRefused s a.change in
     answer_cases P s t m (λ c e. tt) (record {
-      read = λ r is. get_cases P t.place r m (λ c e. tt) (record { valid = λ among. tt; late = tt; content = tt });
+      read = λ r is. grind (arith, get_cases P t.place r m);
       deleted = λ dynamic other.
           (deletion_by s now path (key_for path) (state_at s now (key_for path) (kind_of_path path)) dynamic refl refl);
-      stored = λ dynamic other. store_cases P s t m (λ c e. tt) tt
-          (λ can. stored_passes s t.key t.state m (λ q key. put_passes s now path q m dynamic can key));
+      stored = λ dynamic other.
+          grind (arith, store_cases P s t m, stored_passes s t.key t.state m, put_passes s now path);
     })
 
 immediate_passes : (s : StoreValue) (now : ℕ) (m : Message) → IsNotRefused s (immediate_answer s now m).change
@@ -79,12 +77,10 @@ prompt_passes s now m = prompt_cases s now m (λ a. IsNotRefused s a.change) tt 
 
 on_passes : (w : World) (m : Message) (there : Option Connection) → IsNotRefused w.store (change_on w m there)
 unfolding change_after
-on_passes w m None = tt
-on_passes w m (Some s) = grind (arith, prompt_passes w.store w.now m)
+on_passes w m there = grind (arith, prompt_passes)
 
 pub by_passes : (w : World) (s : Step) → IsNotRefused w.store (change_by w s)
-by_passes w (world.Handled id m) = on_passes w m (side_of id w.sides)
-by_passes w other = tt
+by_passes w s = grind (arith, on_passes)
 
 -- ---- the part of a world that matters to a connection
 
@@ -108,8 +104,7 @@ settled_share x = record x { side = option_map (settled x.store x.now) x.side }
 settled_again : (store : StoreValue) (now : ℕ) (there : Option Connection)
     → option_map (settled store now) (option_map (settled store now) there) ≡ option_map (settled store now) there
 unfolding settled
-settled_again store now None = refl
-settled_again store now (Some s) = grind (arith, at_rest, settled_rests store now s)
+settled_again store now there = grind (arith, at_rest, settled_rests)
 
 -- Settling does not change this part.
 abbrev pub SettlesAlike : ℕ → World → Type 0
@@ -183,9 +178,7 @@ module _ (limits : LimitValues) (id n : ℕ) (w v : World) (alike : share_of id 
       → settled_share (share (changed w.store change) w.now (side_of id w.sides))
       ≡ share_of n (after_steps limits v (change_steps change))
   unfolding after_steps acted concerns
-  change_alike Nothing rests passes = rests ∙ alike
-  change_alike (Put path format bytes) rests passes = grind (arith, step_share, own_alike)
-  change_alike (Delete path) rests passes = grind (arith, step_share, own_alike)
+  change_alike change rests passes = grind (arith, step_share, own_alike)
 
 -- ---- a step of another connection
 
@@ -202,19 +195,17 @@ changed_apart id other w f apart = grind (arith, changed_elsewhere other id f w.
 pub other_did : (limits : LimitValues) (id : ℕ) (w : World) (s : Step) → concerns id s ≡ false
     → share_of id (acted limits w s) ≡ share (changed w.store (change_by w s)) w.now (side_of id w.sides)
 unfolding concerns acted
-other_did limits id w (world.Opened other) apart =
-    grind (arith, opened_world limits w other, other_more id w.sides, eqb-false other id apart)
-other_did limits id w (world.Handled other m) apart =
-    grind (arith, changed_elsewhere other id, eqb-false other id apart, stored_by_change w m (side_of other w.sides))
-other_did limits id w (world.Faulted other fault) apart = grind (arith, changed_apart id other w)
-other_did limits id w (world.Written other n) apart = grind (arith, changed_apart id other w)
-other_did limits id w (world.Ended other cut) apart = grind (arith, changed_apart id other w)
-other_did limits id w (world.Released other) apart = changed_apart id other w side_released apart
-other_did limits id w (world.Announced other size) apart = grind (arith, changed_apart id other w)
-other_did limits id w (world.Responded other m) apart = grind (arith, changed_apart id other w)
-other_did limits id w (world.Dropped other) apart =
-    grind (arith, dropped_elsewhere other id w.sides (eqb-false other id apart))
-other_did limits id w s apart = absurd cc
+other_did limits id w s apart =
+    grind (
+      arith,
+      opened_world,
+      other_more,
+      eqb-false,
+      changed_elsewhere,
+      stored_by_change,
+      changed_apart,
+      dropped_elsewhere,
+    )
 
 -- ---- the view of a step has the same effect
 
@@ -223,8 +214,14 @@ view_alike : (limits : LimitValues) (id : ℕ) (w v : World) (s : Step) → Sett
     → share_of id (world.step limits w s) ≡ share_of id (after_steps limits v (view_step id w s))
 unfolding view_step after_steps
 view_alike limits id w v s rests alike =
-    grind (arith, own_alike limits id id w v alike s, own_number id s, step_share limits id w s,
-    other_did limits id w s, change_alike limits id id w v alike (change_by w s) rests (by_passes w s))
+    grind (
+      arith,
+      own_alike limits id id w v alike s,
+      own_number id s,
+      step_share limits id w s,
+      other_did limits id w s,
+      change_alike limits id id w v alike (change_by w s) rests (by_passes w s),
+    )
 
 -- Each step in turn, from two worlds in which the connection has the same part.
 views_alike : (limits : LimitValues) (id : ℕ) (ss : List Step) (w v : World) → SettlesAlike id w
@@ -233,16 +230,19 @@ views_alike : (limits : LimitValues) (id : ℕ) (ss : List Step) (w v : World) �
 unfolding after_steps view_of
 views_alike limits id [] w v rests alike = alike
 views_alike limits id (s ∷ ss) w v rests alike =
-    grind (arith, views_alike limits id ss, step_rests limits id w s, view_alike limits id w v s rests alike,
-    steps_then limits v (view_step id w s))
+    grind (
+      arith,
+      views_alike limits id ss,
+      step_rests limits id w s,
+      view_alike limits id w v s rests alike,
+      steps_then limits v (view_step id w s),
+    )
 
 -- ---- each viewed step is one of the connection, or of none
 
 changes_concern : (id : ℕ) (change : Change) → AllConcern id (change_steps change)
 unfolding concerns
-changes_concern id Nothing = tt
-changes_concern id (Put path format bytes) = (refl, tt)
-changes_concern id (Delete path) = (refl, tt)
+changes_concern id change = grind arith
 
 step_concerns : (id : ℕ) (w : World) (s : Step) → AllConcern id (view_step id w s)
 unfolding view_step

@@ -2,20 +2,19 @@
 -- server's call and across settling, if each part keeps it. If a part does not keep it, calls with this part are
 -- excluded.
 use Rattle.std.proofs.Common.{◌≡◌, ℕ, ◌≤◌, Bool, true, false, cond, List, [], ◌∷◌, ◌++◌, length, Option, Some, None}
-use Rattle.std.proofs.Common.{refl, zero, suc, ◌&&◌, nat_le, is_none, arith}
+use Rattle.std.proofs.Common.{zero, suc, ◌&&◌, nat_le, is_none, arith}
 use Rattle.std.proofs.lemmas.Bool.{leb-true}
 use Rattle.std.proofs.lemmas.Bool.Decides.{nat_tests}
 use Rattle.std.proofs.lemmas.List.{append-nil}
-use Rattle.coap_model.specs.Prelude.{Responder, Engine, Application, late_response, hold_call, Message, StreamFault}
-use Rattle.coap_model.specs.Prelude.{Reject, ReleasedHere, takes_messages, answers, is_open, fits, bare_response}
-use Rattle.coap_model.specs.Prelude.{VerdictValue, is_request, PendingEntryValue, Answer, Pong, first_due, without_due}
-use Rattle.coap_model.specs.Prelude.{stop, abort, send, react, pong_with, due_effect, reject_reason, release_refusal}
-use Rattle.coap_model.specs.Prelude.{History, state_now, limit_now, with_effect, after, may_hold, link_of, state_due}
-use Rattle.coap_model.specs.Prelude.{end_reason, release, LinkValue, own_csm, free_in, limit_in, StoreValue, Response}
-use Rattle.coap_model.specs.Prelude.{response_with_observe, Observer, Connection, waiting_on, kept_open, side_after}
-use Rattle.coap_model.specs.Prelude.{side_faulted, side_written, side_ended, side_released, side_announced, after_sent}
-use Rattle.coap_model.specs.Prelude.{settled_once, settled_within, settled, side_responded, response_refusal}
-use Rattle.coap_model.specs.Prelude.{state_without}
+use Rattle.coap_model.specs.Prelude.{Responder, late_response, hold_call, Message, StreamFault, Reject, ReleasedHere}
+use Rattle.coap_model.specs.Prelude.{takes_messages, answers, is_open, fits, bare_response, VerdictValue, is_request}
+use Rattle.coap_model.specs.Prelude.{PendingEntryValue, Answer, Pong, first_due, without_due, stop, abort, send, react}
+use Rattle.coap_model.specs.Prelude.{pong_with, due_effect, reject_reason, release_refusal, History, state_now}
+use Rattle.coap_model.specs.Prelude.{limit_now, with_effect, after, may_hold, link_of, state_due, end_reason, release}
+use Rattle.coap_model.specs.Prelude.{LinkValue, own_csm, free_in, limit_in, StoreValue, Response, response_with_observe}
+use Rattle.coap_model.specs.Prelude.{Observer, Connection, waiting_on, kept_open, side_after, side_faulted}
+use Rattle.coap_model.specs.Prelude.{side_written, side_ended, side_released, side_announced, after_sent, settled_once}
+use Rattle.coap_model.specs.Prelude.{settled_within, settled, side_responded, response_refusal, state_without}
 use Rattle.coap_conn.specs.Verdicts as verdict
 use Rattle.coap_conn.specs.Calls as call
 use Rattle.coap_conn.proofs.RequestLemmas.{react_asks}
@@ -111,14 +110,12 @@ Between R s t = R s.history t.history
 -- An optional value, with what is known in each case.
 pub there_or_not : {A : Type 0} (o : Option A) (P : Option A → Type 0) → (o ≡ None → P None)
     → ((x : A) → o ≡ Some x → P (Some x)) → P o
-there_or_not None P none some = none refl
-there_or_not (Some x) P none some = some x refl
+there_or_not o P none some = grind arith
 
 -- ---- room
 
 pub said_request : (v : VerdictValue) → is_request v ≡ true → v ≡ verdict.Request
-said_request verdict.Request e = refl
-said_request other e = absurd cc
+said_request v e = grind arith
 
 -- A request queues nothing, so the room is the same afterwards.
 request_room : (h : History) (m : Message) → is_request (react (state_now h) m).verdict ≡ true → room_in h ≡ true
@@ -138,8 +135,7 @@ answer_goes h now by token moment is = grind (arith, due_is, append-nil)
 -- An entry is appended to the pending list, whoever responds.
 pub pending_is : (h : History) (by : Responder) (token : List ℕ) (moment : ℕ) → after h (hold_call by token moment)
     ≡ cond (is_open h.phase && may_hold h) (holding h (h.pending ++ Answer by token moment ∷ [])) h
-pending_is h Engine token moment = refl
-pending_is h Application token moment = refl
+pending_is h by token moment = grind arith
 
 -- ---- settling
 
@@ -171,8 +167,11 @@ module _ (R E : History → History → Type 0) (same : (h : History) → R h h)
   sent_between : (h : History) (now : ℕ) (e : PendingEntryValue) → first_due now h.pending ≡ Some e → room_in h ≡ true
       → R h (after_sent h now e)
   sent_between h now (Answer by token moment) is room =
-      grind (arith, answer_goes h now by token moment is,
-      reply_between h (without_first h now) token false (late_response by))
+      grind (
+        arith,
+        answer_goes h now by token moment is,
+        reply_between h (without_first h now) token false (late_response by),
+      )
   sent_between h now (Pong token) is room = grind (arith, due_is h now (Some (Pong token)) is)
 
   pub once_between : (store : StoreValue) (now : ℕ) (s : Connection) → R s.history (settled_once store now s).history
