@@ -1,10 +1,9 @@
 -- A flush leaves no queued bytes. If none are queued, a flush changes nothing.
 use Rattle.std.proofs.Common.{◌≡◌, ℕ, zero, suc, ◌+◌, ◌≤◌, List, [], ◌∷◌, ◌++◌, length, map, Some, refl, sym, ap, subst}
 use Rattle.std.proofs.Common.{◌∙◌, ◌⊎◌, inl, inr, arith, append_assoc}
-use Rattle.coap_model.specs.Prelude.{AllByRecursion, Message, LimitValues, bytes_of, StoreValue, is_due, Connection}
-use Rattle.coap_model.specs.Prelude.{waiting_on, side_written, settled_once, settled_within, settled, World, Step}
-use Rattle.coap_model.specs.Prelude.{side_of, acted, settled_place, step, waiting_of, more_of, written_once}
-use Rattle.coap_model.specs.Prelude.{written_times, flushed}
+use Rattle.coap_model.specs.Prelude.{AllByRecursion, Message, LimitValues, StoreValue, is_due, Connection, waiting_on}
+use Rattle.coap_model.specs.Prelude.{side_written, settled_once, settled_within, settled, World, Step, side_of, acted}
+use Rattle.coap_model.specs.Prelude.{step, waiting_of, more_of, written_once, written_times, flushed}
 use Rattle.std.proofs.Math.Nat.{add-zero}
 use Rattle.std.proofs.lemmas.Bool.{le-leb}
 use Rattle.std.proofs.lemmas.List.{append-nil, length-drop, drop_all}
@@ -30,7 +29,7 @@ written_observers s n = grind arith
 -- After all queued bytes were written, none are queued.
 written_empties : (s : Connection) → waiting_on (side_written s (length (waiting_on s))) ≡ []
 unfolding side_written
-written_empties s = grind (arith, le-leb, drop_all, length-drop s.history.written (bytes_of s.history.queued))
+written_empties s = grind (arith, le-leb, drop_all, length-drop)
 
 -- Writing zero bytes does not change the connection.
 none_written : (s : Connection) → side_written s 0 ≡ s
@@ -87,17 +86,7 @@ once_turn : (store : StoreValue) (now : ℕ) (s : Connection) → IsFlushedAndAt
     ⊎ (left_on store now (side_once store now s) + 1 ≤ left_on store now s)
 unfolding settled
 once_turn store now s =
-    grind (
-      arith,
-      left_on store now,
-      left_on store now s,
-      written_same s,
-      written_observers s,
-      settled_less store now,
-      at_rest,
-      written_empties s,
-      settled_rests store now,
-    )
+    grind (arith, left_on, written_same, written_observers, settled_less, at_rest, written_empties, settled_rests)
 
 -- If nothing is pending and there is no observer, a round leaves this so and does not change the phase.
 once_alone : (store : StoreValue) (now : ℕ) (s : Connection) → more_of (Some s) ≡ 0
@@ -131,7 +120,7 @@ pub record IsLeft (id turns : ℕ) (w : World) (s : Connection) (v : World) : Ty
 turns_leave : (limits : LimitValues) (id turns : ℕ) (w : World) (s : Connection) → side_of id w.sides ≡ Some s
     → IsLeft id turns w s (written_times limits id turns w)
 unfolding written_times step acted
-turns_leave limits id zero w s there = grind (arith, append-nil s.history.queued)
+turns_leave limits id zero w s there = grind (arith, append-nil)
 turns_leave limits id (suc turns) w s there =
     let v = written_times limits id turns w in
     let so_far = turns_leave limits id turns w s there in
@@ -148,10 +137,10 @@ turns_leave limits id (suc turns) w s there =
       distinct = λ are. step_distinct limits v st (so_far.distinct are);
       more = so_far.more ++ fits.0;
       queued =
-          grind (arith, append_assoc s.history.queued so_far.more fits.0);
+          grind (arith, append_assoc);
       handled = settled_handled v.store v.now (side_written t n) ∙ written_handled t n ∙ so_far.handled;
       alone = λ none. grind (arith, once_alone v.store v.now t);
-      rests = grind (arith, once_stays v.store v.now t, once_turn v.store v.now t);
+      rests = grind (arith, once_stays, once_turn);
     }
 
 -- The number of rounds that a flush has on this connection.
@@ -186,7 +175,7 @@ pub idle_step : (limits : LimitValues) (w : World) (st : Step) → AllHear w
     → acted limits w st ≡ w → step limits w st ≡ w
 unfolding step
 idle_step limits w st hear idle =
-    grind (arith, all_to, side_at_rest_stays w.store w.now, map_stays (settled_place w.store w.now) w.sides)
+    grind (arith, all_to, side_at_rest_stays, map_stays)
 
 -- If no bytes are queued, a round does not change the world.
 quiet_once : (limits : LimitValues) (id : ℕ) (w : World) (s : Connection) → AllHear w → side_of id w.sides ≡ Some s
@@ -210,7 +199,7 @@ times_further limits id turns most w t hear there none within =
     let takes_input : AllHear v = from_there_on (λ n. AllHear (written_times limits id n w)) 0 turns (omega arith) hear
     (λ n is. step_hears limits (written_times limits id n w) _) in
     from_there_on (λ n. v ≡ written_times limits id n w) turns most within refl
-    (λ n same. grind (arith, quiet_once limits id v t takes_input there none))
+    (λ n same. grind (arith, quiet_once))
 
 -- A flush does not change it either.
 pub quiet_flush : (limits : LimitValues) (id : ℕ) (w : World) (s : Connection) → AllHear w → side_of id w.sides ≡ Some s

@@ -3,12 +3,11 @@
 use Rattle.std.proofs.Common.{◌≡◌, ℕ, Bool, true, false, List, [], ◌∷◌, ◌++◌, Some, None, refl, sym, ap, ◌∙◌, arith}
 use Rattle.std.proofs.Common.{◌≢◌}
 use Rattle.std.proofs.lemmas.List.{append-nil}
-use Rattle.coap_model.specs.Prelude.{Message, StreamFault, Stream, Phase, Reject, Reason, fit, pong_with}
-use Rattle.coap_model.specs.Prelude.{PendingEntryValue, without_due, due_index, reject_of, reject_reason, History}
-use Rattle.coap_model.specs.Prelude.{state_now, limit_now, StoreValue, ConfigValues, Connection, handles, side_after}
-use Rattle.coap_model.specs.Prelude.{side_faulted, settled, new_side, World, Step, side_of, AcceptedCall, Took}
-use Rattle.coap_model.specs.Prelude.{stream_on, steps_by, world_after, spelled_on, message_reason, LimitValues}
-use Rattle.coap_model.specs.Prelude.{without_request, bare_response}
+use Rattle.coap_model.specs.Prelude.{Message, StreamFault, Stream, Phase, Reject, Reason, PendingEntryValue}
+use Rattle.coap_model.specs.Prelude.{without_due, due_index, reject_of, reject_reason, History, StoreValue}
+use Rattle.coap_model.specs.Prelude.{ConfigValues, Connection, handles, side_after, side_faulted, settled, new_side}
+use Rattle.coap_model.specs.Prelude.{World, Step, side_of, AcceptedCall, Took, stream_on, steps_by, world_after}
+use Rattle.coap_model.specs.Prelude.{spelled_on, message_reason, LimitValues}
 use Rattle.coap_model.proofs.world.StepLaws.{world_same, world_step, nothing_spelled, world_first}
 use Rattle.coap_model.proofs.world.TookLaws.{Adds}
 use Rattle.coap_conn.proofs.ReactionLaws.{StopsAtMost}
@@ -55,10 +54,10 @@ rests_then h k g p q = record {
 sent_rests : (h : History) (pending : List PendingEntryValue) (m less : Message)
     → ((why : Reason) → HasStopped h why → ⊥) → HandlesNone h (sent (holding h pending) m less)
 sent_rests h pending m less live =
-    grind (arith, sent_either (state_now (holding h pending)) m less (fit (limit_now h) m less), holding h pending)
+    grind (arith, sent_either, holding)
 
 response_rests : Replies HandlesNone
-response_rests h token observe r does room = grind (arith, sent_rests h h.pending)
+response_rests h token observe r does room = grind (arith, sent_rests)
 
 -- If nothing is pending, nothing is due.
 first_rests : LetsGo HandlesNone
@@ -67,15 +66,11 @@ first_rests h now = grind arith
 
 pong_rests : Pongs HandlesNone
 pong_rests h now token due room =
-    grind (
-      arith,
-      due_pong now h.pending token due,
-      sent_rests h (without_due now h.pending) (pong_with true token) (pong_with false token),
-    )
+    grind (arith, due_pong, sent_rests)
 
 respond_rests : Responds HandlesNone
 respond_rests h m answering none =
-    grind (arith, sent_rests h (without_request m.token h.pending) m (bare_response m))
+    grind (arith, sent_rests)
 
 -- Settling handles no message.
 pub settled_handles_none : (store : StoreValue) (now : ℕ) (s : Connection)
@@ -230,4 +225,4 @@ AgreesOn c es id =
     (s : Connection) → side_of id (world_after c es).sides ≡ Some s → Agrees (stream_on c.limits.max_message id es) s
 
 pub first_agrees : (c : ConfigValues) (id : ℕ) → AgreesOn c [] id
-first_agrees c id s there = grind (arith, none_or_some s, world_first c, nobody id)
+first_agrees c id s there = grind (arith, none_or_some, world_first, nobody)

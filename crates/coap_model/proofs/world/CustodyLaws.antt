@@ -41,11 +41,11 @@ abbrev Gives : Type 0 → History → History → Type 0
 Gives G h k = (more : List Message) × (k.queued ≡ h.queued ++ more) × (list_any is_custody_pong more ≡ true → G)
 
 gives_none : (G : Type 0) (h k : History) → k.queued ≡ h.queued → Gives G h k
-gives_none G h k same = grind (arith, append-nil h.queued)
+gives_none G h k same = grind (arith, append-nil)
 
 -- Further messages without such a Pong do not change this.
 gives_then : (G : Type 0) (h k g : History) → Gives G h k → Gives ⊥ k g → Gives G h g
-gives_then G h k g one two = grind (arith, append_assoc h.queued one.0 two.0, list_any-append)
+gives_then G h k g one two = grind (arith, append_assoc, list_any-append)
 
 custody_gives : (G : Type 0) (s t : Connection) → Gives G s.history t.history → QueuesCustody s t → G
 custody_gives G s t gives custody =
@@ -109,7 +109,7 @@ custody_comes_first store now s custody =
     (once_between (λ h. Gives (IsPongFirst h) h) (Gives ⊥) (λ h. gives_none (IsPongFirst h) h h refl)
     (λ h. gives_then (IsPongFirst h) h) reply_gives
     (λ h now. gives_none (IsPongFirst h) h (without_first h now) refl)
-    (λ h now token due room. grind (arith, due_pong now h.pending token due))
+    (λ h now token due room. grind (arith, due_pong))
     store now s) custody in
     grind arith
 
@@ -198,7 +198,7 @@ pending_where h delay d is = grind arith
 -- The message asks for the responder of its delay.
 delayed_requested : (store : StoreValue) (now : ℕ) (m : Message) (d : Delay) → delay_of store now m ≡ Some d
     → asks_delayed store.applications d.by m ≡ true
-delayed_requested store now m d is = grind (arith, delay_of_answer store now m)
+delayed_requested store now m d is = grind (arith, delay_of_answer)
 
 module _ (store : StoreValue) (now : ℕ) (s : Connection) (m : Message) where
   abbrev pub heard : History
@@ -213,7 +213,7 @@ module _ (store : StoreValue) (now : ℕ) (s : Connection) (m : Message) where
       → P (side_answered store now heard (without_token m.token s.observers) m (prompt_answer store now m)))
       → P (side_handled store now s m)
   handled_cases P other late prompt =
-      grind (arith, replied_cases, pending_where heard, pending_is heard, and_from, request_quiet, delayed_requested)
+      grind (arith, replied_cases, pending_where, pending_is, and_from, request_quiet, delayed_requested)
 
 -- ---- the entries that a message adds
 
@@ -284,14 +284,14 @@ Corresponds a h = CorrespondTo a h.handled h.pending
 sent_corresponds : (a : Option ApplicationsValue) (h : History) (m less : Message) → Corresponds a h
     → Corresponds a (sent h m less)
 unfolding CorrespondTo
-sent_corresponds a h m less stand = grind (arith, sent_either (state_now h) m less (fit (limit_now h) m less))
+sent_corresponds a h m less stand = grind (arith, sent_either)
 
 -- The message asks for the entries that it added.
 received_corresponds : (a : Option ApplicationsValue) (m : Message) (h k : History) → takes_messages h.phase ≡ true
     → HasReceived a m h k → Corresponds a h → Corresponds a k
 unfolding CorrespondTo
 received_corresponds a m h k takes received stand =
-    grind (arith, stand_append a h.handled (m ∷ []) h.pending, stand_added a m)
+    grind (arith, stand_append, stand_added)
 
 pub corresponds_plain : (a : Option ApplicationsValue) (s t : Connection) → PlainCall s t → Corresponds a s.history
     → Corresponds a t.history
@@ -308,7 +308,7 @@ corresponds_keeps limits a = let R : History → History → Type 0 = λ h k. Co
   first = tt;
   handled =
       λ store now s m same is stand.
-      grind (arith, received_corresponds a m s.history, handles_parts s, handled_hears store now s m);
+      grind (arith, received_corresponds, handles_parts, handled_hears);
   faulted = λ s fault. corresponds_plain a s _ (Fault fault);
   written = λ s n. corresponds_plain a s _ (Write n);
   ended = λ s cut. corresponds_plain a s _ (End cut);

@@ -3,8 +3,7 @@ use Rattle.std.proofs.Common.{◌≡◌, ℕ, List, [], ◌∷◌, ◌++◌, Opt
 use Rattle.std.proofs.lemmas.List.{append-nil, map-append}
 use Rattle.std.proofs.Math.Seq.{drop-append_seam}
 use Rattle.coap_model.specs.Prelude.{StreamFault, Stream, stream_after, continued, split_on, ConfigValues, AcceptedCall}
-use Rattle.coap_model.specs.Prelude.{Took, taken_on, size_on, stream_on, spelled_on, beyond, steps_by, later_steps}
-use Rattle.coap_model.specs.Prelude.{steps_of, world_after}
+use Rattle.coap_model.specs.Prelude.{Took, stream_on, spelled_on, beyond, steps_by, later_steps, steps_of, world_after}
 use Rattle.coap_model.proofs.world.StepLaws.{taken_then, later_steps_more, size_then, sizes_then, read_before}
 use Rattle.coap_model.proofs.world.StepLaws.{stream_more, spelled_by, spelled_then}
 use Rattle.coap_model.proofs.world.TookLaws.{nothing_beyond}
@@ -17,7 +16,7 @@ SpellAlike M es fs = (id : ℕ) → spelled_on M id es ≡ spelled_on M id fs
 
 alike_by : (M : ℕ) (es fs : List AcceptedCall) (e : AcceptedCall) → SpellAlike M es fs
     → SpellAlike M (es ++ e ∷ []) (fs ++ e ∷ [])
-alike_by M es fs e alike id = grind (arith, spelled_then M id es e, spelled_by, spelled_then M id fs e)
+alike_by M es fs e alike id = grind (arith, spelled_then, spelled_by)
 
 pub stream_alike : (M id : ℕ) (es fs : List AcceptedCall) → SpellAlike M es fs → stream_on M id es ≡ stream_on M id fs
 stream_alike M id es fs alike = grind arith
@@ -54,33 +53,14 @@ beyond_parts M id before fault xs ys none = grind (arith, parts, nothing_beyond)
 pub spelled_twice : (M : ℕ) (es : List AcceptedCall) (other : ℕ) (xs ys : List ℕ)
     → SpellAlike M (es ++ Took other (xs ++ ys) ∷ []) ((es ++ Took other xs ∷ []) ++ Took other ys ∷ [])
 spelled_twice M es other xs ys id =
-    grind (
-      arith,
-      read_before M id es (Took other (xs ++ ys)),
-      read_before M id,
-      sizes_then M id es (Took other xs),
-      taken_then id es (Took other xs),
-      size_then M id es (Took other (xs ++ ys)),
-      size_then M id,
-      size_then M id es (Took other xs),
-      append_assoc (taken_on id es) xs ys,
-      append-nil (taken_on id es),
-    )
+    grind (arith, read_before, sizes_then, taken_then, size_then, append_assoc, append-nil)
 
 -- The steps of a slice are those of its parts.
 by_parts : (M : ℕ) (es : List AcceptedCall) (id : ℕ) (xs ys : List ℕ)
     → steps_by M es (Took id (xs ++ ys)) ≡ steps_by M es (Took id xs) ++ steps_by M (es ++ Took id xs ∷ []) (Took id ys)
 unfolding steps_by
 by_parts M es id xs ys =
-    grind (
-      arith,
-      stream_alike M id (es ++ Took id (xs ++ ys) ∷ []),
-      spelled_twice M es id xs ys,
-      stream_more M id,
-      size_then M id es (Took id xs),
-      stream_more M id es xs,
-      beyond_parts (size_on M id es) id (stream_on M id es),
-    )
+    grind (arith, stream_alike, spelled_twice, stream_more, size_then, beyond_parts)
 
 -- ---- the theorem
 
@@ -101,4 +81,4 @@ cut_steps M es fs id xs ys =
 pub cut_worlds : (c : ConfigValues) (es fs : List AcceptedCall) (id : ℕ) (xs ys : List ℕ)
     → world_after c (es ++ Took id (xs ++ ys) ∷ fs) ≡ world_after c (es ++ Took id xs ∷ Took id ys ∷ fs)
 unfolding world_after
-cut_worlds c es fs id xs ys = grind (arith, cut_steps c.limits.max_message es fs id xs ys)
+cut_worlds c es fs id xs ys = grind (arith, cut_steps)

@@ -59,7 +59,7 @@ changed_known w change known =
 
 pub acted_known : (limits : LimitValues) (w : World) (s : Step) → IsKnownWorld w → IsKnownWorld (acted limits w s)
 unfolding acted
-acted_known limits w (Opened id) known = grind (arith, all_append (IsKnownPlace w.store) w.sides)
+acted_known limits w (Opened id) known = grind (arith, all_append)
 acted_known limits w (Handled id m) known =
     let after = on_side_known w id (λ s. side_after w.store w.now s m)
     (λ s. after_known w.store w.now known.moment known.versioned s m) known in
@@ -69,7 +69,7 @@ acted_known limits w (Handled id m) known =
     (λ e. after) (λ s e. changed_known _ (change_after w.store w.now s m) after)
 acted_known limits w (Faulted id fault) known = on_side_known w id _ (λ s. plain_known w.store s _ (Fault fault)) known
 acted_known limits w (Written id n) known = on_side_known w id _ (λ s. plain_known w.store s _ (Write n)) known
-acted_known limits w (Ticked now) known = grind (arith, leb-true now 18446744073709551615)
+acted_known limits w (Ticked now) known = grind (arith, leb-true)
 acted_known limits w (Stored path format bytes) known = grind (arith, changed_known w (Put path format bytes) known)
 acted_known limits w (Removed path) known = changed_known w (Delete path) known
 acted_known limits w (Ended id cut) known = on_side_known w id _ (λ s. plain_known w.store s _ (End cut)) known
@@ -77,7 +77,7 @@ acted_known limits w (Released id) known = on_side_known w id _ (λ s. plain_kno
 acted_known limits w (Announced id size) known =
     on_side_known w id _ (λ s. plain_known w.store s _ (Announcement size)) known
 acted_known limits w (Responded id m) known = on_side_known w id _ (λ s. responded_known w.store s m) known
-acted_known limits w (Dropped id) known = grind (arith, with_places w, all_filter (IsKnownPlace w.store))
+acted_known limits w (Dropped id) known = grind (arith, with_places, all_filter)
 
 step_known : (limits : LimitValues) (w : World) (s : Step) → IsKnownWorld w → IsKnownWorld (step limits w s)
 unfolding step
@@ -119,7 +119,7 @@ world_hears c = world_keeps c AllHear (λ w s hear. step_hears c.limits w s) tt
 
 -- A world in which no change is lost is settled.
 pub world_stays : (w : World) → AllHear w → all_settled w ≡ w
-world_stays w hear = grind (arith, all_stay, all_to, side_at_rest_stays w.store w.now)
+world_stays w hear = grind (arith, all_stay, all_to, side_at_rest_stays)
 
 -- ---- the end of input
 

@@ -40,7 +40,7 @@ pub all_become : {O : Type 0} (P : O → Type 0) (due : O → Bool) (after os : 
 unfolding first_becomes
 all_become P due after [] all new = tt
 all_become P due after (o ∷ os) all new =
-    grind (arith, all_append P after os new all.1, all_become P due after os all.1 new)
+    grind (arith, all_append, all_become P due after os all.1 new)
 
 -- ---- the entry that a request asks for
 
@@ -107,4 +107,4 @@ pub count_less : {O : Type 0} (due : O → Bool) (os : List O) (o : O) (after : 
 unfolding count_due first_becomes
 count_less due [] o after quiet e = absurd cc
 count_less due (p ∷ os) o after quiet e =
-    grind (arith, count_later due after os quiet, count_less due os o after quiet)
+    grind (arith, count_later, count_less due os o after quiet)

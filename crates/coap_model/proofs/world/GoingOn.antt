@@ -5,9 +5,9 @@ use Rattle.std.proofs.lemmas.Bool.{true_from_ne_false}
 use Rattle.std.proofs.lemmas.List.{length-drop}
 use Rattle.coap_model.specs.Prelude.{Message, StreamFault, Reply, Server, LimitValues, takes_messages}
 use Rattle.coap_model.specs.Prelude.{PendingEntryValue, ConnectionState, ReactionResult, send_as, due_effect, History}
-use Rattle.coap_model.specs.Prelude.{IsHistory, state_now, with_effect, after, link_of, bytes_of, Call, call_effect}
-use Rattle.coap_model.specs.Prelude.{StoreValue, ApplicationsValue, ConfigValues, Connection, new_side, handles}
-use Rattle.coap_model.specs.Prelude.{side_after, side_faulted, side_written, side_ended, side_released, side_announced}
+use Rattle.coap_model.specs.Prelude.{IsHistory, with_effect, after, link_of, Call, call_effect, StoreValue}
+use Rattle.coap_model.specs.Prelude.{ApplicationsValue, ConfigValues, Connection, new_side, handles, side_after}
+use Rattle.coap_model.specs.Prelude.{side_faulted, side_written, side_ended, side_released, side_announced}
 use Rattle.coap_model.specs.Prelude.{side_responded, late_message, after_sent, settled_once, settled, World, Step}
 use Rattle.coap_model.specs.Prelude.{side_of, AcceptedCall, world_after}
 use Rattle.coap_conn.specs.declared.phase.Reply.TheVariants as reply
@@ -36,27 +36,27 @@ further g h k one two = grind arith
 
 -- If it accepts messages, the earlier one did.
 pub was_live : (h k : History) → GoesOn h k → takes_messages k.phase ≡ true → takes_messages h.phase ≡ true
-was_live h k goes takes = grind (arith, true_from_ne_false (takes_messages h.phase))
+was_live h k goes takes = grind (arith, true_from_ne_false)
 
 -- ---- each part of an effect
 
 -- More messages are queued.
 pub effect_goes_on : (h : History) (e : ReactionResult)
     → (takes_messages h.phase ≡ false → takes_messages e.phase ≡ false) → GoesOn h (with_effect h e)
-effect_goes_on h e over = grind (arith, history_more h e.queued)
+effect_goes_on h e over = grind (arith, history_more)
 
 sent_over : (s : ConnectionState) (m less : Message) (r : Reply) → takes_messages s.phase ≡ false
     → takes_messages (send_as s m less r).phase ≡ false
 sent_over s m less r e = grind arith
 
 pub sent_goes_so : (h : History) (m less : Message) → GoesOn h (sent h m less)
-sent_goes_so h m less = grind (arith, effect_goes_on h, sent_over (state_now h) m less)
+sent_goes_so h m less = grind (arith, effect_goes_on, sent_over)
 
 pub holding_so : (h : History) (pending : List PendingEntryValue) → GoesOn h (holding h pending)
 holding_so h pending = grind arith
 
 pub written_goes_on : (h : History) (n : ℕ) → n ≤ length (link_of h).waiting → GoesOn h (after h (call.Written n))
-written_goes_on h n within = grind (arith, length-drop h.written (bytes_of h.queued))
+written_goes_on h n within = grind (arith, length-drop)
 
 pub all_go_on : KeepsAll GoesOn
 all_go_on =
@@ -130,7 +130,7 @@ pub follower_is : (limits : LimitValues) (s t : Connection) → Between GoesOn s
 follower_is limits s t goes is = grind arith
 
 pub new_side_is : (limits : LimitValues) → IsSide limits (new_side limits)
-new_side_is limits = grind (arith, new_shown Server limits 0)
+new_side_is limits = grind (arith, new_shown)
 
 -- The connection with an id has these properties.
 pub side_is : (c : ConfigValues) (es : List AcceptedCall) (id : ℕ) (s : Connection)

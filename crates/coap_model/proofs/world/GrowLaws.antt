@@ -41,11 +41,7 @@ front_written s = take s.history.written (bytes_of s.history.queued)
 
 pub same_front : (s t : Connection) → IsHistory s.history → SideGrows s t → front_written t ≡ front_written s
 same_front s t within grows =
-    grind (
-      arith,
-      bytes_more s.history.queued grows.more,
-      take-append-le s.history.written (bytes_of s.history.queued) (bytes_of grows.more) within,
-    )
+    grind (arith, bytes_more, take-append-le)
 
 -- All queued bytes are written.
 pub written_all : (s : Connection)
@@ -54,7 +50,7 @@ unfolding side_written
 written_all s =
     let n = length (waiting_on s) in
     let B = bytes_of s.history.queued in
-    grind (arith, le-leb n n (omega arith), take-add s.history.written n B, take-length (drop s.history.written B))
+    grind (arith, le-leb, take-add, take-length)
 
 -- If no bytes are queued, all were written.
 pub none_waits_all_written : (s : Connection) → waiting_on s ≡ [] → front_written s ≡ bytes_of s.history.queued

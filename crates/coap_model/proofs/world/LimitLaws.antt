@@ -1,7 +1,7 @@
 -- No limit of a server is exceeded. After any events, this holds of the queued bytes, the pending entries and the
 -- observers of a connection. After accepted events, it also holds of the bytes kept of an unfinished frame.
-use Rattle.std.proofs.Common.{◌≡◌, ℕ, ◌+◌, ◌<◌, ◌≤◌, Bool, true, false, List, [], ◌∷◌, ◌++◌, length, Some, None, refl}
-use Rattle.std.proofs.Common.{◌∙◌, arith, sym, subst, append_assoc}
+use Rattle.std.proofs.Common.{◌≡◌, ℕ, ◌<◌, ◌≤◌, Bool, true, false, List, [], ◌∷◌, ◌++◌, length, Some, None, refl, ◌∙◌}
+use Rattle.std.proofs.Common.{arith, sym, subst, append_assoc}
 use Rattle.std.proofs.lemmas.Bool.{leb-true, ltb-true, eqb-true}
 use Rattle.std.proofs.lemmas.List.{length-append, length-drop, append-nil}
 use Rattle.std.proofs.lemmas.List.Sums.{length-filter, count_by-le-length}
@@ -9,10 +9,10 @@ use Rattle.coap_model.specs.Prelude.{ApplicationsValue, Option, Message, spellin
 use Rattle.coap_model.specs.Prelude.{announced, bad_csm_option, announcement, AllFit, fit, bare_response, Answer}
 use Rattle.coap_model.specs.Prelude.{ConnectionState, send_as, react, pong_with, ReactionResult, stop, live_reaction}
 use Rattle.coap_model.specs.Prelude.{reject_reason, History, IsHistory, limit_now, state_now, after, link_of}
-use Rattle.coap_model.specs.Prelude.{with_effect, bytes_of, own_csm, free_in, release, end_reason, StoreValue}
-use Rattle.coap_model.specs.Prelude.{response_with_observe, ConfigValues, Observer, is_due, without_token, entry_for}
-use Rattle.coap_model.specs.Prelude.{left_of, first_becomes, Connection, new_side, settled_once, settled, side_of}
-use Rattle.coap_model.specs.Prelude.{World, Step, AcceptedCall, stream_on, world_after, AreAccepted, kept_on, Server}
+use Rattle.coap_model.specs.Prelude.{with_effect, own_csm, end_reason, StoreValue, response_with_observe, ConfigValues}
+use Rattle.coap_model.specs.Prelude.{Observer, is_due, without_token, left_of, first_becomes, Connection, new_side}
+use Rattle.coap_model.specs.Prelude.{settled_once, settled, side_of, World, Step, AcceptedCall, stream_on, world_after}
+use Rattle.coap_model.specs.Prelude.{AreAccepted, kept_on, Server}
 use Rattle.coap_model.proofs.world.SideLaws.{send_pending, observers_after, observers_settled}
 use Rattle.coap_wire.proofs.StreamSteps.{unfinished_below}
 use Rattle.coap_conn.proofs.LinkLemmas.{announced_more}
@@ -49,7 +49,7 @@ becomes_fewer : (due : Observer → Bool) (after : List Observer) (os : List Obs
     → length (first_becomes due after os) ≤ length os
 unfolding first_becomes
 becomes_fewer due after [] one = omega arith
-becomes_fewer due after (o ∷ os) one = grind (arith, length-append after os, becomes_fewer due after os one)
+becomes_fewer due after (o ∷ os) one = grind (arith, length-append, becomes_fewer due after os one)
 
 left_one : (store : StoreValue) (now : ℕ) (o : Observer) (stays : Bool) → length (left_of store now o stays) ≤ 1
 left_one store now o stays = grind arith
@@ -64,11 +64,7 @@ few_keeps limits a =
       -- An entry is added only if there is a place for it.
       handled = λ store now s m same is few. observers_after Few store now s m (omega arith) few
           (omega (arith, few, token_fewer m.token s.observers)) (λ requested place.
-          grind (
-            arith,
-            call_goes_on s.history,
-            length-append (without_token m.token s.observers) (entry_for store now m ∷ []),
-          ));
+          grind (arith, call_goes_on, length-append));
       faulted = kept.faulted;
       written = kept.written;
       ended = kept.ended;
@@ -149,14 +145,7 @@ waits_by h k goes less w = grind arith
 added_waits : (h k : History) (ms : List Message) → GoesOn h k → wait k ≡ wait (record h { queued = h.queued ++ ms })
     → room_in h ≡ true → length ms ≤ 1 → AllFit (limit_now h) ms → Waits h → Waits k
 added_waits h k ms goes same room one each =
-    grind (
-      arith,
-      waits_by h k goes,
-      queued_waits h ms,
-      one_small (limit_now h) ms one each,
-      limit_within h,
-      leb-true h.limits.max_sent (free_in (link_of h)) room,
-    )
+    grind (arith, waits_by, queued_waits, one_small, limit_within, leb-true)
 
 pub all_wait : KeepsAll (λ h k. Waits h → Waits k)
 all_wait = record {
@@ -180,14 +169,7 @@ all_wait = record {
       (stopped_fits h (reject_reason fault));
   ends = λ h cut takes. grind (arith, waits_by h, all_go_on.ends h cut takes, queued_waits h);
   releases = λ h opened none.
-      grind (
-        arith,
-        waits_by h,
-        all_go_on.releases h opened none,
-        queued_waits h (release ∷ []),
-        release_bytes_small,
-        release_fits (link_of h) none,
-      );
+      grind (arith, waits_by, all_go_on.releases h opened none, queued_waits, release_bytes_small, release_fits);
   responds = λ h m answering none.
       grind (
         arith,
@@ -201,13 +183,7 @@ all_wait = record {
       added_waits h _ _ (all_go_on.announces h size opened room fit) refl room (omega arith)
       (leb-true (length (spelling (own_csm size))) (limit_now h) fit, tt);
   writes = λ h n within.
-      grind (
-        arith,
-        waits_by h,
-        all_go_on.writes h n within,
-        length-drop h.written (bytes_of h.queued),
-        length-drop (h.written + n) (bytes_of h.queued),
-      );
+      grind (arith, waits_by, all_go_on.writes h n within, length-drop);
 }
 
 -- ---- bytes kept of an unfinished frame
@@ -217,13 +193,13 @@ pub kept_within : (c : ConfigValues) (es : List AcceptedCall) (id : ℕ) (s : Co
     → AreAccepted c es → side_of id (world_after c es).sides ≡ Some s
     → length (kept_on s (stream_on c.limits.max_message id es).rest) < s.history.own_max
 kept_within c es id s ranges accepted there =
-    grind (arith, accepted_is c es accepted, size_grows, unfinished_below, rest_unfinished, kept_small_by)
+    grind (arith, accepted_is, size_grows, unfinished_below, rest_unfinished, kept_small_by)
 
 -- ---- a message that announces a size queues nothing
 
 -- The message is a CSM whose options are all allowed.
 announces : (m : Message) (n : ℕ) → announcement m ≡ Some n → (m.code ≡ code.csm) × (bad_csm_option m ≡ None)
-announces m n e = grind (arith, eqb-true m.code)
+announces m n e = grind (arith, eqb-true)
 
 announcing_quiet : (s : ConnectionState) (m : Message) (n : ℕ) → announcement m ≡ Some n
     → (react s m).effect.queued ≡ []
@@ -245,16 +221,16 @@ pub record GrowsEvenly (h k : History) : Type 0 where
 
 -- Nothing was queued.
 same_evenly : (h k : History) → k.queued ≡ h.queued → limit_now k ≡ limit_now h → GrowsEvenly h k
-same_evenly h k queued limits = grind (arith, append-nil h.queued)
+same_evenly h k queued limits = grind (arith, append-nil)
 
 evenly_self : (h : History) → GrowsEvenly h h
 evenly_self h = same_evenly h h refl refl
 
 grows_fitting_then : (h k g : History) → GrowsFitting h k → GrowsEvenly k g → GrowsFitting h g
-grows_fitting_then h k g p q = grind (arith, append_assoc h.queued p.more q.grows.more, all_append)
+grows_fitting_then h k g p q = grind (arith, append_assoc, all_append)
 
 evenly_then : (h k g : History) → GrowsEvenly h k → GrowsEvenly k g → GrowsEvenly h g
-evenly_then h k g p q = grind (arith, grows_fitting_then h k g p.grows q)
+evenly_then h k g p q = grind (arith, grows_fitting_then)
 
 effect_evenly : (h : History) (e : ReactionResult) → AllFit (limit_now h) e.queued → GrowsEvenly h (with_effect h e)
 effect_evenly h e fit = grind arith
@@ -265,7 +241,7 @@ reply_evenly h token observe r does room = grind (arith, effect_evenly h, sent_f
 -- A message that changes the limit queues nothing.
 message_grows : Hears GrowsFitting
 message_grows h m takes room =
-    grind (arith, announced_more h.handled m, reaction_fits h m, announcing_quiet (state_now h) m)
+    grind (arith, announced_more, reaction_fits, announcing_quiet)
 
 -- ---- a step
 
@@ -288,11 +264,11 @@ grows_of w st id = let same : (h : History) → GrowsFitting h h = λ h. (evenly
       ended_between GrowsFitting same
       (λ h cut takes. (effect_evenly h (stop (state_now h) (end_reason cut) []) tt).grows);
   released = released_between GrowsFitting same (λ h opened none.
-      grind (arith, effect_evenly h, released_fits h (release_fits (link_of h) none).1));
+      grind (arith, effect_evenly, released_fits));
   responded =
       responded_between GrowsFitting same (λ h m answering none. (effect_evenly h _ (responded_fits h m)).grows);
   announced = λ size is s. announced_between GrowsFitting same
-      (λ h n opened room fit. grind (arith, leb-true (length (spelling (own_csm n))) (limit_now h) fit)) s size;
+      (λ h n opened room fit. grind (arith, leb-true)) s size;
   reported = λ store now s t is. grows_fitting_then s.history t.history _ is (once_evenly store now t);
 }
 

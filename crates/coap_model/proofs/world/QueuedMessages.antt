@@ -19,19 +19,14 @@ use Rattle.coap_model.proofs.world.WalkLaws.{announcing, Rejects, Ends, Releases
 pub last_of_longer : (token : List ℕ) (queued : List Message) (m : Message)
     → last_response token (queued ++ m ∷ []) ≡ cond (responds token m) (Some m) (last_response token queued)
 unfolding last_response
-last_of_longer token queued m = grind (arith, reverse-append queued (m ∷ []))
+last_of_longer token queued m = grind (arith, reverse-append)
 
 -- Other messages do not change it.
 pub last_stays : (token : List ℕ) (queued ms : List Message) → AllByRecursion (λ m. responds token m ≡ false) ms
     → last_response token (queued ++ ms) ≡ last_response token queued
-last_stays token queued [] none = grind (arith, append-nil queued)
+last_stays token queued [] none = grind (arith, append-nil)
 last_stays token queued (m ∷ ms) none =
-    grind (
-      arith,
-      last_stays token (queued ++ m ∷ []) ms none.1,
-      append_assoc queued (m ∷ []) ms,
-      last_of_longer token queued m,
-    )
+    grind (arith, last_stays token (queued ++ m ∷ []) ms none.1, append_assoc, last_of_longer)
 
 -- ---- queued messages
 
@@ -46,7 +41,7 @@ pub record Queues (P : Message → Type 0) (h k : History) : Type 0 where
 -- No message is handled.
 pub queues_these : (P : Message → Type 0) (h k : History) (more : List Message) → k.queued ≡ h.queued ++ more
     → k.handled ≡ h.handled → AllByRecursion P more → Queues P h k
-queues_these P h k more same handled such = grind (arith, append-nil h.handled)
+queues_these P h k more same handled such = grind (arith, append-nil)
 
 pub queues_none : (P : Message → Type 0) (h : History) → Queues P h h
 queues_none P h = queues_these P h h [] (sym (append-nil h.queued)) refl tt
@@ -76,11 +71,11 @@ message_queues h m server =
     react_so (state_now h) m (λ e. AllByRecursion IsNoResponse e.queued) (record {
       stays = tt;
       silent = λ now outstanding silent. tt;
-      stops = λ why farewell plain one may. grind (arith, all_to IsPlain IsNoResponse);
+      stops = λ why farewell plain one may. grind (arith, all_to);
       queues = λ n is. (is server, tt);
       keeps = λ ping custody some. tt;
     }) in
-    grind (arith, queues_none IsNoResponse h)
+    grind (arith, queues_none)
 
 pub reject_queues : Rejects (Queues IsPlain)
 reject_queues h r takes room = queues_these IsPlain h _ _ refl refl (abort_plain (limit_now h) (reject_reason r))
@@ -89,10 +84,10 @@ pub end_queues : Ends (Queues IsPlain)
 end_queues h cut takes = queues_these IsPlain h _ [] refl refl tt
 
 pub release_queues : Releases (Queues IsPlain)
-release_queues h opened none = grind (arith, queues_these IsPlain h)
+release_queues h opened none = grind (arith, queues_these)
 
 pub announcing_queues : (h : History) (size : ℕ) → Queues IsPlain h (announcing h size)
-announcing_queues h size = grind (arith, queues_these IsPlain h)
+announcing_queues h size = grind (arith, queues_these)
 
 -- A write queues nothing.
 pub written_queues : (P : Message → Type 0) (h : History) (n : ℕ) → Queues P h (after h (call.Written n))
@@ -105,7 +100,7 @@ plain_queues =
 
 -- Of the entries that are due, only a Pong is queued here.
 pub due_queues : (h : History) (now : ℕ) → Queues IsNoResponse h (after h (call.Due now))
-due_queues h now = grind (arith, queues_these IsNoResponse h)
+due_queues h now = grind (arith, queues_these)
 
 -- ---- responses
 
@@ -120,4 +115,4 @@ open_answers p opened = grind arith
 -- If a response is sent whole and the connection is open afterwards, it is the last message queued.
 pub whole_last : (h : History) (m : Message) → is_whole (fit (limit_now h) m (bare_response m)) ≡ true
     → is_open (after h (call.Reply m)).phase ≡ true → (after h (call.Reply m)).queued ≡ h.queued ++ m ∷ []
-whole_last h m whole opened = grind (arith, open_answers h.phase)
+whole_last h m whole opened = grind (arith, open_answers)

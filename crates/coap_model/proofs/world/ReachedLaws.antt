@@ -47,7 +47,7 @@ pub record KeptByStep (P : World → Type 0) (limits : LimitValues) (w : World) 
 module _ (P : World → Type 0) (limits : LimitValues) (w : World) (holds : P w) where
   acted_keeps : (st : Step) → KeptByStep P limits w st → P (acted limits w st)
   unfolding acted
-  acted_keeps (world.Opened id) keeps = grind (arith, none_where (side_of id w.sides))
+  acted_keeps (world.Opened id) keeps = grind (arith, none_where)
   acted_keeps (world.Handled id m) keeps = keeps.reported _ _ w.now (keeps.changed w _ (changed_id id _) holds)
   acted_keeps (world.Ticked now) keeps = grind arith
   acted_keeps (world.Stored path format bytes) keeps = grind arith
@@ -57,7 +57,7 @@ module _ (P : World → Type 0) (limits : LimitValues) (w : World) (holds : P w)
 
   pub step_keeps : (st : Step) → KeptByStep P limits w st → P (world.step limits w st)
   unfolding world.step
-  step_keeps st keeps = grind (arith, acted_keeps st keeps)
+  step_keeps st keeps = grind (arith, acted_keeps)
 
 -- The ids of connections are distinct.
 pub step_distinct : (limits : LimitValues) (w : World) (s : Step) → AreDistinct w.sides
@@ -114,7 +114,7 @@ module _ (c : ConfigValues) (w : World) where
   step_numbered : (s : Step) → IsNumbered c w → OpensNext c w s → IsNumbered c (world.step c.limits w s)
   step_numbered s is next = step_keeps (IsNumbered c) c.limits w is s (record {
     opened = λ id opened free.
-        grind (arith, all_append, all_to, length-append w.sides);
+        grind (arith, all_append, all_to, length-append);
     changed = λ v g keeps still. record {
       low = still.low;
       each = all_map (λ p. IsGivenNumber v.ids p.id) _ g (λ p given. rw (keeps p) given) v.sides still.each;
@@ -140,7 +140,7 @@ pub record IsReached (c : ConfigValues) (es : List AcceptedCall) : Type 0 where
       → s.history.own_max ≡ size_on c.limits.max_message id es
 
 first_reached : (c : ConfigValues) → IsReached c []
-first_reached c = grind (arith, world_first c, first_spelled c.limits.max_message, none_or_some, nobody)
+first_reached c = grind (arith, world_first, first_spelled, none_or_some, nobody)
 
 -- ---- a step
 
@@ -172,12 +172,12 @@ unfolding side_after side_faulted side_written side_ended side_released side_ann
 follows_of w st id = record {
   same = λ s. grind arith;
   handled = λ m is s. (was_live _ _ ((all_on w st id).handled m is s), λ _. grind arith);
-  faulted = λ fault is s. grind (arith, was_live, all_on w st id);
-  written = λ s n. grind (arith, was_live, all_on w st id);
-  ended = λ s cut. grind (arith, was_live, all_on w st id);
-  released = λ s. grind (arith, was_live, all_on w st id);
-  announced = λ size is s. grind (arith, was_live, all_on w st id);
-  responded = λ s m. grind (arith, was_live, all_on w st id);
+  faulted = λ fault is s. grind (arith, was_live, all_on);
+  written = λ s n. grind (arith, was_live, all_on);
+  ended = λ s cut. grind (arith, was_live, all_on);
+  released = λ s. grind (arith, was_live, all_on);
+  announced = λ size is s. grind (arith, was_live, all_on);
+  responded = λ s m. grind (arith, was_live, all_on);
   reported = λ store now s t is. (
     λ takes. is.0 (was_live _ _ ((all_on w st id).reported store now t t ((all_on w st id).same t)) takes),
     λ none. once_sized store now t ∙ is.1 none,
@@ -347,7 +347,7 @@ module _ (c : ConfigValues) (es : List AcceptedCall) (id : ℕ) (bytes : List �
   found_reached : (found : FrameEventValue) → handles s ≡ true
       → Adds c.limits.max_message id es bytes (added_by (stream_on c.limits.max_message id es).rest bytes found)
       → IsReached c (es ++ e ∷ [])
-  found_reached Nothing does adds = grind (arith, quiet_reached adds.steps)
+  found_reached Nothing does adds = grind (arith, quiet_reached)
   found_reached (AFrame frame) does adds = frame_reached frame (message_of frame) does adds
   found_reached (AFault fault) does adds = fault_reached _ _ does adds
 
@@ -384,7 +384,7 @@ event_reached c es (event.Announced id size) before is =
     let at = on_one _ (side_of id (world_after c es).sides) is in
     let given = (number_given c (world_after c es) id at.0 before.numbered at.1).within in
     step_reached c es before (event.Announced id size) _ refl tt
-    (λ k h. grind (arith, announced_elsewhere k id size))
+    (λ k h. grind (arith, announced_elsewhere))
     (announced_leads c es before id size at.0 at.1 at.2)
 event_reached c es e before is =
     plain_reached c es before e _ refl tt (λ k. refl) (λ k N. refl) (λ k size is. cc)

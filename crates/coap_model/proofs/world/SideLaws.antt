@@ -1,11 +1,10 @@
 -- A connection of the world: facts on it, its observers after a message, and how it settles.
 use Rattle.std.proofs.Common.{◌≡◌, ℕ, ◌+◌, ◌<◌, ◌≤◌, Bool, true, cond, List, [], length, Option, Some, None, refl}
 use Rattle.std.proofs.Common.{arith, zero, suc, ◌∷◌, ◌++◌, ◌⊎◌, find}
-use Rattle.coap_model.specs.Prelude.{AllByRecursion, filter_map, Message, takes_messages, fit, bare_response}
-use Rattle.coap_model.specs.Prelude.{PendingEntryValue, first_due, without_due, due_moment, due_index, NothingIsDue}
-use Rattle.coap_model.specs.Prelude.{History, IsHistory, limit_now, state_now, after, StoreValue, path_of}
-use Rattle.coap_model.specs.Prelude.{prompt_answer, Change, changed, Connection, handles, has_room, side_with}
-use Rattle.coap_model.specs.Prelude.{with_history, side_answered, moment_after, Delay, hold_call, delay_for}
+use Rattle.coap_model.specs.Prelude.{AllByRecursion, filter_map, Message, takes_messages, PendingEntryValue, first_due}
+use Rattle.coap_model.specs.Prelude.{without_due, due_moment, due_index, NothingIsDue, History, IsHistory, after}
+use Rattle.coap_model.specs.Prelude.{StoreValue, path_of, prompt_answer, Change, changed, Connection, handles, has_room}
+use Rattle.coap_model.specs.Prelude.{side_with, with_history, side_answered, moment_after, Delay, hold_call, delay_for}
 use Rattle.coap_model.specs.Prelude.{side_replied, side_after, next_due, notified, next_pending, after_sent}
 use Rattle.coap_model.specs.Prelude.{settled_once, settled_within, settled, IsUpToDate, Observer, without_token}
 use Rattle.coap_model.specs.Prelude.{entry_for, is_due, goes_on, notification, left_of, first_becomes, Reply}
@@ -73,7 +72,7 @@ due_pending s e = grind (arith, send_pending)
 
 reply_leaves : (h : History) (m : Message) → length (after h (call.Reply m)).pending ≤ length h.pending
 reply_leaves h m =
-    grind (arith, send_pending (state_now h) m (bare_response m) (fit (limit_now h) m (bare_response m)))
+    grind (arith, send_pending)
 
 sent_leaves : (h : History) (now : ℕ) (e : PendingEntryValue)
     → length (after_sent h now e).pending ≤ length (without_due now h.pending)
@@ -85,7 +84,7 @@ sent_leaves h now e = grind (arith, reply_leaves, due_pending)
 pub still_known_side : (store : StoreValue) (change : Change) (s : Connection) → IsVersioned store → IsKnownSide store s
     → IsKnownSide (changed store change) s
 still_known_side store change s is known =
-    grind (arith, all_to (IsKnown store) (IsKnown (changed store change)), still_known store change)
+    grind (arith, all_to, still_known)
 
 -- All effects other than messages keep them.
 pub plain_known : (store : StoreValue) (s t : Connection) → PlainCall s t → IsKnownSide store s → IsKnownSide store t
@@ -147,7 +146,7 @@ pub observers_settled : (P : List Observer → Type 0) (store : StoreValue) (now
 observers_settled P store now s none same reported =
     settled_cases store now s (λ t. P t.observers)
     (λ e is. kept_open_has P none (after_sent s.history now e) s.observers same) (λ rests.
-    grind (arith, kept_open_has P none))
+    grind (arith, kept_open_has))
 
 -- ---- facts
 
@@ -177,7 +176,7 @@ module _ (store : StoreValue) (now : ℕ) (small : now ≤ 18446744073709551615)
 
 count_if : (due : Observer → Bool) (b : Bool) (os : List Observer) → count_due due (cond b os []) ≤ count_due due os
 unfolding count_due
-count_if due b os = grind (arith, count_due due, count_due due os)
+count_if due b os = grind (arith, count_due)
 
 -- The updated entry of a notified observer is not due.
 left_quiet : (store : StoreValue) (now : ℕ) (o : Observer) (stays : Bool)
@@ -204,13 +203,13 @@ once_less store now s =
     grind (
       arith,
       count_less,
-      left_quiet store now,
-      next_due_found store now s,
-      reply_leaves s.history,
+      left_quiet,
+      next_due_found,
+      reply_leaves,
       count_if,
-      due_fewer now s.history.pending,
-      pending_room now s,
-      sent_leaves s.history now,
+      due_fewer,
+      pending_room,
+      sent_leaves,
     )
 
 rests_by : (turns : ℕ) (store : StoreValue) (now : ℕ) (s : Connection) → left_on store now s ≤ turns
@@ -252,21 +251,14 @@ none_come_listed now (e ∷ pending) none = rw none.0 (none_come_listed now pend
 pub nothing_due_first : (now : ℕ) (pending : List PendingEntryValue) → NothingIsDue now pending
     → first_due now pending ≡ None
 unfolding first_due due_index
-nothing_due_first now pending none = grind (arith, none_come_listed now pending none.0)
+nothing_due_first now pending none = grind (arith, none_come_listed)
 
 pub hears_sent : (store : StoreValue) (now : ℕ) (s : Connection) → IsUpToDate store now s → next_pending now s ≡ None
-hears_sent store now s takes_input = grind (arith, nothing_due_first now s.history.pending)
+hears_sent store now s takes_input = grind (arith, nothing_due_first)
 
 -- A connection on which no change is lost has nothing to settle.
 pub side_at_rest_stays : (store : StoreValue) (now : ℕ) (s : Connection) → IsUpToDate store now s
     → settled store now s ≡ s
 unfolding settled
 side_at_rest_stays store now s takes_input =
-    grind (
-      arith,
-      all_to,
-      not_due store now,
-      none_found (is_due store now) s.observers,
-      at_rest (length s.history.pending + length s.observers) store now s,
-      hears_sent store now s takes_input,
-    )
+    grind (arith, all_to, not_due, none_found, at_rest, hears_sent)

@@ -58,19 +58,19 @@ world_first c = refl
 pub world_more : (c : ConfigValues) (es : List AcceptedCall) (e : AcceptedCall)
     → world_after c (es ++ e ∷ []) ≡ after_steps c.limits (world_after c es) (steps_by c.limits.max_message es e)
 unfolding world_after
-world_more c es e = grind (arith, steps_of_more, steps_then c.limits (new_world c))
+world_more c es e = grind (arith, steps_of_more, steps_then)
 
 -- The same if the steps of the event are known: none, or one.
 pub world_same : (c : ConfigValues) (es : List AcceptedCall) (e : AcceptedCall)
     → steps_by c.limits.max_message es e ≡ [] → world_after c (es ++ e ∷ []) ≡ world_after c es
 unfolding after_steps
-world_same c es e none = grind (arith, world_more c es e)
+world_same c es e none = grind (arith, world_more)
 
 pub world_step : (c : ConfigValues) (es : List AcceptedCall) (e : AcceptedCall) (s : Step)
     → steps_by c.limits.max_message es e ≡ s ∷ []
     → world_after c (es ++ e ∷ []) ≡ world.step c.limits (world_after c es) s
 unfolding after_steps
-world_step c es e s one = grind (arith, world_more c es e)
+world_step c es e s one = grind (arith, world_more)
 
 -- ---- accepted events
 
@@ -131,7 +131,7 @@ size_stays id e = (M : ℕ) → size_by id e M ≡ M
 pub sizes_then : (M id : ℕ) (es : List AcceptedCall) (e : AcceptedCall) → size_stays id e
     → sizes_on M id (es ++ e ∷ []) ≡ sizes_on M id es
 unfolding sizes_on
-sizes_then M id [] e stays = grind (arith, first_always (length (taken_in id e)) M)
+sizes_then M id [] e stays = grind (arith, first_always)
 sizes_then M id (d ∷ es) e stays = grind (arith, sizes_then (size_by id d M) id es e stays)
 
 -- No earlier size was larger than the current one.
@@ -140,7 +140,7 @@ unfolding size_on sizes_on
 sizes_within M id [] at = omega arith
 sizes_within M id (e ∷ es) at =
     let N = size_by id e M in
-    grind (arith, nat_tests, size_rises id e M, size_grows N id es, sizes_within N id es (at - length (taken_in id e)))
+    grind (arith, nat_tests, size_rises, size_grows, sizes_within N id es (at - length (taken_in id e)))
 
 -- The current size applies to the bytes that follow.
 sizes_now : (M id : ℕ) (es : List AcceptedCall) (at : ℕ) → length (taken_on id es) ≤ at
@@ -148,25 +148,15 @@ sizes_now : (M id : ℕ) (es : List AcceptedCall) (at : ℕ) → length (taken_o
 unfolding size_on sizes_on taken_on
 sizes_now M id [] at past = refl
 sizes_now M id (e ∷ es) at past =
-    grind (
-      arith,
-      length-append (taken_in id e) (taken_on id es),
-      nat_tests,
-      sizes_now (size_by id e M) id es (at - length (taken_in id e)),
-    )
+    grind (arith, length-append, nat_tests, sizes_now (size_by id e M) id es (at - length (taken_in id e)))
 
 -- An event does not change the sizes of its own and earlier bytes.
 sizes_before : (M id : ℕ) (es : List AcceptedCall) (e : AcceptedCall) (at : ℕ)
     → at < length (taken_on id (es ++ e ∷ [])) → sizes_on M id (es ++ e ∷ []) at ≡ sizes_on M id es at
 unfolding sizes_on taken_on
-sizes_before M id [] e at within = grind (arith, nat_tests, length-append (taken_in id e) [])
+sizes_before M id [] e at within = grind (arith, nat_tests, length-append)
 sizes_before M id (d ∷ es) e at within =
-    grind (
-      arith,
-      length-append (taken_in id d) (taken_on id (es ++ e ∷ [])),
-      nat_tests,
-      sizes_before (size_by id d M) id es e (at - length (taken_in id d)),
-    )
+    grind (arith, length-append, nat_tests, sizes_before (size_by id d M) id es e (at - length (taken_in id d)))
 
 -- ---- streams
 
@@ -229,7 +219,7 @@ spelled_then M id es e = rw (stream_by M id es e, size_then M id es e) refl
 -- An event without bytes and announcement on a connection changes neither.
 pub spelled_same : (M id : ℕ) (es : List AcceptedCall) (e : AcceptedCall) → taken_in id e ≡ [] → size_stays id e
     → spelled_on M id (es ++ e ∷ []) ≡ spelled_on M id es
-spelled_same M id es e none stays = grind (arith, stream_same M id es e none, size_then M id es e)
+spelled_same M id es e none stays = grind (arith, stream_same, size_then)
 
 -- At first the stream is empty.
 abbrev pub nothing_spelled : ℕ → Stream × ℕ

@@ -48,7 +48,7 @@ own_steps : (limits : LimitValues) (id n : ℕ) (ss : List Step) (w v : World)
 unfolding after_steps
 own_steps limits id n [] w v each alike = alike
 own_steps limits id n (s ∷ ss) w v each alike =
-    grind (arith, own_steps limits id n ss, renamed n s, own_alike limits id n w v alike s each.0)
+    grind (arith, own_steps limits id n ss, renamed, own_alike)
 
 -- The id of an event's connection; `id` for an event of no connection.
 abbrev number : ℕ → AcceptedCall → ℕ
@@ -116,12 +116,12 @@ steps_stay : (c : ConfigValues) (ss : List Step) (w : World) → AllByRecursion 
     → Stays c w (after_steps c.limits w ss)
 unfolding after_steps
 steps_stay c [] w each = grind arith
-steps_stay c (s ∷ ss) w each = grind (arith, step_stays c w s each.0, steps_stay c ss)
+steps_stay c (s ∷ ss) w each = grind (arith, step_stays, steps_stay c ss)
 
 event_stays : (c : ConfigValues) (es : List AcceptedCall) (e : AcceptedCall) → ((id : ℕ) → e ≡ Opened id → ⊥)
     → Stays c (world_after c es) (world_after c (es ++ e ∷ []))
 event_stays c es e none =
-    grind (arith, world_more c es e, steps_stay c, opening_none c.limits.max_message es e none)
+    grind (arith, world_more, steps_stay, opening_none)
 
 -- ---- a view
 
@@ -214,7 +214,7 @@ module _ (c : ConfigValues) (id : ℕ) where
     -- An event of the connection itself, or of none.
     spells_then : (e : AcceptedCall) → number id e ≡ id
         → spelled_on M id (es ++ e ∷ []) ≡ spelled_on M n (vs ++ moved n e ∷ [])
-    spells_then e own = grind (arith, spelled_then M, spelled_by, same_taken, same_size, spelled_then M n)
+    spells_then e own = grind (arith, spelled_then, spelled_by, same_taken, same_size)
 
     own_makes : (e : AcceptedCall) → number id e ≡ id → steps_by M vs (moved n e) ≡ map (renamed n) (steps_by M es e)
     unfolding steps_by
@@ -235,13 +235,13 @@ module _ (c : ConfigValues) (id : ℕ) where
         grind (
           arith,
           world_more,
-          own_makes e own,
+          own_makes,
           own_steps,
-          own_concern e own,
-          spells_then e own,
+          own_concern,
+          spells_then,
           accepted_more,
-          own_accepted e own ok,
-          fresh_then e own ok,
+          own_accepted,
+          fresh_then,
         )
 
     own_view : (e : AcceptedCall) → number id e ≡ id → view_event c id es e ≡ moved n e ∷ []
@@ -260,7 +260,7 @@ module _ (c : ConfigValues) (id : ℕ) where
     other_sees e apart ok =
         let rests = world_keeps c (SettlesAlike id) (λ u s was. step_rests c.limits id u s) (new_rests c id) es in
         let is = view_others (steps_by M es e) w (spelled_on M id es) w.ids vs (other_steps e apart) rests sees in
-        grind (arith, share_of, world_more, spelled_same M, nat_tests, last_rises e ok)
+        grind (arith, share_of, world_more, spelled_same, nat_tests, last_rises)
 
     other_view : (e : AcceptedCall) → number id e ≢ id
         → view_event c id es e ≡ changes_of c.limits w (steps_by M es e)
@@ -268,13 +268,13 @@ module _ (c : ConfigValues) (id : ℕ) where
     other_view e apart = grind (arith, nat_tests)
 
     event_concerns : (e : AcceptedCall) → IsAccepted c es e → Sees (es ++ e ∷ []) (vs ++ view_event c id es e)
-    event_concerns e ok = grind (arith, own_view e, own_sees e, other_view e, other_sees e)
+    event_concerns e ok = grind (arith, own_view, own_sees, other_view, other_sees)
 
   -- ---- all events
 
   sees_nothing : Sees [] (view_events c id [])
   unfolding view_events later_view AreAcceptedAfter
-  sees_nothing = grind (arith, world_first, nobody, nobody n, first_spelled M, first_spelled M n)
+  sees_nothing = grind (arith, world_first, nobody, first_spelled)
 
   -- The view is accepted, and the connection is the same after it.
   pub events_concern : (es : List AcceptedCall) → AreAccepted c es → Sees es (view_events c id es)

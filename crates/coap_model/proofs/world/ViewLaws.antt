@@ -5,13 +5,13 @@ use Rattle.std.proofs.Common.{◌==◌, arith}
 use Rattle.std.proofs.lemmas.Bool.Decides.{nat_tests}
 use Rattle.std.proofs.lemmas.Bool.{eqb-false}
 use Rattle.coap_model.specs.Prelude.{Message, LimitValues, Path, Representation, StoreValue, is_dynamic, kind_of_path}
-use Rattle.coap_model.specs.Prelude.{key_for, state_at, target_of, path_of, Change, Nothing, Put, Delete, changed}
-use Rattle.coap_model.specs.Prelude.{stored_under, deletion, answer_at, removes_watch, answer_of, immediate_answer}
-use Rattle.coap_model.specs.Prelude.{prompt_answer, put_refusal, remove_refusal, ConfigValues, Connection, new_side}
-use Rattle.coap_model.specs.Prelude.{side_after, change_after, side_faulted, side_written, side_ended, side_released}
-use Rattle.coap_model.specs.Prelude.{side_announced, side_responded, settled, World, Step, new_world, side_of}
-use Rattle.coap_model.specs.Prelude.{stored_after, acted, after_steps, change_steps, change_on, concerns, view_step}
-use Rattle.coap_model.specs.Prelude.{view_of, after_view, AllConcern}
+use Rattle.coap_model.specs.Prelude.{key_for, state_at, target_of, Change, Nothing, Put, Delete, changed, stored_under}
+use Rattle.coap_model.specs.Prelude.{deletion, answer_at, answer_of, immediate_answer, prompt_answer, put_refusal}
+use Rattle.coap_model.specs.Prelude.{remove_refusal, ConfigValues, Connection, new_side, side_after, change_after}
+use Rattle.coap_model.specs.Prelude.{side_faulted, side_written, side_ended, side_released, side_announced}
+use Rattle.coap_model.specs.Prelude.{side_responded, settled, World, Step, new_world, side_of, stored_after, acted}
+use Rattle.coap_model.specs.Prelude.{after_steps, change_steps, change_on, concerns, view_step, view_of, after_view}
+use Rattle.coap_model.specs.Prelude.{AllConcern}
 use Rattle.coap_store.specs.Answer.{Answer}
 use Rattle.coap_store.proofs.AnswerLaws.{answer_cases, get_cases, store_cases, CanStore, key_is, state_dynamic}
 use Rattle.coap_store.proofs.AnswerLaws.{change_finally, change_without_hold}
@@ -70,7 +70,7 @@ answer_passes s now path m =
 immediate_passes : (s : StoreValue) (now : ℕ) (m : Message) → IsNotRefused s (immediate_answer s now m).change
 unfolding immediate_answer answer_of
 immediate_passes s now m =
-    grind (arith, change_without_hold, change_finally (removes_watch m), answer_passes s now (path_of m) m)
+    grind (arith, change_without_hold, change_finally, answer_passes)
 
 prompt_passes : (s : StoreValue) (now : ℕ) (m : Message) → IsNotRefused s (prompt_answer s now m).change
 prompt_passes s now m = prompt_cases s now m (λ a. IsNotRefused s a.change) tt (immediate_passes s now m)
@@ -118,7 +118,7 @@ unfolding world.step
 step_share limits id w s = grind (arith, all_there id)
 
 pub step_rests : (limits : LimitValues) (id : ℕ) (w : World) (s : Step) → SettlesAlike id (world.step limits w s)
-step_rests limits id w s = grind (arith, step_share limits id w s, settled_again)
+step_rests limits id w s = grind (arith, step_share, settled_again)
 
 -- ---- a step that is viewed unchanged
 
@@ -149,7 +149,7 @@ module _ (limits : LimitValues) (id n : ℕ) (w v : World) (alike : share_of id 
 
   opened_here : (m : ℕ) (u : World) → is_none (side_of m u.sides) ≡ true
       → share_of m (opened_world limits u m) ≡ record (share_of m u) { side = Some (new_side limits) }
-  opened_here m u free = grind (arith, new_there m u.sides, none_where (side_of m u.sides) free, first_there m)
+  opened_here m u free = grind (arith, new_there, none_where, first_there)
 
   acted_alike : (s : Step) → share_of id (acted limits w (renamed id s)) ≡ share_of n (acted limits v (renamed n s))
   unfolding acted
@@ -189,7 +189,7 @@ stored_by_change w m there = grind arith
 
 changed_apart : (id other : ℕ) (w : World) (f : Connection → Connection) → (other == id) ≡ false
     → share w.store w.now (side_of id (map (changed_at other f) w.sides)) ≡ share_of id w
-changed_apart id other w f apart = grind (arith, changed_elsewhere other id f w.sides (eqb-false other id apart))
+changed_apart id other w f apart = grind (arith, changed_elsewhere)
 
 -- Only the store changes, and only by the change of the step.
 pub other_did : (limits : LimitValues) (id : ℕ) (w : World) (s : Step) → concerns id s ≡ false
@@ -230,13 +230,7 @@ views_alike : (limits : LimitValues) (id : ℕ) (ss : List Step) (w v : World) �
 unfolding after_steps view_of
 views_alike limits id [] w v rests alike = alike
 views_alike limits id (s ∷ ss) w v rests alike =
-    grind (
-      arith,
-      views_alike limits id ss,
-      step_rests limits id w s,
-      view_alike limits id w v s rests alike,
-      steps_then limits v (view_step id w s),
-    )
+    grind (arith, views_alike limits id ss, step_rests, view_alike, steps_then)
 
 -- ---- each viewed step is one of the connection, or of none
 

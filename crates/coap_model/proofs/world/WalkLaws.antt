@@ -12,8 +12,8 @@ use Rattle.coap_model.specs.Prelude.{PendingEntryValue, Answer, Pong, first_due,
 use Rattle.coap_model.specs.Prelude.{pong_with, due_effect, reject_reason, release_refusal, History, state_now}
 use Rattle.coap_model.specs.Prelude.{limit_now, with_effect, after, may_hold, link_of, state_due, end_reason, release}
 use Rattle.coap_model.specs.Prelude.{LinkValue, own_csm, free_in, limit_in, StoreValue, Response, response_with_observe}
-use Rattle.coap_model.specs.Prelude.{Observer, Connection, waiting_on, kept_open, side_after, side_faulted}
-use Rattle.coap_model.specs.Prelude.{side_written, side_ended, side_released, side_announced, after_sent, settled_once}
+use Rattle.coap_model.specs.Prelude.{Observer, Connection, kept_open, side_after, side_faulted, side_written}
+use Rattle.coap_model.specs.Prelude.{side_ended, side_released, side_announced, after_sent, settled_once}
 use Rattle.coap_model.specs.Prelude.{settled_within, settled, side_responded, response_refusal, state_without}
 use Rattle.coap_conn.specs.Verdicts as verdict
 use Rattle.coap_conn.specs.Calls as call
@@ -120,7 +120,7 @@ said_request v e = grind arith
 -- A request queues nothing, so the room is the same afterwards.
 request_room : (h : History) (m : Message) → is_request (react (state_now h) m).verdict ≡ true → room_in h ≡ true
     → room_in (after h (call.Handle m)) ≡ true
-request_room h m asks room = grind (arith, react_asks (state_now h) m, said_request, append-nil)
+request_room h m asks room = grind (arith, react_asks, said_request, append-nil)
 
 -- The effect of the entry that was found to be due first.
 pub due_is : (h : History) (now : ℕ) (found : Option PendingEntryValue) → first_due now h.pending ≡ found
@@ -172,11 +172,11 @@ module _ (R E : History → History → Type 0) (same : (h : History) → R h h)
         answer_goes h now by token moment is,
         reply_between h (without_first h now) token false (late_response by),
       )
-  sent_between h now (Pong token) is room = grind (arith, due_is h now (Some (Pong token)) is)
+  sent_between h now (Pong token) is room = grind (arith, due_is)
 
   pub once_between : (store : StoreValue) (now : ℕ) (s : Connection) → R s.history (settled_once store now s).history
   unfolding settled_once
-  once_between store now s = grind (arith, reply_between s.history, sent_between)
+  once_between store now s = grind (arith, reply_between, sent_between)
 
 pub settled_between : (R : History → History → Type 0) → Composes R → Replies R → LetsGo R → Pongs R
     → (store : StoreValue) (now : ℕ) (s : Connection) → R s.history (settled store now s).history
@@ -195,7 +195,7 @@ module _ (R E : History → History → Type 0) (same : (h : History) → R h h)
   pub after_between : (store : StoreValue) (now : ℕ) (s : Connection) (m : Message)
       → R s.history (side_after store now s m).history
   unfolding side_after
-  after_between store now s m = grind (arith, pending_is (after s.history (call.Handle m)), request_room s.history m)
+  after_between store now s m = grind (arith, pending_is, request_room)
 
 -- ---- other effects
 
@@ -218,7 +218,7 @@ module _ (R : History → History → Type 0) (same : (h : History) → R h h) w
 
   pub written_between : Writes R → (s : Connection) (n : ℕ) → R s.history (side_written s n).history
   unfolding side_written
-  written_between writes s n = grind (arith, leb-true n (length (waiting_on s)))
+  written_between writes s n = grind (arith, leb-true)
 
   pub ended_between : Ends R → (s : Connection) (cut : Bool) → R s.history (side_ended s cut).history
   unfolding side_ended
@@ -239,14 +239,7 @@ module _ (R : History → History → Type 0) (same : (h : History) → R h h) w
   pub plain_between : Rejects R → Writes R → Ends R → Releases R → Announces R → (s t : Connection) → PlainCall s t
       → R s.history t.history
   plain_between rejects writes ends releases announces s t call =
-      grind (
-        arith,
-        faulted_between rejects s,
-        written_between writes s,
-        ended_between ends s,
-        released_between releases s,
-        announced_between announces s,
-      )
+      grind (arith, faulted_between, written_between, ended_between, released_between, announced_between)
 
 -- ---- observers
 
@@ -265,9 +258,9 @@ kept_open_has P none h os is = grind arith
 
 pub observers_kept : (P : List Observer → Type 0) → P [] → HoldsOfCalls (λ s t. P s.observers → P t.observers)
 unfolding side_faulted side_written side_ended side_released side_announced side_responded
-observers_kept P none = grind (arith, kept_open_has P none)
+observers_kept P none = grind (arith, kept_open_has)
 
 pub observers_plain : (P : List Observer → Type 0) → P [] → (s t : Connection) → PlainCall s t → P s.observers
     → P t.observers
 unfolding side_faulted side_written side_ended side_released side_announced
-observers_plain P none s t call is = grind (arith, kept_open_has P none)
+observers_plain P none s t call is = grind (arith, kept_open_has)
