@@ -29,9 +29,6 @@ pub mod AnsweredRequests
 pub mod FateLists
 pub mod FateLaws
 pub mod FateKept
-pub mod FateTokens
-pub mod FateAlone
-pub mod FateOnly
 pub mod FateGiven
 pub mod FateTimes
 pub mod FateGone

@@ -1,48 +1,42 @@
 -- The responses that the application gives are its answers to requests, in order.
-use Rattle.std.proofs.Common.{◌≡◌, ◌≢◌, ℕ, zero, suc, ◌+◌, ◌<◌, ◌≤◌, Bool, true, false, cond, ◌&&◌, ◌==◌, List, [], ◌∷◌}
-use Rattle.std.proofs.Common.{◌++◌, length, map, Option, Some, None, refl, sym, ap, subst, ◌∙◌, inl, inr, arith}
-use Rattle.std.proofs.Common.{append_assoc, is_none}
-use Rattle.std.proofs.lemmas.Bool.{both_ways, cond_both, and_parts, cases_Bool, cases_eq, eq-eqb, ne_eqb}
+use Rattle.std.proofs.Common.{Bool, List, None, Option, Some, [], ap, append_assoc, arith, false, inl, inr, length, map}
+use Rattle.std.proofs.Common.{refl, subst, sym, true, ℕ, ◌&&◌, ◌++◌, ◌<◌, ◌∙◌, ◌∷◌, ◌≡◌, ◌≢◌, ◌≤◌}
+use Rattle.std.proofs.lemmas.Bool.{and_parts, both_ways, cases_Bool, cases_eq, cond_both, eq-eqb, ne_eqb}
 use Rattle.std.proofs.lemmas.List.{append-nil, map-append}
-use Rattle.std.proofs.lemmas.List.Elements.{recursion_from_All, All-from_recursion}
+use Rattle.std.proofs.lemmas.List.Elements.{All-from_recursion, recursion_from_All}
 use Rattle.std.specs.List.Sorted.{IsPermutation}
-use Rattle.std.proofs.lemmas.List.Sorted.{IsPermutation-refl, IsPermutation-sym, IsPermutation-trans}
-use Rattle.std.proofs.lemmas.List.Sorted.{IsPermutation-to_front, IsPermutation-cons, IsPermutation-middle}
-use Rattle.std.proofs.lemmas.List.Sorted.{All-permutation}
-use Rattle.coap_model.specs.Prelude.{AllByRecursion, list_any, Engine, Application, Message, Phase, Reply, Whole, Bare}
-use Rattle.coap_model.specs.Prelude.{Stopped, LimitValues, ConfigValues}
-use Rattle.coap_model.specs.Prelude.{answers, fit, bare_response, History, limit_now, state_now, with_effect, send}
-use Rattle.coap_model.specs.Prelude.{may_hold, response_refusal, link_of, state_without, pong_with}
-use Rattle.coap_model.specs.Prelude.{PendingEntryValue, Answer, Pong, StoreValue, Connection, handles, late_message}
-use Rattle.coap_model.specs.Prelude.{next_pending, settled_once, settled, side_responded, is_asking}
-use Rattle.coap_model.specs.Prelude.{application_deadline}
-use Rattle.coap_model.specs.Prelude.{World, Step, new_world, side_of, acted, after_steps, AcceptedCall, steps_by}
-use Rattle.coap_model.specs.Prelude.{steps_of, world_after, stream_on, IsAccepted, AreAccepted}
-use Rattle.coap_model.specs.Prelude.{Fate, Unanswered, Answered, ApplicationRequest, is_unanswered, has_stopped}
-use Rattle.coap_model.specs.Prelude.{fate_by, first_fate, is_unanswered_with, new_request, refusal_of, with_fate}
-use Rattle.coap_model.specs.Prelude.{if_there}
-use Rattle.coap_model.specs.Prelude.{requests_after, requests_responded, requests_due, requests_once, requests_within}
-use Rattle.coap_model.specs.Prelude.{requests_settled, requests_acted, requests_then, requests_by, requests_on}
-use Rattle.coap_model.specs.Prelude.{RespondFault, send_as, given_in, given_on, response_of, responses_to, AreAnswers}
-use Rattle.coap_model.specs.Prelude.{AreQueuedInOrder, HasFate}
-use Rattle.coap_model.specs.world.World as world
-use Rattle.coap_model.specs.world.Events as event
-use Rattle.coap_model.proofs.OptionLemmas.{same_there}
-use Rattle.coap_model.proofs.world.WalkLaws.{there_or_not, without_first, settled_between}
-use Rattle.coap_model.proofs.world.AcrossLaws.{KeepsAll, all_across, step_across, settles_there}
-use Rattle.coap_model.proofs.world.StepLaws.{by_events, world_first, world_more, steps_of_more, each_beyond}
-use Rattle.coap_model.proofs.world.ReachedLaws.{IsReached, accepted_is, number_given, ids_grow, OpensNext, on_one}
-use Rattle.coap_model.proofs.world.PlaceLaws.{nobody}
-use Rattle.coap_model.proofs.world.QueuedMessages.{sent_either}
-use Rattle.coap_model.proofs.world.EntryLemmas.{all_to, all_append}
-use Rattle.coap_model.proofs.world.FateLists.{waits, IsOld, old_fate}
-use Rattle.coap_model.proofs.world.FateLaws.{Accounted, fate_at}
-use Rattle.coap_model.proofs.world.FateKept.{after_message, requests_accounted, response_next, never_answered}
-use Rattle.coap_model.proofs.world.FateKept.{running_live}
-use Rattle.coap_model.proofs.world.FateAlone.{Picked, pick}
-use Rattle.coap_model.proofs.world.FateOnly.{fate_is, one_waits}
-use Rattle.coap_model.proofs.world.RespondedLaws.{allowed}
+use Rattle.std.proofs.lemmas.List.Sorted.{All-permutation, IsPermutation-append_right, IsPermutation-middle}
+use Rattle.std.proofs.lemmas.List.Sorted.{IsPermutation-push_more, IsPermutation-refl, IsPermutation-sym}
+use Rattle.std.proofs.lemmas.List.Sorted.{IsPermutation-trans}
+use Rattle.coap_model.specs.Prelude.{AcceptedCall, AllByRecursion, Answered, Application, ApplicationRequest}
+use Rattle.coap_model.specs.Prelude.{AreAccepted, AreAnswers, AreQueuedInOrder, ConfigValues, Connection, Engine, Fate}
+use Rattle.coap_model.specs.Prelude.{History, IsAccepted, LimitValues, Message, Phase, Step, StoreValue, Unanswered}
+use Rattle.coap_model.specs.Prelude.{World, acted, after_steps, answers, application_deadline, fate_by, first_fate, fit}
+use Rattle.coap_model.specs.Prelude.{fits, given_in, given_on, handles, has_stopped, is_asking, is_unanswered}
+use Rattle.coap_model.specs.Prelude.{is_unanswered_with, late_message, limit_now, link_of, list_any, may_hold}
+use Rattle.coap_model.specs.Prelude.{new_request, pong_with, refusal_of, requests_acted, requests_after, requests_by}
+use Rattle.coap_model.specs.Prelude.{requests_on, requests_responded, requests_then, responds, response_of}
+use Rattle.coap_model.specs.Prelude.{response_refusal, responses_to, settled, side_of, side_responded, state_now}
+use Rattle.coap_model.specs.Prelude.{steps_by, stream_on, takes, takes_input, with_fate, without_request, world_after}
 use Rattle.coap_wire.proofs.NumberLaws.{none_or_some}
+use Rattle.coap_conn.specs.PendingEntries.{is_request_for}
+use Rattle.coap_conn.specs.declared.phase.RespondFault.TheVariants as fault
+use Rattle.coap_model.specs.world.Events as event
+use Rattle.coap_model.specs.world.World as world
+use Rattle.coap_model.proofs.OptionLemmas.{same_there}
+use Rattle.coap_model.proofs.world.WalkLaws.{sent, settled_between, there_or_not, without_first}
+use Rattle.coap_model.proofs.world.AcrossLaws.{KeepsAll, all_across, settles_there}
+use Rattle.coap_model.proofs.world.StepLaws.{by_events, each_beyond, world_first, world_more}
+use Rattle.coap_model.proofs.world.ReachedLaws.{IsReached, OpensNext, accepted_is, ids_grow, number_given, on_one}
+use Rattle.coap_model.proofs.world.PlaceLaws.{found, nobody}
+use Rattle.coap_model.proofs.world.QueuedMessages.{sent_either}
+use Rattle.coap_model.proofs.world.EntryLemmas.{all_append, all_to}
+use Rattle.coap_model.proofs.world.FateLists.{IsOld, fate_cases, old_fate, waits}
+use Rattle.coap_model.proofs.world.FateLaws.{Accounted, IsKept, IsNext, one_waits, sent_so}
+use Rattle.coap_model.proofs.world.FateKept.{after_message, answers_if_allowed, requests_accounted, response_next}
+use Rattle.coap_model.proofs.world.FateKept.{running_live}
+use Rattle.coap_model.proofs.world.AnswerCounts.{one, responses}
+use Rattle.coap_model.proofs.world.FateWalk.{acted_cases, before_steps, expires, requests_last, steps_stay, then_stays}
 
 -- ---- the responses of requests
 
@@ -71,21 +65,18 @@ responses_with test fate none to (r ∷ rs) =
 -- A fate with one.
 responses_new : (test : ApplicationRequest → Bool) (fate : Fate) (m : Message × ℕ) → response_of fate ≡ m ∷ []
     → ((r : ApplicationRequest) → test r ≡ true → waits r ≡ true) → (rs : List ApplicationRequest)
-    → list_any test rs ≡ true → IsPermutation (m ∷ responses_to rs) (responses_to (with_fate test fate rs))
-unfolding responses_to
-responses_new test fate m one to rs some =
-    let picked : Picked test fate rs = pick test fate rs some in
-    let before : List (Message × ℕ) = responses_to picked.before in
-    let later : List (Message × ℕ) = responses_to picked.later in
-    let was : responses_to rs ≡ before ++ later =
-    ap responses_to picked.there ∙ responses_more picked.before (picked.r ∷ picked.later)
-    ∙ ap (λ ms. before ++ (ms ++ later)) (unanswered_gives picked.r.fate (to picked.r picked.passes)) in
-    let now : responses_to (with_fate test fate rs) ≡ before ++ m ∷ later =
-    ap responses_to picked.made ∙ responses_more picked.before (record picked.r { fate = fate } ∷ picked.later)
-    ∙ ap (λ ms. before ++ (ms ++ later)) one in
-    subst (λ ms. IsPermutation (m ∷ responses_to rs) ms) (sym now)
-    (subst (λ ms. IsPermutation (m ∷ ms) (before ++ m ∷ later)) (sym was)
-    (IsPermutation-sym (before ++ m ∷ later) (m ∷ (before ++ later)) (IsPermutation-middle before m later)))
+    → list_any test rs ≡ true → IsPermutation (responses_to (with_fate test fate rs)) (m ∷ responses_to rs)
+unfolding responses_to with_fate
+responses_new test fate m one to [] some = absurd cc
+responses_new test fate m one to (r ∷ rs) some =
+    let old : List (Message × ℕ) = response_of r.fate in
+    let new : List (Message × ℕ) = responses_to (with_fate test fate rs) in
+    elim (cases_Bool (test r)) [
+      | inl is ↦ rw (is, one, unanswered_gives r.fate (to r is)) (IsPermutation-refl (m ∷ responses_to rs))
+      | inr other ↦ rw other (IsPermutation-trans (old ++ new) (old ++ m ∷ responses_to rs) (m ∷ (old ++ responses_to rs))
+          (IsPermutation-append_right old new (m ∷ responses_to rs)
+          (responses_new test fate m one to rs (rw other at some))) (IsPermutation-middle old m (responses_to rs)))
+    ]
 
 -- The places of the responses are earlier ones.
 responses_old : (n : ℕ) (rs : List ApplicationRequest) → AllByRecursion (λ r. IsOld n r.fate) rs
@@ -109,14 +100,7 @@ order_more (n ∷ ms) m earlier in_order =
 -- ---- effects without a response of the application
 
 engine_gives : (h : History) (m : Message) → response_of (fate_by Engine h m) ≡ []
-engine_gives h m =
-    cond_both (answers h.phase) _ Unanswered (λ (f : Fate). response_of f ≡ [])
-    (λ on. by (fit (limit_now h) m (bare_response m))) (λ off. refl)
-  where
-    by : (r : Reply) → response_of (fate_at None Engine m r (length h.handled) (length h.queued)) ≡ []
-    by Whole = refl
-    by Bare = refl
-    by Stopped = refl
+engine_gives h m = fate_cases (λ f. response_of f ≡ []) Engine h m refl (λ sent. refl)
 
 new_gives : (now : ℕ) (s : Connection) (m : Message) (o : Option ℕ) → responses_to (new_request now s m o) ≡ []
 unfolding responses_to
@@ -137,32 +121,19 @@ after_gives store now s m rs =
     ∙ ap (λ ms. responses_to rs ++ ms) (new_gives now s m (application_deadline store.applications m))
     ∙ append-nil (responses_to rs)) (λ off. refl)
 
-due_gives : (s : Connection) (found : Option PendingEntryValue) (rs : List ApplicationRequest)
-    → responses_to (requests_due s found rs) ≡ responses_to rs
-due_gives s None rs = refl
-due_gives s (Some (Answer Engine token moment)) rs = refl
-due_gives s (Some (Answer Application token moment)) rs =
-    responses_with (λ r. is_unanswered_with token r && r.deadline == moment)
-    (fate_by Engine s.history (late_message Application token))
-    (engine_gives s.history (late_message Application token))
+due_gives : (h : History) (token : List ℕ) (moment : ℕ) (rs : List ApplicationRequest)
+    → responses_to (with_fate (expires token moment) (fate_by Engine h (late_message Application token)) rs)
+    ≡ responses_to rs
+due_gives h token moment rs =
+    responses_with (expires token moment) (fate_by Engine h (late_message Application token))
+    (engine_gives h (late_message Application token))
     (λ r is. (and_parts (waits r) _ (and_parts (is_unanswered_with token r) _ is).0).0) rs
-due_gives s (Some (Pong token)) rs = refl
-
-within_gives : (turns : ℕ) (store : StoreValue) (now : ℕ) (s : Connection) (rs : List ApplicationRequest)
-    → responses_to (requests_within turns store now s rs) ≡ responses_to rs
-unfolding requests_within requests_once
-within_gives zero store now s rs = refl
-within_gives (suc turns) store now s rs =
-    within_gives turns store now (settled_once store now s) (requests_due s (next_pending now s) rs)
-    ∙ due_gives s (next_pending now s) rs
 
 then_gives : (id : ℕ) (w : World) (rs : List ApplicationRequest)
     → responses_to (requests_then id w rs) ≡ responses_to rs
-unfolding requests_then requests_settled
 then_gives id w rs =
-    there_or_not (side_of id w.sides)
-    (λ found. responses_to (if_there found (requests_settled w.store w.now) rs) ≡ responses_to rs) (λ none. refl)
-    (λ s found. within_gives (length s.history.pending + length s.observers) w.store w.now s rs)
+    then_stays (λ now qs. responses_to qs ≡ responses_to rs)
+    (λ now s token moment qs is same. due_gives s.history token moment qs ∙ same) id w rs refl
 
 -- ---- steps without a response of the application on a connection
 
@@ -172,27 +143,14 @@ IsOther id (world.Opened other) = other ≢ id
 IsOther id (world.Responded other m) = other ≢ id
 IsOther id other = Unit {0}
 
-acted_gives : (id : ℕ) (w : World) (st : Step) (rs : List ApplicationRequest) → IsOther id st
-    → responses_to (requests_acted id w st rs) ≡ responses_to rs
-unfolding requests_acted
-acted_gives id w (world.Opened other) rs apart = rw (ne_eqb other id apart) refl
-acted_gives id w (world.Handled other m) rs apart =
-    cond_both (other == id) _ rs (λ qs. responses_to qs ≡ responses_to rs)
-    (λ here. there_or_not (side_of id w.sides)
-    (λ found. responses_to (if_there found (λ s. requests_after w.store w.now s m) rs) ≡ responses_to rs) (λ none. refl)
-    (λ s found. after_gives w.store w.now s m rs))
-    (λ away. refl)
-acted_gives id w (world.Responded other m) rs apart = rw (ne_eqb other id apart) refl
-acted_gives id w other rs apart = refl
-
 others_give : (limits : LimitValues) (id : ℕ) (w : World) (ss : List Step) (rs : List ApplicationRequest)
     → AllByRecursion (IsOther id) ss → responses_to (requests_by limits id w ss rs) ≡ responses_to rs
-unfolding requests_by
-others_give limits id w [] rs apart = refl
-others_give limits id w (s ∷ ss) rs apart =
-    others_give limits id (world.step limits w s) ss
-    (requests_then id (acted limits w s) (requests_acted id w s rs)) apart.1
-    ∙ then_gives id (acted limits w s) (requests_acted id w s rs) ∙ acted_gives id w s rs apart.0
+others_give limits id w ss rs apart =
+    steps_stay (λ now qs. responses_to qs ≡ responses_to rs)
+    (λ now s token moment qs is same. due_gives s.history token moment qs ∙ same) limits id (IsOther id) (λ v st qs other same.
+    acted_cases (λ ps. responses_to ps ≡ responses_to rs) id v st qs same
+    (λ is. absurd ((subst (IsOther id) is other) refl)) (λ m s is there. after_gives v.store v.now s m qs ∙ same)
+    (λ m s is there. absurd ((subst (IsOther id) is other) refl))) w ss rs apart refl
 
 -- ---- connections that have not stopped
 
@@ -225,14 +183,9 @@ all_run = record {
 others_before : (limits : LimitValues) (id : ℕ) (w : World) (ss : List Step) (t : Connection)
     → AllByRecursion (IsOther id) ss → side_of id (after_steps limits w ss).sides ≡ Some t
     → (s : Connection) × (side_of id w.sides ≡ Some s) × Runs s.history t.history
-unfolding after_steps
-others_before limits id w [] t apart there = (t, there, λ live. live)
-others_before limits id w (st ∷ ss) t apart there =
-    let u = others_before limits id (world.step limits w st) ss t apart.1 there in
-    elim (step_across (λ s v. Runs s.history v.history) limits w st id (all_across Runs all_run w st id) u.0 u.1) [
-      | inl old ↦ (old.0, old.1, λ live. old.2 (u.2 live))
-      | inr new ↦ absurd ((subst (IsOther id) new.1 apart.0) refl)
-    ]
+others_before limits id =
+    before_steps Runs Runs all_run.composes.same all_run.composes.then limits id (IsOther id) (λ apart. apart refl)
+    (λ w st other. all_across Runs all_run w st id)
 
 -- ---- events
 
@@ -244,24 +197,6 @@ given_then id [] e = append-nil (given_in id e)
 given_then id (d ∷ es) e =
     ap (λ ms. given_in id d ++ ms) (given_then id es e)
     ∙ sym (append_assoc (given_in id d) (given_on id es) (given_in id e))
-
-requests_more : (limits : LimitValues) (id : ℕ) (w : World) (ss ts : List Step) (rs : List ApplicationRequest)
-    → requests_by limits id w (ss ++ ts) rs
-    ≡ requests_by limits id (after_steps limits w ss) ts (requests_by limits id w ss rs)
-unfolding requests_by after_steps
-requests_more limits id w [] ts rs = refl
-requests_more limits id w (s ∷ ss) ts rs =
-    requests_more limits id (world.step limits w s) ss ts
-    (requests_then id (acted limits w s) (requests_acted id w s rs))
-
-pub requests_last : (c : ConfigValues) (id : ℕ) (es : List AcceptedCall) (e : AcceptedCall)
-    → requests_on c id (es ++ e ∷ [])
-    ≡ requests_by c.limits id (world_after c es) (steps_by c.limits.max_message es e) (requests_on c id es)
-unfolding requests_on world_after
-requests_last c id es e =
-    let M : ℕ = c.limits.max_message in
-    ap (λ ss. requests_by c.limits id (new_world c) ss []) (steps_of_more M es e)
-    ∙ requests_more c.limits id (new_world c) (steps_of M es) (steps_by M es e) []
 
 -- The event neither opens the connection nor is a response on it.
 abbrev IsOtherEvent : ℕ → AcceptedCall → Type 0
@@ -395,166 +330,123 @@ module _ (c : ConfigValues) (id : ℕ) where
     -- The application responds.
     module _ (m : Message) (s : Connection) (there : side_of id reached_world.sides ≡ Some s)
         (allows : response_refusal (link_of s.history) m ≡ None) where
+      abbrev h : History
+      h = s.history
+
       abbrev test : ApplicationRequest → Bool
       test = is_unanswered_with m.token
 
-      account : Accounted c.applications s.history rs
+      abbrev settled_so : Connection
+      settled_so = settled reached_world.store reached_world.now (side_responded s m)
+
+      account : Accounted c.applications s rs
       account = requests_accounted c es id s there
 
-      on : answers s.history.phase ≡ true
-      on = elim (cases_Bool (answers s.history.phase)) [
-        | inl so ↦ so
-        | inr off ↦ absurd (never_answered c.applications s.history m off account.quiet allows)
-      ]
+      on : answers h.phase ≡ true
+      on = answers_if_allowed h m account.quiet allows
 
       -- The responses before, all of which were answers.
-      were : AreAnswers (has_stopped s.history.phase) (given_on id es) (responses_to rs)
+      were : AreAnswers (has_stopped h.phase) (given_on id es) (responses_to rs)
       were = is.answers_all s there
 
-      given_before : given_on id es ≡ map (λ n. n.0) were.order
-      given_before =
-          were.given_are ∙ ap (λ ms. map (λ n. n.0) were.order ++ ms) (were.none (answers_runs s.history.phase on))
-          ∙ append-nil (map (λ n. n.0) were.order)
-
       given_now : given_on id (es ++ event.Responded id m ∷ []) ≡ map (λ n. n.0) were.order ++ m ∷ []
-      given_now =
-          given_then id es (event.Responded id m)
-          ∙ ap (λ (b : Bool). given_on id es ++ cond b (m ∷ []) []) (eq-eqb id id refl)
-          ∙ ap (λ ms. ms ++ m ∷ []) given_before
+      given_now = rw (given_then id es, eq-eqb id id refl, were.given_are, were.none (answers_runs h.phase on), append-nil) refl
 
-      earlier : AllByRecursion (λ n. n.1 < length s.history.queued) were.order
+      earlier : AllByRecursion (λ n. n.1 < length h.queued) were.order
       earlier =
-          let Earlier : Message × ℕ → Type 0 = λ n. n.1 < length s.history.queued in
-          let old = all_to (λ r. HasFate s.history r r.fate) (λ r. IsOld (length s.history.queued) r.fate)
-          (λ r. old_fate s.history r r.fate) rs account.answered in
+          let Earlier : Message × ℕ → Type 0 = λ n. n.1 < length h.queued in
+          let old = all_to (IsKept s) (λ r. IsOld (length h.queued) r.fate) (λ r kept. old_fate h r r.fate kept.has) rs
+          account.each in
           recursion_from_All Earlier were.order
           (All-permutation Earlier (responses_to rs) were.order
           (IsPermutation-sym were.order (responses_to rs) were.same)
-          (All-from_recursion Earlier (responses_to rs) (responses_old (length s.history.queued) rs old)))
+          (All-from_recursion Earlier (responses_to rs) (responses_old (length h.queued) rs old)))
 
-      some : list_any test rs ≡ true
-      some =
-          let next = response_next c.applications s.history m allows in
-          one_waits c.applications s.history rs test (Rattle.coap_conn.specs.PendingEntries.is_request_for m.token)
-          next.same next.of_application on (allowed (link_of s.history) m allows).requested account
+      waiting : (r : ApplicationRequest) → test r ≡ true → waits r ≡ true
+      waiting r passes = (and_parts (waits r) _ passes).0
+
+      next : IsNext h test (is_request_for m.token) Application m (without_request m.token h.pending)
+      next = response_next h m allows
 
       abbrev placed : Message × ℕ
-      placed = (m, length s.history.queued)
-
-      sent_by : (fate : Fate) → response_of fate ≡ placed ∷ [] → (stopped : Bool)
-          → AreAnswers stopped (given_on id (es ++ event.Responded id m ∷ [])) (responses_to (with_fate test fate rs))
-      sent_by fate one stopped = record {
-        order = were.order ++ placed ∷ [];
-        same =
-            IsPermutation-trans (were.order ++ placed ∷ []) (placed ∷ were.order)
-            (responses_to (with_fate test fate rs)) (IsPermutation-to_front were.order placed)
-            (IsPermutation-trans (placed ∷ were.order) (placed ∷ responses_to rs)
-            (responses_to (with_fate test fate rs)) (IsPermutation-cons placed were.order (responses_to rs) were.same)
-            (responses_new test fate placed one (λ q is. (and_parts (waits q) _ is).0) rs some));
-        in_order = order_more were.order placed earlier were.in_order;
-        lost = [];
-        given_are =
-            given_now ∙ sym (append-nil (map (λ n. n.0) (were.order ++ placed ∷ []))
-            ∙ map-append (λ (n : Message × ℕ). n.0) were.order (placed ∷ []));
-        few = omega arith;
-        none = λ live. refl;
-      }
+      placed = (m, length h.queued)
 
       -- The response is queued, or the connection stops.
-      answers_by : (r : Reply) (stopped : Bool) → (r ≡ Stopped → stopped ≡ true)
-          → AreAnswers stopped (given_on id (es ++ event.Responded id m ∷ [])) (responses_to (with_fate test
-          (fate_at c.applications Application m r (length s.history.handled) (length s.history.queued)) rs))
-      answers_by Stopped stopped over = record {
-        order = were.order;
-        same =
-            subst (IsPermutation were.order)
-            (sym (responses_with test Unanswered refl (λ q is. (and_parts (waits q) _ is).0) rs)) were.same;
-        in_order = were.in_order;
-        lost = m ∷ [];
-        given_are = given_now;
-        few = omega arith;
-        none = λ live. absurd (both_ways stopped live (over refl));
-      }
-      answers_by Whole stopped over =
-          sent_by (fate_at c.applications Application m Whole (length s.history.handled) (length s.history.queued))
-          refl stopped
-      answers_by Bare stopped over =
-          sent_by (fate_at c.applications Application m Bare (length s.history.handled) (length s.history.queued))
-          refl stopped
-
-      abbrev its_reply : Reply
-      its_reply = fit (limit_now s.history) m (bare_response m)
-
-      -- The requests after the response.
-      acted_is : requests_acted id reached_world (world.Responded id m) rs ≡ with_fate test
-          (fate_at c.applications Application m its_reply (length s.history.handled) (length s.history.queued)) rs
-      unfolding requests_acted requests_responded
-      acted_is =
-          ap (λ (b : Bool). cond b (if_there (side_of id reached_world.sides) (λ u. requests_responded u m) rs) rs)
-          (eq-eqb id id refl)
-          ∙ ap (λ (o : Option Connection). if_there o (λ u. requests_responded u m) rs) there
-          ∙ ap (λ (o : Option RespondFault). cond (is_none o) (with_fate test (fate_by Application s.history m) rs) rs)
-          allows
-          ∙ ap (λ (f : Fate). with_fate test f rs) (fate_is c.applications Application s.history m on)
+      answers_by : (stopped : Bool) → (is_unanswered (fate_by Application h m) ≡ true → stopped ≡ true)
+          → AreAnswers stopped (given_on id (es ++ event.Responded id m ∷ []))
+          (responses_to (with_fate test (fate_by Application h m) rs))
+      answers_by stopped =
+          fate_cases (λ fate. (is_unanswered fate ≡ true → stopped ≡ true)
+          → AreAnswers stopped (given_on id (es ++ event.Responded id m ∷ [])) (responses_to (with_fate test fate rs)))
+          Application h m (λ over. record {
+            order = were.order;
+            same = rw (responses_with test Unanswered refl waiting rs) were.same;
+            in_order = were.in_order;
+            lost = m ∷ [];
+            given_are = given_now;
+            few = omega arith;
+            none = λ live. absurd (both_ways stopped live (over refl));
+          }) (λ sent over. (
+          let fate : Fate = Answered Application m sent (length h.handled) (length h.queued) in
+          record {
+            order = were.order ++ placed ∷ [];
+            same =
+                IsPermutation-push_more were.order (responses_to rs) (responses_to (with_fate test fate rs)) placed
+                were.same (IsPermutation-sym (responses_to (with_fate test fate rs)) (placed ∷ responses_to rs)
+                (responses_new test fate placed refl waiting rs
+                (one_waits c.applications s rs test (is_request_for m.token) Application m
+                (without_request m.token h.pending) next account on)));
+            in_order = order_more were.order placed earlier were.in_order;
+            lost = [];
+            given_are = given_now ∙ rw (append-nil, map-append) refl;
+            few = omega arith;
+            none = λ live. refl;
+          }))
 
       -- A connection on which the response did not fit has stopped.
-      over_by : its_reply ≡ Stopped → has_stopped (side_responded s m).history.phase ≡ true
+      over_then : is_unanswered (fate_by Application h m) ≡ true → has_stopped settled_so.history.phase ≡ true
       unfolding side_responded
-      over_by is =
-          let k : History =
-          with_effect s.history (send (state_without m.token (state_now s.history)) m (bare_response m)) in
-          subst (λ (b : Bool).
-          has_stopped (cond (b && is_none (response_refusal (link_of s.history) m)) k s.history).phase ≡ true) (sym on)
-          (subst (λ (o : Option RespondFault). has_stopped (cond (is_none o) k s.history).phase ≡ true) (sym allows)
-          (ap (λ (r : Reply).
-          has_stopped (send_as (state_without m.token (state_now s.history)) m (bare_response m) r).phase) is))
-
-      over_then : (store : StoreValue) (now : ℕ) → its_reply ≡ Stopped
-          → has_stopped (settled store now (side_responded s m)).history.phase ≡ true
-      over_then store now is =
-          elim (cases_Bool (has_stopped (settled store now (side_responded s m)).history.phase)) [
+      over_then none =
+          let sent = sent_so h Application m (without_request m.token h.pending) next.codes on in
+          elim (cases_Bool (has_stopped settled_so.history.phase)) [
             | inl over ↦ over
-            | inr live ↦ absurd (both_ways (has_stopped (side_responded s m).history.phase)
-                (settled_between Runs all_run.composes all_run.replies all_run.lets_go all_run.pongs store now
-                (side_responded s m) live) (over_by is))
+            | inr live ↦ (
+                let before : has_stopped (side_responded s m).history.phase ≡ false =
+                settled_between Runs all_run.composes all_run.replies all_run.lets_go all_run.pongs reached_world.store
+                reached_world.now (side_responded s m) live in
+                absurd (both_ways (is_unanswered (fate_by Application h m))
+                (sent.answered (rw (on, allows) at before)).0 none))
           ]
 
-      there_then : side_of id (world_after c (es ++ event.Responded id m ∷ [])).sides
-          ≡ Some (settled reached_world.store reached_world.now (side_responded s m))
+      there_then : side_of id (world_after c (es ++ event.Responded id m ∷ [])).sides ≡ Some settled_so
       unfolding steps_by after_steps world.step acted
       there_then =
           ap (λ (v : World). side_of id v.sides) (world_more c es (event.Responded id m))
           ∙ settles_there id reached_world.store reached_world.now (λ u. side_responded u m) reached_world.sides s there
 
-      responded_all : IsAccepted c es (event.Responded id m) → AreAll (es ++ event.Responded id m ∷ [])
-      unfolding steps_by requests_by
-      responded_all accepted =
-          let responses : responses_to (requests_on c id (es ++ event.Responded id m ∷ []))
-          ≡ responses_to (with_fate test
-          (fate_at c.applications Application m its_reply (length s.history.handled) (length s.history.queued)) rs) =
+      responses_are : responses_to (requests_on c id (es ++ event.Responded id m ∷ []))
+          ≡ responses_to (with_fate test (fate_by Application h m) rs)
+      unfolding steps_by requests_by requests_acted requests_responded
+      responses_are =
           ap responses_to (requests_last c id es (event.Responded id m))
           ∙ then_gives id (acted c.limits reached_world (world.Responded id m))
-          (requests_acted id reached_world (world.Responded id m) rs) ∙ ap responses_to acted_is in
-          record {
-            none = λ later. absurd (omega (
-              arith,
-              later,
-              ids_later c es (event.Responded id m) accepted,
-              (number_given c reached_world id s reached.numbered there).within,
-            ));
-            answers_all = λ t now.
-                subst (λ (u : Connection). AreAnswers (has_stopped u.history.phase)
-                (given_on id (es ++ event.Responded id m ∷ []))
-                (responses_to (requests_on c id (es ++ event.Responded id m ∷ []))))
-                (same_there (settled reached_world.store reached_world.now (side_responded s m))
-                t (sym there_then ∙ now))
-                (subst (AreAnswers
-                (has_stopped (settled reached_world.store reached_world.now (side_responded s m)).history.phase)
-                (given_on id (es ++ event.Responded id m ∷ []))) (sym responses)
-                (answers_by its_reply
-                (has_stopped (settled reached_world.store reached_world.now (side_responded s m)).history.phase)
-                (over_then reached_world.store reached_world.now)));
-          }
+          (requests_acted id reached_world (world.Responded id m) rs) ∙ rw (eq-eqb id id refl, there, allows) refl
+
+      responded_all : IsAccepted c es (event.Responded id m) → AreAll (es ++ event.Responded id m ∷ [])
+      responded_all accepted = record {
+        none = λ later. absurd (omega (
+          arith,
+          later,
+          ids_later c es (event.Responded id m) accepted,
+          (number_given c reached_world id s reached.numbered there).within,
+        ));
+        answers_all = λ t now.
+            subst (λ (u : Connection). AreAnswers (has_stopped u.history.phase)
+            (given_on id (es ++ event.Responded id m ∷ []))
+            (responses_to (requests_on c id (es ++ event.Responded id m ∷ []))))
+            (same_there settled_so t (sym there_then ∙ now))
+            (rw responses_are (answers_by (has_stopped settled_so.history.phase) over_then));
+      }
 
     event_all : (e : AcceptedCall) → IsAccepted c es e → AreAll (es ++ e ∷ [])
     unfolding IsAccepted

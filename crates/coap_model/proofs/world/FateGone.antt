@@ -1,29 +1,29 @@
 -- A connection that does not exist has no requests, or it was dropped and its requests are those before the drop.
-use Rattle.std.proofs.Common.{◌≡◌, ◌≢◌, ℕ, ◌==◌, List, [], ◌∷◌, ◌++◌, map, Option, Some, None, refl, sym, ap, subst}
-use Rattle.std.proofs.Common.{◌∙◌, inl, inr, append_assoc, is_none, option_map}
-use Rattle.std.proofs.lemmas.Bool.{cond_both, cases_eq, ne_eqb}
+use Rattle.std.proofs.Common.{Bool, List, None, Option, Some, [], ap, append_assoc, cond, inl, inr, map, option_map}
+use Rattle.std.proofs.Common.{refl, subst, sym, ℕ, ◌++◌, ◌∙◌, ◌∷◌, ◌≡◌, ◌≢◌}
+use Rattle.std.proofs.lemmas.Bool.{cases_eq, cond_both, ne_eqb}
 use Rattle.std.proofs.lemmas.List.{append-nil}
-use Rattle.coap_model.specs.Prelude.{AllByRecursion, LimitValues, ConfigValues, Connection, new_side, put_refusal}
-use Rattle.coap_model.specs.Prelude.{ticks}
-use Rattle.coap_model.specs.Prelude.{side_after, side_faulted, side_written, side_ended, side_released, side_announced}
-use Rattle.coap_model.specs.Prelude.{side_responded, settled}
-use Rattle.coap_model.specs.Prelude.{World, Step, ConnectionEntry, side_of, acted, after_steps, AcceptedCall, steps_of}
-use Rattle.coap_model.specs.Prelude.{steps_by, later_steps, world_after, stream_on, IsAccepted, AreAccepted}
-use Rattle.coap_model.specs.Prelude.{ApplicationRequest, if_there, requests_after, requests_responded, requests_settled}
-use Rattle.coap_model.specs.Prelude.{requests_acted, requests_then, requests_by, requests_on}
-use Rattle.coap_model.specs.Prelude.{given_in, given_on, IsGone, WasDropped, response_refusal, link_of}
+use Rattle.coap_model.specs.Prelude.{AcceptedCall, AllByRecursion, ApplicationRequest, AreAccepted, ConfigValues}
+use Rattle.coap_model.specs.Prelude.{Connection, ConnectionEntry, IsAccepted, IsGone, LimitValues, Step, WasDropped}
+use Rattle.coap_model.specs.Prelude.{World, acted, after_steps, changed, given_in, given_on, if_there, later_steps}
+use Rattle.coap_model.specs.Prelude.{link_of, new_side, put_in, requests_acted, requests_by, requests_on}
+use Rattle.coap_model.specs.Prelude.{requests_settled, requests_then, response_refusal, settled, side_of, steps_by}
+use Rattle.coap_model.specs.Prelude.{steps_of, stream_on, world_after}
 use Rattle.coap_model.specs.world.World.{changed_at}
-use Rattle.coap_model.specs.world.World as world
+use Rattle.coap_wire.proofs.NumberLaws.{none_or_some}
+use Rattle.coap_conn.specs.declared.phase.RespondFault.TheVariants as fault
 use Rattle.coap_model.specs.world.Events as event
+use Rattle.coap_model.specs.world.World as world
 use Rattle.coap_model.proofs.OptionLemmas.{none_made}
 use Rattle.coap_model.proofs.world.WalkLaws.{there_or_not}
-use Rattle.coap_model.proofs.world.PlaceLaws.{but, all_there, changed_here, changed_elsewhere, still_there, other_more}
-use Rattle.coap_model.proofs.world.PlaceLaws.{none_mapped, dropped_here, dropped_elsewhere}
+use Rattle.coap_model.proofs.world.PlaceLaws.{all_there, but, changed_elsewhere, changed_here, dropped_elsewhere}
+use Rattle.coap_model.proofs.world.PlaceLaws.{dropped_here, found, none_mapped, other_more, still_there}
 use Rattle.coap_model.proofs.world.AcrossLaws.{opened_there}
-use Rattle.coap_model.proofs.world.StepLaws.{by_events, world_more, world_step, each_beyond}
-use Rattle.coap_model.proofs.world.ReachedLaws.{step_keeps, on_one}
-use Rattle.coap_model.proofs.world.FateGiven.{given_then, requests_last}
-use Rattle.coap_wire.proofs.NumberLaws.{none_or_some}
+use Rattle.coap_model.proofs.world.StepLaws.{by_events, each_beyond, world_more, world_step}
+use Rattle.coap_model.proofs.world.ReachedLaws.{on_one, step_keeps}
+use Rattle.coap_model.proofs.world.FateGiven.{given_then}
+use Rattle.coap_model.proofs.world.AnswerCounts.{requests}
+use Rattle.coap_model.proofs.world.FateWalk.{acted_cases, requests_last}
 
 -- ---- a connection that does not exist
 
@@ -56,16 +56,10 @@ acted_gone limits id w st apart none =
 -- It has the same requests after a step.
 acted_same : (id : ℕ) (w : World) (st : Step) (rs : List ApplicationRequest) → OpensNot id st
     → side_of id w.sides ≡ None → requests_acted id w st rs ≡ rs
-unfolding requests_acted
-acted_same id w (world.Opened other) rs apart none = rw (ne_eqb other id apart) refl
-acted_same id w (world.Handled other m) rs apart none =
-    cond_both (other == id) _ rs (λ qs. qs ≡ rs)
-    (λ here. ap (λ (found : Option Connection). if_there found (λ s. requests_after w.store w.now s m) rs) none)
-    (λ away. refl)
-acted_same id w (world.Responded other m) rs apart none =
-    cond_both (other == id) _ rs (λ qs. qs ≡ rs)
-    (λ here. ap (λ (found : Option Connection). if_there found (λ s. requests_responded s m) rs) none) (λ away. refl)
-acted_same id w other rs apart none = refl
+acted_same id w st rs apart none =
+    acted_cases (λ qs. qs ≡ rs) id w st rs refl (λ is. absurd ((subst (OpensNot id) is apart) refl))
+    (λ m s is there. absurd (none_or_some s (sym none ∙ there)))
+    (λ m s is there. absurd (none_or_some s (sym none ∙ there)))
 
 then_same : (id : ℕ) (w : World) (rs : List ApplicationRequest) → side_of id w.sides ≡ None → requests_then id w rs ≡ rs
 unfolding requests_then
@@ -92,38 +86,31 @@ DropsNot id other = Unit {0}
 abbrev Exists : ℕ → List ConnectionEntry → Type 0
 Exists id sides = (s : Connection) × (side_of id sides ≡ Some s)
 
-changed_exists : (id at : ℕ) (f : Connection → Connection) (sides : List ConnectionEntry) → Exists id sides
-    → Exists id (map (changed_at at f) sides)
-changed_exists id at f sides is = elim (cases_eq at id) [
-  | inl here ↦ (
-    f is.0,
-    ap (λ (n : ℕ). side_of id (map (changed_at n f) sides)) here ∙ changed_here id f sides ∙ ap (option_map f) is.1,
-  )
-  | inr apart ↦ (is.0, changed_elsewhere at id f sides apart ∙ is.1)
-]
+module _ (limits : LimitValues) (id : ℕ) (w : World) (is : Exists id w.sides) where
+  changed_exists : (at : ℕ) (f : Connection → Connection) → Exists id (map (changed_at at f) w.sides)
+  changed_exists at f = elim (cases_eq at id) [
+    | inl here ↦ (f is.0, rw here (changed_here id f w.sides ∙ ap (option_map f) is.1))
+    | inr apart ↦ (is.0, changed_elsewhere at id f w.sides apart ∙ is.1)
+  ]
 
-acted_exists : (limits : LimitValues) (id : ℕ) (w : World) (st : Step) → DropsNot id st → Exists id w.sides
-    → Exists id (acted limits w st).sides
-unfolding acted
-acted_exists limits id w (world.Opened other) stays is =
-    cond_both (is_none (side_of other w.sides)) _ w (λ (v : World). Exists id v.sides)
-    (λ new. (is.0, still_there id is.0 w.sides _ is.1)) (λ old. is)
-acted_exists limits id w (world.Handled at m) stays is =
-    changed_exists id at (λ s. side_after w.store w.now s m) w.sides is
-acted_exists limits id w (world.Faulted at fault) stays is = changed_exists id at (λ s. side_faulted s fault) w.sides is
-acted_exists limits id w (world.Written at n) stays is = changed_exists id at (λ s. side_written s n) w.sides is
-acted_exists limits id w (world.Ticked now) stays is =
-    cond_both (ticks w.now now) _ w (λ (v : World). Exists id v.sides) (λ may. is) (λ early. is)
-acted_exists limits id w (world.Stored path format bytes) stays is =
-    cond_both (is_none (put_refusal w.store path bytes)) _ w (λ (v : World). Exists id v.sides)
-    (λ may. is) (λ refused. is)
-acted_exists limits id w (world.Removed path) stays is = is
-acted_exists limits id w (world.Ended at cut) stays is = changed_exists id at (λ s. side_ended s cut) w.sides is
-acted_exists limits id w (world.Released at) stays is = changed_exists id at side_released w.sides is
-acted_exists limits id w (world.Announced at size) stays is =
-    changed_exists id at (λ s. side_announced s size) w.sides is
-acted_exists limits id w (world.Responded at m) stays is = changed_exists id at (λ s. side_responded s m) w.sides is
-acted_exists limits id w (world.Dropped other) stays is = (is.0, dropped_elsewhere other id w.sides stays ∙ is.1)
+  if_exists : (does : Bool) (v : World) → Exists id v.sides → Exists id (cond does v w).sides
+  if_exists does v so = cond_both does v w (λ (u : World). Exists id u.sides) (λ e. so) (λ e. is)
+
+  acted_exists : (st : Step) → DropsNot id st → Exists id (acted limits w st).sides
+  unfolding acted
+  acted_exists (world.Opened other) stays = if_exists _ _ (is.0, still_there id is.0 w.sides _ is.1)
+  acted_exists (world.Handled at m) stays = changed_exists at _
+  acted_exists (world.Faulted at fault) stays = changed_exists at _
+  acted_exists (world.Written at n) stays = changed_exists at _
+  acted_exists (world.Ticked now) stays = if_exists _ (record w { now = now }) is
+  acted_exists (world.Stored path format bytes) stays =
+      if_exists _ (record w { store = put_in w.store path format bytes }) is
+  acted_exists (world.Removed path) stays = is
+  acted_exists (world.Ended at cut) stays = changed_exists at _
+  acted_exists (world.Released at) stays = changed_exists at _
+  acted_exists (world.Announced at size) stays = changed_exists at _
+  acted_exists (world.Responded at m) stays = changed_exists at _
+  acted_exists (world.Dropped other) stays = (is.0, dropped_elsewhere other id w.sides stays ∙ is.1)
 
 steps_exist : (limits : LimitValues) (id : ℕ) (w : World) (ss : List Step) → AllByRecursion (DropsNot id) ss
     → Exists id w.sides → Exists id (after_steps limits w ss).sides
@@ -131,7 +118,7 @@ unfolding after_steps world.step
 steps_exist limits id w [] stays is = is
 steps_exist limits id w (s ∷ ss) stays is =
     let did : World = acted limits w s in
-    let made = acted_exists limits id w s stays.0 is in
+    let made = acted_exists limits id w is s stays.0 in
     steps_exist limits id (world.step limits w s) ss stays.1 (
       settled did.store did.now made.0,
       all_there id (settled did.store did.now) did.sides ∙ ap (option_map (settled did.store did.now)) made.1,

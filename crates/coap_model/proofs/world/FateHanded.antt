@@ -1,43 +1,43 @@
 -- The requests that an event hands to the application.
-use Rattle.std.proofs.Common.{arith, is_none, ◌≢◌, ◌≡◌, ℕ, zero, suc, ◌+◌, Bool, true, false, cond, ◌&&◌, ◌==◌, List}
-use Rattle.std.proofs.Common.{[], ◌∷◌, ◌++◌, length, map, filter, drop, Option, Some, None, Result, Ok, Err, refl, sym}
-use Rattle.std.proofs.Common.{ap, subst, ◌∙◌, inl, inr}
-use Rattle.std.proofs.lemmas.Bool.{both_ways, cond_both, cases_Bool, cases_eq, eq-eqb, ne_eqb}
+use Rattle.std.proofs.Common.{Bool, Err, List, None, Ok, Option, Result, Some, [], ap, arith, cond, drop, false, filter}
+use Rattle.std.proofs.Common.{inl, inr, is_none, length, map, refl, subst, sym, true, ℕ, ◌&&◌, ◌++◌, ◌∙◌, ◌∷◌, ◌≡◌, ◌≢◌}
+use Rattle.std.proofs.lemmas.Bool.{both_ways, cases_Bool, cases_eq, cond_both, eq-eqb}
 use Rattle.std.proofs.lemmas.List.{append-nil, map-append, nil_from_length}
 use Rattle.std.proofs.lemmas.List.Elements.{filter-append}
-use Rattle.std.proofs.Math.Seq.{drop-length, drop-append_seam}
-use Rattle.coap_model.specs.Prelude.{Engine, Application, Message, StreamFault, message_of, FormatFault}
-use Rattle.coap_model.specs.Prelude.{FrameEventValue, AFrame, AFault, ConfigValues, state_now, may_hold, is_asking}
-use Rattle.coap_model.specs.Prelude.{PendingEntryValue, Answer, Pong, StoreValue, answer_of, application_deadline}
-use Rattle.coap_model.specs.Prelude.{Connection, Delay, delay_by, delay_or, delay_of, delay_for, asks_answer, handles}
-use Rattle.coap_model.specs.Prelude.{late_message, next_pending, settled_once, settled, side_after, side_faulted}
-use Rattle.coap_model.specs.Prelude.{World, Step, side_of, acted, AcceptedCall, Took, steps_by, world_after, stream_on}
-use Rattle.coap_model.specs.Prelude.{size_on, takes, IsAccepted, AreAccepted}
-use Rattle.coap_model.specs.Prelude.{Fate, ApplicationRequest, new_request, fate_by, is_unanswered_with, with_fate}
-use Rattle.coap_model.specs.Prelude.{if_there, requests_after, requests_due, requests_once, requests_within}
-use Rattle.coap_model.specs.Prelude.{requests_settled, requests_acted, requests_then, requests_by, requests_on}
+use Rattle.std.proofs.Math.Seq.{drop-append_seam, drop-length}
 use Rattle.std.specs.List.{flat_map}
-use Rattle.coap_model.specs.Prelude.{frame_then, AllByRecursion, LimitValues, after_steps, requests_responded}
-use Rattle.coap_model.specs.Prelude.{response_refusal, link_of}
-use Rattle.coap_model.specs.Prelude.{handed_requests, handed_in, handed_between, is_by_application, History}
-use Rattle.coap_model.specs.world.World as world
-use Rattle.coap_model.specs.world.Events as event
+use Rattle.coap_model.specs.Prelude.{AFault, AFrame, AcceptedCall, AllByRecursion, Application, ApplicationRequest}
+use Rattle.coap_model.specs.Prelude.{AreAccepted, ConfigValues, Connection, Delay, Engine, Fate, FormatFault}
+use Rattle.coap_model.specs.Prelude.{FrameEventValue, History, IsAccepted, LimitValues, Message, Step, StoreValue}
+use Rattle.coap_model.specs.Prelude.{StreamFault, Took, World, acted, after, after_steps, answer_of}
+use Rattle.coap_model.specs.Prelude.{application_deadline, asks_answer, delay_by, delay_for, delay_of, delay_or}
+use Rattle.coap_model.specs.Prelude.{fate_by, frame_then, handed_between, handed_in, handed_requests, handles, if_there}
+use Rattle.coap_model.specs.Prelude.{is_asking, is_by_application, is_unanswered_with, link_of, may_hold, message_of}
+use Rattle.coap_model.specs.Prelude.{new_request, requests_acted, requests_after, requests_by, requests_on}
+use Rattle.coap_model.specs.Prelude.{requests_responded, requests_then, response_refusal, settled, side_after}
+use Rattle.coap_model.specs.Prelude.{side_faulted, side_of, size_on, state_now, steps_by, stream_on, takes, with_fate}
+use Rattle.coap_model.specs.Prelude.{world_after}
 use Rattle.coap_model.specs.world.Events.{front_of}
 use Rattle.coap_frame.specs.Framing.{Nothing}
 use Rattle.coap_frame.proofs.FrontLaws.{added_by}
+use Rattle.coap_conn.specs.declared.phase.RespondFault.TheVariants as fault
+use Rattle.coap_model.specs.world.Events as event
+use Rattle.coap_model.specs.world.World as world
 use Rattle.coap_model.proofs.OptionLemmas.{same_there}
-use Rattle.coap_model.proofs.world.WalkLaws.{there_or_not, Between}
+use Rattle.coap_model.proofs.world.WalkLaws.{received}
 use Rattle.coap_model.proofs.world.SideLaws.{handles_parts}
-use Rattle.coap_model.proofs.world.AcrossLaws.{handled_there, faulted_there, step_across}
-use Rattle.coap_model.proofs.world.StepLaws.{world_same, world_step, world_more, each_beyond}
-use Rattle.coap_model.proofs.world.TookLaws.{no_bytes_steps, Adds, adds_frame}
-use Rattle.coap_model.proofs.world.ReachedLaws.{IsReached, accepted_is, handling_goes_on, takes_there, on_one}
-use Rattle.coap_model.proofs.world.ReachedLaws.{number_given}
-use Rattle.coap_model.proofs.world.BecameLaws.{settled_handles_none, side_rejects, HandlesNone, IsElsewhere, rests_of}
+use Rattle.coap_model.proofs.world.AcrossLaws.{faulted_there, handled_there}
+use Rattle.coap_model.proofs.world.StepLaws.{each_beyond, world_more, world_same, world_step}
+use Rattle.coap_model.proofs.world.TookLaws.{Adds, adds_frame, no_bytes_steps}
+use Rattle.coap_model.proofs.world.ReachedLaws.{IsReached, accepted_is, handling_goes_on, number_given, on_one}
+use Rattle.coap_model.proofs.world.ReachedLaws.{takes_there}
+use Rattle.coap_model.proofs.world.BecameLaws.{HandlesNone, IsElsewhere, rests_of, settled_handles_none, side_rejects}
 use Rattle.coap_model.proofs.world.CustodyLaws.{HasReceived, handled_hears}
 use Rattle.coap_model.proofs.world.AnsweredRequests.{answered_is_request}
 use Rattle.coap_model.proofs.world.FateKept.{after_message}
-use Rattle.coap_model.proofs.world.FateGiven.{requests_last}
+use Rattle.coap_model.proofs.world.PlaceLaws.{found}
+use Rattle.coap_model.proofs.world.AnswerCounts.{one, requests}
+use Rattle.coap_model.proofs.world.FateWalk.{acted_cases, before_steps, requests_last, steps_stay, then_stays}
 
 -- ---- lists of requests
 
@@ -62,30 +62,11 @@ fate_hands test fate (r ∷ rs) =
     (λ other. one_handed r (with_fate test fate rs)
     ∙ ap (λ ms. cond r.handed (r.request ∷ ms) ms) (fate_hands test fate rs) ∙ sym (one_handed r rs))
 
-due_hands : (s : Connection) (found : Option PendingEntryValue) (rs : List ApplicationRequest)
-    → handed_requests (requests_due s found rs) ≡ handed_requests rs
-due_hands s None rs = refl
-due_hands s (Some (Answer Engine token moment)) rs = refl
-due_hands s (Some (Answer Application token moment)) rs =
-    fate_hands (λ r. is_unanswered_with token r && r.deadline == moment)
-    (fate_by Engine s.history (late_message Application token)) rs
-due_hands s (Some (Pong token)) rs = refl
-
-within_hands : (turns : ℕ) (store : StoreValue) (now : ℕ) (s : Connection) (rs : List ApplicationRequest)
-    → handed_requests (requests_within turns store now s rs) ≡ handed_requests rs
-unfolding requests_within requests_once
-within_hands zero store now s rs = refl
-within_hands (suc turns) store now s rs =
-    within_hands turns store now (settled_once store now s) (requests_due s (next_pending now s) rs)
-    ∙ due_hands s (next_pending now s) rs
-
 then_hands : (id : ℕ) (w : World) (rs : List ApplicationRequest)
     → handed_requests (requests_then id w rs) ≡ handed_requests rs
-unfolding requests_then requests_settled
 then_hands id w rs =
-    there_or_not (side_of id w.sides)
-    (λ found. handed_requests (if_there found (requests_settled w.store w.now) rs) ≡ handed_requests rs) (λ none. refl)
-    (λ s found. within_hands (length s.history.pending + length s.observers) w.store w.now s rs)
+    then_stays (λ now qs. handed_requests qs ≡ handed_requests rs)
+    (λ now s token moment qs is same. fate_hands _ _ qs ∙ same) id w rs refl
 
 -- ---- a message
 
@@ -155,14 +136,8 @@ elsewhere id other apart = tt
 others_before : (limits : LimitValues) (id : ℕ) (w : World) (ss : List Step) (t : Connection)
     → AllByRecursion (IsOther id) ss → side_of id (after_steps limits w ss).sides ≡ Some t
     → (s : Connection) × (side_of id w.sides ≡ Some s) × (t.history.handled ≡ s.history.handled)
-unfolding after_steps
-others_before limits id w [] t apart there = (t, there, refl)
-others_before limits id w (st ∷ ss) t apart there =
-    let u = others_before limits id (world.step limits w st) ss t apart.1 there in
-    elim (step_across (Between HandlesNone) limits w st id (rests_of w st id (elsewhere id st apart.0)) u.0 u.1) [
-      | inl old ↦ (old.0, old.1, u.2 ∙ old.2.handled)
-      | inr new ↦ absurd ((subst (IsOther id) new.1 apart.0) refl)
-    ]
+others_before limits id =
+    before_steps HandlesNone (λ h k. k.handled ≡ h.handled) (λ h. refl) (λ h k g one two. two ∙ one.handled) limits id (IsOther id) (λ apart. apart refl) (λ w st other. rests_of w st id (elsewhere id st other))
 
 responded_hands : (s : Connection) (m : Message) (rs : List ApplicationRequest)
     → handed_requests (requests_responded s m rs) ≡ handed_requests rs
@@ -172,26 +147,14 @@ responded_hands s m rs =
     (λ (qs : List ApplicationRequest). handed_requests qs ≡ handed_requests rs)
     (λ may. fate_hands (is_unanswered_with m.token) (fate_by Application s.history m) rs) (λ refused. refl)
 
-acted_same : (id : ℕ) (w : World) (st : Step) (rs : List ApplicationRequest) → IsOther id st
-    → handed_requests (requests_acted id w st rs) ≡ handed_requests rs
-unfolding requests_acted
-acted_same id w (world.Opened other) rs apart = rw (ne_eqb other id apart) refl
-acted_same id w (world.Handled other m) rs apart = rw (ne_eqb other id apart) refl
-acted_same id w (world.Responded other m) rs apart =
-    cond_both (other == id) _ rs (λ (qs : List ApplicationRequest). handed_requests qs ≡ handed_requests rs)
-    (λ here. there_or_not (side_of id w.sides)
-    (λ found. handed_requests (if_there found (λ u. requests_responded u m) rs) ≡ handed_requests rs) (λ none. refl)
-    (λ s found. responded_hands s m rs)) (λ away. refl)
-acted_same id w other rs apart = refl
-
 others_same : (limits : LimitValues) (id : ℕ) (w : World) (ss : List Step) (rs : List ApplicationRequest)
     → AllByRecursion (IsOther id) ss → handed_requests (requests_by limits id w ss rs) ≡ handed_requests rs
-unfolding requests_by
-others_same limits id w [] rs apart = refl
-others_same limits id w (s ∷ ss) rs apart =
-    others_same limits id (world.step limits w s) ss
-    (requests_then id (acted limits w s) (requests_acted id w s rs)) apart.1
-    ∙ then_hands id (acted limits w s) (requests_acted id w s rs) ∙ acted_same id w s rs apart.0
+others_same limits id w ss rs apart =
+    steps_stay (λ now qs. handed_requests qs ≡ handed_requests rs)
+    (λ now s token moment qs is same. fate_hands _ _ qs ∙ same) limits id (IsOther id) (λ v st qs other same.
+    acted_cases (λ ps. handed_requests ps ≡ handed_requests rs) id v st qs same
+    (λ is. absurd ((subst (IsOther id) is other) refl)) (λ m s is there. absurd ((subst (IsOther id) is other) refl))
+    (λ m s is there. responded_hands s m qs ∙ same)) w ss rs apart refl
 
 -- ---- an event
 

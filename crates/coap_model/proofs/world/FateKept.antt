@@ -1,633 +1,805 @@
 -- Each effect on a connection keeps the account of the requests that the application answers.
-use Rattle.std.proofs.Common.{◌≡◌, ℕ, ◌<◌, ◌≤◌, Bool, true, false, cond, ◌&&◌, ◌==◌, List, [], ◌∷◌, ◌++◌, length, map}
-use Rattle.std.proofs.Common.{filter, Option, Some, None, refl, sym, ap, subst, ◌∙◌, inl, inr, arith, is_none, is_some}
-use Rattle.std.proofs.Common.{not}
-use Rattle.std.proofs.lemmas.Bool.{both_ways, cond-true, cond_both, and_parts, and_from, cases_Bool, eq-eqb}
-use Rattle.std.proofs.lemmas.List.{append-nil, length-append, map-append}
+use Rattle.std.proofs.Common.{Bool, List, None, Option, Some, [], ap, arith, codes, cond, false, filter, find, inl, inr}
+use Rattle.std.proofs.Common.{is_none, length, not, refl, slice_get, subst, sym, true, ℕ, ◌&&◌, ◌++◌, ◌∙◌, ◌∷◌, ◌≡◌}
+use Rattle.std.proofs.Common.{◌≢◌}
+use Rattle.std.proofs.lemmas.Bool.{and_from, and_left, and_parts, both_ways, cases_Bool, cond-true, cond_both, eq-eqb}
+use Rattle.std.proofs.lemmas.List.{append-nil, length-append}
+use Rattle.std.proofs.lemmas.List.Folds.{list_any-append}
 use Rattle.std.proofs.lemmas.List.Elements.{filter-append}
 use lib.Pointwise.{bytes_decides}
-use Rattle.coap_model.specs.Prelude.{AllByRecursion, list_any, Responder, Engine, Application, Message, Phase, Reason}
-use Rattle.coap_model.specs.Prelude.{Reply, Whole, Bare, Stopped, Server, LimitValues}
-use Rattle.coap_model.specs.Prelude.{takes_messages, answers, is_open, fit, fitted, bare_response, PendingEntryValue}
-use Rattle.coap_model.specs.Prelude.{Answer, Pong, first_due, without_due, has_request}
-use Rattle.coap_model.specs.Prelude.{ConnectionState, stop_of, Reaction, reaction_unless, react, send, send_as, stay}
-use Rattle.coap_model.specs.Prelude.{History, limit_now, state_now, with_effect, after, may_hold}
-use Rattle.coap_model.specs.Prelude.{response_refusal, link_of, state_without, without_request, IsFirstRequest}
-use Rattle.coap_model.specs.Prelude.{ApplicationsValue, application_deadline, StoreValue, response_with_observe}
-use Rattle.coap_model.specs.Prelude.{is_asking, says, only, prompt_answer, answer_of}
-use Rattle.coap_model.specs.Prelude.{Connection, handles, late_message, after_sent, next_pending, moment_after}
-use Rattle.coap_model.specs.Prelude.{with_history, notified, next_due, Observer, goes_on, notification}
-use Rattle.coap_model.specs.Prelude.{is_request, Delay, delay_or, delay_by, delay_of, hold_call, delay_for, asks_answer}
-use Rattle.coap_model.specs.Prelude.{side_handled, side_after, side_with, side_answered, side_replied, without_token}
-use Rattle.coap_model.specs.Prelude.{side_responded, side_faulted, side_written, side_ended, side_released}
-use Rattle.coap_model.specs.Prelude.{side_announced, settled_once, awaits}
-use Rattle.coap_model.specs.Prelude.{Fate, Unanswered, ApplicationRequest, is_for_application, is_unanswered}
-use Rattle.coap_model.specs.Prelude.{messages_of, entry_of, is_of_application}
-use Rattle.coap_model.specs.Prelude.{has_stopped, fate_by, is_unanswered_with, refusal_of, new_request, MayAnswer}
-use Rattle.coap_model.specs.Prelude.{HasFate, with_fate}
-use Rattle.coap_model.specs.Prelude.{first_fate, requests_after, requests_once, requests_due, requests_responded}
-use Rattle.coap_model.specs.Prelude.{ConfigValues, AcceptedCall, side_of, world_after, requests_on}
-use Rattle.coap_conn.specs.PendingEntries.{is_answer_at, is_request_for}
-use Rattle.coap_conn.specs.Calls as call
-use Rattle.coap_conn.proofs.PendingLaws.{due_answer}
-use Rattle.coap_conn.proofs.ReactionLaws.{live_so}
-use Rattle.coap_conn.proofs.RequestLemmas.{react_asks}
-use Rattle.coap_conn.proofs.AskingLaws.{none_where}
-use Rattle.coap_store.specs.Answer as answer
+use Rattle.coap_model.specs.Prelude.{AcceptedCall, AllByRecursion, Answer, Application, ApplicationRequest}
+use Rattle.coap_model.specs.Prelude.{ApplicationsValue, ConfigValues, Connection, Delay, Engine, Fate, HasFate}
+use Rattle.coap_model.specs.Prelude.{HasOnlyAnswer, History, LimitValues, Message, Observer, PeerTooSmall}
+use Rattle.coap_model.specs.Prelude.{PendingEntryValue, Phase, Pong, Reaction, ReactionResult, Reason, ReleasedHere}
+use Rattle.coap_model.specs.Prelude.{Responder, Server, StoreValue, Unanswered, after, after_sent, announced, answers}
+use Rattle.coap_model.specs.Prelude.{application_deadline, asks_answer, asks_delayed, awaits, bare_response, delay_for}
+use Rattle.coap_model.specs.Prelude.{delay_of, end_reason, entry_for, fate_by, first_due, first_fate, fit, handles}
+use Rattle.coap_model.specs.Prelude.{has_place, has_stopped, hold_call, is_asking, is_due, is_for_application}
+use Rattle.coap_model.specs.Prelude.{is_of_application, is_open, is_response, is_unanswered, is_unanswered_with}
+use Rattle.coap_model.specs.Prelude.{is_whole, late_message, left_of, limit_now, link_of, list_any, may_hold}
+use Rattle.coap_model.specs.Prelude.{messages_of, moment_after, new_request, next_due, next_pending, notification}
+use Rattle.coap_model.specs.Prelude.{notification_message, notified, only, own_csm, pong_with, prompt_answer, react}
+use Rattle.coap_model.specs.Prelude.{reaction_unless, refusal_of, reject_reason, release, requests_after, requests_due}
+use Rattle.coap_model.specs.Prelude.{requests_on, requests_once, requests_responded, responds, response_refusal}
+use Rattle.coap_model.specs.Prelude.{response_with_observe, same_bytes, send, settled_once, side_after, side_announced}
+use Rattle.coap_model.specs.Prelude.{side_answered, side_ended, side_faulted, side_handled, side_of, side_released}
+use Rattle.coap_model.specs.Prelude.{side_responded, side_with, side_written, state_now, stop, stop_of, takes}
+use Rattle.coap_model.specs.Prelude.{takes_messages, with_effect, with_history, without_due, without_request}
+use Rattle.coap_model.specs.Prelude.{without_token, world_after}
 use Rattle.coap_store.proofs.ApplicationLaws.{prompt_handed}
-use Rattle.coap_model.proofs.OptionLemmas.{there_is, there_is_none, same_there}
-use Rattle.coap_model.proofs.world.WalkLaws.{received, sent, holding, without_first, said_request, pending_is}
-use Rattle.coap_model.proofs.world.WalkLaws.{answer_goes}
-use Rattle.coap_model.proofs.world.WalkLaws.{if_between, faulted_between, written_between, ended_between}
-use Rattle.coap_model.proofs.world.WalkLaws.{released_between, announced_between}
-use Rattle.coap_model.proofs.world.SideLaws.{replied_cases, settled_cases, pending_room, handles_parts}
+use Rattle.coap_conn.proofs.ReactionLaws.{IsNoResponse, IsPlain, abort_plain, live_so}
+use Rattle.coap_conn.proofs.PendingLaws.{due_answer, due_pong}
+use Rattle.coap_conn.proofs.RequestLemmas.{react_asks}
+use Rattle.coap_conn.specs.PendingEntries.{is_answer_at, is_request_for}
+use Rattle.coap_conn.proofs.AskingLaws.{none_where}
+use Rattle.coap_conn.specs.Calls as call
+use Rattle.coap_store.specs.Answer as answer
+use Rattle.coap_model.proofs.world.CustodyLaws.{handled_cases, pending_where, request_quiet}
 use Rattle.coap_model.proofs.world.GoingOn.{IsSide}
-use Rattle.coap_model.proofs.world.EntryLemmas.{all_to, all_append}
-use Rattle.coap_model.proofs.world.RespondedLaws.{allowed, answered_request}
-use Rattle.coap_model.proofs.world.QueuedMessages.{open_answers}
-use Rattle.coap_model.proofs.world.CustodyLaws.{request_quiet, handled_hears, pending_where}
+use Rattle.coap_model.proofs.world.WalkLaws.{HoldsOfCalls, announced_between, answer_goes, due_is, ended_between}
+use Rattle.coap_model.proofs.world.WalkLaws.{faulted_between, holding, kept_open_has, observers_kept, pending_is}
+use Rattle.coap_model.proofs.world.WalkLaws.{received, released_between, said_request, sent, there_or_not}
+use Rattle.coap_model.proofs.world.WalkLaws.{without_first, written_between}
+use Rattle.coap_model.proofs.world.QueuedMessages.{Queues, open_answers, reply_either, reply_queues, sent_all}
+use Rattle.coap_model.proofs.world.QueuedMessages.{sent_either}
+use Rattle.coap_model.proofs.world.LastNotificationLaws.{HaveOtherTokens, filter_others}
+use Rattle.coap_model.proofs.world.RespondedLaws.{allowed, answered_request, plain_codes}
+use Rattle.coap_model.proofs.world.EntryLemmas.{all_append, all_become, all_entered, all_filter, all_to, found_all}
+use Rattle.coap_model.proofs.world.SideLaws.{handles_parts, next_due_found, pending_room, replied_cases, settled_cases}
+use Rattle.coap_model.proofs.world.PlaceLaws.{found}
+use Rattle.coap_model.proofs.OptionLemmas.{same_there}
+use Rattle.coap_model.proofs.world.AnswerCounts.{one, requests}
+use Rattle.coap_model.proofs.world.FateLists.{Extends, IsNew, all_parts, filter_none, filter_whole, waits}
+use Rattle.coap_model.proofs.world.FateLists.{without_found, without_passing}
+use Rattle.coap_model.proofs.world.FateLaws.{Accounted, AddsRequest, Calm, IsKept, IsNext, IsSent, NoEngine, NoneAsk}
+use Rattle.coap_model.proofs.world.FateLaws.{NoneRespond, Passes, Spares, StillPending, adds_keep, answer_keeps}
+use Rattle.coap_model.proofs.world.FateLaws.{is_engine_for, none_respond, passes_keep, pending_gone, pending_over}
+use Rattle.coap_model.proofs.world.FateLaws.{pending_same, sent_so}
 use Rattle.coap_model.proofs.world.AnsweredRequests.{answered_is_request, requested_or_over}
-use Rattle.coap_model.proofs.world.FateWalk.{KeepsRequests, requests_kept}
-use Rattle.coap_model.proofs.world.FateLists.{waits, without_found, IsNew, IsOld, old_fate, own_more}
-use Rattle.coap_model.proofs.world.FateLists as lists
-use Rattle.coap_model.proofs.world.FateLaws.{StillPending, pending_same, pending_over, Passes, Accounted, passes_same}
-use Rattle.coap_model.proofs.world.FateLaws.{passes_then, passes_keep, reply_passes, reject_passes, end_passes}
-use Rattle.coap_model.proofs.world.FateLaws.{release_passes, announce_passes, write_passes, engine_passes, pong_passes}
-use Rattle.coap_model.proofs.world.FateLaws.{fate_at, sent_messages, sent_answered, fate_new, fate_has, IsNext}
-use Rattle.coap_model.proofs.world.FateLaws.{answer_kept, grown, later, still_answered}
+use Rattle.coap_model.proofs.world.FateWalk.{KeepsRequests, expires, requests_kept}
 
 -- The history after a message.
 abbrev pub after_message : Connection → Message → History
 after_message s m = after s.history (call.Handle m)
 
--- ---- a response of the application
+pub running_live : (p : Phase) → takes_messages p ≡ true → has_stopped p ≡ false
+running_live p live = grind arith
 
-pub has_token : (token other : List ℕ) (b : Bool)
-    → (b && Rattle.coap_model.specs.Prelude.same_bytes other token) ≡ true → other ≡ token
-has_token token other b is =
-    (bytes_decides other token).0 (and_parts b (Rattle.coap_model.specs.Prelude.same_bytes other token) is).1
+pub off_over : (p : Phase) → has_stopped p ≡ true → answers p ≡ false
+off_over p over = grind arith
 
-request_of_application : (token : List ℕ) (e : PendingEntryValue) → is_request_for token e ≡ true
-    → is_of_application e ≡ true
-request_of_application token (Answer Engine other moment) is = absurd cc
-request_of_application token (Answer Application other moment) is = refl
-request_of_application token (Pong other) is = absurd cc
+-- Messages that are no responses.
+no_response : (token : List ℕ) (ms : List Message) → AllByRecursion IsNoResponse ms → NoneRespond token ms
+no_response token ms none =
+    all_to IsNoResponse (λ m. responds token m ≡ false) (λ m is. and_left (is_response m) _ is) ms none
+
+-- ---- errors, the end of input, releases, announcements and written bytes
+
+-- Only plain messages are queued, and the entries stay or the connection stops.
+record IsPlainOver (h k : History) : Type 0 where
+  limits : k.limits ≡ h.limits
+  handled : k.handled ≡ h.handled
+  more : List Message
+  queued : k.queued ≡ h.queued ++ more
+  plain : AllByRecursion IsPlain more
+  pending : StillPending h.pending h.phase k.pending k.phase
+  engine : (token : List ℕ) → NoEngine token h.pending → NoEngine token k.pending
+
+stays_plain : (h k : History) (more : List Message) → k.queued ≡ h.queued ++ more → AllByRecursion IsPlain more
+    → k.limits ≡ h.limits → k.handled ≡ h.handled → k.pending ≡ h.pending → k.phase ≡ h.phase → IsPlainOver h k
+stays_plain h k more queued plain limits handled pending phase = record {
+  limits = limits;
+  handled = handled;
+  more = more;
+  queued = queued;
+  plain = plain;
+  pending = rw (pending, phase) (pending_same h.pending h.phase);
+  engine = λ token none. rw pending none;
+}
+
+same_plain : (h : History) → IsPlainOver h h
+same_plain h = stays_plain h h [] (sym (append-nil h.queued)) tt refl refl refl refl
+
+stops_plain : (h : History) (why : Reason) (farewell : List Message) → AllByRecursion IsPlain farewell
+    → IsPlainOver h (with_effect h (stop (state_now h) why farewell))
+stops_plain h why farewell plain = record {
+  limits = refl;
+  handled = refl;
+  more = farewell;
+  queued = refl;
+  plain = plain;
+  pending = pending_over h.pending h.phase why;
+  engine = λ token none. tt;
+}
 
 module _ (a : Option ApplicationsValue) where
+  plain_passes : (s t : Connection) → IsPlainOver s.history t.history
+      → ((token : List ℕ) → HaveOtherTokens token s.observers → HaveOtherTokens token t.observers) → Passes a s t
+  plain_passes s t is others = record {
+    received = [];
+    none = refl;
+    extends = record {
+      limits = is.limits;
+      handled = is.handled ∙ sym (append-nil s.history.handled);
+      more = is.more;
+      queued = is.queued;
+      running = λ on. (is.pending.running on).0;
+    };
+    spares = λ token none calm. (
+      record { others = others token calm.others; engine = is.engine token calm.engine },
+      no_response token is.more (all_to IsPlain IsNoResponse (λ m so. so.0) is.more is.plain),
+    );
+    pending = is.pending;
+  }
+
+  -- ---- settling
+
+  -- A reply with a token that is not calm, after messages that queued nothing.
+  module _ (s : Connection) (received : List Message) (none : filter (is_for_application a) received ≡ [])
+      (g : History) (limits : g.limits ≡ s.history.limits) (handled : g.handled ≡ s.history.handled ++ received)
+      (queued : g.queued ≡ s.history.queued)
+      (pending : StillPending s.history.pending s.history.phase g.pending g.phase) (m : Message) (os : List Observer)
+      (apart : (token : List ℕ) → NoneAsk token received → Calm token s
+      → HaveOtherTokens token os × NoEngine token g.pending × (same_bytes m.token token ≡ false)) where
+    reply_passes : Passes a s (side_with (after g (call.Reply m)) os)
+    reply_passes =
+        let k : History = after g (call.Reply m) in
+        let queues : Queues (λ n. n.token ≡ m.token) g k = reply_queues g m in
+        let still : StillPending s.history.pending s.history.phase k.pending k.phase =
+        reply_either g m (λ ms es p. StillPending s.history.pending s.history.phase es p) pending
+        (pending_over s.history.pending s.history.phase PeerTooSmall) in
+        record {
+          received = received;
+          none = none;
+          extends = record {
+            limits = cond_both (answers g.phase) _ g (λ (f : History). f.limits ≡ s.history.limits)
+                (λ on. limits) (λ off. limits);
+            handled = reply_either g m (λ ms es p. ms ≡ s.history.handled ++ received) handled handled;
+            more = queues.more;
+            queued = queues.same ∙ ap (λ ms. ms ++ queues.more) queued;
+            running = λ on. (still.running on).0;
+          };
+          spares = λ token asks calm. (
+              let is = apart token asks calm in (
+                record {
+                  others = kept_open_has (HaveOtherTokens token) tt k os is.0;
+                  engine = reply_either g m (λ ms es p. NoEngine token es) is.1 tt;
+                },
+                none_respond token m.token queues.more is.2 queues.such,
+              ));
+          pending = still;
+        }
+
+  no_engine_without : (token : List ℕ) (before : List PendingEntryValue) (e : PendingEntryValue)
+      (later : List PendingEntryValue) → NoEngine token (before ++ e ∷ later)
+      → (is_engine_for token e ≡ false) × NoEngine token (before ++ later)
+  no_engine_without token before e later none =
+      let parts = all_parts _ before (e ∷ later) none in (parts.1.0, all_append _ before later parts.0 parts.1.1)
+
+  engine_passes : (s : Connection) (now : ℕ) (own : List ℕ) (moment : ℕ)
+      → first_due now s.history.pending ≡ Some (Answer Engine own moment)
+      → Passes a s (with_history s (after_sent s.history now (Answer Engine own moment)))
+  engine_passes s now own moment is =
+      let h : History = s.history in
+      let e : PendingEntryValue = Answer Engine own moment in
+      let first = due_answer now h.pending Engine own moment is in
+      subst (λ g. Passes a s (with_history s (after g (call.Reply (late_message Engine own)))))
+      (sym (answer_goes h now Engine own moment is))
+      (reply_passes s [] refl (without_first h now) refl (sym (append-nil h.handled)) refl
+      (pending_gone first.before e first.after h.phase h.pending (without_due now h.pending) first.there first.without refl)
+      (late_message Engine own) s.observers (λ token none calm.
+      let due = no_engine_without token first.before e first.after (subst (NoEngine token) first.there calm.engine) in
+      (calm.others, subst (NoEngine token) (sym first.without) due.1, due.0)))
+
+  pong_passes : (s : Connection) (now : ℕ) (own : List ℕ) → first_due now s.history.pending ≡ Some (Pong own)
+      → Passes a s (with_history s (after s.history (call.Due now)))
+  pong_passes s now own is =
+      let h : History = s.history in
+      let g : History = without_first h now in
+      let there = due_pong now h.pending own is in
+      let m : Message = pong_with true own in
+      let less : Message = pong_with false own in
+      let pending : StillPending h.pending h.phase g.pending g.phase =
+      pending_gone [] (Pong own) g.pending h.phase h.pending g.pending there refl refl in
+      let still : StillPending h.pending h.phase (sent g m less).pending (sent g m less).phase =
+      sent_either (state_now g) m less (fit (limit_now g) m less) (λ es p. StillPending h.pending h.phase es p) pending
+      (pending_over h.pending h.phase PeerTooSmall) in
+      subst (λ k. Passes a s (with_history s k)) (sym (due_is h now (Some (Pong own)) is)) (record {
+        received = [];
+        none = refl;
+        extends = record {
+          limits = refl;
+          handled = sym (append-nil h.handled);
+          more = _;
+          queued = refl;
+          running = λ on. (still.running on).0;
+        };
+        spares = λ token none calm. (
+          record {
+            others = kept_open_has (HaveOtherTokens token) tt (sent g m less) s.observers calm.others;
+            engine = sent_either (state_now g) m less (fit (limit_now g) m less) (λ es p. NoEngine token es)
+                (subst (NoEngine token) there calm.engine).1 tt;
+          },
+          no_response token _ (sent_all IsNoResponse (state_now g) m less (fit (limit_now g) m less) refl refl),
+        );
+        pending = still;
+      })
+
+  left_others : (token : List ℕ) (store : StoreValue) (now : ℕ) (o : Observer) (stays : Bool) → token ≢ o.token
+      → HaveOtherTokens token (left_of store now o stays)
+  left_others token store now o true apart = (apart, tt)
+  left_others token store now o false apart = tt
+
+  notified_passes : (store : StoreValue) (now : ℕ) (s : Connection) (found : Option Observer)
+      → ((o : Observer) → found ≡ Some o → find (is_due store now) s.observers ≡ Some o)
+      → Passes a s (notified store now s found)
+  notified_passes store now s None there = plain_passes s s (same_plain s.history) (λ token others. others)
+  notified_passes store now s (Some o) there =
+      reply_passes s [] refl s.history refl (sym (append-nil s.history.handled)) refl
+      (pending_same s.history.pending s.history.phase)
+      (notification_message o.token (notification store now o)) _ (λ token none calm. (
+      let apart = found_all (λ p. token ≢ p.token) (is_due store now) s.observers o calm.others (there o refl) in (
+        all_become (λ p. token ≢ p.token) (is_due store now) _ s.observers calm.others
+            (left_others token store now o _ apart),
+        calm.engine,
+        grind (arith, (bytes_decides o.token token).0),
+      )))
+
+  -- ---- a response of the application
+
+  request_of_application : (token : List ℕ) (e : PendingEntryValue) → is_request_for token e ≡ true
+      → is_of_application e ≡ true
+  request_of_application token (Answer Engine other moment) is = absurd cc
+  request_of_application token (Answer Application other moment) is = refl
+  request_of_application token (Pong other) is = absurd cc
+
+  has_token : (token : List ℕ) (r : ApplicationRequest) → is_unanswered_with token r ≡ true
+      → (waits r ≡ true) × (r.request.token ≡ token)
+  has_token token r is = let both = and_parts (waits r) _ is in (both.0, (bytes_decides r.request.token token).0 both.1)
+
   pub response_next : (h : History) (m : Message) → response_refusal (link_of h) m ≡ None
-      → IsNext a h (is_unanswered_with m.token) (is_request_for m.token) Application m
+      → IsNext h (is_unanswered_with m.token) (is_request_for m.token) Application m
       (without_request m.token h.pending)
   response_next h m none =
-      let first : IsFirstRequest h.pending m.token (without_request m.token h.pending) =
-      answered_request (link_of h) m none in
+      let is = allowed (link_of h) m none in
+      let first = answered_request (link_of h) m none in
       record {
-        unanswered = λ r is. (and_parts (waits r) _ is).0;
-        same = λ r is. rw is refl;
-        may = λ r is handed.
-            (handed, sym (has_token m.token r.request.token (waits r) is), (allowed (link_of h) m none).plain);
+        passing = has_token m.token;
+        same = λ r waiting. rw waiting refl;
+        may = λ r passes handed. (handed, sym (has_token m.token r passes).1, is.plain);
         of_application = request_of_application m.token;
-        left_is = ap (lists.without_passing (is_request_for m.token)) first.there
+        some = is.requested;
+        left_is = ap (without_passing (is_request_for m.token)) first.there
             ∙ without_found (is_request_for m.token) first.before (Answer Application m.token first.moment) first.after
             first.earliest ((bytes_decides m.token m.token).1 refl)
             ∙ sym first.without;
+        codes = plain_codes m is.plain;
       }
 
   -- If the connection sends no responses, no request is pending.
-  pub never_answered : (h : History) (m : Message) → answers h.phase ≡ false
-      → (answers h.phase ≡ false → h.pending ≡ []) → response_refusal (link_of h) m ≡ None → ⊥
-  never_answered h m off quiet none =
-      both_ways (has_request m.token h.pending) (ap (λ (es : List PendingEntryValue). has_request m.token es)
-      (quiet off))
-      (allowed (link_of h) m none).requested
+  pub answers_if_allowed : (h : History) (m : Message) → (answers h.phase ≡ false → h.pending ≡ [])
+      → response_refusal (link_of h) m ≡ None → answers h.phase ≡ true
+  answers_if_allowed h m quiet none = grind (arith, quiet, (allowed (link_of h) m none).requested)
 
-  pub responded_kept : (s : Connection) (m : Message) (rs : List ApplicationRequest) → Accounted a s.history rs
-      → Accounted a (side_responded s m).history (requests_responded s m rs)
+  responded_kept : (s : Connection) (m : Message) (rs : List ApplicationRequest) → Accounted a s rs
+      → Accounted a (side_responded s m) (requests_responded s m rs)
   unfolding side_responded requests_responded
   responded_kept s m rs is =
       let h : History = s.history in
-      let none : Bool = is_none (response_refusal (link_of h) m) in
-      let k : History = with_effect h (send (state_without m.token (state_now h)) m (bare_response m)) in
-      let qs : List ApplicationRequest = with_fate (is_unanswered_with m.token) (fate_by Application h m) rs in
-      elim (cases_Bool none) [
+      elim (cases_Bool (is_none (response_refusal (link_of h) m))) [
         | inl so ↦ (
-            let allows : response_refusal (link_of h) m ≡ None = none_where (response_refusal (link_of h) m) so in
-            elim (cases_Bool (answers h.phase)) [
-              | inl on ↦ subst (λ (b : Bool). Accounted a (cond (answers h.phase && b) k h) (cond b qs rs)) (sym so)
-                  (subst (λ (b : Bool). Accounted a (cond (b && true) k h) qs) (sym on)
-                  (answer_kept a h rs (is_unanswered_with m.token) (is_request_for m.token) Application m
-                  (without_request m.token h.pending) (response_next h m allows) is on))
-              | inr off ↦ absurd (never_answered h m off is.quiet allows)
-            ])
-        | inr refused ↦ subst (λ (b : Bool). Accounted a (cond (answers h.phase && b) k h) (cond b qs rs)) (sym refused)
-            (cond_both (answers h.phase && false) k h (λ (g : History). Accounted a g rs)
-            (λ bad. absurd (both_ways false refl (and_parts (answers h.phase) false bad).1)) (λ off. is))
+            let none = none_where (response_refusal (link_of h) m) so in
+            let on = answers_if_allowed h m is.quiet none in
+            rw (so, cond-true (answers h.phase && true) _ h (and_from _ _ on refl)) (answer_keeps a s rs
+            (is_unanswered_with m.token) (is_request_for m.token) Application m (without_request m.token h.pending)
+            (response_next h m none) is on))
+        | inr refused ↦ rw refused (cond_both (answers h.phase && false) _ h
+            (λ (k : History). Accounted a (with_history s k) rs) (λ bad. absurd (grind arith))
+            (λ off. passes_keep a s (with_history s h) rs (plain_passes s (with_history s h) (same_plain h)
+            (λ token. kept_open_has (HaveOtherTokens token) tt h s.observers)) is))
       ]
 
   -- ---- the deadline
 
-  pub deadline_next : (h : History) (now : ℕ) (token : List ℕ) (moment : ℕ)
+  deadline_next : (h : History) (now : ℕ) (token : List ℕ) (moment : ℕ)
       → first_due now h.pending ≡ Some (Answer Application token moment)
-      → IsNext a h (λ r. is_unanswered_with token r && r.deadline == moment)
+      → IsNext h (expires token moment)
       (λ e. is_request_for token e && is_answer_at moment e) Engine (late_message Application token)
       (without_due now h.pending)
   deadline_next h now token moment is =
       let first = due_answer now h.pending Application token moment is in
       let entry : PendingEntryValue → Bool = λ e. is_request_for token e && is_answer_at moment e in
+      let due : entry (Answer Application token moment) ≡ true =
+      and_from _ _ ((bytes_decides token token).1 refl) (eq-eqb moment moment refl) in
+      let passing : (r : ApplicationRequest) → expires token moment r ≡ true
+      → (waits r ≡ true) × (r.request.token ≡ token) =
+      λ r so. has_token token r (and_parts (is_unanswered_with token r) _ so).0 in
       record {
-        unanswered = λ r so. (and_parts (waits r) _ (and_parts (is_unanswered_with token r) _ so).0).0;
+        passing = passing;
         same = λ r so. rw so refl;
         may = λ r so handed. (
-          (λ is. ap (late_message Application)
-              (sym (has_token token r.request.token (waits r) (and_parts (is_unanswered_with token r) _ so).0))),
+          (λ is. ap (late_message Application) (sym (passing r so).1)),
           (λ other. absurd (both_ways r.handed other handed)),
         );
         of_application = λ e so. request_of_application token e (and_parts (is_request_for token e) _ so).0;
-        left_is = ap (lists.without_passing entry) first.there
+        some = grind (arith, first.there, due, list_any-append);
+        left_is = ap (without_passing entry) first.there
             ∙ without_found entry first.before (Answer Application token moment) first.after
             (all_to (λ e. is_answer_at moment e ≡ false) (λ e. entry e ≡ false) (λ e other. grind arith)
-            first.before first.earliest)
-            (and_from _ _ ((bytes_decides token token).1 refl) (eq-eqb moment moment refl))
+            first.before first.earliest) due
             ∙ sym first.without;
+        codes = (refl, refl);
       }
 
-  -- If an entry is pending, responses are sent.
-  pub pending_answers : (h : History) (before : List PendingEntryValue) (e : PendingEntryValue)
-      (later : List PendingEntryValue) → (answers h.phase ≡ false → h.pending ≡ []) → h.pending ≡ before ++ e ∷ later
-      → answers h.phase ≡ true
-  pending_answers h before e later quiet there = grind (arith, quiet, length-append before (e ∷ later))
-
-  expired_kept : (h : History) (now : ℕ) (token : List ℕ) (moment : ℕ) (rs : List ApplicationRequest)
-      → first_due now h.pending ≡ Some (Answer Application token moment) → Accounted a h rs
-      → Accounted a (after_sent h now (Answer Application token moment))
-      (with_fate (λ r. is_unanswered_with token r && r.deadline == moment)
-      (fate_by Engine h (late_message Application token)) rs)
-  expired_kept h now token moment rs is account =
-      let first = due_answer now h.pending Application token moment is in
-      let on : answers h.phase ≡ true =
-      pending_answers h first.before (Answer Application token moment) first.after account.quiet first.there in
-      let response : Message = late_message Application token in
-      let test : ApplicationRequest → Bool = λ r. is_unanswered_with token r && r.deadline == moment in
-      let qs : List ApplicationRequest = with_fate test (fate_by Engine h response) rs in
-      let g : History = without_first h now in
-      subst (λ (k : History). Accounted a (after k (call.Reply response)) qs)
-      (sym (answer_goes h now Application token moment is))
-      (subst (λ (b : Bool). Accounted a (cond b (sent g response (bare_response response)) g) qs) (sym on)
-      (answer_kept a h rs test (λ e. is_request_for token e && is_answer_at moment e) Engine response
-      (without_due now h.pending) (deadline_next h now token moment is) account on))
-
-  -- ---- settling
+  -- ---- one round of settling
 
   due_kept : (s : Connection) (now : ℕ) (e : PendingEntryValue) (rs : List ApplicationRequest)
-      → first_due now s.history.pending ≡ Some e → Accounted a s.history rs
-      → Accounted a (after_sent s.history now e) (requests_due s (Some e) rs)
+      → first_due now s.history.pending ≡ Some e → Accounted a s rs
+      → Accounted a (with_history s (after_sent s.history now e)) (requests_due s (Some e) rs)
   due_kept s now (Answer Engine token moment) rs is account =
-      passes_keep a s.history _ rs (engine_passes a s.history now token moment is) account
-  due_kept s now (Answer Application token moment) rs is account = expired_kept s.history now token moment rs is account
-  due_kept s now (Pong token) rs is account =
-      passes_keep a s.history _ rs (pong_passes a s.history now token is) account
+      passes_keep a s _ rs (engine_passes s now token moment is) account
+  due_kept s now (Answer Application token moment) rs is account =
+      let h : History = s.history in
+      let first = due_answer now h.pending Application token moment is in
+      let on : answers h.phase ≡ true =
+      grind (arith, account.quiet, first.there, length-append first.before) in
+      let m : Message = late_message Application token in
+      let g : History = without_first h now in
+      let same : after_sent h now (Answer Application token moment) ≡ sent g m (bare_response m) =
+      ap (λ (f : History). after f (call.Reply m)) (answer_goes h now Application token moment is)
+      ∙ cond-true (answers h.phase) (sent g m (bare_response m)) g on in
+      subst (λ k. Accounted a (with_history s k) (requests_due s (Some (Answer Application token moment)) rs)) (sym same)
+      (answer_keeps a s rs (expires token moment) _ Engine m (without_due now h.pending)
+      (deadline_next h now token moment is) account on)
+  due_kept s now (Pong token) rs is account = passes_keep a s _ rs (pong_passes s now token is) account
 
-  notified_passes : (store : StoreValue) (now : ℕ) (s : Connection) (found : Option Observer)
-      → Passes a s.history (notified store now s found).history
-  notified_passes store now s None = passes_same a s.history
-  notified_passes store now s (Some o) = reply_passes a s.history _
-
-  pub reported_kept : (store : StoreValue) (now : ℕ) (s : Connection) (rs : List ApplicationRequest)
-      → Accounted a s.history rs → Accounted a (settled_once store now s).history (requests_once now s rs)
+  reported_kept : (store : StoreValue) (now : ℕ) (s : Connection) (rs : List ApplicationRequest)
+      → Accounted a s rs → Accounted a (settled_once store now s) (requests_once now s rs)
   unfolding requests_once
   reported_kept store now s rs is =
-      settled_cases store now s (λ t. Accounted a t.history (requests_due s (next_pending now s) rs))
-      (λ e found.
-      subst (λ (o : Option PendingEntryValue). Accounted a (after_sent s.history now e) (requests_due s o rs))
-      (sym found) (due_kept s now e rs (pending_room now s e found).1 is))
-      (λ none. subst (λ (o : Option PendingEntryValue). Accounted a
-      (notified store now s (next_due store now s)).history (requests_due s o rs)) (sym none)
-      (passes_keep a s.history _ rs (notified_passes store now s (next_due store now s)) is))
+      settled_cases store now s (λ t. Accounted a t (requests_due s (next_pending now s) rs))
+      (λ e found. rw found (due_kept s now e rs (pending_room now s e found).1 is))
+      (λ none. rw none
+      (passes_keep a s _ rs (notified_passes store now s (next_due store now s) (next_due_found store now s)) is))
 
-  -- ---- a message that is no request for the application
+-- ---- a message
 
-  pub running_live : (p : Phase) → takes_messages p ≡ true → has_stopped p ≡ false
-  running_live p live = grind arith
+-- The message was handled, and nothing was queued.
+record IsRequested (h : History) (m : Message) (g : History) : Type 0 where
+  limits : g.limits ≡ h.limits
+  handled : g.handled ≡ h.handled ++ m ∷ []
+  queued : g.queued ≡ h.queued
+  pending : g.pending ≡ h.pending
+  opened : is_open g.phase ≡ true
 
-  -- The pending entries and the phase after a message.
-  abbrev LeavesPending : History → Reaction → Type 0
-  LeavesPending h r = StillPending h.pending h.phase r.effect.pending r.effect.phase
+-- The reaction queues no response, and the requests stay pending or the connection stops.
+record ReactsSo (h : History) (r : Reaction) : Type 0 where
+  pending : StillPending h.pending h.phase r.effect.pending r.effect.phase
+  engine : (token : List ℕ) → NoEngine token h.pending → NoEngine token r.effect.pending
+  silent : AllByRecursion IsNoResponse r.effect.queued
 
-  received_pending : (h : History) (m : Message) → takes_messages h.phase ≡ true
-      → StillPending h.pending h.phase (react (state_now h) m).effect.pending (react (state_now h) m).effect.phase
-  unfolding react
-  received_pending h m live = by (stop_of h.phase) live
-    where
-      by : (over : Option Reason) → is_none over ≡ true → LeavesPending h (reaction_unless (state_now h) m over)
-      by None none = live_so (state_now h) m (LeavesPending h) (record {
-        requested = pending_same h.pending h.phase;
-        silent = λ now outstanding what other may on. record {
-          running = λ off. (running_live h.phase live, refl);
-          quiet = λ quiet off. quiet (on off);
-        };
-        stops = λ why farewell what plain one may. pending_over h.pending h.phase why;
-        queues = λ n what may. pending_same h.pending h.phase;
-        keeps = λ now other ping custody some. record {
-          running = λ off. (
-            off,
-            filter-append is_of_application h.pending (Pong m.token ∷ [])
-                ∙ append-nil (filter is_of_application h.pending),
-          );
+reacts_so : (h : History) (m : Message) → h.role ≡ Server → takes_messages h.phase ≡ true
+    → ReactsSo h (react (state_now h) m)
+unfolding react
+reacts_so h m server live = by (stop_of h.phase) live
+  where
+    by : (over : Option Reason) → is_none over ≡ true → ReactsSo h (reaction_unless (state_now h) m over)
+    by None none = live_so (state_now h) m (ReactsSo h) (record {
+      requested = record { pending = pending_same h.pending h.phase; engine = λ token none. none; silent = tt };
+      silent = λ now outstanding what other may on. record {
+        pending = record { running = λ off. (running_live h.phase live, refl); quiet = λ quiet off. quiet (on off) };
+        engine = λ token none. none;
+        silent = tt;
+      };
+      stops = λ why farewell what plain one may. record {
+        pending = pending_over h.pending h.phase why;
+        engine = λ token none. tt;
+        silent = all_to IsPlain IsNoResponse (λ n is. is.0) farewell plain;
+      };
+      queues = λ n what may. record {
+        pending = pending_same h.pending h.phase;
+        engine = λ token none. none;
+        silent = ((may.plain server).0, tt);
+      };
+      keeps = λ now other ping custody some. record {
+        pending = record {
+          running = λ off. (off, rw (filter-append, append-nil) refl);
           quiet =
               λ quiet off. absurd (omega (arith, some, ap (λ (es : List PendingEntryValue). length es) (quiet off)));
         };
-      })
-      by (Some why) none = absurd cc
+        engine = λ token none. all_append _ h.pending (Pong m.token ∷ []) none (refl, tt);
+        silent = tt;
+      };
+    })
+    by (Some why) none = absurd cc
 
-  message_passes : (h : History) (m : Message) → is_for_application a m ≡ false → Passes a h (after h (call.Handle m))
-  message_passes h m other =
-      if_between (Passes a) (takes_messages h.phase) h (received h m) (passes_same a h)
-      (λ takes. record {
-        limits = refl;
-        received = m ∷ [];
-        handled = refl;
-        none = rw other refl;
-        more = _;
-        queued = refl;
-        pending = received_pending h m takes;
-      })
+no_engine_awaits : (token : List ℕ) (es : List PendingEntryValue)
+    → list_any (awaits token) es ≡ false → NoEngine token es
+no_engine_awaits token [] none = tt
+no_engine_awaits token (Answer Engine own moment ∷ es) none = (grind arith, no_engine_awaits token es (grind arith))
+no_engine_awaits token (Answer Application own moment ∷ es) none = (refl, no_engine_awaits token es (grind arith))
+no_engine_awaits token (Pong own ∷ es) none = (refl, no_engine_awaits token es none)
 
-  -- A response that the engine delays is pending.
-  hold_passes : (h : History) (token : List ℕ) (moment : ℕ) → Passes a h (after h (hold_call Engine token moment))
-  hold_passes h token moment =
-      if_between (Passes a) (is_open h.phase && may_hold h) h (holding h (h.pending ++ Answer Engine token moment ∷ []))
-      (passes_same a h) (λ so. record {
-        limits = refl;
-        received = [];
-        handled = sym (append-nil h.handled);
-        none = refl;
-        more = [];
-        queued = sym (append-nil h.queued);
-        pending = record {
-          running = λ on. (
-            on,
-            filter-append is_of_application h.pending (Answer Engine token moment ∷ [])
-                ∙ append-nil (filter is_of_application h.pending),
-          );
-          quiet = λ quiet off. absurd
-              (both_ways (answers h.phase) off (open_answers h.phase (and_parts (is_open h.phase) (may_hold h) so).0));
-        };
-      })
+module _ (store : StoreValue) (now : ℕ) (s : Connection) (m : Message) (server : s.history.role ≡ Server)
+    (live : takes_messages s.history.phase ≡ true) where
+  abbrev h : History
+  h = s.history
 
-  -- Without a deadline of the application, the engine delays the response.
-  engine_delays : (store : StoreValue) (now : ℕ) (m : Message) (d : Delay)
-      → application_deadline store.applications m ≡ None → delay_of store now m ≡ Some d → d.by ≡ Engine
-  engine_delays store now m d none is =
-      by (answer_of store now m).hold (ap (λ (o : Option ℕ). delay_or o (answer_of store now m).hold) (sym none) ∙ is)
-    where
-      by : (hold : Option ℕ) → delay_by Engine hold ≡ Some d → d.by ≡ Engine
-      by None e = absurd cc
-      by (Some seconds) e = sym (ap (λ (x : Delay). x.by) (same_there (record { by = Engine; seconds = seconds }) d e))
+  abbrev a : Option ApplicationsValue
+  a = store.applications
 
-  other_passes : (store : StoreValue) (now : ℕ) (s : Connection) (m : Message) → store.applications ≡ a
-      → is_for_application a m ≡ false → Passes a s.history (side_handled store now s m).history
-  other_passes store now s m same other =
-      let h : History = after s.history (call.Handle m) in
-      let others : List Observer = without_token m.token s.observers in
-      let received : Passes a s.history h = message_passes s.history m other in
-      cond_both (asks_answer s m) _ _ (λ (t : Connection). Passes a s.history t.history)
-      (λ asks. replied_cases store now h others m (delay_of store now m)
-      (λ (t : Connection). Passes a s.history t.history)
-      (λ d is. (
-      let request : is_asking m ≡ true = answered_is_request (state_now s.history) m asks in
-      let none : application_deadline store.applications m ≡ None =
-      there_is_none (application_deadline store.applications m)
-      (ap (λ (b : Option ApplicationsValue). is_some (application_deadline b m)) same
-      ∙ sym (ap (λ b. b && is_some (application_deadline a m)) request) ∙ other) in
-      let by : d.by ≡ Engine = engine_delays store now m d none (pending_where h (delay_of store now m) d is).1 in
-      subst (λ (by : Responder). Passes a s.history (after h (hold_call by m.token (moment_after now d.seconds))))
-      (sym by)
-      (passes_then a s.history h _ received (hold_passes h m.token (moment_after now d.seconds)))
-      ))
-      (λ none. passes_then a s.history h _ received (reply_passes a h _)))
-      (λ other. received)
+  abbrev others : List Observer
+  others = without_token m.token s.observers
 
-  -- No request is added.
-  none_added : (store : StoreValue) (now : ℕ) (s : Connection) (m : Message) (rs : List ApplicationRequest)
-      (handled asks : Bool) (deadline : Option ℕ) → (asks && is_some deadline) ≡ false
-      → cond (handled && asks) (rs ++ new_request now s m deadline) rs ≡ rs
-  none_added store now s m rs false asks deadline none = refl
-  none_added store now s m rs true false deadline none = refl
-  none_added store now s m rs true true None none = append-nil rs
-  none_added store now s m rs true true (Some seconds) none = absurd cc
-
-  -- ---- a request for the application
-
-  -- One more request, with its fate.
-  added_kept : (h k : History) (rs : List ApplicationRequest) (r : ApplicationRequest) (more : List Message)
-      → is_for_application a r.request ≡ true → k.handled ≡ h.handled ++ r.request ∷ [] → k.queued ≡ h.queued ++ more
-      → r.queued ≡ length h.queued → r.handled ≡ length h.handled → k.limits ≡ h.limits
-      → HasFate k r r.fate → IsNew (length h.queued) r.fate
-      → (has_stopped k.phase ≡ false → (has_stopped h.phase ≡ false)
-      × (filter is_of_application k.pending ≡ filter is_of_application h.pending
-      ++ map entry_of (filter waits (r ∷ [])))) → (has_stopped k.phase ≡ false → waits r ≡ true → r.handed ≡ true)
-      → (answers k.phase ≡ false → k.pending ≡ []) → Accounted a h rs → Accounted a k (rs ++ r ∷ [])
-  added_kept h k rs r more for handled queued at at_handled limits has new pending handed quiet is = record {
-    requests =
-        map-append (λ (q : ApplicationRequest). q.request) rs (r ∷ []) ∙ ap (λ ms. ms ++ r.request ∷ []) is.requests
-        ∙ sym (ap (filter (is_for_application a)) handled
-        ∙ filter-append (is_for_application a) h.handled (r.request ∷ []) ∙ rw for refl);
-    pending = λ on. (
-        let before = pending on in
-        ap (map entry_of) (filter-append waits rs (r ∷ []))
-        ∙ map-append entry_of (filter waits rs) (filter waits (r ∷ []))
-        ∙ ap (λ es. es ++ map entry_of (filter waits (r ∷ []))) (is.pending before.0) ∙ sym before.1);
-    quiet = quiet;
-    handed =
-        λ on. all_append (λ q. waits q ≡ true → q.handed ≡ true) rs (r ∷ []) (is.handed (pending on).0) (handed on, tt);
-    answered = all_append (λ q. HasFate k q q.fate) rs (r ∷ [])
-        (still_answered h k
-        (record { limits = limits; received = r.request ∷ []; handled = handled; more = more; queued = queued })
-        rs is.answered) (has, tt);
-    own =
-        own_more (length h.queued) r rs new (all_to (λ q. HasFate h q q.fate) (λ q. IsOld (length h.queued) q.fate)
-        (λ q. old_fate h q q.fate) rs is.answered) is.own;
-    counted = all_append (λ q. q.queued ≤ length k.queued) rs (r ∷ []) (grown h k more rs queued is.counted)
-        (omega (arith, at, ap (λ (ms : List Message). length ms) queued, length-append h.queued more), tt);
-    since =
-        all_append (λ q. q.handled < length k.handled) rs (r ∷ []) (later h k (r.request ∷ []) rs handled is.since) (
-          omega (
-            arith,
-            at_handled,
-            ap (λ (ms : List Message). length ms) handled,
-            length-append h.handled (r.request ∷ []),
-          ),
-          tt,
-        );
+  abbrev request_with : ℕ → Fate → ApplicationRequest
+  request_with seconds fate = record {
+    request = m;
+    deadline = moment_after now seconds;
+    handled = length h.handled;
+    queued = length h.queued;
+    alone = not (list_any (awaits m.token) h.pending);
+    handed = asks_answer s m && may_hold (after_message s m);
+    fate = fate;
   }
 
-  -- A message leaves the limits.
-  pub message_limits : (h : History) (m : Message) → (after h (call.Handle m)).limits ≡ h.limits
-  message_limits h m =
-      cond_both (takes_messages h.phase) (received h m) h (λ (k : History). k.limits ≡ h.limits)
-      (λ takes. refl) (λ off. refl)
+  on_before : has_stopped h.phase ≡ false
+  on_before = running_live h.phase live
 
-  -- A request queues nothing.
-  pub request_queued : (h : History) (m : Message) → is_request (react (state_now h) m).verdict ≡ true
-      → (after h (call.Handle m)).queued ≡ h.queued
-  request_queued h m asks =
-      cond_both (takes_messages h.phase) (received h m) h (λ (k : History). k.queued ≡ h.queued)
-      (λ takes. ap (λ ms. h.queued ++ ms)
-      (react_asks (state_now h) m (said_request (react (state_now h) m).verdict asks)).nothing
-      ∙ append-nil h.queued) (λ off. refl)
+  -- ---- a message that the server need not answer
 
-  pub no_place : (h : History) (d : Delay) → delay_for h (Some d) ≡ None → may_hold h ≡ false
-  no_place h d =
-      cond_both (may_hold h) (Some d) None (λ (o : Option Delay). o ≡ None → may_hold h ≡ false)
-      (λ may none. absurd cc) (λ full none. full)
+  reacts : ReactsSo h (react (state_now h) m)
+  reacts = reacts_so h m server live
 
-  pub off_over : (p : Phase) → has_stopped p ≡ true → answers p ≡ false
-  off_over p over = grind arith
+  abbrev after_it : Connection
+  after_it = with_history s (received h m)
 
-  pub unanswered_over : (b : Bool) (h : History) (response : Message) → answers h.phase ≡ false
-      → cond b Unanswered (fate_by Engine h response) ≡ Unanswered
-  unanswered_over true h response off = refl
-  unanswered_over false h response off = rw off refl
+  abbrev it_extends : Extends (m ∷ []) h (received h m)
+  it_extends = record {
+    limits = refl;
+    handled = refl;
+    more = (react (state_now h) m).effect.queued;
+    queued = refl;
+    running = λ on. on_before;
+  }
 
-  and_none : (b : Bool) → (b && false) ≡ false
-  and_none true = refl
-  and_none false = refl
+  it_spares : (token : List ℕ) → Spares (m ∷ []) s after_it it_extends.more token
+  it_spares token none calm = (
+    record {
+      others = kept_open_has (HaveOtherTokens token) tt (received h m) s.observers calm.others;
+      engine = reacts.engine token calm.engine;
+    },
+    no_response token _ reacts.silent,
+  )
 
-  sent_kept : (s : ConnectionState) (m less : Message) (r : Reply) → has_stopped (send_as s m less r).phase ≡ false
-      → (send_as s m less r).pending ≡ s.pending
-  sent_kept s m less Whole on = refl
-  sent_kept s m less Bare on = refl
-  sent_kept s m less Stopped on = absurd cc
+  other_passes : is_for_application a m ≡ false → Passes a s after_it
+  other_passes other = record {
+    received = m ∷ [];
+    none = rw other refl;
+    extends = it_extends;
+    spares = it_spares;
+    pending = reacts.pending;
+  }
 
-  sent_quiet : (s : ConnectionState) (m less : Message) (r : Reply) → answers s.phase ≡ true
-      → answers (send_as s m less r).phase ≡ false → (send_as s m less r).pending ≡ []
-  sent_quiet s m less Whole on off = absurd (both_ways (answers s.phase) off on)
-  sent_quiet s m less Bare on off = absurd (both_ways (answers s.phase) off on)
-  sent_quiet s m less Stopped on off = refl
+  -- The connection stops.
+  over_adds : (seconds : ℕ) → is_for_application a m ≡ true → has_stopped (received h m).phase ≡ true
+      → AddsRequest a s after_it (request_with seconds Unanswered)
+  over_adds seconds is_for over =
+      let closed : is_open (received h m).phase ≡ false = grind arith in
+      record {
+        is_for = is_for;
+        at_handled = refl;
+        at_queued = refl;
+        at_alone = refl;
+        extends = it_extends;
+        spares = it_spares;
+        live = on_before;
+        has = tt;
+        new = tt;
+        pending = λ on. absurd (both_ways (has_stopped (received h m).phase) on over);
+        handed = λ on. absurd (both_ways (has_stopped (received h m).phase) on over);
+        quiet = reacts.pending.quiet;
+        calm = λ apart. record {
+          others = rw closed tt;
+          engine = reacts.engine m.token (no_engine_awaits m.token h.pending apart);
+        };
+        only = filter_none (responds m.token) _ (no_response m.token _ reacts.silent);
+      }
 
-  module _ (store : StoreValue) (now : ℕ) (s : Connection) (m : Message) (seconds : ℕ) (rs : List ApplicationRequest)
-      (live : takes_messages s.history.phase ≡ true) (for : is_for_application a m ≡ true)
-      (deadline : application_deadline store.applications m ≡ Some seconds) (is : Accounted a s.history rs) where
-    abbrev request_with : Fate → ApplicationRequest
-    request_with fate = record {
-      request = m;
-      deadline = moment_after now seconds;
-      handled = length s.history.handled;
-      queued = length s.history.queued;
-      alone = not (list_any (awaits m.token) s.history.pending);
-      handed = asks_answer s m && may_hold (after_message s m);
-      fate = fate;
+  -- ---- a request that the server must answer
+
+  module _ (asks : asks_answer s m ≡ true) (g : History) (is : IsRequested h m g) where
+    on : answers g.phase ≡ true
+    on = open_answers g.phase is.opened
+
+    -- The token of the request is another one.
+    other_token : (token : List ℕ) → NoneAsk token (m ∷ []) → same_bytes m.token token ≡ false
+    other_token token none = rw (answered_is_request (state_now h) m asks) at none.0
+
+    others_left : (token : List ℕ) → HaveOtherTokens token s.observers → HaveOtherTokens token others
+    unfolding without_token
+    others_left token is = all_filter (λ o. token ≢ o.token) (λ o. not (same_bytes o.token m.token)) s.observers is
+
+    others_none : HaveOtherTokens m.token others
+    unfolding without_token
+    others_none = filter_others m.token s.observers
+
+    -- A pending entry is appended.
+    abbrev with_late : PendingEntryValue → History
+    with_late e = holding g (g.pending ++ e ∷ [])
+
+    abbrev late_extends : (e : PendingEntryValue) → Extends (m ∷ []) h (with_late e)
+    late_extends e = record {
+      limits = is.limits;
+      handled = is.handled;
+      more = [];
+      queued = is.queued ∙ sym (append-nil h.queued);
+      running = λ live. on_before;
     }
 
-    abbrev IsKeptAt : Connection → Type 0
-    IsKeptAt t =
-        t.history.handled ≡ s.history.handled ++ m ∷ []
-        → Accounted a t.history (rs ++ request_with (first_fate (after_message s m) m) ∷ [])
+    late_spares : (e : PendingEntryValue)
+        → ((token : List ℕ) → same_bytes m.token token ≡ false → is_engine_for token e ≡ false) → (token : List ℕ)
+        → Spares (m ∷ []) s (side_with (with_late e) others) [] token
+    late_spares e new token none calm = (
+      record {
+        others = kept_open_has (HaveOtherTokens token) tt (with_late e) others (others_left token calm.others);
+        engine =
+            all_append (λ f. is_engine_for token f ≡ false) g.pending (e ∷ []) (rw is.pending calm.engine)
+            (new token (other_token token none), tt);
+      },
+      tt,
+    )
 
-    on_before : has_stopped s.history.phase ≡ false
-    on_before = running_live s.history.phase live
+    engine_late : (moment : ℕ) → is_for_application a m ≡ false
+        → Passes a s (side_with (with_late (Answer Engine m.token moment)) others)
+    engine_late moment other = record {
+      received = m ∷ [];
+      none = rw other refl;
+      extends = late_extends (Answer Engine m.token moment);
+      spares = late_spares (Answer Engine m.token moment) (λ token apart. apart);
+      pending = record {
+        running = λ live. (on_before, rw (is.pending, filter-append, append-nil) refl);
+        quiet = λ quiet off. absurd (both_ways (answers g.phase) off on);
+      };
+    }
 
-    -- The connection stops.
-    over_kept : ((after_message s m).handled ≡ s.history.handled ++ m ∷ [])
-        → has_stopped (react (state_now s.history) m).effect.phase ≡ true
-        → Accounted a (after_message s m) (rs ++ request_with (first_fate (after_message s m) m) ∷ [])
-    over_kept handled over =
-        let same : (after_message s m) ≡ received s.history m =
-        cond-true (takes_messages s.history.phase) (received s.history m) s.history live in
-        let stopped : has_stopped (after_message s m).phase ≡ true =
-        ap (λ (k : History). has_stopped k.phase) same ∙ over in
-        let none : (first_fate (after_message s m) m) ≡ Unanswered = unanswered_over (may_hold (after_message s m))
-        (after_message s m) (refusal_of m) (off_over (after_message s m).phase stopped) in
-        subst (λ (fate : Fate). Accounted a (after_message s m) (rs ++ request_with fate ∷ [])) (sym none)
-        (added_kept s.history (after_message s m) rs (request_with Unanswered)
-        (react (state_now s.history) m).effect.queued for handled (ap (λ (k : History). k.queued) same) refl refl
-        (message_limits s.history m) tt tt
-        (λ on. absurd (both_ways (has_stopped (after_message s m).phase) on stopped))
-        (λ on. absurd (both_ways (has_stopped (after_message s m).phase) on stopped))
-        (λ off. ap (λ (k : History). k.pending) same
-        ∙ (received_pending s.history m live).quiet is.quiet (ap (λ (k : History). answers k.phase) (sym same) ∙ off))
-        is)
+    pending_adds : (seconds : ℕ) → is_for_application a m ≡ true → may_hold (after_message s m) ≡ true
+        → AddsRequest a s (side_with (with_late (Answer Application m.token (moment_after now seconds))) others)
+        (request_with seconds Unanswered)
+    pending_adds seconds is_for may = record {
+      is_for = is_for;
+      at_handled = refl;
+      at_queued = refl;
+      at_alone = refl;
+      extends = late_extends (Answer Application m.token (moment_after now seconds));
+      spares = late_spares (Answer Application m.token (moment_after now seconds)) (λ token apart. refl);
+      live = on_before;
+      has = tt;
+      new = tt;
+      pending = λ on. rw (is.pending, filter-append) refl;
+      handed = λ on waiting. and_from (asks_answer s m) (may_hold (after_message s m)) asks may;
+      quiet = λ quiet off. absurd (both_ways (answers g.phase) off on);
+      calm = λ apart. record {
+        others = kept_open_has (HaveOtherTokens m.token) tt
+            (with_late (Answer Application m.token (moment_after now seconds))) others others_none;
+        engine = all_append (λ f. is_engine_for m.token f ≡ false) g.pending _
+            (rw is.pending (no_engine_awaits m.token h.pending apart)) (refl, tt);
+      };
+      only = refl;
+    }
 
-    module _ (asks : asks_answer s m ≡ true) where
-      queued_same : (after_message s m).queued ≡ s.history.queued
-      queued_same = request_queued s.history m asks
+    prompt_passes : (r : answer.Answer) → is_for_application a m ≡ false
+        → Passes a s (side_answered store now g others m r)
+    prompt_passes r other =
+        let observes : Bool = has_place g.limits.observers others r.watch in
+        let response : Message = response_with_observe m.token observes r.response in
+        reply_passes a s (m ∷ []) (rw other refl) g is.limits is.handled is.queued
+        (rw is.pending (record {
+          running = λ live. (on_before, refl);
+          quiet = λ quiet off. absurd (both_ways (answers g.phase) off on);
+        }))
+        response _ (λ token none calm. (
+        let apart = other_token token none in (
+          all_entered (λ o. token ≢ o.token)
+              (observes && is_whole (fit (limit_now g) response (bare_response response))) others
+              (entry_for store now m) (others_left token calm.others)
+              (λ enters same. both_ways (same_bytes m.token token) apart ((bytes_decides m.token token).1 (sym same))),
+          rw is.pending calm.engine,
+          apart,
+        )))
 
-      answering : answers (after_message s m).phase ≡ true
-      answering = open_answers (after_message s m).phase (request_quiet s m asks).1
+    -- The list is full.
+    refused_adds : (seconds : ℕ) → is_for_application a m ≡ true → may_hold (after_message s m) ≡ false
+        → AddsRequest a s (side_with (after g (call.Reply (refusal_of m))) others)
+        (request_with seconds (fate_by Engine g (refusal_of m)))
+    refused_adds seconds is_for full =
+        let fate : Fate = fate_by Engine g (refusal_of m) in
+        let response : Message = refusal_of m in
+        let e : ReactionResult = send (state_now g) response (bare_response response) in
+        let k : History = with_effect g e in
+        let sent : IsSent g Engine response g.pending e fate = sent_so g Engine response g.pending (refl, refl) on in
+        let more : k.queued ≡ h.queued ++ messages_of fate =
+        ap (λ ms. g.queued ++ ms) sent.queued ∙ ap (λ ms. ms ++ messages_of fate) is.queued in
+        let apart : (asks_answer s m && may_hold (after_message s m)) ≡ false = grind (arith, full) in
+        subst (λ (b : Bool). AddsRequest a s (side_with (cond b k g) others) (request_with seconds fate)) (sym on) (record {
+          is_for = is_for;
+          at_handled = refl;
+          at_queued = refl;
+          at_alone = refl;
+          extends = record {
+            limits = is.limits;
+            handled = is.handled;
+            more = messages_of fate;
+            queued = more;
+            running = λ live. on_before;
+          };
+          spares = λ token none calm. (
+            record {
+              others = kept_open_has (HaveOtherTokens token) tt k others (others_left token calm.others);
+              engine = sent.engine token (rw is.pending calm.engine);
+            },
+            none_respond token m.token (messages_of fate) (other_token token none)
+                (all_to _ (λ n. n.token ≡ m.token) (λ n so. so.1) (messages_of fate) sent.responses),
+          );
+          live = on_before;
+          has = sent.has (request_with seconds fate)
+              ((λ handed. absurd (both_ways _ apart handed)), (λ none. (refl, ap (λ ms. length ms) is.queued)))
+              (omega (arith, ap (λ (ms : List Message). length ms) is.queued))
+              (omega (arith, ap (λ (ms : List Message). length ms) is.handled, length-append h.handled (m ∷ [])));
+          new = subst (λ (n : ℕ). IsNew n fate) (ap (λ ms. length ms) is.queued) sent.new;
+          pending = λ live. rw ((sent.answered live).0, (sent.answered live).1, is.pending, append-nil) refl;
+          handed = λ live waiting. absurd (both_ways (is_unanswered fate) (sent.answered live).0 waiting);
+          quiet = λ quiet. sent.quiet;
+          calm = λ alone. record {
+            others = kept_open_has (HaveOtherTokens m.token) tt k others others_none;
+            engine = sent.engine m.token (rw is.pending (no_engine_awaits m.token h.pending alone));
+          };
+          only = filter_whole (responds m.token) (messages_of fate)
+              (all_to _ (λ n. responds m.token n ≡ true)
+              (λ n is. and_from _ _ is.0 ((bytes_decides n.token m.token).1 is.1)) (messages_of fate) sent.responses);
+        })
 
-      -- The request is pending.
-      pending_kept : may_hold (after_message s m) ≡ true → (holding (after_message s m)
-          ((after_message s m).pending ++ Answer Application m.token (moment_after now seconds) ∷ [])).handled
-          ≡ s.history.handled ++ m ∷ []
-          → Accounted a (holding (after_message s m)
-          ((after_message s m).pending ++ Answer Application m.token (moment_after now seconds) ∷ []))
-          (rs ++ request_with (first_fate (after_message s m) m) ∷ [])
-      pending_kept may handled =
-          let entry : PendingEntryValue = Answer Application m.token (moment_after now seconds) in
-          let none : (first_fate (after_message s m) m) ≡ Unanswered =
-          ap (λ b. cond b Unanswered (fate_by Engine (after_message s m) (refusal_of m))) may in
-          subst (λ (fate : Fate). Accounted a (holding (after_message s m) ((after_message s m).pending ++ entry ∷ []))
-          (rs ++ request_with fate ∷ [])) (sym none)
-          (added_kept s.history (holding (after_message s m) ((after_message s m).pending ++ entry ∷ [])) rs
-          (request_with Unanswered) [] for handled (queued_same ∙ sym (append-nil s.history.queued)) refl refl
-          (message_limits s.history m) tt tt
-          (λ on. (
-            on_before,
-            filter-append is_of_application (after_message s m).pending (entry ∷ [])
-                ∙ ap (λ es. filter is_of_application es ++ entry ∷ []) (request_quiet s m asks).0,
-          ))
-          (λ on waiting. and_from (asks_answer s m) (may_hold (after_message s m)) asks may)
-          (λ off. absurd (both_ways (answers (after_message s m).phase) off answering)) is)
+  requested : asks_answer s m ≡ true → IsRequested h m (after_message s m)
+  requested asks =
+      let quiet = request_quiet s m asks in
+      let none = (react_asks (state_now h) m (said_request (react (state_now h) m).verdict asks)).nothing in
+      record {
+        limits = rw live refl;
+        handled = rw live refl;
+        queued = rw (live, none, append-nil) refl;
+        pending = quiet.0;
+        opened = quiet.1;
+      }
 
-      -- The list is full.
-      refused_kept : may_hold (after_message s m) ≡ false
-          → (after (after_message s m) (call.Reply (refusal_of m))).handled ≡ s.history.handled ++ m ∷ []
-          → Accounted a (after (after_message s m) (call.Reply (refusal_of m)))
-          (rs ++ request_with (first_fate (after_message s m) m) ∷ [])
-      refused_kept full =
-          let r : Reply = fit (limit_now (after_message s m)) (refusal_of m) (bare_response (refusal_of m)) in
-          let fate : Fate =
-          fate_at a Engine (refusal_of m) r (length (after_message s m).handled) (length (after_message s m).queued) in
-          let k : History = sent (after_message s m) (refusal_of m) (bare_response (refusal_of m)) in
-          let is_fate : (first_fate (after_message s m) m) ≡ fate =
-          ap (λ b. cond b Unanswered (fate_by Engine (after_message s m) (refusal_of m))) full
-          ∙ ap (λ b. cond b fate Unanswered) answering in
-          let queued : k.queued ≡ (after_message s m).queued ++ messages_of fate =
-          ap (λ ms. (after_message s m).queued ++ ms) (sent_messages a (state_now (after_message s m)) Engine
-          (refusal_of m) r (length (after_message s m).handled) (length (after_message s m).queued)) in
-          let count : length (after_message s m).queued ≡ length s.history.queued = ap (λ ms. length ms) queued_same in
-          let apart : (request_with fate).handed ≡ false =
-          ap (λ b. asks_answer s m && b) full ∙ and_none (asks_answer s m) in
-          let may : MayAnswer (request_with fate) Engine (refusal_of m) (length (after_message s m).queued) =
-          ((λ handed. absurd (both_ways (request_with fate).handed apart handed)), (λ none. (refl, count))) in
-          subst (λ (b : Bool). (cond b k (after_message s m)).handled ≡ s.history.handled ++ m ∷ []
-          → Accounted a (cond b k (after_message s m)) (rs ++ request_with (first_fate (after_message s m) m) ∷ []))
-          (sym answering)
-          (λ handled. subst (λ (f : Fate). Accounted a k (rs ++ request_with f ∷ [])) (sym is_fate)
-          (added_kept s.history k rs (request_with fate) (messages_of fate) for handled
-          (queued ∙ ap (λ ms. ms ++ messages_of fate) queued_same) refl refl (message_limits s.history m)
-          (fate_has a (after_message s m) k (request_with fate) Engine (refusal_of m) r refl may (omega (arith, count))
-          (omega (arith, ap (λ (ms : List Message). length ms) handled, length-append s.history.handled (m ∷ []))) refl
-          refl queued)
-          (subst (λ (n : ℕ). IsNew n fate) count
-          (fate_new a Engine (refusal_of m) r (length (after_message s m).handled) (length (after_message s m).queued)))
-          (λ on. (
-            on_before,
-            (let over : is_unanswered fate ≡ false = sent_answered a (state_now (after_message s m)) Engine
-                (refusal_of m) r (length (after_message s m).handled) (length (after_message s m).queued) on in
-                ap (filter is_of_application)
-                (sent_kept (state_now (after_message s m)) (refusal_of m) (bare_response (refusal_of m)) r on
-                ∙ (request_quiet s m asks).0)
-                ∙ sym
-                (ap (λ b. filter is_of_application s.history.pending
-                ++ map entry_of (cond b (request_with fate ∷ []) []))
-                over ∙ append-nil (filter is_of_application s.history.pending))),
-          ))
-          (λ on waiting. absurd (both_ways (is_unanswered fate) (sent_answered a (state_now (after_message s m))
-          Engine (refusal_of m) r (length (after_message s m).handled) (length (after_message s m).queued) on) waiting))
-          (sent_quiet (state_now (after_message s m)) (refusal_of m) (bare_response (refusal_of m)) r answering) is))
+  handled_passes : is_for_application a m ≡ false → Passes a s (side_handled store now s m)
+  handled_passes other =
+      handled_cases store now s m (Passes a s) (λ none. rw live (other_passes other)) (λ asks by moment.
+      elim by as (λ (by : Responder). asks_delayed a by m ≡ true → Passes a s
+      (side_with (holding (after_message s m) ((after_message s m).pending ++ Answer by m.token moment ∷ [])) others)) [
+        | Engine ↦ λ delayed. engine_late asks (after_message s m) (requested asks) moment other
+        | Application ↦ λ for. absurd (both_ways (is_for_application a m) other
+            (and_from (is_asking m) _ (answered_is_request (state_now h) m asks) for))
+      ])
+      (λ asks. prompt_passes asks (after_message s m) (requested asks) (prompt_answer store now m) other)
 
-      replied_kept : IsKeptAt (side_replied store now (after_message s m) (without_token m.token s.observers) m
-          (delay_for (after_message s m) (delay_of store now m)))
-      replied_kept =
-          let others : List Observer = without_token m.token s.observers in
-          let hold : Option ℕ = (answer_of store now m).hold in
-          let d : Delay = record { by = Application; seconds = seconds } in
-          let delay : delay_of store now m ≡ Some d = ap (λ (o : Option ℕ). delay_or o hold) deadline in
-          replied_cases store now (after_message s m) others m (delay_of store now m) IsKeptAt
-          (λ e found. (
-          let both = pending_where (after_message s m) (delay_of store now m) e found in
-          subst (λ (f : Delay).
-          IsKeptAt (side_with (after (after_message s m) (hold_call f.by m.token (moment_after now f.seconds))) others))
-          (same_there d e (sym delay ∙ both.1))
-          (subst (λ (k : History). IsKeptAt (side_with k others))
-          (sym (pending_is (after_message s m) Application m.token (moment_after now seconds)
-          ∙ cond-true _ _ (after_message s m) (and_from _ _ (request_quiet s m asks).1 both.0)))
-          (pending_kept both.0))
-          ))
-          (λ none. subst (λ (r : answer.Answer). IsKeptAt (side_answered store now (after_message s m) others m r))
-          (sym (prompt_handed store now m seconds deadline))
-          (refused_kept (no_place (after_message s m) d (ap (delay_for (after_message s m)) (sym delay) ∙ none))))
+  no_place : (f : History) (d : Delay) → delay_for f (Some d) ≡ None → may_hold f ≡ false
+  no_place f d none = grind arith
 
-    handed_kept : s.history.role ≡ Server → (side_handled store now s m).history.handled ≡ s.history.handled ++ m ∷ []
-        → Accounted a (side_handled store now s m).history (rs ++ request_with (first_fate (after_message s m) m) ∷ [])
-    handed_kept server =
-        cond_both (asks_answer s m) _ _ IsKeptAt replied_kept
-        (λ other handled.
-        elim (requested_or_over (state_now s.history) m server live (and_parts (is_asking m) _ for).0) [
-          | inl asks ↦ absurd (both_ways (asks_answer s m) other asks)
-          | inr over ↦ over_kept handled over
-        ])
+  handled_adds : (seconds : ℕ) → is_for_application a m ≡ true → application_deadline a m ≡ Some seconds
+      → AddsRequest a s (side_handled store now s m) (request_with seconds (first_fate (after_message s m) m))
+  handled_adds seconds is_for deadline =
+      let g : History = after_message s m in
+      let fate : Bool → Fate = λ may. cond may Unanswered (fate_by Engine g (refusal_of m)) in
+      let IsAdded : Connection → Type 0 = λ t. AddsRequest a s t (request_with seconds (first_fate g m)) in
+      let by_place : (may : Bool) (t : Connection) → may_hold g ≡ may → AddsRequest a s t (request_with seconds (fate may))
+      → IsAdded t =
+      λ may t is. subst (λ b. AddsRequest a s t (request_with seconds (fate b))) (sym is) in
+      let d : Delay = record { by = Application; seconds = seconds } in
+      let delay : delay_of store now m ≡ Some d = rw deadline refl in
+      cond_both (asks_answer s m) _ _ IsAdded (λ asks.
+      replied_cases store now g others m (delay_of store now m) IsAdded (λ f found. (
+      let both = pending_where g (delay_of store now m) f found in
+      let entry = pending_is g Application m.token (moment_after now seconds)
+      ∙ cond-true _ _ g (and_from _ _ (requested asks).opened both.0) in
+      subst (λ (e : Delay). IsAdded (side_with (after g (hold_call e.by m.token (moment_after now e.seconds))) others))
+      (same_there d f (sym delay ∙ both.1)) (rw entry (by_place true _ both.0 (pending_adds asks g (requested asks)
+      seconds is_for both.0)))))
+      (λ none. (
+      let full = no_place g d (rw delay at none) in
+      rw (prompt_handed store now m seconds deadline)
+      (by_place false _ full (refused_adds asks g (requested asks) seconds is_for full)))))
+      (λ other. elim (requested_or_over (state_now h) m server live (and_parts (is_asking m) _ is_for).0) [
+        | inl asks ↦ absurd (both_ways (asks_answer s m) other asks)
+        | inr over ↦ (
+            let got = cond-true (takes_messages h.phase) (received h m) h live in
+            let off = off_over g.phase (rw got over) in
+            subst (λ (k : History). IsAdded (with_history s k)) (sym got)
+            (subst (λ (f : Fate). AddsRequest a s after_it (request_with seconds f)) (sym (unanswered_over (may_hold g) off))
+            (over_adds seconds is_for over)))
+      ])
+    where
+      unanswered_over : (b : Bool) → answers (after_message s m).phase ≡ false
+          → cond b Unanswered (fate_by Engine (after_message s m) (refusal_of m)) ≡ Unanswered
+      unanswered_over true off = refl
+      unanswered_over false off = rw off refl
 
-  -- ---- a message
+handled_kept : (limits : LimitValues) (store : StoreValue) (now : ℕ) (s : Connection) (m : Message)
+    (rs : List ApplicationRequest) → IsSide limits s → Accounted store.applications s rs
+    → Accounted store.applications (side_after store now s m) (requests_after store now s m rs)
+unfolding side_after requests_after
+handled_kept limits store now s m rs side is =
+    let a : Option ApplicationsValue = store.applications in
+    let t : Connection = side_handled store now s m in
+    elim (cases_Bool (handles s)) [
+      | inl does ↦ (
+          let live = (handles_parts s does).0 in
+          let passed : is_for_application a m ≡ false → Accounted a t rs =
+          λ other. passes_keep a s t rs (handled_passes store now s m side.is_server live other) is in
+          rw does (there_or_not (application_deadline a m)
+          (λ o. Accounted a t (cond (is_asking m) (rs ++ new_request now s m o) rs))
+          (λ none. rw append-nil (cond_both (is_asking m) rs rs (Accounted a t) (λ asks. passed (rw (asks, none) refl))
+          (λ other. passed (rw other refl))))
+          (λ seconds some. cond_both (is_asking m) (rs ++ new_request now s m (Some seconds)) rs (Accounted a t)
+          (λ asks. adds_keep a s t rs _ (handled_adds store now s m side.is_server live seconds (rw (asks, some) refl)
+          some) is)
+          (λ other. passed (rw other refl)))))
+      | inr off ↦ rw off is
+    ]
 
-  pub handled_kept : (limits : LimitValues) (store : StoreValue) (now : ℕ) (s : Connection) (m : Message)
-      (rs : List ApplicationRequest) → store.applications ≡ a → IsSide limits s → Accounted a s.history rs
-      → Accounted a (side_after store now s m).history (requests_after store now s m rs)
-  unfolding side_after requests_after
-  handled_kept limits store now s m rs same side is =
-      let t : Connection = side_handled store now s m in
-      let for_it : (asks : Bool)
-      → (asks && is_some (application_deadline store.applications m)) ≡ (asks && is_some (application_deadline a m)) =
-      λ asks. ap (λ (b : Option ApplicationsValue). asks && is_some (application_deadline b m)) same in
-      elim (cases_Bool (handles s)) [
-        | inl does ↦
-            subst (λ (b : Bool). Accounted a (cond b t s).history
-            (cond (b && is_asking m) (rs ++ new_request now s m (application_deadline store.applications m)) rs))
-            (sym does)
-            (elim (cases_Bool (is_for_application a m)) [
-              | inl for ↦ (
-                  let some = there_is (application_deadline store.applications m)
-                  (and_parts (is_asking m) _ (for_it (is_asking m) ∙ for)).1 in
-                  let live = (handles_parts s does).0 in
-                  subst (λ (b : Bool). Accounted a t.history
-                  (cond (true && b) (rs ++ new_request now s m (application_deadline store.applications m)) rs))
-                  (sym (and_parts (is_asking m) _ for).0)
-                  (subst (λ (o : Option ℕ). Accounted a t.history (rs ++ new_request now s m o)) (sym some.1)
-                  (handed_kept store now s m some.0 rs live for some.1 is side.is_server
-                  ((handled_hears store now s m).handled_more live)))
-                  )
-              | inr other ↦
-                  subst (λ qs. Accounted a t.history qs) (sym (none_added store now s m rs true (is_asking m)
-                  (application_deadline store.applications m) (for_it (is_asking m) ∙ other)))
-                  (passes_keep a s.history t.history rs (other_passes store now s m same other) is)
-            ])
-        | inr off ↦
-            subst (λ (b : Bool). Accounted a (cond b t s).history
-            (cond (b && is_asking m) (rs ++ new_request now s m (application_deadline store.applications m)) rs))
-            (sym off) is
-      ]
+-- ---- every effect
 
-  -- ---- every effect
+accounts_keep : (limits : LimitValues) (a : Option ApplicationsValue) → KeepsRequests limits a (Accounted a)
+accounts_keep limits a =
+    let calm : (token : List ℕ) → HoldsOfCalls (λ s t. HaveOtherTokens token s.observers
+    → HaveOtherTokens token t.observers) = λ token. observers_kept (HaveOtherTokens token) tt in
+    let plain : (s t : Connection) (rs : List ApplicationRequest) → IsPlainOver s.history t.history
+    → ((token : List ℕ) → HaveOtherTokens token s.observers → HaveOtherTokens token t.observers)
+    → Accounted a s rs → Accounted a t rs =
+    λ s t rs is others. passes_keep a s t rs (plain_passes a s t is others) in
+    record {
+      first = record { requests = refl; pending = λ on. refl; quiet = λ off. refl; each = tt; apart = tt };
+      handled = λ store now s m rs same side. subst (λ b. Accounted b s rs
+          → Accounted b (side_after store now s m) (requests_after store now s m rs)) same
+          (handled_kept limits store now s m rs side);
+      faulted = λ s fault rs. plain s (side_faulted s fault) rs (faulted_between IsPlainOver same_plain
+          (λ h r takes room. stops_plain h (reject_reason r) _ (abort_plain (limit_now h) (reject_reason r))) s fault)
+          (λ token. (calm token).faulted s fault);
+      written = λ s n rs. plain s (side_written s n) rs (written_between IsPlainOver same_plain
+          (λ h k within. stays_plain h _ [] (sym (append-nil h.queued)) tt refl refl refl refl) s n)
+          (λ token. (calm token).written s n);
+      ended = λ s cut rs. plain s (side_ended s cut) rs (ended_between IsPlainOver same_plain
+          (λ h cut takes. stops_plain h (end_reason cut) [] tt) s cut) (λ token. (calm token).ended s cut);
+      released = λ s rs. plain s (side_released s) rs (released_between IsPlainOver same_plain
+          (λ h opened none. stops_plain h ReleasedHere (release ∷ []) ((refl, refl), tt)) s)
+          (λ token. (calm token).released s);
+      announced = λ s size rs. plain s (side_announced s size) rs (announced_between IsPlainOver same_plain
+          (λ h n opened room fit. stays_plain h _ (own_csm n ∷ []) refl ((refl, refl), tt) refl refl refl refl) s size)
+          (λ token. (calm token).announced s size);
+      responded = responded_kept a;
+      reported = reported_kept a;
+    }
 
-  pub accounts_keep : (limits : LimitValues) → KeepsRequests limits a (λ s rs. Accounted a s.history rs)
-  accounts_keep limits = record {
-    first = record {
-      requests = refl;
-      pending = λ on. refl;
-      quiet = λ off. refl;
-      handed = λ on. tt;
-      answered = tt;
-      own = tt;
-      counted = tt;
-      since = tt;
-    };
-    handled = handled_kept limits;
-    faulted = λ s fault rs. passes_keep a s.history (side_faulted s fault).history rs
-        (faulted_between (Passes a) (passes_same a) (reject_passes a) s fault);
-    written = λ s n rs. passes_keep a s.history (side_written s n).history rs
-        (written_between (Passes a) (passes_same a) (write_passes a) s n);
-    ended = λ s cut rs. passes_keep a s.history (side_ended s cut).history rs
-        (ended_between (Passes a) (passes_same a) (end_passes a) s cut);
-    released = λ s rs. passes_keep a s.history (side_released s).history rs
-        (released_between (Passes a) (passes_same a) (release_passes a) s);
-    announced = λ s size rs. passes_keep a s.history (side_announced s size).history rs
-        (announced_between (Passes a) (passes_same a) (announce_passes a) s size);
-    responded = responded_kept;
-    reported = reported_kept;
-  }
+-- ---- after any events
 
--- After any events, the requests that the application answers are accounted for.
-pub requests_accounted : (c : ConfigValues) (es : List AcceptedCall) (id : ℕ) (s : Connection)
-    → side_of id (world_after c es).sides ≡ Some s → Accounted c.applications s.history (requests_on c id es)
-requests_accounted c =
-    requests_kept c (λ s rs. Accounted c.applications s.history rs) (accounts_keep c.applications c.limits)
+module _ (c : ConfigValues) (es : List AcceptedCall) (id : ℕ) (s : Connection)
+    (there : side_of id (world_after c es).sides ≡ Some s) where
+  -- The requests that the application answers are accounted for.
+  pub requests_accounted : Accounted c.applications s (requests_on c id es)
+  requests_accounted = requests_kept c (Accounted c.applications) (accounts_keep c.limits c.applications) es id s there
+
+  each_request : (P : ApplicationRequest → Type 0) → ((r : ApplicationRequest) → IsKept s r → P r)
+      → AllByRecursion P (requests_on c id es)
+  each_request P to = all_to (IsKept s) P to (requests_on c id es) requests_accounted.each
+
+  pub requests_at : AllByRecursion (λ r. slice_get s.history.handled r.handled ≡ Some r.request) (requests_on c id es)
+  requests_at = each_request _ (λ r is. is.there)
+
+  pub requests_answered : AllByRecursion (λ r. HasFate s.history r r.fate) (requests_on c id es)
+  requests_answered = each_request _ (λ r is. is.has)
+
+  pub requests_handed : has_stopped s.history.phase ≡ false
+      → AllByRecursion (λ r. is_unanswered r.fate ≡ true → r.handed ≡ true) (requests_on c id es)
+  requests_handed live = each_request _ (λ r is. is.handed live)
+
+  -- The answer to each request is the only response with its token.
+  pub only_answers : AllByRecursion (HasOnlyAnswer s.history.handled s.history.queued) (requests_on c id es)
+  only_answers = each_request _ (λ r is alone none. (is.only (alone, none)).1)

@@ -1,35 +1,32 @@
--- After any events, the requests that the application answers are those that were handled. The unanswered ones are
--- pending, and the answer to each other one is queued at its own place.
-use Rattle.std.proofs.Common.{◌≡◌, ℕ, ◌<◌, ◌≤◌, Bool, take, slice_get, true, false, List, [], ◌∷◌, ◌++◌, length, map}
-use Rattle.std.proofs.Common.{filter, Option, Some, refl, sym, ap, subst, ◌∙◌, inl, inr, arith, append_assoc}
-use Rattle.std.proofs.lemmas.Bool.{both_ways, cases_Bool}
-use Rattle.std.proofs.lemmas.List.{append-nil, length-append}
-use Rattle.std.proofs.Math.Seq.{take-length}
+-- The requests that the application answers are accounted for: the unanswered ones are pending, and the answer to each
+-- other one is queued at its own place. Each effect adds a request, answers one, or passes them all.
+use Rattle.std.proofs.Common.{Bool, List, Option, Some, [], ap, arith, drop, false, filter, inl, inr, length, map, not}
+use Rattle.std.proofs.Common.{refl, slice_get, suc, sym, true, ℕ, ◌++◌, ◌<◌, ◌∙◌, ◌∷◌, ◌≡◌, ◌≤◌}
+use Rattle.std.proofs.lemmas.Bool.{and_from, and_parts, and_right, both_ways, cases_Bool, cond_both}
+use Rattle.std.proofs.lemmas.List.{append-nil, drop-append-le, length-append, map-append}
+use Rattle.std.proofs.Math.Seq.{drop-append_seam, take-length}
 use Rattle.std.proofs.lemmas.List.Elements.{filter-append}
-use Rattle.coap_model.specs.Prelude.{AllByRecursion, Responder, Engine, Message, Phase, Reason, Reply, Whole, Bare}
-use Rattle.coap_model.specs.Prelude.{Stopped}
-use Rattle.coap_model.specs.Prelude.{answers, fit, fitted, bare_response, PendingEntryValue, Answer, Pong, first_due}
-use Rattle.coap_model.specs.Prelude.{without_due}
-use Rattle.coap_model.specs.Prelude.{ConnectionState, send_as, pong_with, History, limit_now, state_now, with_effect}
-use Rattle.coap_model.specs.Prelude.{after, own_csm, release}
-use Rattle.coap_model.specs.Prelude.{reject_reason, end_reason}
-use Rattle.coap_model.specs.Prelude.{ApplicationsValue}
-use Rattle.coap_model.specs.Prelude.{late_message, after_sent}
-use Rattle.coap_model.specs.Prelude.{Answered, IsReduced, limit_after, LimitValues, Fate, ApplicationRequest}
-use Rattle.coap_model.specs.Prelude.{is_for_application, is_unanswered, messages_of, entry_of, is_of_application}
-use Rattle.coap_model.specs.Prelude.{has_stopped, fate_of, fate_by, MayAnswer, HasFate, HaveOwnAnswers, with_fate}
+use Rattle.std.proofs.lemmas.Option.{slice_get_within}
+use lib.Pointwise.{bytes_decides}
+use Rattle.coap_model.specs.Prelude.{AllByRecursion, Answer, Answered, Application, ApplicationRequest}
+use Rattle.coap_model.specs.Prelude.{ApplicationsValue, Bare, Connection, ConnectionState, Engine, Fate, HasFate}
+use Rattle.coap_model.specs.Prelude.{HaveOtherPlaces, HaveOwnAnswers, History, MayAnswer, Message, PendingEntryValue}
+use Rattle.coap_model.specs.Prelude.{Phase, Pong, ReactionResult, Reason, Reply, Responder, Stopped, Unanswered, Whole}
+use Rattle.coap_model.specs.Prelude.{after, answers, asks_with, awaits, bare_response, entry_of, fate_by, fate_of, fit}
+use Rattle.coap_model.specs.Prelude.{fitted, has_stopped, is_asking, is_for_application, is_of_application, is_response}
+use Rattle.coap_model.specs.Prelude.{is_unanswered, limit_now, list_any, messages_of, responds, same_bytes, send}
+use Rattle.coap_model.specs.Prelude.{send_as, state_now, stay, with_effect, with_fate, with_history}
 use Rattle.coap_conn.specs.declared.phase.Phase.TheVariants as phase
-use Rattle.coap_conn.specs.declared.reason.Reason.TheVariants as reason
-use Rattle.coap_conn.specs.Calls as call
-use Rattle.coap_conn.proofs.PendingLaws.{due_answer, due_pong}
-use Rattle.coap_model.proofs.world.WalkLaws.{sent, without_first, due_is, answer_goes, if_between, Rejects, Ends}
-use Rattle.coap_model.proofs.world.WalkLaws.{Releases, Announces, Writes}
-use Rattle.coap_model.proofs.world.EntryLemmas.{all_to}
-use Rattle.coap_model.proofs.world.QueuedMessages.{sent_either}
-use Rattle.coap_model.proofs.world.FateLists.{waits, without_found, filter_without, map_without, waiting_without}
-use Rattle.coap_model.proofs.world.FateLists.{fate_requests, fate_all, IsNew, IsOld, old_fate, own_with, own_more}
-use Rattle.coap_model.proofs.world.FateLists.{next_at, still_fate, Extends}
-use Rattle.coap_model.proofs.world.FateLists as lists
+use Rattle.coap_model.proofs.world.WalkLaws.{kept_open_has}
+use Rattle.coap_model.proofs.world.LastNotificationLaws.{HaveOtherTokens}
+use Rattle.coap_model.proofs.world.RespondedLaws.{allowed}
+use Rattle.coap_model.proofs.world.EntryLemmas.{all_append, all_to}
+use Rattle.coap_model.proofs.world.AnswerCounts.{one}
+use Rattle.coap_model.proofs.world.FateLists.{Extends, IsNew, all_both, all_less, all_parts, any_filter, any_waiting}
+use Rattle.coap_model.proofs.world.FateLists.{fate_all, fate_requests, filter_none, filter_whole, filter_without}
+use Rattle.coap_model.proofs.world.FateLists.{found_one, kept_at, map_without, new_then_old, next_at, none_filter}
+use Rattle.coap_model.proofs.world.FateLists.{none_waiting, old_fate, old_then_new, still_at, still_fate}
+use Rattle.coap_model.proofs.world.FateLists.{waiting_without, waits, without_passing}
 
 -- ---- pending entries and the phase
 
@@ -46,17 +43,11 @@ pending_same es p = record { running = λ on. (on, refl); quiet = λ quiet. quie
 pub pending_over : (es : List PendingEntryValue) (p : Phase) (why : Reason) → StillPending es p [] (phase.Stopped why)
 pending_over es p why = record { running = λ on. absurd cc; quiet = λ quiet off. refl }
 
-pub pending_then : (es fs gs : List PendingEntryValue) (p q r : Phase) → StillPending es p fs q
-    → StillPending fs q gs r → StillPending es p gs r
-pending_then es fs gs p q r one two = record {
-  running = λ on. let last = two.running on in let first = one.running last.0 in (first.0, last.1 ∙ first.1);
-  quiet = λ quiet. two.quiet (one.quiet quiet);
-}
-
 -- An entry that is no request for the application is removed.
-pub pending_gone : (before : List PendingEntryValue) (e : PendingEntryValue) (later : List PendingEntryValue)
-    (p : Phase) → is_of_application e ≡ false → StillPending (before ++ e ∷ later) p (before ++ later) p
-pending_gone before e later p other = record {
+pub pending_gone : (before : List PendingEntryValue) (e : PendingEntryValue) (later : List PendingEntryValue) (p : Phase)
+    (es fs : List PendingEntryValue) → es ≡ before ++ e ∷ later → fs ≡ before ++ later → is_of_application e ≡ false
+    → StillPending es p fs p
+pending_gone before e later p es fs there left other = rw (there, left) (record {
   running = λ on. (
     on,
     filter-append is_of_application before later
@@ -64,346 +55,433 @@ pending_gone before e later p other = record {
   );
   quiet = λ quiet off. absurd
       (omega (arith, ap (λ (es : List PendingEntryValue). length es) (quiet off), length-append before (e ∷ later)));
+})
+
+-- ---- a token without responses to come
+
+-- The entry is a response with this token that the engine delays.
+abbrev pub is_engine_for : List ℕ → PendingEntryValue → Bool
+is_engine_for token (Answer Engine own moment) = same_bytes own token
+is_engine_for token (Answer Application own moment) = false
+is_engine_for token (Pong own) = false
+
+abbrev pub NoEngine : List ℕ → List PendingEntryValue → Type 0
+NoEngine token es = AllByRecursion (λ e. is_engine_for token e ≡ false) es
+
+abbrev pub NoneRespond : List ℕ → List Message → Type 0
+NoneRespond token ms = AllByRecursion (λ m. responds token m ≡ false) ms
+
+abbrev pub NoneAsk : List ℕ → List Message → Type 0
+NoneAsk token ms = AllByRecursion (λ m. asks_with token m ≡ false) ms
+
+-- No observer has the token, and the engine delays no response with it.
+pub record Calm (token : List ℕ) (s : Connection) : Type 0 where
+  pub others : HaveOtherTokens token s.observers
+  pub engine : NoEngine token s.history.pending
+
+-- A calm token stays calm, and no response with it is queued, if no request with it is handled.
+abbrev pub Spares : List Message → (s t : Connection) → List Message → List ℕ → Type 0
+Spares received s t more token = NoneAsk token received → Calm token s → Calm token t × NoneRespond token more
+
+-- ---- requests
+
+-- No response with the token of the request was pending before it, and no request with the token was handled after it.
+abbrev pub IsCurrent : History → ApplicationRequest → Type 0
+IsCurrent h r = (r.alone ≡ true) × NoneAsk r.request.token (drop (suc r.handled) h.handled)
+
+-- Then no further response with the token is to come, and its answer is the only one.
+abbrev pub IsOnly : Connection → ApplicationRequest → Type 0
+IsOnly s r =
+    IsCurrent s.history r
+    → Calm r.request.token s × (filter (responds r.request.token) (drop r.queued s.history.queued) ≡ messages_of r.fate)
+
+-- The request is at its place among the messages handled. If it is unanswered, it was handed to the application, and
+-- otherwise its answer is queued.
+pub record IsKept (s : Connection) (r : ApplicationRequest) : Type 0 where
+  pub has : HasFate s.history r r.fate
+  pub few : r.queued ≤ length s.history.queued
+  pub there : slice_get s.history.handled r.handled ≡ Some r.request
+  pub asks : is_asking r.request ≡ true
+  pub handed : has_stopped s.history.phase ≡ false → waits r ≡ true → r.handed ≡ true
+  pub only : IsOnly s r
+
+-- Two requests have different answers, and the first was handled first. If no response with its token was pending before
+-- the second, the first was answered then, if it has this token.
+abbrev pub Apart : ApplicationRequest → ApplicationRequest → Type 0
+Apart f r =
+    HaveOtherPlaces f.fate r.fate × (f.handled < r.handled)
+    × (r.alone ≡ true → f.request.token ≡ r.request.token → waits f ≡ false)
+
+abbrev pub AreApart : List ApplicationRequest → Type 0
+AreApart [] = Unit {0}
+AreApart (r ∷ rs) = AllByRecursion (Apart r) rs × AreApart rs
+
+pub have_own : (rs : List ApplicationRequest) → AreApart rs → HaveOwnAnswers rs
+have_own [] apart = tt
+have_own (r ∷ rs) apart =
+    (all_to (Apart r) (λ q. HaveOtherPlaces r.fate q.fate) (λ q is. is.0) rs apart.0, have_own rs apart.1)
+
+apart_more : (rs : List ApplicationRequest) (r : ApplicationRequest) → AllByRecursion (λ f. Apart f r) rs
+    → AreApart rs → AreApart (rs ++ r ∷ [])
+apart_more [] r all apart = (tt, tt)
+apart_more (f ∷ rs) r all apart = (all_append (Apart f) rs (r ∷ []) apart.0 (all.0, tt), apart_more rs r all.1 apart.1)
+
+-- The requests are accounted for. Those that were handled are these, and the unanswered ones are pending.
+pub record Accounted (a : Option ApplicationsValue) (s : Connection) (rs : List ApplicationRequest) : Type 0 where
+  pub requests : map (λ r. r.request) rs ≡ filter (is_for_application a) s.history.handled
+  pub pending : has_stopped s.history.phase ≡ false
+      → map entry_of (filter waits rs) ≡ filter is_of_application s.history.pending
+  pub quiet : answers s.history.phase ≡ false → s.history.pending ≡ []
+  pub each : AllByRecursion (IsKept s) rs
+  pub apart : AreApart rs
+
+at_place : (s : Connection) (r : ApplicationRequest) → IsKept s r → r.handled < length s.history.handled
+at_place s r is = slice_get_within s.history.handled r.handled r.request is.there
+
+-- The responses with a token, of more messages.
+filter_more : (p : Message → Bool) (n : ℕ) (ms more : List Message) → n ≤ length ms
+    → filter p (drop n (ms ++ more)) ≡ filter p (drop n ms) ++ filter p more
+filter_more p n ms more few = rw (drop-append-le n ms more few) (filter-append p (drop n ms) more)
+
+-- A request is kept by an effect that spares its token.
+pub kept_on : {received : List Message} (s t : Connection) (e : Extends received s.history t.history)
+    (r : ApplicationRequest) → (IsCurrent s.history r → Spares received s t e.more r.request.token)
+    → IsKept s r → IsKept t r
+kept_on {received} s t e r spares is = record {
+  has = still_fate s.history t.history e r r.fate is.has;
+  few = omega (arith, is.few, ap (λ (ms : List Message). length ms) e.queued, length-append s.history.queued e.more);
+  there = rw e.handled (still_at s.history.handled received r.handled r.request is.there);
+  asks = is.asks;
+  handed = λ on. is.handed (e.running on);
+  only = λ current. (
+      let rest : drop (suc r.handled) t.history.handled ≡ drop (suc r.handled) s.history.handled ++ received =
+      rw e.handled (drop-append-le (suc r.handled) s.history.handled received (omega (arith, at_place s r is))) in
+      let none = all_parts (λ m. asks_with r.request.token m ≡ false) (drop (suc r.handled) s.history.handled) received
+      (rw rest at current.1) in
+      let before = is.only (current.0, none.0) in
+      let after = spares (current.0, none.0) none.1 before.0 in (
+        after.0,
+        rw (
+          e.queued,
+          filter_more (responds r.request.token) r.queued s.history.queued e.more is.few,
+          filter_none (responds r.request.token) e.more after.1,
+          append-nil,
+        ) before.1,
+      ));
 }
 
--- ---- histories
+-- ---- an effect that passes the requests
 
--- A history continues another one, in which no request for the application was handled since.
-pub record Passes (a : Option ApplicationsValue) (h k : History) : Type 0 where
-  pub limits : k.limits ≡ h.limits
+-- Messages were handled, but none was a request for the application.
+pub record Passes (a : Option ApplicationsValue) (s t : Connection) : Type 0 where
   pub received : List Message
-  pub handled : k.handled ≡ h.handled ++ received
   pub none : filter (is_for_application a) received ≡ []
-  pub more : List Message
-  pub queued : k.queued ≡ h.queued ++ more
-  pub pending : StillPending h.pending h.phase k.pending k.phase
+  pub extends : Extends received s.history t.history
+  pub spares : (token : List ℕ) → Spares received s t extends.more token
+  pub pending : StillPending s.history.pending s.history.phase t.history.pending t.history.phase
 
--- The requests are accounted for. Those that were handled are these. The unanswered ones were handed to the application
--- and are pending, and the answer to each other one is queued at its own place.
-pub record Accounted (a : Option ApplicationsValue) (h : History) (rs : List ApplicationRequest) : Type 0 where
-  pub requests : map (λ r. r.request) rs ≡ filter (is_for_application a) h.handled
-  pub pending : has_stopped h.phase ≡ false → map entry_of (filter waits rs) ≡ filter is_of_application h.pending
-  pub quiet : answers h.phase ≡ false → h.pending ≡ []
-  pub handed : has_stopped h.phase ≡ false → AllByRecursion (λ r. waits r ≡ true → r.handed ≡ true) rs
-  pub answered : AllByRecursion (λ r. HasFate h r r.fate) rs
-  pub own : HaveOwnAnswers rs
-  pub counted : AllByRecursion (λ r. r.queued ≤ length h.queued) rs
-  pub since : AllByRecursion (λ r. r.handled < length h.handled) rs
+pub passes_keep : (a : Option ApplicationsValue) (s t : Connection) (rs : List ApplicationRequest) → Passes a s t
+    → Accounted a s rs → Accounted a t rs
+passes_keep a s t rs passes is = record {
+  requests = rw (passes.extends.handled, filter-append, passes.none, append-nil) is.requests;
+  pending = λ on. let before = passes.pending.running on in is.pending before.0 ∙ sym before.1;
+  quiet = passes.pending.quiet is.quiet;
+  each = all_to (IsKept s) (IsKept t) (λ r. kept_on s t passes.extends r (λ current. passes.spares r.request.token)) rs
+      is.each;
+  apart = is.apart;
+}
 
--- The messages queued are more.
-pub grown : (h k : History) (more : List Message) (rs : List ApplicationRequest) → k.queued ≡ h.queued ++ more
-    → AllByRecursion (λ r. r.queued ≤ length h.queued) rs → AllByRecursion (λ r. r.queued ≤ length k.queued) rs
-grown h k more rs queued counted =
-    all_to (λ r. r.queued ≤ length h.queued) (λ r. r.queued ≤ length k.queued)
-    (λ r few. omega (arith, few, ap (λ (ms : List Message). length ms) queued, length-append h.queued more)) rs counted
+-- ---- an effect that adds a request
 
--- So are those handled.
-pub later : (h k : History) (received : List Message) (rs : List ApplicationRequest) → k.handled ≡ h.handled ++ received
-    → AllByRecursion (λ r. r.handled < length h.handled) rs → AllByRecursion (λ r. r.handled < length k.handled) rs
-later h k received rs handled since =
-    all_to (λ r. r.handled < length h.handled) (λ r. r.handled < length k.handled)
-    (λ r few. omega (arith, few, ap (λ (ms : List Message). length ms) handled, length-append h.handled received)) rs
-    since
+pub record AddsRequest (a : Option ApplicationsValue) (s t : Connection) (r : ApplicationRequest) : Type 0 where
+  pub is_for : is_for_application a r.request ≡ true
+  pub at_handled : r.handled ≡ length s.history.handled
+  pub at_queued : r.queued ≡ length s.history.queued
+  pub at_alone : r.alone ≡ not (list_any (awaits r.request.token) s.history.pending)
+  pub extends : Extends (r.request ∷ []) s.history t.history
+  pub spares : (token : List ℕ) → Spares (r.request ∷ []) s t extends.more token
+  pub live : has_stopped s.history.phase ≡ false
+  pub has : HasFate t.history r r.fate
+  pub new : IsNew (length s.history.queued) r.fate
+  pub pending : has_stopped t.history.phase ≡ false → filter is_of_application t.history.pending
+      ≡ filter is_of_application s.history.pending ++ map entry_of (filter waits (r ∷ []))
+  pub handed : has_stopped t.history.phase ≡ false → waits r ≡ true → r.handed ≡ true
+  pub quiet : (answers s.history.phase ≡ false → s.history.pending ≡ []) → answers t.history.phase ≡ false
+      → t.history.pending ≡ []
+  pub calm : list_any (awaits r.request.token) s.history.pending ≡ false → Calm r.request.token t
+  pub only : filter (responds r.request.token) extends.more ≡ messages_of r.fate
 
-pub still_answered : (h k : History) → Extends h k → (rs : List ApplicationRequest)
-    → AllByRecursion (λ r. HasFate h r r.fate) rs → AllByRecursion (λ r. HasFate k r r.fate) rs
-still_answered h k e rs answered =
-    all_to (λ r. HasFate h r r.fate) (λ r. HasFate k r r.fate) (λ r. still_fate h k e r r.fate) rs answered
+pub adds_keep : (a : Option ApplicationsValue) (s t : Connection) (rs : List ApplicationRequest)
+    (r : ApplicationRequest) → AddsRequest a s t r → Accounted a s rs → Accounted a t (rs ++ r ∷ [])
+adds_keep a s t rs r adds is =
+    let h : History = s.history in
+    let token : List ℕ = r.request.token in
+    let lone : r.alone ≡ true → list_any (awaits token) h.pending ≡ false = λ alone. grind (arith, adds.at_alone) in
+    let answered = none_waiting token r.alone rs (λ alone. rw (is.pending adds.live)
+    (none_filter (awaits token) is_of_application h.pending (lone alone))) in
+    let Answered : ApplicationRequest → Type 0 =
+    λ f. r.alone ≡ true → f.request.token ≡ token → waits f ≡ false in
+    record {
+      requests = rw (map-append, is.requests, adds.extends.handled, filter-append, adds.is_for) refl;
+      pending = λ on. rw (filter-append, map-append, is.pending adds.live) (sym (adds.pending on));
+      quiet = adds.quiet is.quiet;
+      each =
+          all_append (IsKept t) rs (r ∷ []) (all_to (IsKept s) (IsKept t)
+          (λ f. kept_on s t adds.extends f (λ current. adds.spares f.request.token)) rs is.each) (
+            record {
+              has = adds.has;
+              few = omega (
+                arith,
+                adds.at_queued,
+                ap (λ (ms : List Message). length ms) adds.extends.queued,
+                length-append h.queued adds.extends.more,
+              );
+              there = rw (adds.at_handled, adds.extends.handled) (next_at h.handled r.request []);
+              asks = (and_parts (is_asking r.request) _ adds.is_for).0;
+              handed = adds.handed;
+              only = λ current. (
+                adds.calm (lone current.0),
+                rw (adds.at_queued, adds.extends.queued, drop-append_seam) adds.only,
+              );
+            },
+            tt,
+          );
+      apart = apart_more rs r (all_to (λ f. IsKept s f × Answered f) (λ f. Apart f r) (λ f so. (
+        old_then_new (length h.queued) f.fate r.fate (old_fate h f f.fate so.0.has) adds.new,
+        omega (arith, at_place s f so.0, adds.at_handled),
+        so.1,
+      )) rs (all_both (IsKept s) Answered rs is.each answered)) is.apart;
+    }
 
-module _ (a : Option ApplicationsValue) where
-  pub passes_same : (h : History) → Passes a h h
-  passes_same h = record {
-    limits = refl;
-    received = [];
-    handled = sym (append-nil h.handled);
-    none = refl;
-    more = [];
-    queued = sym (append-nil h.queued);
-    pending = pending_same h.pending h.phase;
-  }
+-- ---- a response
 
-  pub passes_then : (h k g : History) → Passes a h k → Passes a k g → Passes a h g
-  passes_then h k g one two = record {
-    limits = two.limits ∙ one.limits;
-    received = one.received ++ two.received;
-    handled =
-        two.handled ∙ ap (λ (ms : List Message). ms ++ two.received) one.handled
-        ∙ append_assoc h.handled one.received two.received;
-    none = filter-append (is_for_application a) one.received two.received ∙ rw (one.none, two.none) refl;
-    more = one.more ++ two.more;
-    queued =
-        two.queued ∙ ap (λ (ms : List Message). ms ++ two.more) one.queued ∙ append_assoc h.queued one.more two.more;
-    pending = pending_then h.pending k.pending g.pending h.phase k.phase g.phase one.pending two.pending;
-  }
+-- The fate of a request to which a response is sent, with the effect of sending it when these entries are pending.
+pub record IsSent (h : History) (by : Responder) (response : Message) (es : List PendingEntryValue)
+    (e : ReactionResult) (fate : Fate) : Type 0 where
+  pub queued : e.queued ≡ messages_of fate
+  pub new : IsNew (length h.queued) fate
+  pub answered : has_stopped e.phase ≡ false → (is_unanswered fate ≡ false) × (e.pending ≡ es)
+  pub quiet : answers e.phase ≡ false → e.pending ≡ []
+  pub engine : (token : List ℕ) → NoEngine token es → NoEngine token e.pending
+  pub has : (q : ApplicationRequest) → MayAnswer q by response (length h.queued) → q.queued ≤ length h.queued
+      → q.handled < length h.handled → HasFate (with_effect h e) q fate
+  pub responses : AllByRecursion (λ m. (is_response m ≡ true) × (m.token ≡ response.token)) (messages_of fate)
 
-  pub passes_keep : (h k : History) (rs : List ApplicationRequest) → Passes a h k → Accounted a h rs → Accounted a k rs
-  passes_keep h k rs passes is = record {
-    requests = is.requests
-        ∙ sym
-        (ap (filter (is_for_application a)) passes.handled ∙ filter-append (is_for_application a) h.handled
-        passes.received ∙ ap (λ ms. filter (is_for_application a) h.handled ++ ms) passes.none
-        ∙ append-nil (filter (is_for_application a) h.handled));
-    pending = λ on. let before = passes.pending.running on in is.pending before.0 ∙ sym before.1;
-    quiet = passes.pending.quiet is.quiet;
-    handed = λ on. is.handed (passes.pending.running on).0;
-    answered = still_answered h k (record {
-      limits = passes.limits;
-      received = passes.received;
-      handled = passes.handled;
-      more = passes.more;
-      queued = passes.queued;
-    }) rs is.answered;
-    own = is.own;
-    counted = grown h k passes.more rs passes.queued is.counted;
-    since = later h k passes.received rs passes.handled is.since;
-  }
+pub sent_so : (h : History) (by : Responder) (response : Message) (es : List PendingEntryValue)
+    → (is_response response ≡ true) × (is_response (bare_response response) ≡ true) → answers h.phase ≡ true
+    → IsSent h by response es (send (record (state_now h) { pending = es }) response (bare_response response))
+    (fate_by by h response)
+sent_so h by response es codes on = rw on (by_reply (fit (limit_now h) response (bare_response response)) refl)
+  where
+    state : ConnectionState
+    state = record (state_now h) { pending = es }
 
-  -- ---- parts of effects
-
-  -- No message is handled.
-  passes_so : (h k : History) (more : List Message) → k.limits ≡ h.limits → k.handled ≡ h.handled
-      → k.queued ≡ h.queued ++ more → StillPending h.pending h.phase k.pending k.phase → Passes a h k
-  passes_so h k more limits handled queued pending =
-      record {
-        limits = limits;
-        received = [];
-        handled = handled ∙ sym (append-nil h.handled);
-        none = refl;
-        more = more;
-        queued = queued;
-        pending = pending;
-      }
-
-  sent_passes : (h : History) (m less : Message) → Passes a h (sent h m less)
-  sent_passes h m less =
-      passes_so h (sent h m less) _ refl refl refl
-      (sent_either (state_now h) m less (fit (limit_now h) m less) (λ es now. StillPending h.pending h.phase es now)
-      (pending_same h.pending h.phase)
-      (pending_over h.pending h.phase reason.PeerTooSmall))
-
-  pub reply_passes : (h : History) (m : Message) → Passes a h (after h (call.Reply m))
-  reply_passes h m =
-      if_between (Passes a) (answers h.phase) h _ (passes_same h) (λ does. sent_passes h m (bare_response m))
-
-  pub reject_passes : Rejects (Passes a)
-  reject_passes h fault takes room = passes_so h _ _ refl refl refl
-      (pending_over h.pending h.phase (reject_reason fault))
-
-  pub end_passes : Ends (Passes a)
-  end_passes h cut takes = passes_so h _ [] refl refl refl (pending_over h.pending h.phase (end_reason cut))
-
-  pub release_passes : Releases (Passes a)
-  release_passes h opened none =
-      passes_so h _ (release ∷ []) refl refl refl (pending_over h.pending h.phase reason.ReleasedHere)
-
-  pub announce_passes : Announces (Passes a)
-  announce_passes h size opened room fits = passes_so h _ (own_csm size ∷ []) refl refl refl
-      (pending_same h.pending h.phase)
-
-  pub write_passes : Writes (Passes a)
-  write_passes h n within = passes_so h _ [] refl refl (sym (append-nil h.queued)) (pending_same h.pending h.phase)
-
-  -- A pending entry that is no request for the application is sent.
-  gone_passes : (h : History) (now : ℕ) (before : List PendingEntryValue) (e : PendingEntryValue)
-      (later : List PendingEntryValue) → is_of_application e ≡ false → h.pending ≡ before ++ e ∷ later
-      → without_due now h.pending ≡ before ++ later → Passes a h (without_first h now)
-  gone_passes h now before e later other there without =
-      passes_so h (without_first h now) [] refl refl (sym (append-nil h.queued))
-      (subst (λ (es : List PendingEntryValue). StillPending es h.phase (without_due now h.pending) h.phase) (sym there)
-      (subst (λ (fs : List PendingEntryValue). StillPending (before ++ e ∷ later) h.phase fs h.phase) (sym without)
-      (pending_gone before e later h.phase other)))
-
-  pub engine_passes : (h : History) (now : ℕ) (token : List ℕ) (moment : ℕ)
-      → first_due now h.pending ≡ Some (Answer Engine token moment)
-      → Passes a h (after_sent h now (Answer Engine token moment))
-  engine_passes h now token moment is =
-      let first = due_answer now h.pending Engine token moment is in
-      subst (λ (g : History). Passes a h (after g (call.Reply (late_message Engine token))))
-      (sym (answer_goes h now Engine token moment is))
-      (passes_then h (without_first h now) _
-      (gone_passes h now first.before (Answer Engine token moment) first.after refl first.there first.without)
-      (reply_passes (without_first h now) (late_message Engine token)))
-
-  pub pong_passes : (h : History) (now : ℕ) (token : List ℕ) → first_due now h.pending ≡ Some (Pong token)
-      → Passes a h (after_sent h now (Pong token))
-  pong_passes h now token is =
-      let gone : Passes a h (without_first h now) =
-      gone_passes h now [] (Pong token) (without_due now h.pending) refl (due_pong now h.pending token is) refl in
-      rw (due_is h now (Some (Pong token)) is)
-      (passes_then h (without_first h now)
-      (sent (without_first h now) (pong_with true token) (pong_with false token)) gone
-      (sent_passes (without_first h now) (pong_with true token) (pong_with false token)))
-
-  -- ---- the answer to a pending request
-
-  -- The fate by the form in which the response is sent.
-  abbrev pub fate_at : Responder → Message → Reply → (handled n : ℕ) → Fate
-  fate_at by response r handled n = fate_of by response (fitted response (bare_response response) r) handled n
-
-  pub sent_messages : (s : ConnectionState) (by : Responder) (response : Message) (r : Reply) (handled n : ℕ)
-      → (send_as s response (bare_response response) r).queued ≡ messages_of (fate_at by response r handled n)
-  sent_messages s by response Whole handled n = refl
-  sent_messages s by response Bare handled n = refl
-  sent_messages s by response Stopped handled n = refl
-
-  pub sent_answered : (s : ConnectionState) (by : Responder) (response : Message) (r : Reply) (handled n : ℕ)
-      → has_stopped (send_as s response (bare_response response) r).phase ≡ false
-      → is_unanswered (fate_at by response r handled n) ≡ false
-  sent_answered s by response Whole handled n on = refl
-  sent_answered s by response Bare handled n on = refl
-  sent_answered s by response Stopped handled n on = absurd cc
-
-  pub fate_new : (by : Responder) (response : Message) (r : Reply) (handled n : ℕ)
-      → IsNew n (fate_at by response r handled n)
-  fate_new by response Whole handled n = omega arith
-  fate_new by response Bare handled n = omega arith
-  fate_new by response Stopped handled n = tt
-
-  -- The limit at which a response is reduced.
-  limit_at : (h k : History) → k.limits ≡ h.limits → k.handled ≡ h.handled
-      → limit_after k.limits (take (length h.handled) k.handled) ≡ limit_now h
-  limit_at h k limits handled =
-      ap (λ (l : LimitValues). limit_after l (take (length h.handled) k.handled)) limits
-      ∙ ap (limit_after h.limits) (ap (take (length h.handled)) handled ∙ take-length h.handled)
-
-  -- The fate of a request to which a response is sent, which is the next message queued.
-  pub fate_has : (h k : History) (q : ApplicationRequest) (by : Responder) (response : Message) (r : Reply)
-      → fit (limit_now h) response (bare_response response) ≡ r
-      → MayAnswer q by response (length h.queued) → q.queued ≤ length h.queued → q.handled < length h.handled
-      → k.limits ≡ h.limits → k.handled ≡ h.handled
-      → k.queued ≡ h.queued ++ messages_of (fate_at by response r (length h.handled) (length h.queued))
-      → HasFate k q (fate_at by response r (length h.handled) (length h.queued))
-  fate_has h k q by response r is may few since limits handled queued = by_reply r is queued
-    where
-      answers_so : (sent : Message)
-          → fitted response (bare_response response) (fit (limit_now h) response (bare_response response)) ≡ sent ∷ []
-          → k.queued ≡ h.queued ++ sent ∷ []
-          → HasFate k q (Answered by response sent (length h.handled) (length h.queued))
-      answers_so sent reduced queued = record {
+    goes : (sent : Message)
+        → fitted response (bare_response response) (fit (limit_now h) response (bare_response response)) ≡ sent ∷ []
+        → (is_response sent ≡ true) × (sent.token ≡ response.token)
+        → IsSent h by response es (record (stay state) { queued = sent ∷ [] })
+        (Answered by response sent (length h.handled) (length h.queued))
+    goes sent reduced is = record {
+      queued = refl;
+      new = omega arith;
+      answered = λ live. (refl, refl);
+      quiet = λ off. absurd (both_ways (answers h.phase) off on);
+      engine = λ token none. none;
+      has = λ q may few since. record {
         allowed = may;
-        reduced = subst (λ (n : ℕ). IsReduced n response sent) (sym (limit_at h k limits handled)) reduced;
-        there = ap (λ (ms : List Message). slice_get ms (length h.queued)) queued ∙ next_at h.queued sent [];
+        reduced = rw take-length reduced;
+        there = next_at h.queued sent [];
         later = few;
         after_it = since;
-        within = omega (arith, ap (λ (ms : List Message). length ms) handled);
-      }
+        within = omega arith;
+      };
+      responses = (is, tt);
+    }
 
-      by_reply : (r : Reply) → fit (limit_now h) response (bare_response response) ≡ r
-          → k.queued ≡ h.queued ++ messages_of (fate_at by response r (length h.handled) (length h.queued))
-          → HasFate k q (fate_at by response r (length h.handled) (length h.queued))
-      by_reply Whole is queued = answers_so response (ap (fitted response (bare_response response)) is) queued
-      by_reply Bare is queued =
-          answers_so (bare_response response) (ap (fitted response (bare_response response)) is) queued
-      by_reply Stopped is queued = tt
+    by_reply : (r : Reply) → fit (limit_now h) response (bare_response response) ≡ r
+        → IsSent h by response es (send_as state response (bare_response response) r)
+        (fate_of by response (fitted response (bare_response response) r) (length h.handled) (length h.queued))
+    by_reply Whole is = goes response (rw is refl) (codes.0, refl)
+    by_reply Bare is = goes (bare_response response) (rw is refl) (codes.1, refl)
+    by_reply Stopped is = record {
+      queued = refl;
+      new = tt;
+      answered = λ live. absurd cc;
+      quiet = λ off. refl;
+      engine = λ token none. tt;
+      has = λ q may few since. tt;
+      responses = tt;
+    }
 
-  -- The answer to the first unanswered request that passes a test. Its entry is the first that passes another one.
-  pub record IsNext (h : History) (test : ApplicationRequest → Bool) (entry : PendingEntryValue → Bool) (by : Responder)
-      (response : Message) (left : List PendingEntryValue) : Type 0 where
-    pub unanswered : (r : ApplicationRequest) → test r ≡ true → waits r ≡ true
-    pub same : (r : ApplicationRequest) → waits r ≡ true → test r ≡ entry (entry_of r)
-    pub may : (r : ApplicationRequest) → test r ≡ true → r.handed ≡ true → MayAnswer r by response (length h.queued)
-    pub of_application : (e : PendingEntryValue) → entry e ≡ true → is_of_application e ≡ true
-    pub left_is : lists.without_passing entry h.pending ≡ left
+-- Messages with another token are no responses with this one.
+pub none_respond : (token other : List ℕ) (ms : List Message) → same_bytes other token ≡ false
+    → AllByRecursion (λ m. m.token ≡ other) ms → NoneRespond token ms
+none_respond token other ms apart all =
+    all_to (λ m. m.token ≡ other) (λ m. responds token m ≡ false) (λ m is. rw (is, apart) (and_right (is_response m) false refl)) ms all
 
-  all_waiting : (rs : List ApplicationRequest) → AllByRecursion (λ r. waits r ≡ true) (filter waits rs)
-  all_waiting [] = tt
-  all_waiting (r ∷ rs) =
-      elim (cases_Bool (waits r)) [ inl is ↦ rw is (is, all_waiting rs) | inr is ↦ rw is (all_waiting rs) ]
+-- ---- an effect that answers a request
 
-  module _ (h : History) (rs : List ApplicationRequest) (test : ApplicationRequest → Bool)
-      (entry : PendingEntryValue → Bool) (by : Responder) (response : Message) (left : List PendingEntryValue)
-      (next : IsNext h test entry by response left) (is : Accounted a h rs) (on : answers h.phase ≡ true) where
-    abbrev state : ConnectionState
-    state = record (state_now h) { pending = left }
+-- The response answers the first unanswered request that passes a test. Its entry is the first that passes another one.
+pub record IsNext (h : History) (test : ApplicationRequest → Bool) (entry : PendingEntryValue → Bool) (by : Responder)
+    (response : Message) (left : List PendingEntryValue) : Type 0 where
+  pub passing : (r : ApplicationRequest) → test r ≡ true → (waits r ≡ true) × (r.request.token ≡ response.token)
+  pub same : (r : ApplicationRequest) → waits r ≡ true → test r ≡ entry (entry_of r)
+  pub may : (r : ApplicationRequest) → test r ≡ true → r.handed ≡ true → MayAnswer r by response (length h.queued)
+  pub of_application : (e : PendingEntryValue) → entry e ≡ true → is_of_application e ≡ true
+  pub some : list_any entry h.pending ≡ true
+  pub left_is : without_passing entry h.pending ≡ left
+  pub codes : (is_response response ≡ true) × (is_response (bare_response response) ≡ true)
 
-    abbrev after_answer : Reply → History
-    after_answer r = with_effect h (send_as state response (bare_response response) r)
+module _ (a : Option ApplicationsValue) (s : Connection) (rs : List ApplicationRequest)
+    (test : ApplicationRequest → Bool) (entry : PendingEntryValue → Bool) (by : Responder) (response : Message)
+    (left : List PendingEntryValue) (next : IsNext s.history test entry by response left) (is : Accounted a s rs)
+    (on : answers s.history.phase ≡ true) where
+  abbrev fate : Fate
+  fate = fate_by by s.history response
 
-    abbrev its_fate : Reply → Fate
-    its_fate r = fate_at by response r (length h.handled) (length h.queued)
+  abbrev effect : ReactionResult
+  effect = send (record (state_now s.history) { pending = left }) response (bare_response response)
 
-    running : has_stopped h.phase ≡ false
-    running = grind arith
+  abbrev t : Connection
+  t = with_history s (with_effect s.history effect)
 
-    -- The entries of the other unanswered requests are left.
-    pending_left : (fate : Fate) → is_unanswered fate ≡ false
-        → map entry_of (filter waits (with_fate test fate rs)) ≡ filter is_of_application left
-    pending_left fate over =
-        ap (map entry_of) (waiting_without test fate over next.unanswered rs)
-        ∙ map_without entry_of test entry (filter waits rs)
-        (all_to (λ r. waits r ≡ true) (λ r. test r ≡ entry (entry_of r)) next.same (filter waits rs) (all_waiting rs))
-        ∙ ap (lists.without_passing entry) (is.pending running)
-        ∙ sym (filter_without is_of_application entry next.of_application h.pending)
-        ∙ ap (filter is_of_application) next.left_is
+  sent : IsSent s.history by response left effect fate
+  sent = sent_so s.history by response left next.codes on
 
-    pending_so : (r : Reply) → has_stopped (after_answer r).phase ≡ false → (after_answer r).pending ≡ left
-    pending_so Whole live = refl
-    pending_so Bare live = refl
-    pending_so Stopped live = absurd cc
+  running : has_stopped s.history.phase ≡ false
+  running = grind arith
 
-    quiet_so : (r : Reply) → answers (after_answer r).phase ≡ false → (after_answer r).pending ≡ []
-    quiet_so Whole off = absurd (both_ways (answers h.phase) off on)
-    quiet_so Bare off = absurd (both_ways (answers h.phase) off on)
-    quiet_so Stopped off = refl
+  stays_calm : (token : List ℕ) → Calm token s → Calm token t
+  stays_calm token calm = record {
+    others = kept_open_has (HaveOtherTokens token) tt t.history s.observers calm.others;
+    engine = sent.engine token (rw (sym next.left_is) (all_less _ entry s.history.pending calm.engine));
+  }
 
-    -- The facts on one request.
-    record IsReady (q : ApplicationRequest) : Type 0 where
-      has : HasFate h q q.fate
-      few : q.queued ≤ length h.queued
-      since : q.handled < length h.handled
-      handed : waits q ≡ true → q.handed ≡ true
+  pub one_waits : list_any test rs ≡ true
+  one_waits =
+      any_waiting test entry next.same rs
+      (rw (is.pending running) (any_filter entry is_of_application next.of_application s.history.pending next.some))
 
-    each_ready : (qs : List ApplicationRequest) → AllByRecursion (λ q. HasFate h q q.fate) qs
-        → AllByRecursion (λ q. q.queued ≤ length h.queued) qs → AllByRecursion (λ q. q.handled < length h.handled) qs
-        → AllByRecursion (λ q. waits q ≡ true → q.handed ≡ true) qs → AllByRecursion IsReady qs
-    each_ready [] has few since handed = tt
-    each_ready (q ∷ qs) has few since handed = (
-      record { has = has.0; few = few.0; since = since.0; handed = handed.0 },
-      each_ready qs has.1 few.1 since.1 handed.1,
-    )
+  -- Another request, if it is not current while it has the token.
+  other_kept : (f : ApplicationRequest) → (f.request.token ≡ response.token → IsCurrent s.history f → ⊥) → IsKept s f
+      → IsKept t f
+  other_kept f none = kept_on s t (record {
+    limits = refl;
+    handled = sym (append-nil s.history.handled);
+    more = messages_of fate;
+    queued = ap (λ ms. s.history.queued ++ ms) sent.queued;
+    running = λ live. running;
+  }) f (λ current asks calm. (
+    stays_calm f.request.token calm,
+    elim (cases_Bool (same_bytes response.token f.request.token)) [
+      | inl so ↦ absurd (none (sym ((bytes_decides response.token f.request.token).0 so)) current)
+      | inr other ↦ none_respond f.request.token response.token (messages_of fate) other
+          (all_to _ (λ m. m.token ≡ response.token) (λ m so. so.1) (messages_of fate) sent.responses)
+    ],
+  ))
 
-    answer_accounted : (r : Reply) → fit (limit_now h) response (bare_response response) ≡ r
-        → Accounted a (after_answer r) (with_fate test (its_fate r) rs)
-    answer_accounted r fits =
-        let k : History = after_answer r in
-        let queued : k.queued ≡ h.queued ++ messages_of (its_fate r) = ap (λ (ms : List Message). h.queued ++ ms)
-        (sent_messages state by response r (length h.handled) (length h.queued)) in
+  module _ (r : ApplicationRequest) (passes : test r ≡ true) (kept : IsKept s r) where
+    -- An earlier request with the token is followed by this one.
+    earlier_kept : (f : ApplicationRequest) → IsKept s f × Apart f r → IsKept t f
+    earlier_kept f so = other_kept f (λ same current. both_ways (asks_with f.request.token r.request)
+        (kept_at (λ m. asks_with f.request.token m ≡ false) (suc f.handled) r.handled s.history.handled r.request
+        (omega (arith, so.1.1)) kept.there current.1)
+        (and_from _ _ kept.asks
+        ((bytes_decides r.request.token f.request.token).1 ((next.passing r passes).1 ∙ sym same)))) so.0
+
+    -- A later one with the token was not alone.
+    later_kept : (g : ApplicationRequest) → IsKept s g × Apart r g → IsKept t g
+    later_kept g so = other_kept g (λ same current. both_ways (waits r)
+        (so.1.2 current.0 ((next.passing r passes).1 ∙ sym same)) (next.passing r passes).0) so.0
+
+    unanswered_none : (fate : Fate) → is_unanswered fate ≡ true → messages_of fate ≡ []
+    unanswered_none Unanswered so = refl
+    unanswered_none (Answered by response sent handled place) so = absurd cc
+
+    its_kept : IsKept t (record r { fate = fate })
+    its_kept =
+        let token : List ℕ = r.request.token in
+        let its = next.passing r passes in
+        let all : AllByRecursion (λ m. responds token m ≡ true) (messages_of fate) =
+        all_to (λ m. (is_response m ≡ true) × (m.token ≡ response.token)) (λ m. responds token m ≡ true)
+        (λ m so. and_from _ _ so.0 ((bytes_decides m.token token).1 (so.1 ∙ sym its.1))) (messages_of fate)
+        sent.responses in
         record {
-          requests = fate_requests test (its_fate r) rs ∙ is.requests;
-          pending = λ live.
-              pending_left (its_fate r) (sent_answered state by response r (length h.handled) (length h.queued) live)
-              ∙ ap (filter is_of_application) (sym (pending_so r live));
-          quiet = quiet_so r;
-          handed = λ live. fate_all (λ q. waits q ≡ true → q.handed ≡ true) (λ q. waits q ≡ true → q.handed ≡ true)
-              test (its_fate r) (λ q so. so)
-              (λ q passes so waiting. absurd (both_ways (is_unanswered (its_fate r))
-              (sent_answered state by response r (length h.handled) (length h.queued) live) waiting)) rs
-              (is.handed running);
-          answered = fate_all IsReady (λ q. HasFate k q q.fate) test (its_fate r)
-              (λ q ready. still_fate h k (record {
-                limits = refl;
-                received = [];
-                handled = sym (append-nil h.handled);
-                more = messages_of (its_fate r);
-                queued = queued;
-              }) q q.fate ready.has)
-              (λ q passes ready. fate_has h k (record q { fate = its_fate r }) by response r fits
-              (next.may q passes (ready.handed (next.unanswered q passes))) ready.few ready.since refl refl queued) rs
-              (each_ready rs is.answered is.counted is.since (is.handed running));
-          own =
-              own_with (length h.queued) test (its_fate r) rs
-              (fate_new by response r (length h.handled) (length h.queued))
-              (all_to (λ q. HasFate h q q.fate) (λ q. IsOld (length h.queued) q.fate)
-              (λ q. old_fate h q q.fate) rs is.answered) is.own;
-          counted =
-              fate_all (λ q. q.queued ≤ length k.queued) (λ q. q.queued ≤ length k.queued) test (its_fate r)
-              (λ q few. few) (λ q passes few. few) rs
-              (grown h k (messages_of (its_fate r)) rs queued is.counted);
-          since =
-              fate_all (λ q. q.handled < length h.handled) (λ q. q.handled < length k.handled) test (its_fate r)
-              (λ q few. few) (λ q passes few. few) rs is.since;
+          has =
+              sent.has (record r { fate = fate }) (next.may r passes (kept.handed running its.0)) kept.few
+              (at_place s r kept);
+          few = omega (arith, kept.few, length-append s.history.queued effect.queued);
+          there = kept.there;
+          asks = kept.asks;
+          handed = λ live waiting. absurd (both_ways (is_unanswered fate) (sent.answered live).0 waiting);
+          only = λ current. (
+              let before = kept.only current in (
+                stays_calm token before.0,
+                rw (
+                  filter_more (responds token) r.queued s.history.queued effect.queued kept.few,
+                  before.1,
+                  unanswered_none r.fate its.0,
+                  sent.queued,
+                ) (filter_whole (responds token) (messages_of fate) all),
+              ));
         }
 
-    pub answer_kept : Accounted a (after_answer (fit (limit_now h) response (bare_response response)))
-        (with_fate test (fate_by by h response) rs)
-    answer_kept = rw on (answer_accounted (fit (limit_now h) response (bare_response response)) refl)
+  each_kept : (qs : List ApplicationRequest) → list_any test qs ≡ true → AllByRecursion (IsKept s) qs → AreApart qs
+      → AllByRecursion (IsKept t) (with_fate test fate qs) × AreApart (with_fate test fate qs)
+  unfolding with_fate
+  each_kept [] some kept apart = absurd cc
+  each_kept (q ∷ qs) some kept apart =
+      let both = all_both (IsKept s) (Apart q) qs kept.1 apart.0 in
+      elim (cases_Bool (test q)) [
+        | inl passes ↦ rw passes (
+          (
+            its_kept q passes kept.0,
+            all_to (λ g. IsKept s g × Apart q g) (IsKept t) (later_kept q passes kept.0) qs both,
+          ),
+          (
+            all_to (λ g. IsKept s g × Apart q g) (Apart (record q { fate = fate })) (λ g so. (
+              new_then_old (length s.history.queued) fate g.fate sent.new (old_fate s.history g g.fate so.0.has),
+              so.1.1,
+              λ alone same. absurd (both_ways (waits q) (so.1.2 alone same) (next.passing q passes).0),
+            )) qs both,
+            apart.1,
+          ),
+        )
+        | inr other ↦ (
+            let one = found_one (λ r. IsKept s r × Apart q r) test qs (rw other at some) both in
+            let rest = each_kept qs (rw other at some) kept.1 apart.1 in
+            rw other (
+              (earlier_kept one.0 one.1 one.2.0 q (kept.0, one.2.1), rest.0),
+              (
+                fate_all (Apart q) (Apart q) test fate (λ r so. so) (λ r passes so. (
+                  old_then_new (length s.history.queued) q.fate fate (old_fate s.history q q.fate kept.0.has) sent.new,
+                  so.1,
+                  so.2,
+                )) qs apart.0,
+                rest.1,
+              ),
+            ))
+      ]
+
+  all_waiting : (qs : List ApplicationRequest) → AllByRecursion (λ r. test r ≡ entry (entry_of r)) (filter waits qs)
+  all_waiting [] = tt
+  all_waiting (q ∷ qs) =
+      cond_both (waits q) _ _ (AllByRecursion (λ r. test r ≡ entry (entry_of r)))
+      (λ waiting. (next.same q waiting, all_waiting qs)) (λ over. all_waiting qs)
+
+  pub answer_keeps : Accounted a t (with_fate test fate rs)
+  answer_keeps =
+      let parts = each_kept rs one_waits is.each is.apart in
+      record {
+        requests = fate_requests test fate rs ∙ is.requests;
+        pending = λ live. rw (
+          waiting_without test fate (sent.answered live).0 (λ r so. (next.passing r so).0) rs,
+          map_without entry_of test entry (filter waits rs) (all_waiting rs),
+          is.pending running,
+          (sent.answered live).1,
+        ) (sym (filter_without is_of_application entry next.of_application s.history.pending)
+            ∙ ap (filter is_of_application) next.left_is);
+        quiet = sent.quiet;
+        each = parts.0;
+        apart = parts.1;
+      }

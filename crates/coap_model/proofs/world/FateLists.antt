@@ -1,13 +1,15 @@
 -- Lists of requests that the application answers: one of them gets another fate.
 use Rattle.std.proofs.Common.{◌≡◌, ℕ, zero, suc, ◌<◌, ◌≤◌, Bool, true, false, cond, List, [], ◌∷◌, ◌++◌, length, map}
-use Rattle.std.proofs.Common.{filter, take, Some, refl, sym, ap, subst, ◌∙◌, arith, slice_get}
+use Rattle.std.proofs.Common.{filter, take, drop, Some, refl, sym, ap, subst, ◌∙◌, inl, inr, arith, slice_get}
 use Rattle.std.proofs.lemmas.List.{length-append, take-append-le}
-use Rattle.std.proofs.lemmas.Bool.{cond_both}
+use Rattle.std.proofs.lemmas.Bool.{cond_both, cases_Bool, both_ways}
 use Rattle.std.proofs.lemmas.Option.{slice_get_within}
-use Rattle.coap_model.specs.Prelude.{AllByRecursion, Message, ApplicationRequest, Fate, Unanswered, Answered}
-use Rattle.coap_model.specs.Prelude.{with_fate, is_unanswered, HaveOtherPlaces, HaveOwnAnswers, HasFate}
-use Rattle.coap_model.specs.Prelude.{History, LimitValues, IsReduced, limit_after}
-use Rattle.coap_model.proofs.world.EntryLemmas.{all_to, all_append}
+use lib.Pointwise.{bytes_decides}
+use Rattle.coap_model.specs.Prelude.{AllByRecursion, list_any, Message, PendingEntryValue, ApplicationRequest, Fate}
+use Rattle.coap_model.specs.Prelude.{Unanswered, Answered, with_fate, is_unanswered, entry_of, awaits, HaveOtherPlaces}
+use Rattle.coap_model.specs.Prelude.{HasFate, History, has_stopped, Responder, Reply, Whole, Bare, Stopped, answers, fit}
+use Rattle.coap_model.specs.Prelude.{same_bytes, fitted, bare_response, limit_now, fate_of, fate_by}
+use Rattle.coap_model.proofs.world.EntryLemmas.{all_to}
 
 -- ---- a list without the first element that passes a test
 
@@ -22,6 +24,13 @@ unfolding without_passing
 without_found p [] x after none is = rw is refl
 without_found p (y ∷ before) x after none is = rw none.0 (ap (λ ys. y ∷ ys) (without_found p before x after none.1 is))
 
+pub all_less : {A : Type 0} (P : A → Type 0) (p : A → Bool) (xs : List A) → AllByRecursion P xs
+    → AllByRecursion P (without_passing p xs)
+unfolding without_passing
+all_less P p [] all = tt
+all_less P p (x ∷ xs) all =
+    cond_both (p x) _ _ (AllByRecursion P) (λ is. all.1) (λ other. (all.0, all_less P p xs all.1))
+
 -- The elements that pass another test are without it too.
 pub filter_without : {A : Type 0} (f p : A → Bool) → ((x : A) → p x ≡ true → f x ≡ true) → (xs : List A)
     → filter f (without_passing p xs) ≡ without_passing p (filter f xs)
@@ -34,6 +43,54 @@ pub map_without : {A B : Type 0} (f : A → B) (p : A → Bool) (q : B → Bool)
 unfolding without_passing
 map_without f p q [] same = refl
 map_without f p q (x ∷ xs) same = grind (arith, same.0, map_without f p q xs same.1)
+
+-- ---- properties of each element
+
+pub all_both : {A : Type 0} (P Q : A → Type 0) (xs : List A) → AllByRecursion P xs → AllByRecursion Q xs
+    → AllByRecursion (λ x. P x × Q x) xs
+all_both P Q [] ps qs = tt
+all_both P Q (x ∷ xs) ps qs = ((ps.0, qs.0), all_both P Q xs ps.1 qs.1)
+
+pub all_parts : {A : Type 0} (P : A → Type 0) (xs ys : List A) → AllByRecursion P (xs ++ ys)
+    → AllByRecursion P xs × AllByRecursion P ys
+all_parts P [] ys all = (tt, all)
+all_parts P (x ∷ xs) ys all = let rest = all_parts P xs ys all.1 in ((all.0, rest.0), rest.1)
+
+-- An element that passes a test.
+pub found_one : {A : Type 0} (P : A → Type 0) (test : A → Bool) (xs : List A) → list_any test xs ≡ true
+    → AllByRecursion P xs → (x : A) × (test x ≡ true) × P x
+found_one P test [] some all = absurd cc
+found_one P test (x ∷ xs) some all = elim (cases_Bool (test x)) [
+  | inl is ↦ (x, is, all.0)
+  | inr other ↦ found_one P test xs (rw other at some) all.1
+]
+
+-- An element at an index that was not dropped.
+pub kept_at : {A : Type 0} (P : A → Type 0) (n i : ℕ) (xs : List A) (x : A) → n ≤ i → slice_get xs i ≡ Some x
+    → AllByRecursion P (drop n xs) → P x
+kept_at P zero zero (y ∷ xs) x few there all = subst P (cc) all.0
+kept_at P zero (suc i) (y ∷ xs) x few there all = kept_at P zero i xs x (omega arith) there all.1
+kept_at P (suc n) zero (y ∷ xs) x few there all = absurd (omega (arith, few))
+kept_at P (suc n) (suc i) (y ∷ xs) x few there all = kept_at P n i xs x (omega (arith, few)) there all
+kept_at P n i [] x few there all = absurd cc
+
+pub filter_none : {A : Type 0} (p : A → Bool) (xs : List A) → AllByRecursion (λ x. p x ≡ false) xs → filter p xs ≡ []
+filter_none p [] none = refl
+filter_none p (x ∷ xs) none = rw none.0 (filter_none p xs none.1)
+
+pub filter_whole : {A : Type 0} (p : A → Bool) (xs : List A) → AllByRecursion (λ x. p x ≡ true) xs → filter p xs ≡ xs
+filter_whole p [] all = refl
+filter_whole p (x ∷ xs) all = rw (all.0, filter_whole p xs all.1) refl
+
+-- A test on some elements of a list.
+pub any_filter : {A : Type 0} (p f : A → Bool) → ((x : A) → p x ≡ true → f x ≡ true) → (xs : List A)
+    → list_any p xs ≡ true → list_any p (filter f xs) ≡ true
+any_filter p f to [] is = is
+any_filter p f to (x ∷ xs) is = grind (arith, to x, any_filter p f to xs)
+
+pub none_filter : {A : Type 0} (p f : A → Bool) (xs : List A) → list_any p xs ≡ false → list_any p (filter f xs) ≡ false
+none_filter p f [] none = none
+none_filter p f (x ∷ xs) none = grind (arith, none_filter p f xs)
 
 -- ---- another fate
 
@@ -57,6 +114,44 @@ fate_requests test fate [] = refl
 fate_requests test fate (r ∷ rs) =
     cond_both (test r) _ _ (λ (qs : List ApplicationRequest). map (λ q. q.request) qs ≡ map (λ q. q.request) (r ∷ rs))
     (λ is. refl) (λ other. ap (λ ms. r.request ∷ ms) (fate_requests test fate rs))
+
+-- An unanswered request whose entry passes a test.
+pub any_waiting : (test : ApplicationRequest → Bool) (entry : PendingEntryValue → Bool)
+    → ((r : ApplicationRequest) → waits r ≡ true → test r ≡ entry (entry_of r)) → (rs : List ApplicationRequest)
+    → list_any entry (map entry_of (filter waits rs)) ≡ true → list_any test rs ≡ true
+any_waiting test entry same [] is = is
+any_waiting test entry same (r ∷ rs) is = grind (arith, same r, any_waiting test entry same rs)
+
+-- Under a condition no entry with the token is pending. Then no unanswered request has it.
+pub none_waiting : (token : List ℕ) (when : Bool) (rs : List ApplicationRequest)
+    → (when ≡ true → list_any (awaits token) (map entry_of (filter waits rs)) ≡ false)
+    → AllByRecursion (λ r. when ≡ true → r.request.token ≡ token → waits r ≡ false) rs
+none_waiting token when [] none = tt
+none_waiting token when (r ∷ rs) none =
+    elim (cases_Bool (waits r)) [
+      | inl is ↦ (
+          let entries : when ≡ true → list_any (awaits token) (entry_of r ∷ map entry_of (filter waits rs)) ≡ false =
+          λ so. rw is at none so in (
+            (λ so same. let none = entries so in absurd (both_ways (same_bytes r.request.token token) (grind arith)
+                ((bytes_decides r.request.token token).1 same))),
+            none_waiting token when rs (λ so. let none = entries so in grind arith),
+          ))
+      | inr over ↦ ((λ so same. over), none_waiting token when rs (λ so. rw over at none so))
+    ]
+
+-- The fate of a request to which a response is sent.
+pub fate_cases : (P : Fate → Type 0) (by : Responder) (h : History) (response : Message) → P Unanswered
+    → ((sent : Message) → P (Answered by response sent (length h.handled) (length h.queued)))
+    → P (fate_by by h response)
+fate_cases P by h response none sent =
+    cond_both (answers h.phase) _ Unanswered P (λ on. by_reply (fit (limit_now h) response (bare_response response)))
+    (λ off. none)
+  where
+    by_reply : (r : Reply) → P (fate_of by response (fitted response (bare_response response) r) (length h.handled)
+        (length h.queued))
+    by_reply Whole = sent response
+    by_reply Bare = sent (bare_response response)
+    by_reply Stopped = none
 
 -- A property of each request.
 pub fate_all : (P Q : ApplicationRequest → Type 0) (test : ApplicationRequest → Bool) (fate : Fate)
@@ -99,32 +194,6 @@ new_then_old n (Answered by response sent handled place)
     (Answered other_by other_response other_sent other_handled other) is then =
     λ same. absurd (omega (arith, is, then, same))
 
--- A new fate shares its response with no other request.
-pub own_with : (n : ℕ) (test : ApplicationRequest → Bool) (fate : Fate) (rs : List ApplicationRequest) → IsNew n fate
-    → AllByRecursion (λ r. IsOld n r.fate) rs → HaveOwnAnswers rs → HaveOwnAnswers (with_fate test fate rs)
-unfolding with_fate
-own_with n test fate [] new old own = tt
-own_with n test fate (r ∷ rs) new old own =
-    cond_both (test r) _ _ HaveOwnAnswers
-    (λ is. (
-      all_to (λ q. IsOld n q.fate) (λ q. HaveOtherPlaces fate q.fate) (λ q. new_then_old n fate q.fate new) rs old.1,
-      own.1,
-    ))
-    (λ other. (
-      fate_all (λ q. HaveOtherPlaces r.fate q.fate) (λ q. HaveOtherPlaces r.fate q.fate) test fate (λ q is. is)
-          (λ q is apart. old_then_new n r.fate fate old.0 new) rs own.0,
-      own_with n test fate rs new old.1 own.1,
-    ))
-
--- The same for one more request.
-pub own_more : (n : ℕ) (r : ApplicationRequest) (rs : List ApplicationRequest) → IsNew n r.fate
-    → AllByRecursion (λ q. IsOld n q.fate) rs → HaveOwnAnswers rs → HaveOwnAnswers (rs ++ r ∷ [])
-own_more n r [] new old own = (tt, tt)
-own_more n r (q ∷ rs) new old own = (
-  all_append (λ p. HaveOtherPlaces q.fate p.fate) rs (r ∷ []) own.0 (old_then_new n q.fate r.fate old.0 new, tt),
-  own_more n r rs new old.1 own.1,
-)
-
 -- ---- queued messages
 
 -- A message stays at its place.
@@ -137,35 +206,28 @@ pub next_at : {A : Type 0} (xs : List A) (x : A) (ys : List A) → slice_get (xs
 next_at [] x ys = refl
 next_at (z ∷ xs) x ys = next_at xs x ys
 
--- A history has the limits and the messages of another one, and perhaps more messages.
-pub record Extends (h k : History) : Type 0 where
+-- A history has the limits and the messages of another one. It handled these messages since, and queued perhaps more.
+pub record Extends (received : List Message) (h k : History) : Type 0 where
   pub limits : k.limits ≡ h.limits
-  pub received : List Message
   pub handled : k.handled ≡ h.handled ++ received
   pub more : List Message
   pub queued : k.queued ≡ h.queued ++ more
-
--- The limit at an earlier time.
-limit_same : (h k : History) → Extends h k → (n : ℕ) → n ≤ length h.handled
-    → limit_after k.limits (take n k.handled) ≡ limit_after h.limits (take n h.handled)
-limit_same h k e n within =
-    ap (λ (l : LimitValues). limit_after l (take n k.handled)) e.limits
-    ∙ ap (limit_after h.limits) (ap (take n) e.handled ∙ take-append-le n h.handled e.received within)
+  pub running : has_stopped k.phase ≡ false → has_stopped h.phase ≡ false
 
 -- The fate of a request stays.
-pub still_fate : (h k : History) → Extends h k → (r : ApplicationRequest) (fate : Fate)
-    → HasFate h r fate → HasFate k r fate
+pub still_fate : {received : List Message} (h k : History) → Extends received h k → (r : ApplicationRequest)
+    (fate : Fate) → HasFate h r fate → HasFate k r fate
 still_fate h k e r Unanswered has = tt
-still_fate h k e r (Answered by response sent handled place) has = record {
+still_fate {received} h k e r (Answered by response sent handled place) has = record {
   allowed = has.allowed;
-  reduced = subst (λ (n : ℕ). IsReduced n response sent) (sym (limit_same h k e handled has.within)) has.reduced;
-  there = ap (λ (ms : List Message). slice_get ms place) e.queued ∙ still_at h.queued e.more place sent has.there;
+  reduced = rw (e.limits, e.handled, take-append-le handled h.handled received has.within) has.reduced;
+  there = rw e.queued (still_at h.queued e.more place sent has.there);
   later = has.later;
   after_it = has.after_it;
   within = omega (
     arith,
     has.within,
     ap (λ (ms : List Message). length ms) e.handled,
-    length-append h.handled e.received,
+    length-append h.handled received,
   );
 }

@@ -1,27 +1,31 @@
 -- The requests that the application answers, along the events of a server. Let each effect on a connection keep a
 -- property of the connection and its requests. Then the property holds after all events.
-use Rattle.std.proofs.Common.{◌≡◌, ℕ, zero, suc, ◌+◌, Bool, cond, ◌==◌, List, [], ◌∷◌, ◌++◌, length, map, Option, Some}
-use Rattle.std.proofs.Common.{refl, sym, ap, subst, ◌∙◌, inl, inr, is_none}
-use Rattle.std.proofs.lemmas.Bool.{cases_eq, cond_both, eq-eqb, ne_eqb}
-use Rattle.coap_model.specs.Prelude.{Message, StreamFault, LimitValues, StoreValue, ApplicationsValue, ConfigValues}
-use Rattle.coap_model.specs.Prelude.{Connection, new_side, side_after, side_faulted, side_written, side_ended}
-use Rattle.coap_model.specs.Prelude.{side_released, side_announced, side_responded, settled_once, settled_within}
-use Rattle.coap_model.specs.Prelude.{settled}
-use Rattle.coap_model.specs.Prelude.{World, Step, new_world, side_of, ticks, acted, after_steps, put_refusal}
-use Rattle.coap_model.specs.Prelude.{AcceptedCall, steps_of, world_after, ApplicationRequest, if_there, requests_after}
-use Rattle.coap_model.specs.Prelude.{requests_responded, requests_once, requests_within, requests_settled}
-use Rattle.coap_model.specs.Prelude.{requests_acted}
-use Rattle.coap_model.specs.Prelude.{requests_then, requests_by, requests_on, ConnectionEntry, settled_place}
+use Rattle.std.proofs.Common.{Bool, List, Option, Some, [], ap, cond, inl, inr, is_none, length, map, refl, subst, suc}
+use Rattle.std.proofs.Common.{sym, zero, ℕ, ◌&&◌, ◌++◌, ◌+◌, ◌==◌, ◌∙◌, ◌∷◌, ◌≡◌, ◌≢◌}
+use Rattle.std.proofs.lemmas.Bool.{and_parts, cases_eq, cond_both, eq-eqb, eqb-true, ne_eqb}
+use Rattle.coap_model.specs.Prelude.{AcceptedCall, AllByRecursion, Answer, Application, ApplicationRequest}
+use Rattle.coap_model.specs.Prelude.{ApplicationsValue, ConfigValues, Connection, ConnectionEntry, Engine, History}
+use Rattle.coap_model.specs.Prelude.{LimitValues, Message, PendingEntryValue, Step, StoreValue, StreamFault, World}
+use Rattle.coap_model.specs.Prelude.{acted, after_steps, fate_by, if_there, is_unanswered_with, late_message, new_side}
+use Rattle.coap_model.specs.Prelude.{new_world, next_pending, put_refusal, requests_acted, requests_after, requests_by}
+use Rattle.coap_model.specs.Prelude.{requests_due, requests_on, requests_once, requests_responded, requests_settled}
+use Rattle.coap_model.specs.Prelude.{requests_then, requests_within, settled, settled_once, settled_place}
+use Rattle.coap_model.specs.Prelude.{settled_within, side_after, side_announced, side_ended, side_faulted, side_of}
+use Rattle.coap_model.specs.Prelude.{side_released, side_responded, side_written, steps_by, steps_of, ticks, with_fate}
+use Rattle.coap_model.specs.Prelude.{world_after}
 use Rattle.coap_model.specs.world.World.{changed_at}
+use Rattle.coap_wire.proofs.NumberLaws.{none_or_some}
 use Rattle.coap_model.specs.world.World as world
 use Rattle.coap_model.proofs.OptionLemmas.{one_made, same_there}
-use Rattle.coap_model.proofs.world.PlaceLaws.{nobody, all_there, changed_here, changed_elsewhere, new_there, other_more}
-use Rattle.coap_model.proofs.world.PlaceLaws.{first_there, dropped_here, dropped_elsewhere}
-use Rattle.coap_model.proofs.world.WalkLaws.{there_or_not, written_between, ended_between, released_between}
-use Rattle.coap_model.proofs.world.WalkLaws.{announced_between, responded_between, once_between}
-use Rattle.coap_model.proofs.world.AcrossLaws.{applications_stay, after_all, faulted_all}
-use Rattle.coap_model.proofs.world.GoingOn.{IsSide, GoesOn, as_before, further, all_go_on, follower_is, new_side_is}
-use Rattle.coap_wire.proofs.NumberLaws.{none_or_some}
+use Rattle.coap_model.proofs.world.PlaceLaws.{all_there, changed_elsewhere, changed_here, dropped_elsewhere}
+use Rattle.coap_model.proofs.world.PlaceLaws.{dropped_here, first_there, found, new_there, nobody, other_more}
+use Rattle.coap_model.proofs.world.WalkLaws.{Between, announced_between, once_between, there_or_not}
+use Rattle.coap_model.proofs.world.AcrossLaws.{HoldsOf, after_all, all_across, applications_stay, faulted_all}
+use Rattle.coap_model.proofs.world.AcrossLaws.{step_across}
+use Rattle.coap_model.proofs.world.GoingOn.{GoesOn, IsSide, all_go_on, as_before, follower_is, further, new_side_is}
+use Rattle.coap_model.proofs.world.ReachedLaws.{opens}
+use Rattle.coap_model.proofs.world.RespondedLaws.{allowed}
+use Rattle.coap_model.proofs.world.StepLaws.{steps_of_more}
 
 -- A property of a new connection without requests that every effect keeps, in a server with these applications.
 pub record KeepsRequests (limits : LimitValues) (a : Option ApplicationsValue)
@@ -46,53 +50,9 @@ module _ (limits : LimitValues) (a : Option ApplicationsValue) (P : Connection �
   abbrev Good : Connection → List ApplicationRequest → Type 0
   Good s rs = IsSide limits s × P s rs
 
-  -- Each effect keeps it.
-  handled_good : (store : StoreValue) (now : ℕ) (s : Connection) (m : Message) (rs : List ApplicationRequest)
-      → store.applications ≡ a → Good s rs → Good (side_after store now s m) (requests_after store now s m rs)
-  handled_good store now s m rs same is = (
-    follower_is limits s (side_after store now s m) (after_all GoesOn all_go_on store now s m) is.0,
-    keeps.handled store now s m rs same is.0 is.1,
-  )
-
-  faulted_good : (s : Connection) (fault : StreamFault) (rs : List ApplicationRequest) → Good s rs
-      → Good (side_faulted s fault) rs
-  faulted_good s fault rs is = (
-    follower_is limits s (side_faulted s fault) (faulted_all GoesOn all_go_on s fault) is.0,
-    keeps.faulted s fault rs is.1,
-  )
-
-  written_good : (s : Connection) (n : ℕ) (rs : List ApplicationRequest) → Good s rs → Good (side_written s n) rs
-  written_good s n rs is = (
-    follower_is limits s (side_written s n) (written_between GoesOn as_before all_go_on.writes s n) is.0,
-    keeps.written s n rs is.1,
-  )
-
-  ended_good : (s : Connection) (cut : Bool) (rs : List ApplicationRequest) → Good s rs → Good (side_ended s cut) rs
-  ended_good s cut rs is = (
-    follower_is limits s (side_ended s cut) (ended_between GoesOn as_before all_go_on.ends s cut) is.0,
-    keeps.ended s cut rs is.1,
-  )
-
-  released_good : (s : Connection) (rs : List ApplicationRequest) → Good s rs → Good (side_released s) rs
-  released_good s rs is = (
-    follower_is limits s (side_released s) (released_between GoesOn as_before all_go_on.releases s) is.0,
-    keeps.released s rs is.1,
-  )
-
-  announced_good : (s : Connection) (size : ℕ) (rs : List ApplicationRequest) → Good s rs
-      → Good (side_announced s size) rs
-  announced_good s size rs is = (
-    follower_is limits s (side_announced s size)
-        (announced_between GoesOn as_before all_go_on.announces s size) is.0,
-    keeps.announced s size rs is.1,
-  )
-
-  responded_good : (s : Connection) (m : Message) (rs : List ApplicationRequest) → Good s rs
-      → Good (side_responded s m) (requests_responded s m rs)
-  responded_good s m rs is = (
-    follower_is limits s (side_responded s m) (responded_between GoesOn as_before all_go_on.responds s m) is.0,
-    keeps.responded s m rs is.1,
-  )
+  good_then : (s t : Connection) (rs qs : List ApplicationRequest) → Between GoesOn s t → (P s rs → P t qs) → Good s rs
+      → Good t qs
+  good_then s t rs qs goes kept is = (follower_is limits s t goes is.0, kept is.1)
 
   -- Settling keeps it.
   within_good : (turns : ℕ) (store : StoreValue) (now : ℕ) (s : Connection) (rs : List ApplicationRequest) → Good s rs
@@ -100,12 +60,10 @@ module _ (limits : LimitValues) (a : Option ApplicationsValue) (P : Connection �
   unfolding settled_within requests_within
   within_good zero store now s rs is = is
   within_good (suc turns) store now s rs is =
-      within_good turns store now (settled_once store now s) (requests_once now s rs) (
-        follower_is limits s (settled_once store now s)
-            (once_between GoesOn GoesOn as_before further all_go_on.replies all_go_on.lets_go
-            all_go_on.pongs store now s) is.0,
-        keeps.reported store now s rs is.1,
-      )
+      within_good turns store now (settled_once store now s) (requests_once now s rs)
+      (good_then s (settled_once store now s) rs (requests_once now s rs)
+      (once_between GoesOn GoesOn as_before further all_go_on.replies all_go_on.lets_go all_go_on.pongs store now s)
+      (keeps.reported store now s rs) is)
 
   settled_good : (store : StoreValue) (now : ℕ) (s : Connection) (rs : List ApplicationRequest) → Good s rs
       → Good (settled store now s) (requests_settled store now s rs)
@@ -117,90 +75,92 @@ module _ (limits : LimitValues) (a : Option ApplicationsValue) (P : Connection �
     abbrev AllGood : List ConnectionEntry → List ApplicationRequest → Type 0
     AllGood sides rs = (s : Connection) → side_of id sides ≡ Some s → Good s rs
 
-    -- A change of the connection with one id, which changes the requests too if this is the id.
-    changed_good : (sides : List ConnectionEntry) (at : ℕ) (f : Connection → Connection)
-        (g : Connection → List ApplicationRequest → List ApplicationRequest) (rs : List ApplicationRequest)
-        → ((s : Connection) → Good s rs → Good (f s) (g s rs)) → AllGood sides rs
-        → AllGood (map (changed_at at f) sides) (cond (at == id) (if_there (side_of id sides) g rs) rs)
-    changed_good sides at f g rs goes good t there =
+    -- A change of the connection with one id.
+    changed_good : (sides : List ConnectionEntry) (at : ℕ) (f : Connection → Connection) (qs : List ApplicationRequest)
+        → (at ≡ id → (s : Connection) → side_of id sides ≡ Some s → Good (f s) qs) → (at ≢ id → AllGood sides qs)
+        → AllGood (map (changed_at at f) sides) qs
+    changed_good sides at f qs goes away t there =
         elim (cases_eq at id) [
           | inl here ↦
               let made = one_made f (side_of at sides) t
               (sym (changed_here at f sides) ∙ ap (λ (n : ℕ). side_of n (map (changed_at at f) sides)) here ∙ there) in
-              let found : side_of id sides ≡ Some made.0 = ap (λ (n : ℕ). side_of n sides) (sym here) ∙ made.1 in
-              rw (eq-eqb at id here, found)
-              (subst (λ (u : Connection). Good u (g made.0 rs)) made.2 (goes made.0 (good made.0 found)))
-          | inr apart ↦ rw (ne_eqb at id apart) (good t (sym (changed_elsewhere at id f sides apart) ∙ there))
+              subst (λ (u : Connection). Good u qs) made.2
+              (goes here made.0 (ap (λ (n : ℕ). side_of n sides) (sym here) ∙ made.1))
+          | inr apart ↦ away apart t (sym (changed_elsewhere at id f sides apart) ∙ there)
         ]
 
-    -- A change that does not change the requests.
-    same_good : (sides : List ConnectionEntry) (at : ℕ) (f : Connection → Connection) (rs : List ApplicationRequest)
-        → ((s : Connection) → Good s rs → Good (f s) rs) → AllGood sides rs → AllGood (map (changed_at at f) sides) rs
-    same_good sides at f rs goes good t there =
-        elim (cases_eq at id) [
-          | inl here ↦
-              let made = one_made f (side_of at sides) t
-              (sym (changed_here at f sides) ∙ ap (λ (n : ℕ). side_of n (map (changed_at at f) sides)) here ∙ there) in
-              subst (λ (u : Connection). Good u rs) made.2
-              (goes made.0 (good made.0 (ap (λ (n : ℕ). side_of n sides) (sym here) ∙ made.1)))
-          | inr apart ↦ good t (sym (changed_elsewhere at id f sides apart) ∙ there)
-        ]
+    module _ (w : World) (rs : List ApplicationRequest) (good : AllGood w.sides rs) where
+      -- A new connection.
+      opened_good : (at : ℕ) → AllGood (acted limits w (world.Opened at)).sides
+          (requests_acted id w (world.Opened at) rs)
+      unfolding acted requests_acted
+      opened_good at =
+          elim (cases_eq at id) [
+            | inl here ↦ rw (eq-eqb at id here, here) (there_or_not (side_of id w.sides)
+                (λ found. AllGood (cond (is_none found)
+                (record w { sides = w.sides ++ record { id = id; side = new_side limits } ∷ []; ids = id }) w).sides
+                (cond (is_none found) [] rs))
+                (λ none t there.
+                let new : Some (new_side limits) ≡ Some t =
+                sym (first_there id (record { id = id; side = new_side limits }) [] refl)
+                ∙ sym (new_there id w.sides _ none) ∙ there in
+                subst (λ (u : Connection). Good u []) (same_there (new_side limits) t new)
+                (new_side_is limits, keeps.first))
+                (λ s found. good))
+            | inr apart ↦ rw (ne_eqb at id apart)
+                (cond_both (is_none (side_of at w.sides)) _ w (λ (u : World). AllGood u.sides rs)
+                (λ none t there. good t
+                (sym (other_more id w.sides (record { id = at; side = new_side limits }) apart) ∙ there)) (λ old. good))
+          ]
 
-    -- A new connection.
-    opened_good : (w : World) (at : ℕ) (rs : List ApplicationRequest) → AllGood w.sides rs
-        → AllGood (acted limits w (world.Opened at)).sides (requests_acted id w (world.Opened at) rs)
-    unfolding acted requests_acted
-    opened_good w at rs good =
-        elim (cases_eq at id) [
-          | inl here ↦ rw (eq-eqb at id here, here) (there_or_not (side_of id w.sides)
-              (λ found. AllGood (cond (is_none found)
-              (record w { sides = w.sides ++ record { id = id; side = new_side limits } ∷ []; ids = id }) w).sides
-              (cond (is_none found) [] rs))
-              (λ none t there.
-              let new : Some (new_side limits) ≡ Some t =
-              sym (first_there id (record { id = id; side = new_side limits }) [] refl)
-              ∙ sym (new_there id w.sides _ none) ∙ there in
-              subst (λ (u : Connection). Good u []) (same_there (new_side limits) t new)
-              (new_side_is limits, keeps.first))
-              (λ s found. good))
-          | inr apart ↦
-              rw (ne_eqb at id apart) (cond_both (is_none (side_of at w.sides)) _ w (λ (u : World). AllGood u.sides rs)
-              (λ none t there. good t
-              (sym (other_more id w.sides (record { id = at; side = new_side limits }) apart) ∙ there)) (λ old. good))
-        ]
+      -- A change of the connection with one id leaves the requests, or changes them too if this is the id.
+      same_good : (at : ℕ) (f : Connection → Connection) → ((s : Connection) → Between GoesOn s (f s))
+          → ((s : Connection) → P s rs → P (f s) rs) → AllGood (map (changed_at at f) w.sides) rs
+      same_good at f goes kept = changed_good w.sides at f rs
+          (λ here s there. good_then s (f s) rs rs (goes s) (kept s) (good s there)) (λ apart. good)
 
-    acted_good : (w : World) (st : Step) (rs : List ApplicationRequest) → w.store.applications ≡ a → AllGood w.sides rs
-        → AllGood (acted limits w st).sides (requests_acted id w st rs)
-    unfolding acted requests_acted
-    acted_good w (world.Opened at) rs same good = opened_good w at rs good
-    acted_good w (world.Handled at m) rs same good =
-        changed_good w.sides at (λ s. side_after w.store w.now s m) (λ s. requests_after w.store w.now s m) rs
-        (λ s. handled_good w.store w.now s m rs same) good
-    acted_good w (world.Faulted at fault) rs same good =
-        same_good w.sides at (λ s. side_faulted s fault) rs (λ s. faulted_good s fault rs) good
-    acted_good w (world.Written at n) rs same good =
-        same_good w.sides at (λ s. side_written s n) rs (λ s. written_good s n rs) good
-    acted_good w (world.Ticked now) rs same good =
-        cond_both (ticks w.now now) _ w (λ (u : World). AllGood u.sides rs) (λ may. good) (λ early. good)
-    acted_good w (world.Stored path format bytes) rs same good =
-        cond_both (is_none (put_refusal w.store path bytes)) _ w (λ (u : World). AllGood u.sides rs)
-        (λ may. good) (λ refused. good)
-    acted_good w (world.Removed path) rs same good = good
-    acted_good w (world.Ended at cut) rs same good =
-        same_good w.sides at (λ s. side_ended s cut) rs (λ s. ended_good s cut rs) good
-    acted_good w (world.Released at) rs same good = same_good w.sides at side_released rs (λ s. released_good s rs) good
-    acted_good w (world.Announced at size) rs same good =
-        same_good w.sides at (λ s. side_announced s size) rs (λ s. announced_good s size rs) good
-    acted_good w (world.Responded at m) rs same good =
-        changed_good w.sides at (λ s. side_responded s m) (λ s. requests_responded s m) rs
-        (λ s. responded_good s m rs) good
-    acted_good w (world.Dropped at) rs same good = λ t there.
-        elim (cases_eq at id) [
-          | inl here ↦
-              absurd (none_or_some t (sym (dropped_here at w.sides)
-              ∙ ap (λ (n : ℕ). side_of n (acted limits w (world.Dropped at)).sides) here ∙ there))
-          | inr apart ↦ good t (sym (dropped_elsewhere at id w.sides apart) ∙ there)
-        ]
+      own_good : (at : ℕ) (f : Connection → Connection)
+          (g : Connection → List ApplicationRequest → List ApplicationRequest)
+          → ((s : Connection) → Between GoesOn s (f s)) → ((s : Connection) → IsSide limits s → P s rs → P (f s) (g s rs))
+          → AllGood (map (changed_at at f) w.sides) (cond (at == id) (if_there (side_of id w.sides) g rs) rs)
+      own_good at f g goes kept = changed_good w.sides at f _
+          (λ here s there. rw (eq-eqb at id here, there)
+          (good_then s (f s) rs (g s rs) (goes s) (kept s (good s there).0) (good s there)))
+          (λ apart. rw (ne_eqb at id apart) good)
+
+      acted_good : (st : Step) → w.store.applications ≡ a
+          → AllGood (acted limits w st).sides (requests_acted id w st rs)
+      unfolding acted requests_acted
+      acted_good st same = by st
+        where
+          goes : (st : Step) → HoldsOf (Between GoesOn) w st id
+          goes st = all_across GoesOn all_go_on w st id
+
+          by : (st : Step) → AllGood (acted limits w st).sides (requests_acted id w st rs)
+          by (world.Opened at) = opened_good at
+          by (world.Handled at m) = own_good at _ _ (λ s. after_all GoesOn all_go_on w.store w.now s m)
+              (λ s. keeps.handled w.store w.now s m rs same)
+          by (world.Faulted at fault) = same_good at _ (λ s. faulted_all GoesOn all_go_on s fault)
+              (λ s. keeps.faulted s fault rs)
+          by (world.Written at n) = same_good at _ (λ s. (goes st).written s n) (λ s. keeps.written s n rs)
+          by (world.Ticked now) =
+              cond_both (ticks w.now now) _ w (λ (u : World). AllGood u.sides rs) (λ may. good) (λ early. good)
+          by (world.Stored path format bytes) =
+              cond_both (is_none (put_refusal w.store path bytes)) _ w (λ (u : World). AllGood u.sides rs)
+              (λ may. good) (λ refused. good)
+          by (world.Removed path) = good
+          by (world.Ended at cut) = same_good at _ (λ s. (goes st).ended s cut) (λ s. keeps.ended s cut rs)
+          by (world.Released at) = same_good at _ (λ s. (goes st).released s) (λ s. keeps.released s rs)
+          by (world.Announced at size) =
+              same_good at _ (λ s. announced_between GoesOn as_before all_go_on.announces s size) (λ s. keeps.announced s size rs)
+          by (world.Responded at m) =
+              own_good at _ _ (λ s. (goes st).responded s m) (λ s side. keeps.responded s m rs)
+          by (world.Dropped at) = λ t there. elim (cases_eq at id) [
+            | inl here ↦
+                absurd (none_or_some t (sym (dropped_here at w.sides)
+                ∙ ap (λ (n : ℕ). side_of n (acted limits w (world.Dropped at)).sides) here ∙ there))
+            | inr apart ↦ good t (sym (dropped_elsewhere at id w.sides apart) ∙ there)
+          ]
 
     then_good : (w : World) (rs : List ApplicationRequest) → AllGood w.sides rs
         → AllGood (map (settled_place w.store w.now) w.sides) (requests_then id w rs)
@@ -218,7 +178,7 @@ module _ (limits : LimitValues) (a : Option ApplicationsValue) (P : Connection �
     steps_good w (s ∷ ss) rs same good =
         steps_good (world.step limits w s) ss (requests_then id (acted limits w s) (requests_acted id w s rs))
         (applications_stay limits w s ∙ same)
-        (then_good (acted limits w s) (requests_acted id w s rs) (acted_good w s rs same good))
+        (then_good (acted limits w s) (requests_acted id w s rs) (acted_good w rs good s same))
 
 -- So each connection has the property with its requests after any events.
 pub requests_kept : (c : ConfigValues) (P : Connection → List ApplicationRequest → Type 0)
@@ -228,3 +188,102 @@ unfolding world_after requests_on
 requests_kept c P keeps es id s there =
     (steps_good c.limits c.applications P keeps id (new_world c) (steps_of c.limits.max_message es) [] refl
     (λ t none. absurd (none_or_some t (sym (nobody id) ∙ none))) s there).1
+
+-- ---- properties of the requests alone
+
+-- The requests after a step's own effect: none, the same, or those after a message or a response.
+pub acted_cases : (P : List ApplicationRequest → Type 0) (id : ℕ) (w : World) (st : Step)
+    (rs : List ApplicationRequest) → P rs → (st ≡ world.Opened id → P [])
+    → ((m : Message) (s : Connection) → st ≡ world.Handled id m → side_of id w.sides ≡ Some s
+    → P (requests_after w.store w.now s m rs))
+    → ((m : Message) (s : Connection) → st ≡ world.Responded id m → side_of id w.sides ≡ Some s
+    → P (requests_responded s m rs))
+    → P (requests_acted id w st rs)
+unfolding requests_acted
+acted_cases P id w (world.Opened other) rs same opened handled responded =
+    cond_both (other == id && is_none (side_of id w.sides)) [] rs P
+    (λ new. opened (ap world.Opened (eqb-true other id (and_parts (other == id) _ new).0))) (λ old. same)
+acted_cases P id w (world.Handled other m) rs same opened handled responded =
+    cond_both (other == id) _ rs P (λ here. there_or_not (side_of id w.sides)
+    (λ found. P (if_there found (λ s. requests_after w.store w.now s m) rs)) (λ none. same)
+    (λ s. handled m s (ap (λ n. world.Handled n m) (eqb-true other id here)))) (λ apart. same)
+acted_cases P id w (world.Responded other m) rs same opened handled responded =
+    cond_both (other == id) _ rs P (λ here. there_or_not (side_of id w.sides)
+    (λ found. P (if_there found (λ s. requests_responded s m) rs)) (λ none. same)
+    (λ s. responded m s (ap (λ n. world.Responded n m) (eqb-true other id here)))) (λ apart. same)
+acted_cases P id w other rs same opened handled responded = same
+
+-- The unanswered requests of this entry.
+abbrev pub expires : List ℕ → ℕ → ApplicationRequest → Bool
+expires token moment r = is_unanswered_with token r && r.deadline == moment
+
+-- A property of the requests at a time, if each request that is answered by 5.04 keeps it.
+module _ (P : ℕ → List ApplicationRequest → Type 0)
+    (due : (now : ℕ) (s : Connection) (token : List ℕ) (moment : ℕ) (rs : List ApplicationRequest)
+    → next_pending now s ≡ Some (Answer Application token moment) → P now rs
+    → P now (with_fate (expires token moment) (fate_by Engine s.history (late_message Application token)) rs)) where
+  due_stays : (now : ℕ) (s : Connection) (found : Option PendingEntryValue) (rs : List ApplicationRequest)
+      → next_pending now s ≡ found → P now rs → P now (requests_due s found rs)
+  due_stays now s (Some (Answer Application token moment)) rs is has = due now s token moment rs is has
+  due_stays now s (Some (Answer Engine token moment)) rs is has = has
+  due_stays now s other rs is has = has
+
+  within_stays : (turns : ℕ) (store : StoreValue) (now : ℕ) (s : Connection) (rs : List ApplicationRequest) → P now rs
+      → P now (requests_within turns store now s rs)
+  unfolding requests_within requests_once
+  within_stays zero store now s rs is = is
+  within_stays (suc turns) store now s rs is =
+      within_stays turns store now (settled_once store now s) _ (due_stays now s (next_pending now s) rs refl is)
+
+  pub then_stays : (id : ℕ) (w : World) (rs : List ApplicationRequest) → P w.now rs → P w.now (requests_then id w rs)
+  unfolding requests_then requests_settled
+  then_stays id w rs is =
+      there_or_not (side_of id w.sides) (λ found. P w.now (if_there found (requests_settled w.store w.now) rs))
+      (λ none. is)
+      (λ s found. within_stays (length s.history.pending + length s.observers) w.store w.now s rs is)
+
+  -- Steps keep it, if their own effects do.
+  pub steps_stay : (limits : LimitValues) (id : ℕ) (Allowed : Step → Type 0)
+      → ((w : World) (st : Step) (rs : List ApplicationRequest) → Allowed st → P w.now rs
+      → P (acted limits w st).now (requests_acted id w st rs))
+      → (w : World) (ss : List Step) (rs : List ApplicationRequest) → AllByRecursion Allowed ss → P w.now rs
+      → P (after_steps limits w ss).now (requests_by limits id w ss rs)
+  unfolding after_steps requests_by world.step
+  steps_stay limits id Allowed acts w [] rs allowed is = is
+  steps_stay limits id Allowed acts w (s ∷ ss) rs allowed is =
+      steps_stay limits id Allowed acts (world.step limits w s) ss _ allowed.1
+      (then_stays id (acted limits w s) (requests_acted id w s rs) (acts w s rs allowed.0 is))
+
+-- A connection existed before steps that do not open it. A relation E holds since then, if it continues a relation R
+-- that holds across each of the steps.
+module _ (R E : History → History → Type 0) (same : (h : History) → E h h)
+    (then : (h k g : History) → R h k → E k g → E h g) (limits : LimitValues) (id : ℕ) (Allowed : Step → Type 0)
+    (opens : Allowed (world.Opened id) → ⊥)
+    (across : (w : World) (st : Step) → Allowed st → HoldsOf (Between R) w st id) where
+  pub before_steps : (w : World) (ss : List Step) (t : Connection) → AllByRecursion Allowed ss
+      → side_of id (after_steps limits w ss).sides ≡ Some t
+      → (s : Connection) × (side_of id w.sides ≡ Some s) × E s.history t.history
+  unfolding after_steps
+  before_steps w [] t allowed there = (t, there, same t.history)
+  before_steps w (st ∷ ss) t allowed there =
+      let u = before_steps (world.step limits w st) ss t allowed.1 there in
+      elim (step_across (Between R) limits w st id (across w st allowed.0) u.0 u.1) [
+        | inl old ↦ (old.0, old.1, then old.0.history u.0.history t.history old.2 u.2)
+        | inr new ↦ absurd (opens (subst Allowed new.1 allowed.0))
+      ]
+
+-- The requests after more steps, and after one more event.
+requests_more : (limits : LimitValues) (id : ℕ) (w : World) (ss ts : List Step) (rs : List ApplicationRequest)
+    → requests_by limits id w (ss ++ ts) rs
+    ≡ requests_by limits id (after_steps limits w ss) ts (requests_by limits id w ss rs)
+unfolding requests_by after_steps
+requests_more limits id w [] ts rs = refl
+requests_more limits id w (s ∷ ss) ts rs = requests_more limits id (world.step limits w s) ss ts _
+
+pub requests_last : (c : ConfigValues) (id : ℕ) (es : List AcceptedCall) (e : AcceptedCall)
+    → requests_on c id (es ++ e ∷ [])
+    ≡ requests_by c.limits id (world_after c es) (steps_by c.limits.max_message es e) (requests_on c id es)
+unfolding requests_on world_after
+requests_last c id es e =
+    let M : ℕ = c.limits.max_message in
+    rw (steps_of_more M es e) (requests_more c.limits id (new_world c) (steps_of M es) (steps_by M es e) [])

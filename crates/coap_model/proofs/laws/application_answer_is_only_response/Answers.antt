@@ -1,4 +1,4 @@
-use Rattle.coap_model.proofs.world.FateOnly.{requests_at, only_answers}
+use Rattle.coap_model.proofs.world.FateKept.{requests_at, only_answers}
 use Rattle.coap_model.proofs.laws.application_answer_is_only_response.Goals as goal
 
 pub returns : goal.returns
