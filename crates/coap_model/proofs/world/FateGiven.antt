@@ -164,7 +164,7 @@ answers_runs p on = grind arith
 all_run : KeepsAll Runs
 all_run = record {
   composes = record { same = λ h live. live; then = λ h k g one two live. one (two live) };
-  takes_input = λ h m takes room live. running_live None h.phase takes;
+  takes_input = λ h m takes room live. running_live h.phase takes;
   replies = λ h token observe r does room live. answers_runs h.phase does;
   holds = λ h by token moment opened may live. live;
   lets_go = λ h now live. live;

@@ -112,6 +112,85 @@ stops_plain h why farewell plain = record {
   engine = λ token none. tt;
 }
 
+-- ---- a response of the application, and the deadline of a request
+
+request_of_application : (token : List ℕ) (e : PendingEntryValue) → is_request_for token e ≡ true
+    → is_of_application e ≡ true
+request_of_application token (Answer Engine other moment) is = absurd cc
+request_of_application token (Answer Application other moment) is = refl
+request_of_application token (Pong other) is = absurd cc
+
+has_token : (token : List ℕ) (r : ApplicationRequest) → is_unanswered_with token r ≡ true
+    → (waits r ≡ true) × (r.request.token ≡ token)
+has_token token r is = let both = and_parts (waits r) _ is in (both.0, (bytes_decides r.request.token token).0 both.1)
+
+pub response_next : (h : History) (m : Message) → response_refusal (link_of h) m ≡ None
+    → IsNext h (is_unanswered_with m.token) (is_request_for m.token) Application m
+    (without_request m.token h.pending)
+response_next h m none =
+    let is = allowed (link_of h) m none in
+    let first = answered_request (link_of h) m none in
+    record {
+      passing = has_token m.token;
+      same = λ r waiting. rw waiting refl;
+      may = λ r passes handed. (handed, sym (has_token m.token r passes).1, is.plain);
+      of_application = request_of_application m.token;
+      some = is.requested;
+      left_is = ap (without_passing (is_request_for m.token)) first.there
+          ∙ without_found (is_request_for m.token) first.before (Answer Application m.token first.moment) first.after
+          first.earliest ((bytes_decides m.token m.token).1 refl)
+          ∙ sym first.without;
+      codes = plain_codes m is.plain;
+    }
+
+-- If the connection sends no responses, no request is pending.
+pub answers_if_allowed : (h : History) (m : Message) → (answers h.phase ≡ false → h.pending ≡ [])
+    → response_refusal (link_of h) m ≡ None → answers h.phase ≡ true
+answers_if_allowed h m quiet none = grind (arith, quiet, (allowed (link_of h) m none).requested)
+
+deadline_next : (h : History) (now : ℕ) (token : List ℕ) (moment : ℕ)
+    → first_due now h.pending ≡ Some (Answer Application token moment)
+    → IsNext h (expires token moment)
+    (λ e. is_request_for token e && is_answer_at moment e) Engine (late_message Application token)
+    (without_due now h.pending)
+deadline_next h now token moment is =
+    let first = due_answer now h.pending Application token moment is in
+    let entry : PendingEntryValue → Bool = λ e. is_request_for token e && is_answer_at moment e in
+    let due : entry (Answer Application token moment) ≡ true =
+    and_from _ _ ((bytes_decides token token).1 refl) (eq-eqb moment moment refl) in
+    let passing : (r : ApplicationRequest) → expires token moment r ≡ true
+    → (waits r ≡ true) × (r.request.token ≡ token) =
+    λ r so. has_token token r (and_parts (is_unanswered_with token r) _ so).0 in
+    record {
+      passing = passing;
+      same = λ r so. rw so refl;
+      may = λ r so handed. (
+        (λ is. ap (late_message Application) (sym (passing r so).1)),
+        (λ other. absurd (both_ways r.handed other handed)),
+      );
+      of_application = λ e so. request_of_application token e (and_parts (is_request_for token e) _ so).0;
+      some = grind (arith, first.there, due, list_any-append);
+      left_is = ap (without_passing entry) first.there
+          ∙ without_found entry first.before (Answer Application token moment) first.after
+          (all_to (λ e. is_answer_at moment e ≡ false) (λ e. entry e ≡ false) (λ e other. grind arith)
+          first.before first.earliest) due
+          ∙ sym first.without;
+      codes = (refl, refl);
+    }
+
+-- ---- parts of effects
+
+no_engine_without : (token : List ℕ) (before : List PendingEntryValue) (e : PendingEntryValue)
+    (later : List PendingEntryValue) → NoEngine token (before ++ e ∷ later)
+    → (is_engine_for token e ≡ false) × NoEngine token (before ++ later)
+no_engine_without token before e later none =
+    let parts = all_parts _ before (e ∷ later) none in (parts.1.0, all_append _ before later parts.0 parts.1.1)
+
+left_others : (token : List ℕ) (store : StoreValue) (now : ℕ) (o : Observer) (stays : Bool) → token ≢ o.token
+    → HaveOtherTokens token (left_of store now o stays)
+left_others token store now o true apart = (apart, tt)
+left_others token store now o false apart = tt
+
 module _ (a : Option ApplicationsValue) where
   plain_passes : (s t : Connection) → IsPlainOver s.history t.history
       → ((token : List ℕ) → HaveOtherTokens token s.observers → HaveOtherTokens token t.observers) → Passes a s t
@@ -170,12 +249,6 @@ module _ (a : Option ApplicationsValue) where
           pending = still;
         }
 
-  no_engine_without : (token : List ℕ) (before : List PendingEntryValue) (e : PendingEntryValue)
-      (later : List PendingEntryValue) → NoEngine token (before ++ e ∷ later)
-      → (is_engine_for token e ≡ false) × NoEngine token (before ++ later)
-  no_engine_without token before e later none =
-      let parts = all_parts _ before (e ∷ later) none in (parts.1.0, all_append _ before later parts.0 parts.1.1)
-
   engine_passes : (s : Connection) (now : ℕ) (own : List ℕ) (moment : ℕ)
       → first_due now s.history.pending ≡ Some (Answer Engine own moment)
       → Passes a s (with_history s (after_sent s.history now (Answer Engine own moment)))
@@ -225,11 +298,6 @@ module _ (a : Option ApplicationsValue) where
         pending = still;
       })
 
-  left_others : (token : List ℕ) (store : StoreValue) (now : ℕ) (o : Observer) (stays : Bool) → token ≢ o.token
-      → HaveOtherTokens token (left_of store now o stays)
-  left_others token store now o true apart = (apart, tt)
-  left_others token store now o false apart = tt
-
   notified_passes : (store : StoreValue) (now : ℕ) (s : Connection) (found : Option Observer)
       → ((o : Observer) → found ≡ Some o → find (is_due store now) s.observers ≡ Some o)
       → Passes a s (notified store now s found)
@@ -244,42 +312,6 @@ module _ (a : Option ApplicationsValue) where
         calm.engine,
         grind (arith, (bytes_decides o.token token).0),
       )))
-
-  -- ---- a response of the application
-
-  request_of_application : (token : List ℕ) (e : PendingEntryValue) → is_request_for token e ≡ true
-      → is_of_application e ≡ true
-  request_of_application token (Answer Engine other moment) is = absurd cc
-  request_of_application token (Answer Application other moment) is = refl
-  request_of_application token (Pong other) is = absurd cc
-
-  has_token : (token : List ℕ) (r : ApplicationRequest) → is_unanswered_with token r ≡ true
-      → (waits r ≡ true) × (r.request.token ≡ token)
-  has_token token r is = let both = and_parts (waits r) _ is in (both.0, (bytes_decides r.request.token token).0 both.1)
-
-  pub response_next : (h : History) (m : Message) → response_refusal (link_of h) m ≡ None
-      → IsNext h (is_unanswered_with m.token) (is_request_for m.token) Application m
-      (without_request m.token h.pending)
-  response_next h m none =
-      let is = allowed (link_of h) m none in
-      let first = answered_request (link_of h) m none in
-      record {
-        passing = has_token m.token;
-        same = λ r waiting. rw waiting refl;
-        may = λ r passes handed. (handed, sym (has_token m.token r passes).1, is.plain);
-        of_application = request_of_application m.token;
-        some = is.requested;
-        left_is = ap (without_passing (is_request_for m.token)) first.there
-            ∙ without_found (is_request_for m.token) first.before (Answer Application m.token first.moment) first.after
-            first.earliest ((bytes_decides m.token m.token).1 refl)
-            ∙ sym first.without;
-        codes = plain_codes m is.plain;
-      }
-
-  -- If the connection sends no responses, no request is pending.
-  pub answers_if_allowed : (h : History) (m : Message) → (answers h.phase ≡ false → h.pending ≡ [])
-      → response_refusal (link_of h) m ≡ None → answers h.phase ≡ true
-  answers_if_allowed h m quiet none = grind (arith, quiet, (allowed (link_of h) m none).requested)
 
   responded_kept : (s : Connection) (m : Message) (rs : List ApplicationRequest) → Accounted a s rs
       → Accounted a (side_responded s m) (requests_responded s m rs)
@@ -298,38 +330,6 @@ module _ (a : Option ApplicationsValue) where
             (λ off. passes_keep a s (with_history s h) rs (plain_passes s (with_history s h) (same_plain h)
             (λ token. kept_open_has (HaveOtherTokens token) tt h s.observers)) is))
       ]
-
-  -- ---- the deadline
-
-  deadline_next : (h : History) (now : ℕ) (token : List ℕ) (moment : ℕ)
-      → first_due now h.pending ≡ Some (Answer Application token moment)
-      → IsNext h (expires token moment)
-      (λ e. is_request_for token e && is_answer_at moment e) Engine (late_message Application token)
-      (without_due now h.pending)
-  deadline_next h now token moment is =
-      let first = due_answer now h.pending Application token moment is in
-      let entry : PendingEntryValue → Bool = λ e. is_request_for token e && is_answer_at moment e in
-      let due : entry (Answer Application token moment) ≡ true =
-      and_from _ _ ((bytes_decides token token).1 refl) (eq-eqb moment moment refl) in
-      let passing : (r : ApplicationRequest) → expires token moment r ≡ true
-      → (waits r ≡ true) × (r.request.token ≡ token) =
-      λ r so. has_token token r (and_parts (is_unanswered_with token r) _ so).0 in
-      record {
-        passing = passing;
-        same = λ r so. rw so refl;
-        may = λ r so handed. (
-          (λ is. ap (late_message Application) (sym (passing r so).1)),
-          (λ other. absurd (both_ways r.handed other handed)),
-        );
-        of_application = λ e so. request_of_application token e (and_parts (is_request_for token e) _ so).0;
-        some = grind (arith, first.there, due, list_any-append);
-        left_is = ap (without_passing entry) first.there
-            ∙ without_found entry first.before (Answer Application token moment) first.after
-            (all_to (λ e. is_answer_at moment e ≡ false) (λ e. entry e ≡ false) (λ e other. grind arith)
-            first.before first.earliest) due
-            ∙ sym first.without;
-        codes = (refl, refl);
-      }
 
   -- ---- one round of settling
 
