@@ -12,15 +12,14 @@ use Rattle.coap_model.specs.Prelude.{AcceptedCall, AllByRecursion, Answered, App
 use Rattle.coap_model.specs.Prelude.{AreAccepted, AreAnswers, AreQueuedInOrder, ConfigValues, Connection, Engine, Fate}
 use Rattle.coap_model.specs.Prelude.{History, IsAccepted, LimitValues, Message, Phase, Step, StoreValue, Unanswered}
 use Rattle.coap_model.specs.Prelude.{World, acted, after_steps, answers, application_deadline, fate_by, first_fate, fit}
-use Rattle.coap_model.specs.Prelude.{fits, given_in, given_on, handles, has_stopped, is_asking, is_unanswered}
+use Rattle.coap_model.specs.Prelude.{given_in, given_on, handles, has_stopped, is_asking, is_unanswered}
 use Rattle.coap_model.specs.Prelude.{is_unanswered_with, late_message, limit_now, link_of, list_any, may_hold}
 use Rattle.coap_model.specs.Prelude.{new_request, pong_with, refusal_of, requests_acted, requests_after, requests_by}
-use Rattle.coap_model.specs.Prelude.{requests_on, requests_responded, requests_then, responds, response_of}
+use Rattle.coap_model.specs.Prelude.{requests_on, requests_responded, requests_then, response_of}
 use Rattle.coap_model.specs.Prelude.{response_refusal, responses_to, settled, side_of, side_responded, state_now}
-use Rattle.coap_model.specs.Prelude.{steps_by, stream_on, takes, takes_input, with_fate, without_request, world_after}
+use Rattle.coap_model.specs.Prelude.{steps_by, stream_on, with_fate, without_request, world_after}
 use Rattle.coap_wire.proofs.NumberLaws.{none_or_some}
 use Rattle.coap_conn.specs.PendingEntries.{is_request_for}
-use Rattle.coap_conn.specs.declared.phase.RespondFault.TheVariants as fault
 use Rattle.coap_model.specs.world.Events as event
 use Rattle.coap_model.specs.world.World as world
 use Rattle.coap_model.proofs.OptionLemmas.{same_there}
@@ -28,14 +27,14 @@ use Rattle.coap_model.proofs.world.WalkLaws.{sent, settled_between, there_or_not
 use Rattle.coap_model.proofs.world.AcrossLaws.{KeepsAll, all_across, settles_there}
 use Rattle.coap_model.proofs.world.StepLaws.{by_events, each_beyond, world_first, world_more}
 use Rattle.coap_model.proofs.world.ReachedLaws.{IsReached, OpensNext, accepted_is, ids_grow, number_given, on_one}
-use Rattle.coap_model.proofs.world.PlaceLaws.{found, nobody}
+use Rattle.coap_model.proofs.world.PlaceLaws.{nobody}
 use Rattle.coap_model.proofs.world.QueuedMessages.{sent_either}
 use Rattle.coap_model.proofs.world.EntryLemmas.{all_append, all_to}
 use Rattle.coap_model.proofs.world.FateLists.{IsOld, fate_cases, old_fate, waits}
 use Rattle.coap_model.proofs.world.FateLaws.{Accounted, IsKept, IsNext, one_waits, sent_so}
 use Rattle.coap_model.proofs.world.FateKept.{after_message, answers_if_allowed, requests_accounted, response_next}
 use Rattle.coap_model.proofs.world.FateKept.{running_live}
-use Rattle.coap_model.proofs.world.AnswerCounts.{one, responses}
+use Rattle.coap_model.proofs.world.AnswerCounts.{one}
 use Rattle.coap_model.proofs.world.FateWalk.{acted_cases, before_steps, expires, requests_last, steps_stay, then_stays}
 
 -- ---- the responses of requests

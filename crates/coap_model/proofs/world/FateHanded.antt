@@ -9,7 +9,7 @@ use Rattle.std.specs.List.{flat_map}
 use Rattle.coap_model.specs.Prelude.{AFault, AFrame, AcceptedCall, AllByRecursion, Application, ApplicationRequest}
 use Rattle.coap_model.specs.Prelude.{AreAccepted, ConfigValues, Connection, Delay, Engine, Fate, FormatFault}
 use Rattle.coap_model.specs.Prelude.{FrameEventValue, History, IsAccepted, LimitValues, Message, Step, StoreValue}
-use Rattle.coap_model.specs.Prelude.{StreamFault, Took, World, acted, after, after_steps, answer_of}
+use Rattle.coap_model.specs.Prelude.{StreamFault, Took, World, acted, after_steps, answer_of}
 use Rattle.coap_model.specs.Prelude.{application_deadline, asks_answer, delay_by, delay_for, delay_of, delay_or}
 use Rattle.coap_model.specs.Prelude.{fate_by, frame_then, handed_between, handed_in, handed_requests, handles, if_there}
 use Rattle.coap_model.specs.Prelude.{is_asking, is_by_application, is_unanswered_with, link_of, may_hold, message_of}
@@ -20,11 +20,9 @@ use Rattle.coap_model.specs.Prelude.{world_after}
 use Rattle.coap_model.specs.world.Events.{front_of}
 use Rattle.coap_frame.specs.Framing.{Nothing}
 use Rattle.coap_frame.proofs.FrontLaws.{added_by}
-use Rattle.coap_conn.specs.declared.phase.RespondFault.TheVariants as fault
 use Rattle.coap_model.specs.world.Events as event
 use Rattle.coap_model.specs.world.World as world
 use Rattle.coap_model.proofs.OptionLemmas.{same_there}
-use Rattle.coap_model.proofs.world.WalkLaws.{received}
 use Rattle.coap_model.proofs.world.SideLaws.{handles_parts}
 use Rattle.coap_model.proofs.world.AcrossLaws.{faulted_there, handled_there}
 use Rattle.coap_model.proofs.world.StepLaws.{each_beyond, world_more, world_same, world_step}
@@ -35,7 +33,6 @@ use Rattle.coap_model.proofs.world.BecameLaws.{HandlesNone, IsElsewhere, rests_o
 use Rattle.coap_model.proofs.world.CustodyLaws.{HasReceived, handled_hears}
 use Rattle.coap_model.proofs.world.AnsweredRequests.{answered_is_request}
 use Rattle.coap_model.proofs.world.FateKept.{after_message}
-use Rattle.coap_model.proofs.world.PlaceLaws.{found}
 use Rattle.coap_model.proofs.world.AnswerCounts.{one, requests}
 use Rattle.coap_model.proofs.world.FateWalk.{acted_cases, before_steps, requests_last, steps_stay, then_stays}
 

@@ -12,16 +12,14 @@ use Rattle.coap_model.specs.Prelude.{AllByRecursion, Answer, Answered, Applicati
 use Rattle.coap_model.specs.Prelude.{ApplicationsValue, Bare, Connection, ConnectionState, Engine, Fate, HasFate}
 use Rattle.coap_model.specs.Prelude.{HaveOtherPlaces, HaveOwnAnswers, History, MayAnswer, Message, PendingEntryValue}
 use Rattle.coap_model.specs.Prelude.{Phase, Pong, ReactionResult, Reason, Reply, Responder, Stopped, Unanswered, Whole}
-use Rattle.coap_model.specs.Prelude.{after, answers, asks_with, awaits, bare_response, entry_of, fate_by, fate_of, fit}
+use Rattle.coap_model.specs.Prelude.{answers, asks_with, awaits, bare_response, entry_of, fate_by, fate_of, fit}
 use Rattle.coap_model.specs.Prelude.{fitted, has_stopped, is_asking, is_for_application, is_of_application, is_response}
 use Rattle.coap_model.specs.Prelude.{is_unanswered, limit_now, list_any, messages_of, responds, same_bytes, send}
 use Rattle.coap_model.specs.Prelude.{send_as, state_now, stay, with_effect, with_fate, with_history}
 use Rattle.coap_conn.specs.declared.phase.Phase.TheVariants as phase
 use Rattle.coap_model.proofs.world.WalkLaws.{kept_open_has}
 use Rattle.coap_model.proofs.world.LastNotificationLaws.{HaveOtherTokens}
-use Rattle.coap_model.proofs.world.RespondedLaws.{allowed}
 use Rattle.coap_model.proofs.world.EntryLemmas.{all_append, all_to}
-use Rattle.coap_model.proofs.world.AnswerCounts.{one}
 use Rattle.coap_model.proofs.world.FateLists.{Extends, IsNew, all_both, all_less, all_parts, any_filter, any_waiting}
 use Rattle.coap_model.proofs.world.FateLists.{fate_all, fate_requests, filter_none, filter_whole, filter_without}
 use Rattle.coap_model.proofs.world.FateLists.{found_one, kept_at, map_without, new_then_old, next_at, none_filter}

@@ -1,6 +1,6 @@
 -- Lists of requests that the application answers: one of them gets another fate.
 use Rattle.std.proofs.Common.{◌≡◌, ℕ, zero, suc, ◌<◌, ◌≤◌, Bool, true, false, cond, List, [], ◌∷◌, ◌++◌, length, map}
-use Rattle.std.proofs.Common.{filter, take, drop, Some, refl, sym, ap, subst, ◌∙◌, inl, inr, arith, slice_get}
+use Rattle.std.proofs.Common.{filter, drop, Some, refl, ap, subst, inl, inr, arith, slice_get}
 use Rattle.std.proofs.lemmas.List.{length-append, take-append-le}
 use Rattle.std.proofs.lemmas.Bool.{cond_both, cases_Bool, both_ways}
 use Rattle.std.proofs.lemmas.Option.{slice_get_within}

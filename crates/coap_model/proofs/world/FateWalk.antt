@@ -18,12 +18,11 @@ use Rattle.coap_wire.proofs.NumberLaws.{none_or_some}
 use Rattle.coap_model.specs.world.World as world
 use Rattle.coap_model.proofs.OptionLemmas.{one_made, same_there}
 use Rattle.coap_model.proofs.world.PlaceLaws.{all_there, changed_elsewhere, changed_here, dropped_elsewhere}
-use Rattle.coap_model.proofs.world.PlaceLaws.{dropped_here, first_there, found, new_there, nobody, other_more}
+use Rattle.coap_model.proofs.world.PlaceLaws.{dropped_here, first_there, new_there, nobody, other_more}
 use Rattle.coap_model.proofs.world.WalkLaws.{Between, announced_between, once_between, there_or_not}
 use Rattle.coap_model.proofs.world.AcrossLaws.{HoldsOf, after_all, all_across, applications_stay, faulted_all}
 use Rattle.coap_model.proofs.world.AcrossLaws.{step_across}
 use Rattle.coap_model.proofs.world.GoingOn.{GoesOn, IsSide, all_go_on, as_before, follower_is, further, new_side_is}
-use Rattle.coap_model.proofs.world.ReachedLaws.{opens}
 use Rattle.coap_model.proofs.world.RespondedLaws.{allowed}
 use Rattle.coap_model.proofs.world.StepLaws.{steps_of_more}
 
