@@ -1,5 +1,5 @@
 -- Each effect on a connection keeps the account of the requests that the application answers.
-use Rattle.std.proofs.Common.{Bool, List, None, Option, Some, [], ap, arith, cond, false, filter, find, inl, inr}
+use Rattle.std.proofs.Common.{Bool, List, None, Option, Some, [], ap, arith, codes, cond, false, filter, find, inl, inr}
 use Rattle.std.proofs.Common.{is_none, length, not, refl, slice_get, subst, sym, true, ℕ, ◌&&◌, ◌++◌, ◌∙◌, ◌∷◌, ◌≡◌}
 use Rattle.std.proofs.Common.{◌≢◌}
 use Rattle.std.proofs.lemmas.Bool.{and_from, and_left, and_parts, both_ways, cases_Bool, cond-true, cond_both, eq-eqb}
@@ -11,19 +11,19 @@ use Rattle.coap_model.specs.Prelude.{AcceptedCall, AllByRecursion, Answer, Appli
 use Rattle.coap_model.specs.Prelude.{ApplicationsValue, ConfigValues, Connection, Delay, Engine, Fate, HasFate}
 use Rattle.coap_model.specs.Prelude.{HasOnlyAnswer, History, LimitValues, Message, Observer, PeerTooSmall}
 use Rattle.coap_model.specs.Prelude.{PendingEntryValue, Phase, Pong, Reaction, ReactionResult, Reason, ReleasedHere}
-use Rattle.coap_model.specs.Prelude.{Responder, Server, StoreValue, Unanswered, after, after_sent, answers}
+use Rattle.coap_model.specs.Prelude.{Responder, Server, StoreValue, Unanswered, after, after_sent, announced, answers}
 use Rattle.coap_model.specs.Prelude.{application_deadline, asks_answer, asks_delayed, awaits, bare_response, delay_for}
 use Rattle.coap_model.specs.Prelude.{delay_of, end_reason, entry_for, fate_by, first_due, first_fate, fit, handles}
 use Rattle.coap_model.specs.Prelude.{has_place, has_stopped, hold_call, is_asking, is_due, is_for_application}
 use Rattle.coap_model.specs.Prelude.{is_of_application, is_open, is_response, is_unanswered, is_unanswered_with}
 use Rattle.coap_model.specs.Prelude.{is_whole, late_message, left_of, limit_now, link_of, list_any, may_hold}
 use Rattle.coap_model.specs.Prelude.{messages_of, moment_after, new_request, next_due, next_pending, notification}
-use Rattle.coap_model.specs.Prelude.{notification_message, notified, own_csm, pong_with, prompt_answer, react}
+use Rattle.coap_model.specs.Prelude.{notification_message, notified, only, own_csm, pong_with, prompt_answer, react}
 use Rattle.coap_model.specs.Prelude.{reaction_unless, refusal_of, reject_reason, release, requests_after, requests_due}
 use Rattle.coap_model.specs.Prelude.{requests_on, requests_once, requests_responded, responds, response_refusal}
 use Rattle.coap_model.specs.Prelude.{response_with_observe, same_bytes, send, settled_once, side_after, side_announced}
 use Rattle.coap_model.specs.Prelude.{side_answered, side_ended, side_faulted, side_handled, side_of, side_released}
-use Rattle.coap_model.specs.Prelude.{side_responded, side_with, side_written, state_now, stop, stop_of}
+use Rattle.coap_model.specs.Prelude.{side_responded, side_with, side_written, state_now, stop, stop_of, takes}
 use Rattle.coap_model.specs.Prelude.{takes_messages, with_effect, with_history, without_due, without_request}
 use Rattle.coap_model.specs.Prelude.{without_token, world_after}
 use Rattle.coap_store.proofs.ApplicationLaws.{prompt_handed}
@@ -35,7 +35,6 @@ use Rattle.coap_conn.proofs.AskingLaws.{none_where}
 use Rattle.coap_conn.specs.Calls as call
 use Rattle.coap_store.specs.Answer as answer
 use Rattle.coap_model.proofs.world.CustodyLaws.{handled_cases, pending_where, request_quiet}
-use Rattle.coap_model.proofs.world.GoingOn.{IsSide}
 use Rattle.coap_model.proofs.world.WalkLaws.{HoldsOfCalls, announced_between, answer_goes, due_is, ended_between}
 use Rattle.coap_model.proofs.world.WalkLaws.{faulted_between, holding, kept_open_has, observers_kept, pending_is}
 use Rattle.coap_model.proofs.world.WalkLaws.{received, released_between, said_request, sent, there_or_not}
@@ -55,6 +54,8 @@ use Rattle.coap_model.proofs.world.FateLaws.{is_engine_for, none_respond, passes
 use Rattle.coap_model.proofs.world.FateLaws.{pending_same, sent_so}
 use Rattle.coap_model.proofs.world.AnsweredRequests.{answered_is_request, requested_or_over}
 use Rattle.coap_model.proofs.world.FateWalk.{KeepsRequests, expires, requests_kept}
+use Rattle.coap_model.proofs.world.PlaceLaws.{found}
+use Rattle.coap_model.proofs.world.AnswerCounts.{one, requests}
 
 -- The history after a message.
 abbrev pub after_message : Connection → Message → History
@@ -75,36 +76,40 @@ no_response token ms none =
 
 -- Only plain messages are queued, and the entries stay or the connection stops.
 record IsPlainOver (h k : History) : Type 0 where
-  limits : k.limits ≡ h.limits
-  handled : k.handled ≡ h.handled
-  more : List Message
-  queued : k.queued ≡ h.queued ++ more
-  plain : AllByRecursion IsPlain more
+  extends : Extends [] h k
+  plain : AllByRecursion IsPlain extends.more
   pending : StillPending h.pending h.phase k.pending k.phase
   engine : (token : List ℕ) → NoEngine token h.pending → NoEngine token k.pending
 
 stays_plain : (h k : History) (more : List Message) → k.queued ≡ h.queued ++ more → AllByRecursion IsPlain more
-    → k.limits ≡ h.limits → k.handled ≡ h.handled → k.pending ≡ h.pending → k.phase ≡ h.phase → IsPlainOver h k
-stays_plain h k more queued plain limits handled pending phase = record {
-  limits = limits;
-  handled = handled;
-  more = more;
-  queued = queued;
+    → (k.limits ≡ h.limits) × (k.role ≡ h.role) → k.handled ≡ h.handled → k.pending ≡ h.pending → k.phase ≡ h.phase
+    → IsPlainOver h k
+stays_plain h k more queued plain fixed handled pending phase = record {
+  extends = record {
+    fixed = fixed;
+    handled = handled ∙ sym (append-nil h.handled);
+    more = more;
+    queued = queued;
+    running = λ on. rw phase at on;
+  };
   plain = plain;
   pending = rw (pending, phase) (pending_same h.pending h.phase);
   engine = λ token none. rw pending none;
 }
 
 same_plain : (h : History) → IsPlainOver h h
-same_plain h = stays_plain h h [] (sym (append-nil h.queued)) tt refl refl refl refl
+same_plain h = stays_plain h h [] (sym (append-nil h.queued)) tt (refl, refl) refl refl refl
 
 stops_plain : (h : History) (why : Reason) (farewell : List Message) → AllByRecursion IsPlain farewell
     → IsPlainOver h (with_effect h (stop (state_now h) why farewell))
 stops_plain h why farewell plain = record {
-  limits = refl;
-  handled = refl;
-  more = farewell;
-  queued = refl;
+  extends = record {
+    fixed = (refl, refl);
+    handled = sym (append-nil h.handled);
+    more = farewell;
+    queued = refl;
+    running = λ on. absurd cc;
+  };
   plain = plain;
   pending = pending_over h.pending h.phase why;
   engine = λ token none. tt;
@@ -195,16 +200,10 @@ module _ (a : Option ApplicationsValue) where
   plain_passes s t is others = record {
     received = [];
     none = refl;
-    extends = record {
-      limits = is.limits;
-      handled = is.handled ∙ sym (append-nil s.history.handled);
-      more = is.more;
-      queued = is.queued;
-      running = λ on. (is.pending.running on).0;
-    };
+    extends = is.extends;
     spares = λ token none calm. (
       record { others = others token calm.others; engine = is.engine token calm.engine },
-      no_response token is.more (all_to IsPlain IsNoResponse (λ m so. so.0) is.more is.plain),
+      no_response token _ (all_to IsPlain IsNoResponse (λ m so. so.0) _ is.plain),
     );
     pending = is.pending;
   }
@@ -213,7 +212,7 @@ module _ (a : Option ApplicationsValue) where
 
   -- A reply with a token that is not calm, after messages that queued nothing.
   module _ (s : Connection) (received : List Message) (none : filter (is_for_application a) received ≡ [])
-      (g : History) (limits : g.limits ≡ s.history.limits) (handled : g.handled ≡ s.history.handled ++ received)
+      (g : History) (fixed : (g.limits ≡ s.history.limits) × (g.role ≡ s.history.role)) (handled : g.handled ≡ s.history.handled ++ received)
       (queued : g.queued ≡ s.history.queued)
       (pending : StillPending s.history.pending s.history.phase g.pending g.phase) (m : Message) (os : List Observer)
       (apart : (token : List ℕ) → NoneAsk token received → Calm token s
@@ -229,8 +228,8 @@ module _ (a : Option ApplicationsValue) where
           received = received;
           none = none;
           extends = record {
-            limits = cond_both (answers g.phase) _ g (λ (f : History). f.limits ≡ s.history.limits)
-                (λ on. limits) (λ off. limits);
+            fixed = cond_both (answers g.phase) _ g
+                (λ (f : History). (f.limits ≡ s.history.limits) × (f.role ≡ s.history.role)) (λ on. fixed) (λ off. fixed);
             handled = reply_either g m (λ ms es p. ms ≡ s.history.handled ++ received) handled handled;
             more = queues.more;
             queued = queues.same ∙ ap (λ ms. ms ++ queues.more) queued;
@@ -256,7 +255,7 @@ module _ (a : Option ApplicationsValue) where
       let first = due_answer now h.pending Engine own moment is in
       subst (λ g. Passes a s (with_history s (after g (call.Reply (late_message Engine own)))))
       (sym (answer_goes h now Engine own moment is))
-      (reply_passes s [] refl (without_first h now) refl (sym (append-nil h.handled)) refl
+      (reply_passes s [] refl (without_first h now) (refl, refl) (sym (append-nil h.handled)) refl
       (pending_gone first.before e first.after h.phase h.pending (without_due now h.pending) first.there first.without refl)
       (late_message Engine own) s.observers (λ token none calm.
       let due = no_engine_without token first.before e first.after (subst (NoEngine token) first.there calm.engine) in
@@ -279,7 +278,7 @@ module _ (a : Option ApplicationsValue) where
         received = [];
         none = refl;
         extends = record {
-          limits = refl;
+          fixed = (refl, refl);
           handled = sym (append-nil h.handled);
           more = _;
           queued = refl;
@@ -301,7 +300,7 @@ module _ (a : Option ApplicationsValue) where
       → Passes a s (notified store now s found)
   notified_passes store now s None there = plain_passes s s (same_plain s.history) (λ token others. others)
   notified_passes store now s (Some o) there =
-      reply_passes s [] refl s.history refl (sym (append-nil s.history.handled)) refl
+      reply_passes s [] refl s.history (refl, refl) (sym (append-nil s.history.handled)) refl
       (pending_same s.history.pending s.history.phase)
       (notification_message o.token (notification store now o)) _ (λ token none calm. (
       let apart = found_all (λ p. token ≢ p.token) (is_due store now) s.observers o calm.others (there o refl) in (
@@ -364,7 +363,7 @@ module _ (a : Option ApplicationsValue) where
 
 -- The message was handled, and nothing was queued.
 record IsRequested (h : History) (m : Message) (g : History) : Type 0 where
-  limits : g.limits ≡ h.limits
+  fixed : (g.limits ≡ h.limits) × (g.role ≡ h.role)
   handled : g.handled ≡ h.handled ++ m ∷ []
   queued : g.queued ≡ h.queued
   pending : g.pending ≡ h.pending
@@ -453,7 +452,7 @@ module _ (store : StoreValue) (now : ℕ) (s : Connection) (m : Message) (server
 
   abbrev it_extends : Extends (m ∷ []) h (received h m)
   it_extends = record {
-    limits = refl;
+    fixed = (refl, refl);
     handled = refl;
     more = (react (state_now h) m).effect.queued;
     queued = refl;
@@ -527,7 +526,7 @@ module _ (store : StoreValue) (now : ℕ) (s : Connection) (m : Message) (server
 
     abbrev late_extends : (e : PendingEntryValue) → Extends (m ∷ []) h (with_late e)
     late_extends e = record {
-      limits = is.limits;
+      fixed = is.fixed;
       handled = is.handled;
       more = [];
       queued = is.queued ∙ sym (append-nil h.queued);
@@ -590,7 +589,7 @@ module _ (store : StoreValue) (now : ℕ) (s : Connection) (m : Message) (server
     prompt_passes r other =
         let observes : Bool = has_place g.limits.observers others r.watch in
         let response : Message = response_with_observe m.token observes r.response in
-        reply_passes a s (m ∷ []) (rw other refl) g is.limits is.handled is.queued
+        reply_passes a s (m ∷ []) (rw other refl) g is.fixed is.handled is.queued
         (rw is.pending (record {
           running = λ live. (on_before, refl);
           quiet = λ quiet off. absurd (both_ways (answers g.phase) off on);
@@ -624,7 +623,7 @@ module _ (store : StoreValue) (now : ℕ) (s : Connection) (m : Message) (server
           at_queued = refl;
           at_alone = refl;
           extends = record {
-            limits = is.limits;
+            fixed = is.fixed;
             handled = is.handled;
             more = messages_of fate;
             queued = more;
@@ -661,7 +660,7 @@ module _ (store : StoreValue) (now : ℕ) (s : Connection) (m : Message) (server
       let quiet = request_quiet s m asks in
       let none = (react_asks (state_now h) m (said_request (react (state_now h) m).verdict asks)).nothing in
       record {
-        limits = rw live refl;
+        fixed = rw live (refl, refl);
         handled = rw live refl;
         queued = rw (live, none, append-nil) refl;
         pending = quiet.0;
@@ -720,24 +719,24 @@ module _ (store : StoreValue) (now : ℕ) (s : Connection) (m : Message) (server
       unanswered_over true off = refl
       unanswered_over false off = rw off refl
 
-handled_kept : (limits : LimitValues) (store : StoreValue) (now : ℕ) (s : Connection) (m : Message)
-    (rs : List ApplicationRequest) → IsSide limits s → Accounted store.applications s rs
+handled_kept : (store : StoreValue) (now : ℕ) (s : Connection) (m : Message)
+    (rs : List ApplicationRequest) → Accounted store.applications s rs
     → Accounted store.applications (side_after store now s m) (requests_after store now s m rs)
 unfolding side_after requests_after
-handled_kept limits store now s m rs side is =
+handled_kept store now s m rs is =
     let a : Option ApplicationsValue = store.applications in
     let t : Connection = side_handled store now s m in
     elim (cases_Bool (handles s)) [
       | inl does ↦ (
           let live = (handles_parts s does).0 in
           let passed : is_for_application a m ≡ false → Accounted a t rs =
-          λ other. passes_keep a s t rs (handled_passes store now s m side.is_server live other) is in
+          λ other. passes_keep a s t rs (handled_passes store now s m is.server live other) is in
           rw does (there_or_not (application_deadline a m)
           (λ o. Accounted a t (cond (is_asking m) (rs ++ new_request now s m o) rs))
           (λ none. rw append-nil (cond_both (is_asking m) rs rs (Accounted a t) (λ asks. passed (rw (asks, none) refl))
           (λ other. passed (rw other refl))))
           (λ seconds some. cond_both (is_asking m) (rs ++ new_request now s m (Some seconds)) rs (Accounted a t)
-          (λ asks. adds_keep a s t rs _ (handled_adds store now s m side.is_server live seconds (rw (asks, some) refl)
+          (λ asks. adds_keep a s t rs _ (handled_adds store now s m is.server live seconds (rw (asks, some) refl)
           some) is)
           (λ other. passed (rw other refl)))))
       | inr off ↦ rw off is
@@ -754,15 +753,15 @@ accounts_keep limits a =
     → Accounted a s rs → Accounted a t rs =
     λ s t rs is others. passes_keep a s t rs (plain_passes a s t is others) in
     record {
-      first = record { requests = refl; pending = λ on. refl; quiet = λ off. refl; each = tt; apart = tt };
-      handled = λ store now s m rs same side. subst (λ b. Accounted b s rs
+      first = record { server = refl; requests = refl; pending = λ on. refl; quiet = λ off. refl; each = tt; apart = tt };
+      handled = λ store now s m rs same. subst (λ b. Accounted b s rs
           → Accounted b (side_after store now s m) (requests_after store now s m rs)) same
-          (handled_kept limits store now s m rs side);
+          (handled_kept store now s m rs);
       faulted = λ s fault rs. plain s (side_faulted s fault) rs (faulted_between IsPlainOver same_plain
           (λ h r takes room. stops_plain h (reject_reason r) _ (abort_plain (limit_now h) (reject_reason r))) s fault)
           (λ token. (calm token).faulted s fault);
       written = λ s n rs. plain s (side_written s n) rs (written_between IsPlainOver same_plain
-          (λ h k within. stays_plain h _ [] (sym (append-nil h.queued)) tt refl refl refl refl) s n)
+          (λ h k within. stays_plain h _ [] (sym (append-nil h.queued)) tt (refl, refl) refl refl refl) s n)
           (λ token. (calm token).written s n);
       ended = λ s cut rs. plain s (side_ended s cut) rs (ended_between IsPlainOver same_plain
           (λ h cut takes. stops_plain h (end_reason cut) [] tt) s cut) (λ token. (calm token).ended s cut);
@@ -770,7 +769,7 @@ accounts_keep limits a =
           (λ h opened none. stops_plain h ReleasedHere (release ∷ []) ((refl, refl), tt)) s)
           (λ token. (calm token).released s);
       announced = λ s size rs. plain s (side_announced s size) rs (announced_between IsPlainOver same_plain
-          (λ h n opened room fit. stays_plain h _ (own_csm n ∷ []) refl ((refl, refl), tt) refl refl refl refl) s size)
+          (λ h n opened room fit. stays_plain h _ (own_csm n ∷ []) refl ((refl, refl), tt) (refl, refl) refl refl refl) s size)
           (λ token. (calm token).announced s size);
       responded = responded_kept a;
       reported = reported_kept a;

@@ -11,11 +11,12 @@ use lib.Pointwise.{bytes_decides}
 use Rattle.coap_model.specs.Prelude.{AllByRecursion, Answer, Answered, Application, ApplicationRequest}
 use Rattle.coap_model.specs.Prelude.{ApplicationsValue, Bare, Connection, ConnectionState, Engine, Fate, HasFate}
 use Rattle.coap_model.specs.Prelude.{HaveOtherPlaces, HaveOwnAnswers, History, MayAnswer, Message, PendingEntryValue}
-use Rattle.coap_model.specs.Prelude.{Phase, Pong, ReactionResult, Reason, Reply, Responder, Stopped, Unanswered, Whole}
-use Rattle.coap_model.specs.Prelude.{answers, asks_with, awaits, bare_response, entry_of, fate_by, fate_of, fit}
-use Rattle.coap_model.specs.Prelude.{fitted, has_stopped, is_asking, is_for_application, is_of_application, is_response}
-use Rattle.coap_model.specs.Prelude.{is_unanswered, limit_now, list_any, messages_of, responds, same_bytes, send}
-use Rattle.coap_model.specs.Prelude.{send_as, state_now, stay, with_effect, with_fate, with_history}
+use Rattle.coap_model.specs.Prelude.{Phase, Pong, ReactionResult, Reason, Reply, Responder, Server, Stopped, Unanswered}
+use Rattle.coap_model.specs.Prelude.{Whole, after, answers, asks_with, awaits, bare_response, entry_of, fate_by}
+use Rattle.coap_model.specs.Prelude.{fate_of, fit, fitted, has_stopped, is_asking, is_for_application}
+use Rattle.coap_model.specs.Prelude.{is_of_application, is_response, is_unanswered, limit_now, list_any, messages_of}
+use Rattle.coap_model.specs.Prelude.{responds, same_bytes, send, send_as, state_now, stay, with_effect, with_fate}
+use Rattle.coap_model.specs.Prelude.{with_history}
 use Rattle.coap_conn.specs.declared.phase.Phase.TheVariants as phase
 use Rattle.coap_model.proofs.world.WalkLaws.{kept_open_has}
 use Rattle.coap_model.proofs.world.LastNotificationLaws.{HaveOtherTokens}
@@ -25,6 +26,8 @@ use Rattle.coap_model.proofs.world.FateLists.{fate_all, fate_requests, filter_no
 use Rattle.coap_model.proofs.world.FateLists.{found_one, kept_at, map_without, new_then_old, next_at, none_filter}
 use Rattle.coap_model.proofs.world.FateLists.{none_waiting, old_fate, old_then_new, still_at, still_fate}
 use Rattle.coap_model.proofs.world.FateLists.{waiting_without, waits, without_passing}
+use Rattle.coap_model.proofs.world.RespondedLaws.{allowed}
+use Rattle.coap_model.proofs.world.AnswerCounts.{one}
 
 -- ---- pending entries and the phase
 
@@ -126,6 +129,7 @@ apart_more (f ∷ rs) r all apart = (all_append (Apart f) rs (r ∷ []) apart.0 
 
 -- The requests are accounted for. Those that were handled are these, and the unanswered ones are pending.
 pub record Accounted (a : Option ApplicationsValue) (s : Connection) (rs : List ApplicationRequest) : Type 0 where
+  pub server : s.history.role ≡ Server
   pub requests : map (λ r. r.request) rs ≡ filter (is_for_application a) s.history.handled
   pub pending : has_stopped s.history.phase ≡ false
       → map entry_of (filter waits rs) ≡ filter is_of_application s.history.pending
@@ -181,6 +185,7 @@ pub record Passes (a : Option ApplicationsValue) (s t : Connection) : Type 0 whe
 pub passes_keep : (a : Option ApplicationsValue) (s t : Connection) (rs : List ApplicationRequest) → Passes a s t
     → Accounted a s rs → Accounted a t rs
 passes_keep a s t rs passes is = record {
+  server = passes.extends.fixed.1 ∙ is.server;
   requests = rw (passes.extends.handled, filter-append, passes.none, append-nil) is.requests;
   pending = λ on. let before = passes.pending.running on in is.pending before.0 ∙ sym before.1;
   quiet = passes.pending.quiet is.quiet;
@@ -220,6 +225,7 @@ adds_keep a s t rs r adds is =
     let Answered : ApplicationRequest → Type 0 =
     λ f. r.alone ≡ true → f.request.token ≡ token → waits f ≡ false in
     record {
+      server = adds.extends.fixed.1 ∙ is.server;
       requests = rw (map-append, is.requests, adds.extends.handled, filter-append, adds.is_for) refl;
       pending = λ on. rw (filter-append, map-append, is.pending adds.live) (sym (adds.pending on));
       quiet = adds.quiet is.quiet;
@@ -364,7 +370,7 @@ module _ (a : Option ApplicationsValue) (s : Connection) (rs : List ApplicationR
   other_kept : (f : ApplicationRequest) → (f.request.token ≡ response.token → IsCurrent s.history f → ⊥) → IsKept s f
       → IsKept t f
   other_kept f none = kept_on s t (record {
-    limits = refl;
+    fixed = (refl, refl);
     handled = sym (append-nil s.history.handled);
     more = messages_of fate;
     queued = ap (λ ms. s.history.queued ++ ms) sent.queued;
@@ -471,6 +477,7 @@ module _ (a : Option ApplicationsValue) (s : Connection) (rs : List ApplicationR
   answer_keeps =
       let parts = each_kept rs one_waits is.each is.apart in
       record {
+        server = is.server;
         requests = fate_requests test fate rs ∙ is.requests;
         pending = λ live. rw (
           waiting_without test fate (sent.answered live).0 (λ r so. (next.passing r so).0) rs,

@@ -206,9 +206,9 @@ pub next_at : {A : Type 0} (xs : List A) (x : A) (ys : List A) → slice_get (xs
 next_at [] x ys = refl
 next_at (z ∷ xs) x ys = next_at xs x ys
 
--- A history has the limits and the messages of another one. It handled these messages since, and queued perhaps more.
+-- A history has the fixed values and the messages of another one. It handled these messages since, and queued perhaps more.
 pub record Extends (received : List Message) (h k : History) : Type 0 where
-  pub limits : k.limits ≡ h.limits
+  pub fixed : (k.limits ≡ h.limits) × (k.role ≡ h.role)
   pub handled : k.handled ≡ h.handled ++ received
   pub more : List Message
   pub queued : k.queued ≡ h.queued ++ more
@@ -220,7 +220,7 @@ pub still_fate : {received : List Message} (h k : History) → Extends received 
 still_fate h k e r Unanswered has = tt
 still_fate {received} h k e r (Answered by response sent handled place) has = record {
   allowed = has.allowed;
-  reduced = rw (e.limits, e.handled, take-append-le handled h.handled received has.within) has.reduced;
+  reduced = rw (e.fixed.0, e.handled, take-append-le handled h.handled received has.within) has.reduced;
   there = rw e.queued (still_at h.queued e.more place sent has.there);
   later = has.later;
   after_it = has.after_it;

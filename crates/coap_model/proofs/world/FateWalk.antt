@@ -18,20 +18,19 @@ use Rattle.coap_wire.proofs.NumberLaws.{none_or_some}
 use Rattle.coap_model.specs.world.World as world
 use Rattle.coap_model.proofs.OptionLemmas.{one_made, same_there}
 use Rattle.coap_model.proofs.world.PlaceLaws.{all_there, changed_elsewhere, changed_here, dropped_elsewhere}
-use Rattle.coap_model.proofs.world.PlaceLaws.{dropped_here, first_there, new_there, nobody, other_more}
-use Rattle.coap_model.proofs.world.WalkLaws.{Between, announced_between, once_between, there_or_not}
-use Rattle.coap_model.proofs.world.AcrossLaws.{HoldsOf, after_all, all_across, applications_stay, faulted_all}
-use Rattle.coap_model.proofs.world.AcrossLaws.{step_across}
-use Rattle.coap_model.proofs.world.GoingOn.{GoesOn, IsSide, all_go_on, as_before, follower_is, further, new_side_is}
+use Rattle.coap_model.proofs.world.PlaceLaws.{dropped_here, first_there, found, new_there, nobody, other_more}
+use Rattle.coap_model.proofs.world.WalkLaws.{Between, there_or_not}
+use Rattle.coap_model.proofs.world.AcrossLaws.{HoldsOf, applications_stay, step_across}
 use Rattle.coap_model.proofs.world.RespondedLaws.{allowed}
 use Rattle.coap_model.proofs.world.StepLaws.{steps_of_more}
+use Rattle.coap_model.proofs.world.ReachedLaws.{opens}
 
 -- A property of a new connection without requests that every effect keeps, in a server with these applications.
 pub record KeepsRequests (limits : LimitValues) (a : Option ApplicationsValue)
     (P : Connection → List ApplicationRequest → Type 0) : Type 0 where
   pub first : P (new_side limits) []
   pub handled : (store : StoreValue) (now : ℕ) (s : Connection) (m : Message) (rs : List ApplicationRequest)
-      → store.applications ≡ a → IsSide limits s → P s rs
+      → store.applications ≡ a → P s rs
       → P (side_after store now s m) (requests_after store now s m rs)
   pub faulted : (s : Connection) (fault : StreamFault) (rs : List ApplicationRequest) → P s rs
       → P (side_faulted s fault) rs
@@ -46,44 +45,34 @@ pub record KeepsRequests (limits : LimitValues) (a : Option ApplicationsValue)
 
 module _ (limits : LimitValues) (a : Option ApplicationsValue) (P : Connection → List ApplicationRequest → Type 0)
     (keeps : KeepsRequests limits a P) where
-  abbrev Good : Connection → List ApplicationRequest → Type 0
-  Good s rs = IsSide limits s × P s rs
-
-  good_then : (s t : Connection) (rs qs : List ApplicationRequest) → Between GoesOn s t → (P s rs → P t qs) → Good s rs
-      → Good t qs
-  good_then s t rs qs goes kept is = (follower_is limits s t goes is.0, kept is.1)
-
   -- Settling keeps it.
-  within_good : (turns : ℕ) (store : StoreValue) (now : ℕ) (s : Connection) (rs : List ApplicationRequest) → Good s rs
-      → Good (settled_within turns store now s) (requests_within turns store now s rs)
+  within_good : (turns : ℕ) (store : StoreValue) (now : ℕ) (s : Connection) (rs : List ApplicationRequest) → P s rs
+      → P (settled_within turns store now s) (requests_within turns store now s rs)
   unfolding settled_within requests_within
   within_good zero store now s rs is = is
   within_good (suc turns) store now s rs is =
-      within_good turns store now (settled_once store now s) (requests_once now s rs)
-      (good_then s (settled_once store now s) rs (requests_once now s rs)
-      (once_between GoesOn GoesOn as_before further all_go_on.replies all_go_on.lets_go all_go_on.pongs store now s)
-      (keeps.reported store now s rs) is)
+      within_good turns store now (settled_once store now s) (requests_once now s rs) (keeps.reported store now s rs is)
 
-  settled_good : (store : StoreValue) (now : ℕ) (s : Connection) (rs : List ApplicationRequest) → Good s rs
-      → Good (settled store now s) (requests_settled store now s rs)
+  settled_good : (store : StoreValue) (now : ℕ) (s : Connection) (rs : List ApplicationRequest) → P s rs
+      → P (settled store now s) (requests_settled store now s rs)
   unfolding settled requests_settled
   settled_good store now s rs = within_good (length s.history.pending + length s.observers) store now s rs
 
   module _ (id : ℕ) where
     -- The connection with this id, if it exists, has the property with these requests.
     abbrev AllGood : List ConnectionEntry → List ApplicationRequest → Type 0
-    AllGood sides rs = (s : Connection) → side_of id sides ≡ Some s → Good s rs
+    AllGood sides rs = (s : Connection) → side_of id sides ≡ Some s → P s rs
 
     -- A change of the connection with one id.
     changed_good : (sides : List ConnectionEntry) (at : ℕ) (f : Connection → Connection) (qs : List ApplicationRequest)
-        → (at ≡ id → (s : Connection) → side_of id sides ≡ Some s → Good (f s) qs) → (at ≢ id → AllGood sides qs)
+        → (at ≡ id → (s : Connection) → side_of id sides ≡ Some s → P (f s) qs) → (at ≢ id → AllGood sides qs)
         → AllGood (map (changed_at at f) sides) qs
     changed_good sides at f qs goes away t there =
         elim (cases_eq at id) [
           | inl here ↦
               let made = one_made f (side_of at sides) t
               (sym (changed_here at f sides) ∙ ap (λ (n : ℕ). side_of n (map (changed_at at f) sides)) here ∙ there) in
-              subst (λ (u : Connection). Good u qs) made.2
+              subst (λ (u : Connection). P u qs) made.2
               (goes here made.0 (ap (λ (n : ℕ). side_of n sides) (sym here) ∙ made.1))
           | inr apart ↦ away apart t (sym (changed_elsewhere at id f sides apart) ∙ there)
         ]
@@ -103,8 +92,7 @@ module _ (limits : LimitValues) (a : Option ApplicationsValue) (P : Connection �
                 let new : Some (new_side limits) ≡ Some t =
                 sym (first_there id (record { id = id; side = new_side limits }) [] refl)
                 ∙ sym (new_there id w.sides _ none) ∙ there in
-                subst (λ (u : Connection). Good u []) (same_there (new_side limits) t new)
-                (new_side_is limits, keeps.first))
+                subst (λ (u : Connection). P u []) (same_there (new_side limits) t new) keeps.first)
                 (λ s found. good))
             | inr apart ↦ rw (ne_eqb at id apart)
                 (cond_both (is_none (side_of at w.sides)) _ w (λ (u : World). AllGood u.sides rs)
@@ -113,53 +101,42 @@ module _ (limits : LimitValues) (a : Option ApplicationsValue) (P : Connection �
           ]
 
       -- A change of the connection with one id leaves the requests, or changes them too if this is the id.
-      same_good : (at : ℕ) (f : Connection → Connection) → ((s : Connection) → Between GoesOn s (f s))
-          → ((s : Connection) → P s rs → P (f s) rs) → AllGood (map (changed_at at f) w.sides) rs
-      same_good at f goes kept = changed_good w.sides at f rs
-          (λ here s there. good_then s (f s) rs rs (goes s) (kept s) (good s there)) (λ apart. good)
+      same_good : (at : ℕ) (f : Connection → Connection) → ((s : Connection) → P s rs → P (f s) rs)
+          → AllGood (map (changed_at at f) w.sides) rs
+      same_good at f kept =
+          changed_good w.sides at f rs (λ here s there. kept s (good s there)) (λ apart. good)
 
       own_good : (at : ℕ) (f : Connection → Connection)
           (g : Connection → List ApplicationRequest → List ApplicationRequest)
-          → ((s : Connection) → Between GoesOn s (f s)) → ((s : Connection) → IsSide limits s → P s rs → P (f s) (g s rs))
+          → ((s : Connection) → P s rs → P (f s) (g s rs))
           → AllGood (map (changed_at at f) w.sides) (cond (at == id) (if_there (side_of id w.sides) g rs) rs)
-      own_good at f g goes kept = changed_good w.sides at f _
-          (λ here s there. rw (eq-eqb at id here, there)
-          (good_then s (f s) rs (g s rs) (goes s) (kept s (good s there).0) (good s there)))
+      own_good at f g kept =
+          changed_good w.sides at f _ (λ here s there. rw (eq-eqb at id here, there) (kept s (good s there)))
           (λ apart. rw (ne_eqb at id apart) good)
 
       acted_good : (st : Step) → w.store.applications ≡ a
           → AllGood (acted limits w st).sides (requests_acted id w st rs)
       unfolding acted requests_acted
-      acted_good st same = by st
-        where
-          goes : (st : Step) → HoldsOf (Between GoesOn) w st id
-          goes st = all_across GoesOn all_go_on w st id
-
-          by : (st : Step) → AllGood (acted limits w st).sides (requests_acted id w st rs)
-          by (world.Opened at) = opened_good at
-          by (world.Handled at m) = own_good at _ _ (λ s. after_all GoesOn all_go_on w.store w.now s m)
-              (λ s. keeps.handled w.store w.now s m rs same)
-          by (world.Faulted at fault) = same_good at _ (λ s. faulted_all GoesOn all_go_on s fault)
-              (λ s. keeps.faulted s fault rs)
-          by (world.Written at n) = same_good at _ (λ s. (goes st).written s n) (λ s. keeps.written s n rs)
-          by (world.Ticked now) =
-              cond_both (ticks w.now now) _ w (λ (u : World). AllGood u.sides rs) (λ may. good) (λ early. good)
-          by (world.Stored path format bytes) =
-              cond_both (is_none (put_refusal w.store path bytes)) _ w (λ (u : World). AllGood u.sides rs)
-              (λ may. good) (λ refused. good)
-          by (world.Removed path) = good
-          by (world.Ended at cut) = same_good at _ (λ s. (goes st).ended s cut) (λ s. keeps.ended s cut rs)
-          by (world.Released at) = same_good at _ (λ s. (goes st).released s) (λ s. keeps.released s rs)
-          by (world.Announced at size) =
-              same_good at _ (λ s. announced_between GoesOn as_before all_go_on.announces s size) (λ s. keeps.announced s size rs)
-          by (world.Responded at m) =
-              own_good at _ _ (λ s. (goes st).responded s m) (λ s side. keeps.responded s m rs)
-          by (world.Dropped at) = λ t there. elim (cases_eq at id) [
-            | inl here ↦
-                absurd (none_or_some t (sym (dropped_here at w.sides)
-                ∙ ap (λ (n : ℕ). side_of n (acted limits w (world.Dropped at)).sides) here ∙ there))
-            | inr apart ↦ good t (sym (dropped_elsewhere at id w.sides apart) ∙ there)
-          ]
+      acted_good (world.Opened at) same = opened_good at
+      acted_good (world.Handled at m) same = own_good at _ _ (λ s. keeps.handled w.store w.now s m rs same)
+      acted_good (world.Faulted at fault) same = same_good at _ (λ s. keeps.faulted s fault rs)
+      acted_good (world.Written at n) same = same_good at _ (λ s. keeps.written s n rs)
+      acted_good (world.Ticked now) same =
+          cond_both (ticks w.now now) _ w (λ (u : World). AllGood u.sides rs) (λ may. good) (λ early. good)
+      acted_good (world.Stored path format bytes) same =
+          cond_both (is_none (put_refusal w.store path bytes)) _ w (λ (u : World). AllGood u.sides rs)
+          (λ may. good) (λ refused. good)
+      acted_good (world.Removed path) same = good
+      acted_good (world.Ended at cut) same = same_good at _ (λ s. keeps.ended s cut rs)
+      acted_good (world.Released at) same = same_good at _ (λ s. keeps.released s rs)
+      acted_good (world.Announced at size) same = same_good at _ (λ s. keeps.announced s size rs)
+      acted_good (world.Responded at m) same = own_good at _ _ (λ s. keeps.responded s m rs)
+      acted_good (world.Dropped at) same = λ t there. elim (cases_eq at id) [
+        | inl here ↦
+            absurd (none_or_some t (sym (dropped_here at w.sides)
+            ∙ ap (λ (n : ℕ). side_of n (acted limits w (world.Dropped at)).sides) here ∙ there))
+        | inr apart ↦ good t (sym (dropped_elsewhere at id w.sides apart) ∙ there)
+      ]
 
     then_good : (w : World) (rs : List ApplicationRequest) → AllGood w.sides rs
         → AllGood (map (settled_place w.store w.now) w.sides) (requests_then id w rs)
@@ -167,7 +144,7 @@ module _ (limits : LimitValues) (a : Option ApplicationsValue) (P : Connection �
     then_good w rs good t there =
         let made = one_made (settled w.store w.now) (side_of id w.sides) t
         (sym (all_there id (settled w.store w.now) w.sides) ∙ there) in
-        rw made.1 (subst (λ (u : Connection). Good u (requests_settled w.store w.now made.0 rs)) made.2
+        rw made.1 (subst (λ (u : Connection). P u (requests_settled w.store w.now made.0 rs)) made.2
         (settled_good w.store w.now made.0 rs (good made.0 made.1)))
 
     steps_good : (w : World) (ss : List Step) (rs : List ApplicationRequest) → w.store.applications ≡ a
@@ -185,8 +162,8 @@ pub requests_kept : (c : ConfigValues) (P : Connection → List ApplicationReque
     → side_of id (world_after c es).sides ≡ Some s → P s (requests_on c id es)
 unfolding world_after requests_on
 requests_kept c P keeps es id s there =
-    (steps_good c.limits c.applications P keeps id (new_world c) (steps_of c.limits.max_message es) [] refl
-    (λ t none. absurd (none_or_some t (sym (nobody id) ∙ none))) s there).1
+    steps_good c.limits c.applications P keeps id (new_world c) (steps_of c.limits.max_message es) [] refl
+    (λ t none. absurd (none_or_some t (sym (nobody id) ∙ none))) s there
 
 -- ---- properties of the requests alone
 
