@@ -50,8 +50,8 @@ use Rattle.coap_model.proofs.world.FateLists.{Extends, IsNew, all_parts, filter_
 use Rattle.coap_model.proofs.world.FateLists.{without_found, without_passing}
 use Rattle.coap_model.proofs.world.FateLaws.{Accounted, AddsRequest, Calm, IsKept, IsNext, IsSent, NoEngine, NoneAsk}
 use Rattle.coap_model.proofs.world.FateLaws.{NoneRespond, Passes, Spares, StillPending, adds_keep, answer_keeps}
-use Rattle.coap_model.proofs.world.FateLaws.{is_engine_for, none_respond, passes_keep, pending_gone, pending_over}
-use Rattle.coap_model.proofs.world.FateLaws.{pending_same, sent_so}
+use Rattle.coap_model.proofs.world.FateLaws.{calm_so, is_engine_for, none_respond, passes_keep, pending_gone}
+use Rattle.coap_model.proofs.world.FateLaws.{pending_over, pending_same, request_with, sent_so}
 use Rattle.coap_model.proofs.world.AnsweredRequests.{answered_is_request, requested_or_over}
 use Rattle.coap_model.proofs.world.FateWalk.{KeepsRequests, expires, requests_kept}
 use Rattle.coap_model.proofs.world.PlaceLaws.{found}
@@ -237,10 +237,7 @@ module _ (a : Option ApplicationsValue) where
           };
           spares = λ token asks calm. (
               let is = apart token asks calm in (
-                record {
-                  others = kept_open_has (HaveOtherTokens token) tt k os is.0;
-                  engine = reply_either g m (λ ms es p. NoEngine token es) is.1 tt;
-                },
+                calm_so token k os is.0 (reply_either g m (λ ms es p. NoEngine token es) is.1 tt),
                 none_respond token m.token queues.more is.2 queues.such,
               ));
           pending = still;
@@ -285,11 +282,9 @@ module _ (a : Option ApplicationsValue) where
           running = λ on. (still.running on).0;
         };
         spares = λ token none calm. (
-          record {
-            others = kept_open_has (HaveOtherTokens token) tt (sent g m less) s.observers calm.others;
-            engine = sent_either (state_now g) m less (fit (limit_now g) m less) (λ es p. NoEngine token es)
-                (subst (NoEngine token) there calm.engine).1 tt;
-          },
+          calm_so token (sent g m less) s.observers calm.others
+              (sent_either (state_now g) m less (fit (limit_now g) m less) (λ es p. NoEngine token es)
+              (subst (NoEngine token) there calm.engine).1 tt),
           no_response token _ (sent_all IsNoResponse (state_now g) m less (fit (limit_now g) m less) refl refl),
         );
         pending = still;
@@ -428,17 +423,6 @@ module _ (store : StoreValue) (now : ℕ) (s : Connection) (m : Message) (server
   abbrev others : List Observer
   others = without_token m.token s.observers
 
-  abbrev request_with : ℕ → Fate → ApplicationRequest
-  request_with seconds fate = record {
-    request = m;
-    deadline = moment_after now seconds;
-    handled = length h.handled;
-    queued = length h.queued;
-    alone = not (list_any (awaits m.token) h.pending);
-    handed = asks_answer s m && may_hold (after_message s m);
-    fate = fate;
-  }
-
   on_before : has_stopped h.phase ≡ false
   on_before = running_live h.phase live
 
@@ -461,10 +445,7 @@ module _ (store : StoreValue) (now : ℕ) (s : Connection) (m : Message) (server
 
   it_spares : (token : List ℕ) → Spares (m ∷ []) s after_it it_extends.more token
   it_spares token none calm = (
-    record {
-      others = kept_open_has (HaveOtherTokens token) tt (received h m) s.observers calm.others;
-      engine = reacts.engine token calm.engine;
-    },
+    calm_so token (received h m) s.observers calm.others (reacts.engine token calm.engine),
     no_response token _ reacts.silent,
   )
 
@@ -478,18 +459,13 @@ module _ (store : StoreValue) (now : ℕ) (s : Connection) (m : Message) (server
   }
 
   -- The connection stops.
-  over_adds : (seconds : ℕ) → is_for_application a m ≡ true → has_stopped (received h m).phase ≡ true
-      → AddsRequest a s after_it (request_with seconds Unanswered)
-  over_adds seconds is_for over =
+  over_adds : (seconds : ℕ) → has_stopped (received h m).phase ≡ true
+      → AddsRequest s after_it (request_with now s m seconds Unanswered)
+  over_adds seconds over =
       let closed : is_open (received h m).phase ≡ false = grind arith in
       record {
-        is_for = is_for;
-        at_handled = refl;
-        at_queued = refl;
-        at_alone = refl;
         extends = it_extends;
         spares = it_spares;
-        live = on_before;
         has = tt;
         new = tt;
         pending = λ on. absurd (both_ways (has_stopped (received h m).phase) on over);
@@ -537,12 +513,9 @@ module _ (store : StoreValue) (now : ℕ) (s : Connection) (m : Message) (server
         → ((token : List ℕ) → same_bytes m.token token ≡ false → is_engine_for token e ≡ false) → (token : List ℕ)
         → Spares (m ∷ []) s (side_with (with_late e) others) [] token
     late_spares e new token none calm = (
-      record {
-        others = kept_open_has (HaveOtherTokens token) tt (with_late e) others (others_left token calm.others);
-        engine =
-            all_append (λ f. is_engine_for token f ≡ false) g.pending (e ∷ []) (rw is.pending calm.engine)
-            (new token (other_token token none), tt);
-      },
+      calm_so token (with_late e) others (others_left token calm.others)
+          (all_append (λ f. is_engine_for token f ≡ false) g.pending (e ∷ []) (rw is.pending calm.engine)
+          (new token (other_token token none), tt)),
       tt,
     )
 
@@ -559,28 +532,20 @@ module _ (store : StoreValue) (now : ℕ) (s : Connection) (m : Message) (server
       };
     }
 
-    pending_adds : (seconds : ℕ) → is_for_application a m ≡ true → may_hold (after_message s m) ≡ true
-        → AddsRequest a s (side_with (with_late (Answer Application m.token (moment_after now seconds))) others)
-        (request_with seconds Unanswered)
-    pending_adds seconds is_for may = record {
-      is_for = is_for;
-      at_handled = refl;
-      at_queued = refl;
-      at_alone = refl;
+    pending_adds : (seconds : ℕ) → may_hold (after_message s m) ≡ true
+        → AddsRequest s (side_with (with_late (Answer Application m.token (moment_after now seconds))) others)
+        (request_with now s m seconds Unanswered)
+    pending_adds seconds may = record {
       extends = late_extends (Answer Application m.token (moment_after now seconds));
       spares = late_spares (Answer Application m.token (moment_after now seconds)) (λ token apart. refl);
-      live = on_before;
       has = tt;
       new = tt;
       pending = λ on. rw (is.pending, filter-append) refl;
       handed = λ on waiting. and_from (asks_answer s m) (may_hold (after_message s m)) asks may;
       quiet = λ quiet off. absurd (both_ways (answers g.phase) off on);
-      calm = λ apart. record {
-        others = kept_open_has (HaveOtherTokens m.token) tt
-            (with_late (Answer Application m.token (moment_after now seconds))) others others_none;
-        engine = all_append (λ f. is_engine_for m.token f ≡ false) g.pending _
-            (rw is.pending (no_engine_awaits m.token h.pending apart)) (refl, tt);
-      };
+      calm = λ apart. calm_so m.token (with_late (Answer Application m.token (moment_after now seconds))) others
+          others_none (all_append (λ f. is_engine_for m.token f ≡ false) g.pending _
+          (rw is.pending (no_engine_awaits m.token h.pending apart)) (refl, tt));
       only = refl;
     }
 
@@ -605,10 +570,10 @@ module _ (store : StoreValue) (now : ℕ) (s : Connection) (m : Message) (server
         )))
 
     -- The list is full.
-    refused_adds : (seconds : ℕ) → is_for_application a m ≡ true → may_hold (after_message s m) ≡ false
-        → AddsRequest a s (side_with (after g (call.Reply (refusal_of m))) others)
-        (request_with seconds (fate_by Engine g (refusal_of m)))
-    refused_adds seconds is_for full =
+    refused_adds : (seconds : ℕ) → may_hold (after_message s m) ≡ false
+        → AddsRequest s (side_with (after g (call.Reply (refusal_of m))) others)
+        (request_with now s m seconds (fate_by Engine g (refusal_of m)))
+    refused_adds seconds full =
         let fate : Fate = fate_by Engine g (refusal_of m) in
         let response : Message = refusal_of m in
         let e : ReactionResult = send (state_now g) response (bare_response response) in
@@ -617,11 +582,7 @@ module _ (store : StoreValue) (now : ℕ) (s : Connection) (m : Message) (server
         let more : k.queued ≡ h.queued ++ messages_of fate =
         ap (λ ms. g.queued ++ ms) sent.queued ∙ ap (λ ms. ms ++ messages_of fate) is.queued in
         let apart : (asks_answer s m && may_hold (after_message s m)) ≡ false = grind (arith, full) in
-        subst (λ (b : Bool). AddsRequest a s (side_with (cond b k g) others) (request_with seconds fate)) (sym on) (record {
-          is_for = is_for;
-          at_handled = refl;
-          at_queued = refl;
-          at_alone = refl;
+        subst (λ (b : Bool). AddsRequest s (side_with (cond b k g) others) (request_with now s m seconds fate)) (sym on) (record {
           extends = record {
             fixed = is.fixed;
             handled = is.handled;
@@ -630,15 +591,11 @@ module _ (store : StoreValue) (now : ℕ) (s : Connection) (m : Message) (server
             running = λ live. on_before;
           };
           spares = λ token none calm. (
-            record {
-              others = kept_open_has (HaveOtherTokens token) tt k others (others_left token calm.others);
-              engine = sent.engine token (rw is.pending calm.engine);
-            },
+            calm_so token k others (others_left token calm.others) (sent.engine token (rw is.pending calm.engine)),
             none_respond token m.token (messages_of fate) (other_token token none)
                 (all_to _ (λ n. n.token ≡ m.token) (λ n so. so.1) (messages_of fate) sent.responses),
           );
-          live = on_before;
-          has = sent.has (request_with seconds fate)
+          has = sent.has (request_with now s m seconds fate)
               ((λ handed. absurd (both_ways _ apart handed)), (λ none. (refl, ap (λ ms. length ms) is.queued)))
               (omega (arith, ap (λ (ms : List Message). length ms) is.queued))
               (omega (arith, ap (λ (ms : List Message). length ms) is.handled, length-append h.handled (m ∷ [])));
@@ -646,10 +603,8 @@ module _ (store : StoreValue) (now : ℕ) (s : Connection) (m : Message) (server
           pending = λ live. rw ((sent.answered live).0, (sent.answered live).1, is.pending, append-nil) refl;
           handed = λ live waiting. absurd (both_ways (is_unanswered fate) (sent.answered live).0 waiting);
           quiet = λ quiet. sent.quiet;
-          calm = λ alone. record {
-            others = kept_open_has (HaveOtherTokens m.token) tt k others others_none;
-            engine = sent.engine m.token (rw is.pending (no_engine_awaits m.token h.pending alone));
-          };
+          calm = λ alone. calm_so m.token k others others_none
+              (sent.engine m.token (rw is.pending (no_engine_awaits m.token h.pending alone)));
           only = filter_whole (responds m.token) (messages_of fate)
               (all_to _ (λ n. responds m.token n ≡ true)
               (λ n is. and_from _ _ is.0 ((bytes_decides n.token m.token).1 is.1)) (messages_of fate) sent.responses);
@@ -682,14 +637,14 @@ module _ (store : StoreValue) (now : ℕ) (s : Connection) (m : Message) (server
   no_place f d none = grind arith
 
   handled_adds : (seconds : ℕ) → is_for_application a m ≡ true → application_deadline a m ≡ Some seconds
-      → AddsRequest a s (side_handled store now s m) (request_with seconds (first_fate (after_message s m) m))
+      → AddsRequest s (side_handled store now s m) (request_with now s m seconds (first_fate (after_message s m) m))
   handled_adds seconds is_for deadline =
       let g : History = after_message s m in
       let fate : Bool → Fate = λ may. cond may Unanswered (fate_by Engine g (refusal_of m)) in
-      let IsAdded : Connection → Type 0 = λ t. AddsRequest a s t (request_with seconds (first_fate g m)) in
-      let by_place : (may : Bool) (t : Connection) → may_hold g ≡ may → AddsRequest a s t (request_with seconds (fate may))
+      let IsAdded : Connection → Type 0 = λ t. AddsRequest s t (request_with now s m seconds (first_fate g m)) in
+      let by_place : (may : Bool) (t : Connection) → may_hold g ≡ may → AddsRequest s t (request_with now s m seconds (fate may))
       → IsAdded t =
-      λ may t is. subst (λ b. AddsRequest a s t (request_with seconds (fate b))) (sym is) in
+      λ may t is. subst (λ b. AddsRequest s t (request_with now s m seconds (fate b))) (sym is) in
       let d : Delay = record { by = Application; seconds = seconds } in
       let delay : delay_of store now m ≡ Some d = rw deadline refl in
       cond_both (asks_answer s m) _ _ IsAdded (λ asks.
@@ -699,19 +654,19 @@ module _ (store : StoreValue) (now : ℕ) (s : Connection) (m : Message) (server
       ∙ cond-true _ _ g (and_from _ _ (requested asks).opened both.0) in
       subst (λ (e : Delay). IsAdded (side_with (after g (hold_call e.by m.token (moment_after now e.seconds))) others))
       (same_there d f (sym delay ∙ both.1)) (rw entry (by_place true _ both.0 (pending_adds asks g (requested asks)
-      seconds is_for both.0)))))
+      seconds both.0)))))
       (λ none. (
       let full = no_place g d (rw delay at none) in
       rw (prompt_handed store now m seconds deadline)
-      (by_place false _ full (refused_adds asks g (requested asks) seconds is_for full)))))
+      (by_place false _ full (refused_adds asks g (requested asks) seconds full)))))
       (λ other. elim (requested_or_over (state_now h) m server live (and_parts (is_asking m) _ is_for).0) [
         | inl asks ↦ absurd (both_ways (asks_answer s m) other asks)
         | inr over ↦ (
             let got = cond-true (takes_messages h.phase) (received h m) h live in
             let off = off_over g.phase (rw got over) in
             subst (λ (k : History). IsAdded (with_history s k)) (sym got)
-            (subst (λ (f : Fate). AddsRequest a s after_it (request_with seconds f)) (sym (unanswered_over (may_hold g) off))
-            (over_adds seconds is_for over)))
+            (subst (λ (f : Fate). AddsRequest s after_it (request_with now s m seconds f)) (sym (unanswered_over (may_hold g) off))
+            (over_adds seconds over)))
       ])
     where
       unanswered_over : (b : Bool) → answers (after_message s m).phase ≡ false
@@ -736,8 +691,9 @@ handled_kept store now s m rs is =
           (λ none. rw append-nil (cond_both (is_asking m) rs rs (Accounted a t) (λ asks. passed (rw (asks, none) refl))
           (λ other. passed (rw other refl))))
           (λ seconds some. cond_both (is_asking m) (rs ++ new_request now s m (Some seconds)) rs (Accounted a t)
-          (λ asks. adds_keep a s t rs _ (handled_adds store now s m is.server live seconds (rw (asks, some) refl)
-          some) is)
+          (λ asks. (let for : is_for_application a m ≡ true = rw (asks, some) refl in
+          adds_keep a s t rs now m seconds _ for (running_live s.history.phase live)
+          (handled_adds store now s m is.server live seconds for some) is))
           (λ other. passed (rw other refl)))))
       | inr off ↦ rw off is
     ]

@@ -1,7 +1,7 @@
 -- The requests that the application answers are accounted for: the unanswered ones are pending, and the answer to each
 -- other one is queued at its own place. Each effect adds a request, answers one, or passes them all.
 use Rattle.std.proofs.Common.{Bool, List, Option, Some, [], ap, arith, drop, false, filter, inl, inr, length, map, not}
-use Rattle.std.proofs.Common.{refl, slice_get, suc, sym, true, ℕ, ◌++◌, ◌<◌, ◌∙◌, ◌∷◌, ◌≡◌, ◌≤◌}
+use Rattle.std.proofs.Common.{refl, slice_get, suc, sym, true, ℕ, ◌&&◌, ◌++◌, ◌<◌, ◌∙◌, ◌∷◌, ◌≡◌, ◌≤◌}
 use Rattle.std.proofs.lemmas.Bool.{and_from, and_parts, and_right, both_ways, cases_Bool, cond_both}
 use Rattle.std.proofs.lemmas.List.{append-nil, drop-append-le, length-append, map-append}
 use Rattle.std.proofs.Math.Seq.{drop-append_seam, take-length}
@@ -10,13 +10,14 @@ use Rattle.std.proofs.lemmas.Option.{slice_get_within}
 use lib.Pointwise.{bytes_decides}
 use Rattle.coap_model.specs.Prelude.{AllByRecursion, Answer, Answered, Application, ApplicationRequest}
 use Rattle.coap_model.specs.Prelude.{ApplicationsValue, Bare, Connection, ConnectionState, Engine, Fate, HasFate}
-use Rattle.coap_model.specs.Prelude.{HaveOtherPlaces, HaveOwnAnswers, History, MayAnswer, Message, PendingEntryValue}
-use Rattle.coap_model.specs.Prelude.{Phase, Pong, ReactionResult, Reason, Reply, Responder, Server, Stopped, Unanswered}
-use Rattle.coap_model.specs.Prelude.{Whole, after, answers, asks_with, awaits, bare_response, entry_of, fate_by}
-use Rattle.coap_model.specs.Prelude.{fate_of, fit, fitted, has_stopped, is_asking, is_for_application}
-use Rattle.coap_model.specs.Prelude.{is_of_application, is_response, is_unanswered, limit_now, list_any, messages_of}
-use Rattle.coap_model.specs.Prelude.{responds, same_bytes, send, send_as, state_now, stay, with_effect, with_fate}
-use Rattle.coap_model.specs.Prelude.{with_history}
+use Rattle.coap_model.specs.Prelude.{HaveOtherPlaces, HaveOwnAnswers, History, MayAnswer, Message, Observer}
+use Rattle.coap_model.specs.Prelude.{PendingEntryValue, Phase, Pong, ReactionResult, Reason, Reply, Responder, Server}
+use Rattle.coap_model.specs.Prelude.{Stopped, Unanswered, Whole, after, answers, asks_answer, asks_with, awaits}
+use Rattle.coap_model.specs.Prelude.{bare_response, entry_of, fate_by, fate_of, fit, fitted, has_stopped, is_asking}
+use Rattle.coap_model.specs.Prelude.{is_for_application, is_of_application, is_response, is_unanswered, limit_now}
+use Rattle.coap_model.specs.Prelude.{list_any, may_hold, messages_of, moment_after, responds, same_bytes, send, send_as}
+use Rattle.coap_model.specs.Prelude.{side_with, state_now, stay, with_effect, with_fate, with_history}
+use Rattle.coap_conn.specs.Calls as call
 use Rattle.coap_conn.specs.declared.phase.Phase.TheVariants as phase
 use Rattle.coap_model.proofs.world.WalkLaws.{kept_open_has}
 use Rattle.coap_model.proofs.world.LastNotificationLaws.{HaveOtherTokens}
@@ -79,6 +80,11 @@ NoneAsk token ms = AllByRecursion (λ m. asks_with token m ≡ false) ms
 pub record Calm (token : List ℕ) (s : Connection) : Type 0 where
   pub others : HaveOtherTokens token s.observers
   pub engine : NoEngine token s.history.pending
+
+pub calm_so : (token : List ℕ) (h : History) (os : List Observer) → HaveOtherTokens token os → NoEngine token h.pending
+    → Calm token (side_with h os)
+calm_so token h os others engine =
+    record { others = kept_open_has (HaveOtherTokens token) tt h os others; engine = engine }
 
 -- A calm token stays calm, and no response with it is queued, if no request with it is handled.
 abbrev pub Spares : List Message → (s t : Connection) → List Message → List ℕ → Type 0
@@ -196,14 +202,21 @@ passes_keep a s t rs passes is = record {
 
 -- ---- an effect that adds a request
 
-pub record AddsRequest (a : Option ApplicationsValue) (s t : Connection) (r : ApplicationRequest) : Type 0 where
-  pub is_for : is_for_application a r.request ≡ true
-  pub at_handled : r.handled ≡ length s.history.handled
-  pub at_queued : r.queued ≡ length s.history.queued
-  pub at_alone : r.alone ≡ not (list_any (awaits r.request.token) s.history.pending)
+-- A request that a message adds, with its fate.
+abbrev pub request_with : ℕ → Connection → Message → ℕ → Fate → ApplicationRequest
+request_with now s m seconds fate = record {
+  request = m;
+  deadline = moment_after now seconds;
+  handled = length s.history.handled;
+  queued = length s.history.queued;
+  alone = not (list_any (awaits m.token) s.history.pending);
+  handed = asks_answer s m && may_hold (after s.history (call.Handle m));
+  fate = fate;
+}
+
+pub record AddsRequest (s t : Connection) (r : ApplicationRequest) : Type 0 where
   pub extends : Extends (r.request ∷ []) s.history t.history
   pub spares : (token : List ℕ) → Spares (r.request ∷ []) s t extends.more token
-  pub live : has_stopped s.history.phase ≡ false
   pub has : HasFate t.history r r.fate
   pub new : IsNew (length s.history.queued) r.fate
   pub pending : has_stopped t.history.phase ≡ false → filter is_of_application t.history.pending
@@ -214,48 +227,51 @@ pub record AddsRequest (a : Option ApplicationsValue) (s t : Connection) (r : Ap
   pub calm : list_any (awaits r.request.token) s.history.pending ≡ false → Calm r.request.token t
   pub only : filter (responds r.request.token) extends.more ≡ messages_of r.fate
 
-pub adds_keep : (a : Option ApplicationsValue) (s t : Connection) (rs : List ApplicationRequest)
-    (r : ApplicationRequest) → AddsRequest a s t r → Accounted a s rs → Accounted a t (rs ++ r ∷ [])
-adds_keep a s t rs r adds is =
-    let h : History = s.history in
-    let token : List ℕ = r.request.token in
-    let lone : r.alone ≡ true → list_any (awaits token) h.pending ≡ false = λ alone. grind (arith, adds.at_alone) in
-    let answered = none_waiting token r.alone rs (λ alone. rw (is.pending adds.live)
-    (none_filter (awaits token) is_of_application h.pending (lone alone))) in
-    let Answered : ApplicationRequest → Type 0 =
-    λ f. r.alone ≡ true → f.request.token ≡ token → waits f ≡ false in
-    record {
-      server = adds.extends.fixed.1 ∙ is.server;
-      requests = rw (map-append, is.requests, adds.extends.handled, filter-append, adds.is_for) refl;
-      pending = λ on. rw (filter-append, map-append, is.pending adds.live) (sym (adds.pending on));
-      quiet = adds.quiet is.quiet;
-      each =
-          all_append (IsKept t) rs (r ∷ []) (all_to (IsKept s) (IsKept t)
-          (λ f. kept_on s t adds.extends f (λ current. adds.spares f.request.token)) rs is.each) (
-            record {
-              has = adds.has;
-              few = omega (
-                arith,
-                adds.at_queued,
-                ap (λ (ms : List Message). length ms) adds.extends.queued,
-                length-append h.queued adds.extends.more,
-              );
-              there = rw (adds.at_handled, adds.extends.handled) (next_at h.handled r.request []);
-              asks = (and_parts (is_asking r.request) _ adds.is_for).0;
-              handed = adds.handed;
-              only = λ current. (
-                adds.calm (lone current.0),
-                rw (adds.at_queued, adds.extends.queued, drop-append_seam) adds.only,
-              );
-            },
-            tt,
-          );
-      apart = apart_more rs r (all_to (λ f. IsKept s f × Answered f) (λ f. Apart f r) (λ f so. (
-        old_then_new (length h.queued) f.fate r.fate (old_fate h f f.fate so.0.has) adds.new,
-        omega (arith, at_place s f so.0, adds.at_handled),
-        so.1,
-      )) rs (all_both (IsKept s) Answered rs is.each answered)) is.apart;
-    }
+module _ (a : Option ApplicationsValue) (s t : Connection) (rs : List ApplicationRequest) (now : ℕ) (m : Message)
+    (seconds : ℕ) (fate : Fate) (is_for : is_for_application a m ≡ true) (live : has_stopped s.history.phase ≡ false)
+    (adds : AddsRequest s t (request_with now s m seconds fate)) (is : Accounted a s rs) where
+  abbrev h : History
+  h = s.history
+
+  abbrev r : ApplicationRequest
+  r = request_with now s m seconds fate
+
+  lone : r.alone ≡ true → list_any (awaits m.token) h.pending ≡ false
+  lone alone = grind arith
+
+  pub adds_keep : Accounted a t (rs ++ r ∷ [])
+  adds_keep =
+      let Answered : ApplicationRequest → Type 0 = λ f. r.alone ≡ true → f.request.token ≡ m.token → waits f ≡ false in
+      let answered : AllByRecursion Answered rs = none_waiting m.token r.alone rs (λ alone. rw (is.pending live)
+      (none_filter (awaits m.token) is_of_application h.pending (lone alone))) in
+      record {
+        server = adds.extends.fixed.1 ∙ is.server;
+        requests = rw (map-append, is.requests, adds.extends.handled, filter-append, is_for) refl;
+        pending = λ on. rw (filter-append, map-append, is.pending live) (sym (adds.pending on));
+        quiet = adds.quiet is.quiet;
+        each =
+            all_append (IsKept t) rs (r ∷ []) (all_to (IsKept s) (IsKept t)
+            (λ f. kept_on s t adds.extends f (λ current. adds.spares f.request.token)) rs is.each) (
+              record {
+                has = adds.has;
+                few = omega (
+                  arith,
+                  ap (λ (ms : List Message). length ms) adds.extends.queued,
+                  length-append h.queued adds.extends.more,
+                );
+                there = rw adds.extends.handled (next_at h.handled m []);
+                asks = (and_parts (is_asking m) _ is_for).0;
+                handed = adds.handed;
+                only = λ current. (adds.calm (lone current.0), rw (adds.extends.queued, drop-append_seam) adds.only);
+              },
+              tt,
+            );
+        apart = apart_more rs r (all_to (λ f. IsKept s f × Answered f) (λ f. Apart f r) (λ f so. (
+          old_then_new (length h.queued) f.fate fate (old_fate h f f.fate so.0.has) adds.new,
+          at_place s f so.0,
+          so.1,
+        )) rs (all_both (IsKept s) Answered rs is.each answered)) is.apart;
+      }
 
 -- ---- a response
 
@@ -356,10 +372,9 @@ module _ (a : Option ApplicationsValue) (s : Connection) (rs : List ApplicationR
   running = grind arith
 
   stays_calm : (token : List ℕ) → Calm token s → Calm token t
-  stays_calm token calm = record {
-    others = kept_open_has (HaveOtherTokens token) tt t.history s.observers calm.others;
-    engine = sent.engine token (rw (sym next.left_is) (all_less _ entry s.history.pending calm.engine));
-  }
+  stays_calm token calm =
+      calm_so token t.history s.observers calm.others
+      (sent.engine token (rw (sym next.left_is) (all_less _ entry s.history.pending calm.engine)))
 
   pub one_waits : list_any test rs ≡ true
   one_waits =
