@@ -1,42 +1,41 @@
 -- When a Pong with Custody is queued, each request handled before its Ping already has its response, whatever happens
 -- to a connection.
-use Rattle.std.proofs.Common.{◌≡◌, ℕ, ◌≤◌, Bool, true, false, ◌&&◌, ◌==◌, List, [], ◌∷◌, ◌++◌, Option, Some, None, refl}
-use Rattle.std.proofs.Common.{sym, ap, subst, arith, is_none}
-use Rattle.coap_model.specs.Prelude.{ApplicationsValue, Engine, Application, Responder, late_response}
-use Rattle.coap_model.specs.Prelude.{AllByRecursion, list_any, Message, Phase, Server, Reply, Whole, Bare, Stopped}
-use Rattle.coap_model.specs.Prelude.{Reason, LimitValues, stop_of, takes_messages, answers, fit, bare_response}
-use Rattle.coap_model.specs.Prelude.{PendingEntryValue, Answer, Pong, first_due, without_due, is_request, Reaction}
-use Rattle.coap_model.specs.Prelude.{stay}
-use Rattle.coap_model.specs.Prelude.{send_as, react, reaction_unless, asks_custody, is_custody_pong}
-use Rattle.coap_model.specs.Prelude.{pong_with, History, state_now, with_effect, after, limit_now, own_csm}
-use Rattle.coap_model.specs.Prelude.{state_due, release, same_bytes, StoreValue, Response}
-use Rattle.coap_model.specs.Prelude.{prompt_answer, response_with_observe, ConfigValues, Observer, goes_on}
-use Rattle.coap_model.specs.Prelude.{notification, Connection, handles, asks_answer, side_handled, side_after, next_due}
-use Rattle.coap_model.specs.Prelude.{late_message, after_sent, notified, side_of, AcceptedCall, world_after}
-use Rattle.coap_model.specs.Prelude.{is_response}
-use Rattle.coap_model.specs.Prelude.{asks_with, awaits, responds, is_asking, FollowsAnswers, reject_reason}
-use Rattle.std.proofs.lemmas.Bool.{both_ways, cond_both, cond-true, or_left}
+use Rattle.std.proofs.Common.{Bool, List, None, Option, Some, [], ap, arith, codes, false, is_none, refl, subst, sym}
+use Rattle.std.proofs.Common.{true, ℕ, ◌&&◌, ◌++◌, ◌==◌, ◌∷◌, ◌≡◌, ◌≤◌}
+use Rattle.std.proofs.lemmas.Bool.{both_ways, cond-true, cond_both, or_left}
+use Rattle.std.proofs.lemmas.List.{length-append}
 use lib.Pointwise.{bytes_decides}
-use Rattle.coap_wire.specs.Codes as code
+use Rattle.coap_model.specs.Prelude.{AcceptedCall, AllByRecursion, Answer, Application, ApplicationsValue, Bare}
+use Rattle.coap_model.specs.Prelude.{ConfigValues, Connection, Engine, FollowsAnswers, History, LimitValues, Message}
+use Rattle.coap_model.specs.Prelude.{Observer, PendingEntryValue, Phase, Pong, Reaction, Reason, Reply, Responder}
+use Rattle.coap_model.specs.Prelude.{Response, Server, Stopped, StoreValue, Whole, after, after_sent, announced}
+use Rattle.coap_model.specs.Prelude.{answers, asks_answer, asks_custody, asks_with, awaits, bare_response, first_due}
+use Rattle.coap_model.specs.Prelude.{fit, goes_on, handles, is_asking, is_custody_pong, is_request, is_response}
+use Rattle.coap_model.specs.Prelude.{late_message, late_response, limit_now, link_of, list_any, next_due, notification}
+use Rattle.coap_model.specs.Prelude.{notified, own_csm, pong_with, prompt_answer, react, reaction_unless, reject_reason}
+use Rattle.coap_model.specs.Prelude.{release, responds, response_refusal, response_with_observe, same_bytes, send}
+use Rattle.coap_model.specs.Prelude.{send_as, side_after, side_handled, side_of, state_now, state_without, stop_of}
+use Rattle.coap_model.specs.Prelude.{takes, takes_messages, with_effect, without_due, without_request, world_after}
+use Rattle.coap_conn.proofs.PendingLaws.{custody_at_once, due_answer, due_pong}
+use Rattle.coap_conn.proofs.ReactionLaws.{IsNoPong, IsPlain, MayFollow, abort_plain, live_so}
+use Rattle.coap_conn.specs.Reaction.{answered}
 use Rattle.coap_conn.specs.Calls as call
-use Rattle.coap_conn.proofs.PendingLaws.{due_pong, custody_at_once, due_answer}
-use Rattle.coap_model.proofs.world.WalkLaws.{received, sent, due_is, faulted_between, written_between, ended_between}
-use Rattle.coap_model.proofs.world.WalkLaws.{released_between, announced_between, responded_between}
-use Rattle.coap_model.proofs.world.GoingOn.{kept_after, Keeps}
-use Rattle.coap_model.proofs.world.SideLaws.{pending_room, settled_cases, handles_parts}
-use Rattle.coap_conn.proofs.ReactionLaws.{IsPlain, IsNoPong, abort_plain, live_so, MayFollow}
+use Rattle.coap_wire.specs.Codes as code
+use Rattle.coap_model.proofs.world.WalkLaws.{announced_between, answer_goes, due_is, ended_between, faulted_between}
+use Rattle.coap_model.proofs.world.WalkLaws.{received, released_between, responded_between, sent, without_first}
+use Rattle.coap_model.proofs.world.WalkLaws.{written_between}
+use Rattle.coap_model.proofs.world.GoingOn.{Keeps, kept_after}
+use Rattle.coap_model.proofs.world.SideLaws.{handles_parts, pending_room, settled_cases}
 use Rattle.coap_model.proofs.world.QueuedMessages.{open_answers}
-use Rattle.coap_model.proofs.world.CustodyLaws.{response_no_pong, bare_no_pong, request_quiet, handled_cases}
-use Rattle.coap_model.proofs.world.AnswerCounts.{one, count_more, Tally, AtMost, plus, requests, responses}
-use Rattle.coap_model.proofs.world.AnswerCounts.{pending_count}
-use Rattle.coap_model.proofs.world.AnswerCounts.{pongs_other, own_answers, FollowsPing, queue, pending, AllFollow}
-use Rattle.coap_model.proofs.world.AnswerCounts.{follow_longer, follow_grows, follow_then, follow_at, follow_without}
-use Rattle.coap_model.proofs.world.AnswerCounts.{IfPong}
-use Rattle.coap_model.proofs.world.AnswerCodes.{coded, prompt_coded, bare_coded}
+use Rattle.coap_model.proofs.world.CustodyLaws.{bare_no_pong, handled_cases, request_quiet, response_no_pong}
+use Rattle.coap_model.proofs.world.AnswerCounts.{AllFollow, AtMost, FollowsPing, IfPong, Tally, count_more, follow_at}
+use Rattle.coap_model.proofs.world.AnswerCounts.{follow_grows, follow_longer, follow_then, follow_without, one}
+use Rattle.coap_model.proofs.world.AnswerCounts.{own_answers, pending, pending_count, plus, pongs_other, queue}
+use Rattle.coap_model.proofs.world.AnswerCounts.{requests, responses}
+use Rattle.coap_model.proofs.world.AnswerCodes.{bare_coded, coded, prompt_coded}
 use Rattle.coap_model.proofs.world.EntryLemmas.{all_to}
 use Rattle.coap_model.proofs.world.RespondedLaws.{allowed, answered_request, plain_codes, response_is_no_pong}
-use Rattle.coap_model.specs.Prelude.{response_refusal, link_of, state_without, send, IsFirstRequest, without_request}
-use Rattle.std.proofs.lemmas.List.{length-append}
+use Rattle.coap_model.proofs.world.PlaceLaws.{found}
 
 abbrev nothing : Tally
 nothing token = 0
@@ -110,41 +109,42 @@ pending_follows {b} {ms = ms} {qs = qs} {es = es} {p = p} is e may on total = re
 abbrev OwesToken : Tally → List ℕ → Type 0
 OwesToken d token = (other : List ℕ) → d other ≤ one (same_bytes token other)
 
--- The message reduces both counts.
-abbrev MayPay : Tally → Tally → Message → Type 0
-MayPay b d m = AtMost b (plus nothing (responses (m ∷ []))) × AtMost d (plus nothing (responses (m ∷ [])))
+-- The message may be queued, and reduces both counts.
+abbrev IsPaying : Tally → Tally → History → Message → Type 0
+IsPaying b d h m =
+    AllFollow queue h.handled (responses h.queued) (m ∷ []) × AtMost b (plus nothing (responses (m ∷ [])))
+    × AtMost d (plus nothing (responses (m ∷ [])))
 
-token_pays : (b d : Tally) (m : Message) → OwesToken b m.token → OwesToken d m.token
-    → is_response m ≡ true → MayPay b d m
-token_pays b d m first total is = grind arith
+-- A message is sent when these entries are pending.
+send_follows : {b d : Tally} (h : History) (es : List PendingEntryValue)
+    → FollowsBut b d h.handled h.queued es h.phase → (m less : Message) → IsPaying b d h m → IsPaying b d h less
+    → (r : Reply) → PongsFollow (with_effect h (send_as (record (state_now h) { pending = es }) m less r))
+send_follows h es is m less whole bare Whole = same_follows is (m ∷ []) whole.0 whole.1 whole.2
+send_follows h es is m less whole bare Bare = same_follows is (less ∷ []) bare.0 bare.1 bare.2
+send_follows h es is m less whole bare Stopped = over_follows is [] tt refl
 
--- A response is sent only in a phase in which responses are sent.
-module _ (b d : Tally) (h : History) (is : OwesStill b d h) (token : List ℕ) (observe : Bool) (r : Response) where
-  abbrev whole_response : Message
-  whole_response = response_with_observe token observe r
+token_pays : (b : Tally) (m : Message) → OwesToken b m.token → is_response m ≡ true
+    → AtMost b (plus nothing (responses (m ∷ [])))
+token_pays b m owes is = grind arith
 
-  sent_follows : MayPay b d whole_response → MayPay b d (bare_response whole_response)
-      → PongsFollow (sent h whole_response (bare_response whole_response))
-  sent_follows whole bare = by (fit (state_now h).limit whole_response (bare_response whole_response))
-    where
-      goes : (m : Message) → IsNoPong m → MayPay b d m
-          → PongsFollow (with_effect h (record (stay (state_now h)) { queued = m ∷ [] }))
-      goes m none pays =
-          same_follows is (m ∷ []) (pongs_other h.handled (responses h.queued) (m ∷ []) (none, tt)) pays.0 pays.1
+-- A response that is owed.
+response_pays : (b d : Tally) (h : History) (m : Message) → OwesToken b m.token → OwesToken d m.token
+    → is_response m ≡ true → IsPaying b d h m
+response_pays b d h m first total is = (
+  pongs_other h.handled (responses h.queued) (m ∷ []) (response_is_no_pong m is, tt),
+  token_pays b m first is,
+  token_pays d m total is,
+)
 
-      by : (reply : Reply)
-          → PongsFollow (with_effect h (send_as (state_now h) whole_response (bare_response whole_response) reply))
-      by Whole = goes whole_response (response_no_pong token observe r) whole
-      by Bare = goes (bare_response whole_response) (bare_no_pong whole_response) bare
-      by Stopped = over_follows is [] tt refl
-
-  -- A response that is owed.
-  owed_follows : answers h.phase ≡ true → coded r.code ≡ true → OwesToken b token → OwesToken d token
-      → PongsFollow (after h (call.Reply whole_response))
-  owed_follows on is_coded first total =
-      subst PongsFollow (sym (cond-true (answers h.phase) (sent h whole_response (bare_response whole_response)) h on))
-      (sent_follows (token_pays b d whole_response first total is_coded)
-      (token_pays b d (bare_response whole_response) first total (bare_coded r.code is_coded)))
+owed_follows : (b d : Tally) (h : History) → OwesStill b d h → (token : List ℕ) (observe : Bool) (r : Response)
+    → answers h.phase ≡ true → coded r.code ≡ true → OwesToken b token → OwesToken d token
+    → PongsFollow (after h (call.Reply (response_with_observe token observe r)))
+owed_follows b d h is token observe r on is_coded first total =
+    let m : Message = response_with_observe token observe r in
+    subst PongsFollow (sym (cond-true (answers h.phase) (sent h m (bare_response m)) h on))
+    (send_follows h h.pending is m (bare_response m) (response_pays b d h m first total is_coded)
+    (response_pays b d h (bare_response m) first total (bare_coded r.code is_coded))
+    (fit (state_now h).limit m (bare_response m)))
 
 -- ---- a message that is handled
 
@@ -294,74 +294,41 @@ sent_due : (h : History) (now : ℕ) (e : PendingEntryValue) → first_due now h
     → PongsFollow (after_sent h now e)
 sent_due h now (Answer by token moment) due is =
     let first = due_answer now h.pending by token moment due in
-    let n : Tally = pending_count (Answer by token moment ∷ []) in
-    let k : History = with_effect h (stay (state_due now (state_now h))) in
-    let left : OwesStill n n k =
-    subst (λ (es : List PendingEntryValue). FollowsBut n n h.handled (h.queued ++ []) es h.phase) (sym first.without)
-    (same_follows (let_go h is first.before (Answer by token moment) first.after first.there) [] tt
-    (omega arith) (omega arith)) in
+    let e : PendingEntryValue = Answer by token moment in
+    let n : Tally = pending_count (e ∷ []) in
+    let left : OwesStill n n (without_first h now) =
+    subst (λ es. FollowsBut n n h.handled h.queued es h.phase) (sym first.without)
+    (let_go h is first.before e first.after first.there) in
     subst (λ (g : History). PongsFollow (after g (call.Reply (late_message by token))))
-    (sym (due_is h now (Some (Answer by token moment)) due))
-    (owed_follows n n k left token false (late_response by)
-    (pending_on h is first.before (Answer by token moment) first.after first.there) (late_coded by)
-    (omega arith) (omega arith))
+    (sym (answer_goes h now by token moment due))
+    (owed_follows n n (without_first h now) left token false (late_response by)
+    (pending_on h is first.before e first.after first.there) (late_coded by) (omega arith) (omega arith))
 sent_due h now (Pong token) due is =
+    let there = due_pong now h.pending token due in
+    let rest : FollowsPing h.handled (responses h.queued) token =
+    follow_at pending h.handled (plus nothing (responses h.queued)) (responses h.queued) []
+    (Pong token) (without_due now h.pending)
+    (omega arith) (subst (AllFollow pending h.handled (plus nothing (responses h.queued))) there is.rest) in
     subst PongsFollow (sym (due_is h now (Some (Pong token)) due))
-    (by (fit (state_now h).limit (pong_with true token) (pong_with false token)))
-  where
-    there : h.pending ≡ Pong token ∷ without_due now h.pending
-    there = due_pong now h.pending token due
-
-    left : FollowsBut nothing nothing h.handled h.queued (without_due now h.pending) h.phase
-    left = let_go h is [] (Pong token) (without_due now h.pending) there
-
-    rest : FollowsPing h.handled (responses h.queued) token
-    rest =
-        follow_at pending h.handled (plus nothing (responses h.queued)) (responses h.queued) []
-        (Pong token) (without_due now h.pending)
-        (omega arith) (subst (AllFollow pending h.handled (plus nothing (responses h.queued))) there is.rest)
-
-    by : (r : Reply) → PongsFollow
-        (with_effect h (send_as (state_due now (state_now h)) (pong_with true token) (pong_with false token) r))
-    by Whole = same_follows left (pong_with true token ∷ []) (λ custody. rest, tt) (omega arith) (omega arith)
-    by Bare = same_follows left (pong_with false token ∷ []) (λ custody. absurd cc, tt) (omega arith) (omega arith)
-    by Stopped = over_follows left [] tt refl
+    (send_follows h (without_due now h.pending) (let_go h is [] (Pong token) (without_due now h.pending) there)
+    (pong_with true token) (pong_with false token) ((λ custody. rest, tt), omega arith, omega arith)
+    ((λ custody. absurd cc, tt), omega arith, omega arith)
+    (fit (state_now h).limit (pong_with true token) (pong_with false token)))
 
 -- A response of the application answers a request that is pending.
 responded_follows : (h : History) (m : Message) → response_refusal (link_of h) m ≡ None → PongsFollow h
     → PongsFollow (with_effect h (send (state_without m.token (state_now h)) m (bare_response m)))
-responded_follows h m none is = by (fit (limit_now h) m (bare_response m))
-  where
-    first : IsFirstRequest h.pending m.token (without_request m.token h.pending)
-    first = answered_request (link_of h) m none
-
-    e : PendingEntryValue
-    e = Answer Application m.token first.moment
-
-    codes : (is_response m ≡ true) × (is_response (bare_response m) ≡ true)
-    codes = plain_codes m (allowed (link_of h) m none).plain
-
-    n : Tally
-    n = pending_count (e ∷ [])
-
-    left : FollowsBut n n h.handled h.queued (without_request m.token h.pending) h.phase
-    left =
-        subst (λ (es : List PendingEntryValue). FollowsBut n n h.handled h.queued es h.phase) (sym first.without)
-        (let_go h is first.before e first.after first.there)
-
-    goes : (q : Message) → is_response q ≡ true → q.token ≡ m.token
-        → FollowsBut nothing nothing h.handled (h.queued ++ q ∷ []) (without_request m.token h.pending) h.phase
-    goes q response same =
-        let owes : OwesToken n q.token = λ other. omega (arith, ap (λ (t : List ℕ). one (same_bytes t other)) same) in
-        let pays = token_pays n n q owes owes response in
-        same_follows left (q ∷ [])
-        (pongs_other h.handled (responses h.queued) (q ∷ []) (response_is_no_pong q response, tt)) pays.0 pays.1
-
-    by : (r : Reply)
-        → PongsFollow (with_effect h (send_as (state_without m.token (state_now h)) m (bare_response m) r))
-    by Whole = goes m codes.0 refl
-    by Bare = goes (bare_response m) codes.1 refl
-    by Stopped = over_follows left [] tt refl
+responded_follows h m none is =
+    let first = answered_request (link_of h) m none in
+    let e : PendingEntryValue = Answer Application m.token first.moment in
+    let codes = plain_codes m (allowed (link_of h) m none).plain in
+    let n : Tally = pending_count (e ∷ []) in
+    let left : FollowsBut n n h.handled h.queued (without_request m.token h.pending) h.phase =
+    subst (λ es. FollowsBut n n h.handled h.queued es h.phase) (sym first.without)
+    (let_go h is first.before e first.after first.there) in
+    send_follows h (without_request m.token h.pending) left m (bare_response m)
+    (response_pays n n h m (omega arith) (omega arith) codes.0)
+    (response_pays n n h (bare_response m) (omega arith) (omega arith) codes.1) (fit (limit_now h) m (bare_response m))
 
 -- A notification is a response that nobody is owed.
 notified_follows : (store : StoreValue) (now : ℕ) (s : Connection) (found : Option Observer) → PongsFollow s.history
@@ -369,9 +336,13 @@ notified_follows : (store : StoreValue) (now : ℕ) (s : Connection) (found : Op
 notified_follows store now s None is = is
 notified_follows store now s (Some o) is =
     let r : Response = notification store now o in
-    cond_both (answers s.history.phase) _ s.history PongsFollow
-    (λ does. sent_follows nothing nothing s.history is o.token (goes_on r) r (omega arith) (omega arith))
-    (λ off. is)
+    let h : History = s.history in
+    let m : Message = response_with_observe o.token (goes_on r) r in
+    let pays : (n : Message) → IsNoPong n → IsPaying nothing nothing h n =
+    λ n none. (pongs_other h.handled (responses h.queued) (n ∷ []) (none, tt), omega arith, omega arith) in
+    cond_both (answers h.phase) _ h PongsFollow
+    (λ does. send_follows h h.pending is m (bare_response m) (pays m (response_no_pong o.token (goes_on r) r))
+    (pays (bare_response m) (bare_no_pong m)) (fit (limit_now h) m (bare_response m))) (λ off. is)
 
 -- ---- properties of every connection
 

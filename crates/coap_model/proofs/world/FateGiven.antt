@@ -57,7 +57,7 @@ responses_with : (test : ApplicationRequest → Bool) (fate : Fate) → response
 unfolding responses_to with_fate
 responses_with test fate none to [] = refl
 responses_with test fate none to (r ∷ rs) =
-    cond_both (test r) _ _ (λ (qs : List ApplicationRequest). responses_to qs ≡ response_of r.fate ++ responses_to rs)
+    cond_both (test r) _ _ (λ qs. responses_to qs ≡ response_of r.fate ++ responses_to rs)
     (λ is. ap (λ ms. ms ++ responses_to rs) (none ∙ sym (unanswered_gives r.fate (to r is))))
     (λ other. ap (λ ms. response_of r.fate ++ ms) (responses_with test fate none to rs))
 
@@ -107,7 +107,7 @@ new_gives now s m None = refl
 new_gives now s m (Some seconds) =
     let h : History = after_message s m in
     append-nil (response_of (first_fate h m))
-    ∙ cond_both (may_hold h) Unanswered (fate_by Engine h (refusal_of m)) (λ (f : Fate). response_of f ≡ [])
+    ∙ cond_both (may_hold h) Unanswered (fate_by Engine h (refusal_of m)) (λ f. response_of f ≡ [])
     (λ may. refl) (λ full. engine_gives h (refusal_of m))
 
 after_gives : (store : StoreValue) (now : ℕ) (s : Connection) (m : Message) (rs : List ApplicationRequest)
@@ -384,7 +384,7 @@ module _ (c : ConfigValues) (id : ℕ) where
             lost = m ∷ [];
             given_are = given_now;
             few = omega arith;
-            none = λ live. absurd (both_ways stopped live (over refl));
+            none = λ live. absurd (cc (over refl));
           }) (λ sent over. (
           let fate : Fate = Answered Application m sent (length h.handled) (length h.queued) in
           record {

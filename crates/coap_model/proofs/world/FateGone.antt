@@ -61,7 +61,7 @@ acted_same id w st rs apart none =
 
 then_same : (id : ℕ) (w : World) (rs : List ApplicationRequest) → side_of id w.sides ≡ None → requests_then id w rs ≡ rs
 unfolding requests_then
-then_same id w rs none = ap (λ (found : Option Connection). if_there found (requests_settled w.store w.now) rs) none
+then_same id w rs none = ap (λ found. if_there found (requests_settled w.store w.now) rs) none
 
 steps_same : (limits : LimitValues) (id : ℕ) (w : World) (ss : List Step) (rs : List ApplicationRequest)
     → AllByRecursion (OpensNot id) ss → side_of id w.sides ≡ None → requests_by limits id w ss rs ≡ rs

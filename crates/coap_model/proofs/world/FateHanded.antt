@@ -54,7 +54,7 @@ fate_hands : (test : ApplicationRequest → Bool) (fate : Fate) (rs : List Appli
 unfolding with_fate
 fate_hands test fate [] = refl
 fate_hands test fate (r ∷ rs) =
-    cond_both (test r) _ _ (λ (qs : List ApplicationRequest). handed_requests qs ≡ handed_requests (r ∷ rs))
+    cond_both (test r) _ _ (λ qs. handed_requests qs ≡ handed_requests (r ∷ rs))
     (λ is. one_handed (record r { fate = fate }) rs ∙ sym (one_handed r rs))
     (λ other. one_handed r (with_fate test fate rs)
     ∙ ap (λ ms. cond r.handed (r.request ∷ ms) ms) (fate_hands test fate rs) ∙ sym (one_handed r rs))
@@ -98,7 +98,7 @@ module _ (store : StoreValue) (now : ℕ) (s : Connection) (m : Message) where
   other_hands : is_asking m ≡ false → handed_in store now s m ≡ []
   other_hands other = elim (cases_Bool (asks_answer s m)) [
     | inl asks ↦ absurd (both_ways (is_asking m) other (answered_is_request (state_now s.history) m asks))
-    | inr not_requested ↦ ap (λ (b : Bool). only_if b (is_by_application (delay_for h (delay_of store now m))))
+    | inr not_requested ↦ ap (λ b. only_if b (is_by_application (delay_for h (delay_of store now m))))
         not_requested
   ]
 
@@ -110,7 +110,7 @@ module _ (store : StoreValue) (now : ℕ) (s : Connection) (m : Message) where
       let Goal : Bool → Type 0 =
       λ b. handed_requests (cond (b && is_asking m) (rs ++ new) rs) ≡ handed_requests rs ++ handed_in store now s m in
       subst Goal (sym does) (cond_both (is_asking m) (rs ++ new) rs
-      (λ (qs : List ApplicationRequest). handed_requests qs ≡ handed_requests rs ++ handed_in store now s m)
+      (λ qs. handed_requests qs ≡ handed_requests rs ++ handed_in store now s m)
       (λ asking. handed_more rs new
       ∙ ap (λ ms. handed_requests rs ++ ms) (new_hands (application_deadline store.applications m)))
       (λ other. sym (ap (λ ms. handed_requests rs ++ ms) (other_hands other) ∙ append-nil (handed_requests rs))))
@@ -141,7 +141,7 @@ responded_hands : (s : Connection) (m : Message) (rs : List ApplicationRequest)
 unfolding requests_responded
 responded_hands s m rs =
     cond_both (is_none (response_refusal (link_of s.history) m)) _ rs
-    (λ (qs : List ApplicationRequest). handed_requests qs ≡ handed_requests rs)
+    (λ qs. handed_requests qs ≡ handed_requests rs)
     (λ may. fate_hands (is_unanswered_with m.token) (fate_by Application s.history m) rs) (λ refused. refl)
 
 others_same : (limits : LimitValues) (id : ℕ) (w : World) (ss : List Step) (rs : List ApplicationRequest)
@@ -223,9 +223,9 @@ module _ (c : ConfigValues) (es : List AcceptedCall) (id : ℕ) (e : AcceptedCal
       let since : drop (length s.history.handled) t.history.handled ≡ m ∷ [] =
       ap (drop (length s.history.handled)) handled ∙ drop-append_seam s.history.handled (m ∷ []) in
       let requests : requests_acted id w (world.Handled id m) rs ≡ requests_after w.store w.now s m rs =
-      ap (λ (b : Bool). cond b (if_there (side_of id w.sides) (λ u. requests_after w.store w.now u m) rs) rs)
+      ap (λ b. cond b (if_there (side_of id w.sides) (λ u. requests_after w.store w.now u m) rs) rs)
       (eq-eqb id id refl)
-      ∙ ap (λ (o : Option Connection). if_there o (λ u. requests_after w.store w.now u m) rs) there in
+      ∙ ap (λ o. if_there o (λ u. requests_after w.store w.now u m) rs) there in
       one_step (world.Handled id m) one ∙ ap handed_requests requests ∙ after_hands w.store w.now s m rs does
       ∙ ap (λ ms. handed_requests rs ++ ms) (sym (append-nil (handed_in w.store w.now s m)))
       ∙ ap (λ ms. handed_requests rs ++ flat_map (handed_in w.store w.now s) ms) (sym since)
@@ -271,7 +271,7 @@ module _ (c : ConfigValues) (es : List AcceptedCall) (id : ℕ) (bytes : List �
         | inr stopped ↦ (
             let none : bytes ≡ [] = nil_from_length bytes (sym (rw stopped at taken)) in
             no_step c es id (Took id bytes) s t reached there
-            then (ap (λ (bs : List ℕ). steps_by size es (Took id bs)) none ∙ no_bytes_steps size id es))
+            then (ap (λ bs. steps_by size es (Took id bs)) none ∙ no_bytes_steps size id es))
       ]
 
 -- ---- any event

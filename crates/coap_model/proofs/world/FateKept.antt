@@ -169,7 +169,7 @@ deadline_next h now token moment is =
       same = λ r so. rw so refl;
       may = λ r so handed. (
         (λ is. ap (late_message Application) (sym (passing r so).1)),
-        (λ other. absurd (both_ways r.handed other handed)),
+        (λ other. absurd cc),
       );
       of_application = λ e so. request_of_application token e (and_parts (is_request_for token e) _ so).0;
       some = grind (arith, first.there, due, list_any-append);
@@ -318,7 +318,7 @@ module _ (a : Option ApplicationsValue) where
             (is_unanswered_with m.token) (is_request_for m.token) Application m (without_request m.token h.pending)
             (response_next h m none) is on))
         | inr refused ↦ rw refused (cond_both (answers h.phase && false) _ h
-            (λ (k : History). Accounted a (with_history s k) rs) (λ bad. absurd (grind arith))
+            (λ k. Accounted a (with_history s k) rs) (λ bad. absurd (grind arith))
             (λ off. passes_keep a s (with_history s h) rs (plain_passes s (with_history s h) (same_plain h)
             (λ token. kept_open_has (HaveOtherTokens token) tt h s.observers)) is))
       ]
@@ -338,7 +338,7 @@ module _ (a : Option ApplicationsValue) where
       let m : Message = late_message Application token in
       let g : History = without_first h now in
       let same : after_sent h now (Answer Application token moment) ≡ sent g m (bare_response m) =
-      ap (λ (f : History). after f (call.Reply m)) (answer_goes h now Application token moment is)
+      ap (λ f. after f (call.Reply m)) (answer_goes h now Application token moment is)
       ∙ cond-true (answers h.phase) (sent g m (bare_response m)) g on in
       subst (λ k. Accounted a (with_history s k) (requests_due s (Some (Answer Application token moment)) rs)) (sym same)
       (answer_keeps a s rs (expires token moment) _ Engine m (without_due now h.pending)
@@ -397,7 +397,7 @@ reacts_so h m server live = by (stop_of h.phase) live
         pending = record {
           running = λ off. (off, rw (filter-append, append-nil) refl);
           quiet =
-              λ quiet off. absurd (omega (arith, some, ap (λ (es : List PendingEntryValue). length es) (quiet off)));
+              λ quiet off. absurd (omega (arith, some, ap length (quiet off)));
         };
         engine = λ token none. all_append _ h.pending (Pong m.token ∷ []) none (refl, tt);
         silent = tt;
@@ -468,8 +468,8 @@ module _ (store : StoreValue) (now : ℕ) (s : Connection) (m : Message) (server
         spares = it_spares;
         has = tt;
         new = tt;
-        pending = λ on. absurd (both_ways (has_stopped (received h m).phase) on over);
-        handed = λ on. absurd (both_ways (has_stopped (received h m).phase) on over);
+        pending = λ on. absurd cc;
+        handed = λ on. absurd cc;
         quiet = reacts.pending.quiet;
         calm = λ apart. record {
           others = rw closed tt;
@@ -528,7 +528,7 @@ module _ (store : StoreValue) (now : ℕ) (s : Connection) (m : Message) (server
       spares = late_spares (Answer Engine m.token moment) (λ token apart. apart);
       pending = record {
         running = λ live. (on_before, rw (is.pending, filter-append, append-nil) refl);
-        quiet = λ quiet off. absurd (both_ways (answers g.phase) off on);
+        quiet = λ quiet off. absurd (cc on);
       };
     }
 
@@ -542,7 +542,7 @@ module _ (store : StoreValue) (now : ℕ) (s : Connection) (m : Message) (server
       new = tt;
       pending = λ on. rw (is.pending, filter-append) refl;
       handed = λ on waiting. and_from (asks_answer s m) (may_hold (after_message s m)) asks may;
-      quiet = λ quiet off. absurd (both_ways (answers g.phase) off on);
+      quiet = λ quiet off. absurd (cc on);
       calm = λ apart. calm_so m.token (with_late (Answer Application m.token (moment_after now seconds))) others
           others_none (all_append (λ f. is_engine_for m.token f ≡ false) g.pending _
           (rw is.pending (no_engine_awaits m.token h.pending apart)) (refl, tt));
@@ -557,7 +557,7 @@ module _ (store : StoreValue) (now : ℕ) (s : Connection) (m : Message) (server
         reply_passes a s (m ∷ []) (rw other refl) g is.fixed is.handled is.queued
         (rw is.pending (record {
           running = λ live. (on_before, refl);
-          quiet = λ quiet off. absurd (both_ways (answers g.phase) off on);
+          quiet = λ quiet off. absurd (cc on);
         }))
         response _ (λ token none calm. (
         let apart = other_token token none in (
@@ -582,7 +582,7 @@ module _ (store : StoreValue) (now : ℕ) (s : Connection) (m : Message) (server
         let more : k.queued ≡ h.queued ++ messages_of fate =
         ap (λ ms. g.queued ++ ms) sent.queued ∙ ap (λ ms. ms ++ messages_of fate) is.queued in
         let apart : (asks_answer s m && may_hold (after_message s m)) ≡ false = grind (arith, full) in
-        subst (λ (b : Bool). AddsRequest s (side_with (cond b k g) others) (request_with now s m seconds fate)) (sym on) (record {
+        subst (λ b. AddsRequest s (side_with (cond b k g) others) (request_with now s m seconds fate)) (sym on) (record {
           extends = record {
             fixed = is.fixed;
             handled = is.handled;
@@ -596,12 +596,12 @@ module _ (store : StoreValue) (now : ℕ) (s : Connection) (m : Message) (server
                 (all_to _ (λ n. n.token ≡ m.token) (λ n so. so.1) (messages_of fate) sent.responses),
           );
           has = sent.has (request_with now s m seconds fate)
-              ((λ handed. absurd (both_ways _ apart handed)), (λ none. (refl, ap (λ ms. length ms) is.queued)))
-              (omega (arith, ap (λ (ms : List Message). length ms) is.queued))
-              (omega (arith, ap (λ (ms : List Message). length ms) is.handled, length-append h.handled (m ∷ [])));
-          new = subst (λ (n : ℕ). IsNew n fate) (ap (λ ms. length ms) is.queued) sent.new;
+              ((λ handed. absurd (cc apart)), (λ none. (refl, ap length is.queued)))
+              (omega (arith, ap length is.queued))
+              (omega (arith, ap length is.handled, length-append h.handled (m ∷ [])));
+          new = subst (λ (n : ℕ). IsNew n fate) (ap length is.queued) sent.new;
           pending = λ live. rw ((sent.answered live).0, (sent.answered live).1, is.pending, append-nil) refl;
-          handed = λ live waiting. absurd (both_ways (is_unanswered fate) (sent.answered live).0 waiting);
+          handed = λ live waiting. absurd (cc (sent.answered live).0);
           quiet = λ quiet. sent.quiet;
           calm = λ alone. calm_so m.token k others others_none
               (sent.engine m.token (rw is.pending (no_engine_awaits m.token h.pending alone)));
@@ -625,7 +625,7 @@ module _ (store : StoreValue) (now : ℕ) (s : Connection) (m : Message) (server
   handled_passes : is_for_application a m ≡ false → Passes a s (side_handled store now s m)
   handled_passes other =
       handled_cases store now s m (Passes a s) (λ none. rw live (other_passes other)) (λ asks by moment.
-      elim by as (λ (by : Responder). asks_delayed a by m ≡ true → Passes a s
+      elim by as (λ by. asks_delayed a by m ≡ true → Passes a s
       (side_with (holding (after_message s m) ((after_message s m).pending ++ Answer by m.token moment ∷ [])) others)) [
         | Engine ↦ λ delayed. engine_late asks (after_message s m) (requested asks) moment other
         | Application ↦ λ for. absurd (both_ways (is_for_application a m) other
@@ -660,12 +660,12 @@ module _ (store : StoreValue) (now : ℕ) (s : Connection) (m : Message) (server
       rw (prompt_handed store now m seconds deadline)
       (by_place false _ full (refused_adds asks g (requested asks) seconds full)))))
       (λ other. elim (requested_or_over (state_now h) m server live (and_parts (is_asking m) _ is_for).0) [
-        | inl asks ↦ absurd (both_ways (asks_answer s m) other asks)
+        | inl asks ↦ absurd cc
         | inr over ↦ (
             let got = cond-true (takes_messages h.phase) (received h m) h live in
             let off = off_over g.phase (rw got over) in
-            subst (λ (k : History). IsAdded (with_history s k)) (sym got)
-            (subst (λ (f : Fate). AddsRequest s after_it (request_with now s m seconds f)) (sym (unanswered_over (may_hold g) off))
+            subst (λ k. IsAdded (with_history s k)) (sym got)
+            (subst (λ f. AddsRequest s after_it (request_with now s m seconds f)) (sym (unanswered_over (may_hold g) off))
             (over_adds seconds over)))
       ])
     where

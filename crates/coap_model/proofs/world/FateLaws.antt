@@ -56,7 +56,7 @@ pending_gone before e later p es fs there left other = rw (there, left) (record 
         ∙ sym (filter-append is_of_application before (e ∷ later) ∙ rw other refl),
   );
   quiet = λ quiet off. absurd
-      (omega (arith, ap (λ (es : List PendingEntryValue). length es) (quiet off), length-append before (e ∷ later)));
+      (omega (arith, ap length (quiet off), length-append before (e ∷ later)));
 })
 
 -- ---- a token without responses to come
@@ -157,7 +157,7 @@ pub kept_on : {received : List Message} (s t : Connection) (e : Extends received
     → IsKept s r → IsKept t r
 kept_on {received} s t e r spares is = record {
   has = still_fate s.history t.history e r r.fate is.has;
-  few = omega (arith, is.few, ap (λ (ms : List Message). length ms) e.queued, length-append s.history.queued e.more);
+  few = omega (arith, is.few, ap length e.queued, length-append s.history.queued e.more);
   there = rw e.handled (still_at s.history.handled received r.handled r.request is.there);
   asks = is.asks;
   handed = λ on. is.handed (e.running on);
@@ -256,7 +256,7 @@ module _ (a : Option ApplicationsValue) (s t : Connection) (rs : List Applicatio
                 has = adds.has;
                 few = omega (
                   arith,
-                  ap (λ (ms : List Message). length ms) adds.extends.queued,
+                  ap length adds.extends.queued,
                   length-append h.queued adds.extends.more,
                 );
                 there = rw adds.extends.handled (next_at h.handled m []);
@@ -305,7 +305,7 @@ sent_so h by response es codes on = rw on (by_reply (fit (limit_now h) response 
       queued = refl;
       new = omega arith;
       answered = λ live. (refl, refl);
-      quiet = λ off. absurd (both_ways (answers h.phase) off on);
+      quiet = λ off. absurd cc;
       engine = λ token none. none;
       has = λ q may few since. record {
         allowed = may;
@@ -432,7 +432,7 @@ module _ (a : Option ApplicationsValue) (s : Connection) (rs : List ApplicationR
           few = omega (arith, kept.few, length-append s.history.queued effect.queued);
           there = kept.there;
           asks = kept.asks;
-          handed = λ live waiting. absurd (both_ways (is_unanswered fate) (sent.answered live).0 waiting);
+          handed = λ live waiting. absurd (cc (sent.answered live).0);
           only = λ current. (
               let before = kept.only current in (
                 stays_calm token before.0,
@@ -461,7 +461,7 @@ module _ (a : Option ApplicationsValue) (s : Connection) (rs : List ApplicationR
             all_to (λ g. IsKept s g × Apart q g) (Apart (record q { fate = fate })) (λ g so. (
               new_then_old (length s.history.queued) fate g.fate sent.new (old_fate s.history g g.fate so.0.has),
               so.1.1,
-              λ alone same. absurd (both_ways (waits q) (so.1.2 alone same) (next.passing q passes).0),
+              λ alone same. absurd (cc (so.1.2 alone same, (next.passing q passes).0)),
             )) qs both,
             apart.1,
           ),

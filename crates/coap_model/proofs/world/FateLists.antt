@@ -1,15 +1,17 @@
 -- Lists of requests that the application answers: one of them gets another fate.
-use Rattle.std.proofs.Common.{◌≡◌, ℕ, zero, suc, ◌<◌, ◌≤◌, Bool, true, false, cond, List, [], ◌∷◌, ◌++◌, length, map}
-use Rattle.std.proofs.Common.{filter, drop, Some, refl, ap, subst, inl, inr, arith, slice_get}
+use Rattle.std.proofs.Common.{Bool, List, Some, [], ap, arith, cond, drop, false, filter, inl, inr, length, map, refl}
+use Rattle.std.proofs.Common.{slice_get, subst, suc, true, zero, ℕ, ◌++◌, ◌<◌, ◌∷◌, ◌≡◌, ◌≤◌}
 use Rattle.std.proofs.lemmas.List.{length-append, take-append-le}
-use Rattle.std.proofs.lemmas.Bool.{cond_both, cases_Bool, both_ways}
+use Rattle.std.proofs.lemmas.Bool.{both_ways, cases_Bool, cond_both}
 use Rattle.std.proofs.lemmas.Option.{slice_get_within}
 use lib.Pointwise.{bytes_decides}
-use Rattle.coap_model.specs.Prelude.{AllByRecursion, list_any, Message, PendingEntryValue, ApplicationRequest, Fate}
-use Rattle.coap_model.specs.Prelude.{Unanswered, Answered, with_fate, is_unanswered, entry_of, awaits, HaveOtherPlaces}
-use Rattle.coap_model.specs.Prelude.{HasFate, History, has_stopped, Responder, Reply, Whole, Bare, Stopped, answers, fit}
-use Rattle.coap_model.specs.Prelude.{same_bytes, fitted, bare_response, limit_now, fate_of, fate_by}
+use Rattle.coap_model.specs.Prelude.{AllByRecursion, Answered, ApplicationRequest, Bare, Fate, HasFate, HaveOtherPlaces}
+use Rattle.coap_model.specs.Prelude.{History, Message, PendingEntryValue, Reply, Responder, Stopped, Unanswered, Whole}
+use Rattle.coap_model.specs.Prelude.{after, answers, awaits, bare_response, entry_of, fate_by, fate_of, fit, fitted}
+use Rattle.coap_model.specs.Prelude.{has_stopped, is_unanswered, limit_now, list_any, same_bytes, stay, with_fate}
 use Rattle.coap_model.proofs.world.EntryLemmas.{all_to}
+use Rattle.coap_model.proofs.world.WalkLaws.{received, sent}
+use Rattle.coap_model.proofs.world.RespondedLaws.{allowed}
 
 -- ---- a list without the first element that passes a test
 
@@ -227,7 +229,7 @@ still_fate {received} h k e r (Answered by response sent handled place) has = re
   within = omega (
     arith,
     has.within,
-    ap (λ (ms : List Message). length ms) e.handled,
+    ap length e.handled,
     length-append h.handled received,
   );
 }

@@ -50,7 +50,7 @@ new_timely now at s m None = tt
 new_timely now at s m (Some seconds) =
     let h : History = after_message s m in (
       cond_both (may_hold h) Unanswered (fate_by Engine h (refusal_of m))
-          (λ (f : Fate). IsTimely at m.token (moment_after now seconds) f) (λ may. tt) (λ full. engine_timely at m.token
+          (λ f. IsTimely at m.token (moment_after now seconds) f) (λ may. tt) (λ full. engine_timely at m.token
           (moment_after now seconds) h (refusal_of m) (λ same. absurd (never_late m m.token same))),
       tt,
     )
@@ -116,7 +116,7 @@ expired_late c es id =
 
 not_come : (now deadline : ℕ) → (cond (nat_le deadline now) (Some deadline) None) ≡ None → now < deadline
 not_come now deadline =
-    cond_both (nat_le deadline now) (Some deadline) None (λ (o : Option ℕ). o ≡ None → now < deadline)
+    cond_both (nat_le deadline now) (Some deadline) None (λ o. o ≡ None → now < deadline)
     (λ come none. absurd cc) (λ later none. leb-false deadline now later)
 
 -- No deadline of an unanswered request has come, if no entry is due.

@@ -72,7 +72,7 @@ module _ (limits : LimitValues) (a : Option ApplicationsValue) (P : Connection �
           | inl here ↦
               let made = one_made f (side_of at sides) t
               (sym (changed_here at f sides) ∙ ap (λ (n : ℕ). side_of n (map (changed_at at f) sides)) here ∙ there) in
-              subst (λ (u : Connection). P u qs) made.2
+              subst (λ u. P u qs) made.2
               (goes here made.0 (ap (λ (n : ℕ). side_of n sides) (sym here) ∙ made.1))
           | inr apart ↦ away apart t (sym (changed_elsewhere at id f sides apart) ∙ there)
         ]
@@ -92,7 +92,7 @@ module _ (limits : LimitValues) (a : Option ApplicationsValue) (P : Connection �
                 let new : Some (new_side limits) ≡ Some t =
                 sym (first_there id (record { id = id; side = new_side limits }) [] refl)
                 ∙ sym (new_there id w.sides _ none) ∙ there in
-                subst (λ (u : Connection). P u []) (same_there (new_side limits) t new) keeps.first)
+                subst (λ u. P u []) (same_there (new_side limits) t new) keeps.first)
                 (λ s found. good))
             | inr apart ↦ rw (ne_eqb at id apart)
                 (cond_both (is_none (side_of at w.sides)) _ w (λ (u : World). AllGood u.sides rs)
@@ -144,7 +144,7 @@ module _ (limits : LimitValues) (a : Option ApplicationsValue) (P : Connection �
     then_good w rs good t there =
         let made = one_made (settled w.store w.now) (side_of id w.sides) t
         (sym (all_there id (settled w.store w.now) w.sides) ∙ there) in
-        rw made.1 (subst (λ (u : Connection). P u (requests_settled w.store w.now made.0 rs)) made.2
+        rw made.1 (subst (λ u. P u (requests_settled w.store w.now made.0 rs)) made.2
         (settled_good w.store w.now made.0 rs (good made.0 made.1)))
 
     steps_good : (w : World) (ss : List Step) (rs : List ApplicationRequest) → w.store.applications ≡ a
