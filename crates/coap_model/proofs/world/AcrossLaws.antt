@@ -1,26 +1,26 @@
 -- A relation between a connection before and after. If it holds across every effect on a connection, it holds across
 -- settling and across each step. So a property that every effect keeps is kept by all events.
-use Rattle.std.proofs.Common.{◌≡◌, ℕ, List, Bool, cond, ◌++◌, [], ◌∷◌, map, Option, Some, None, refl, sym, subst, ◌∙◌}
-use Rattle.std.proofs.Common.{◌⊎◌, inl, inr, is_none}
+use Rattle.std.proofs.Common.{Bool, List, None, Option, Some, [], cond, inl, inr, is_none, map, refl, rules, subst, sym}
+use Rattle.std.proofs.Common.{ℕ, ◌++◌, ◌∙◌, ◌∷◌, ◌≡◌, ◌⊎◌}
 use Rattle.std.proofs.lemmas.Bool.{cases_eq, cond_both}
-use Rattle.coap_model.specs.Prelude.{Message, StreamFault, Server, LimitValues, History, new_history, StoreValue}
-use Rattle.coap_model.specs.Prelude.{change_after, changed, Change, Nothing, Put, Delete}
-use Rattle.coap_model.specs.Prelude.{put_refusal, ConfigValues, Connection, new_side, side_after, side_faulted}
-use Rattle.coap_model.specs.Prelude.{side_written, side_ended, side_released, side_announced, side_responded}
-use Rattle.coap_model.specs.Prelude.{settled_once, settled}
-use Rattle.coap_model.specs.Prelude.{ConnectionEntry, World, Step, new_world, side_of, stored_after, ticks, acted}
-use Rattle.coap_model.specs.Prelude.{settled_place, AcceptedCall, steps_of, world_after}
+use Rattle.coap_model.specs.Prelude.{AcceptedCall, Change, ConfigValues, Connection, ConnectionEntry, Delete, History}
+use Rattle.coap_model.specs.Prelude.{LimitValues, Message, Nothing, Put, Server, Step, StoreValue, StreamFault, World}
+use Rattle.coap_model.specs.Prelude.{acted, change_after, changed, new_history, new_side, new_world, put_refusal}
+use Rattle.coap_model.specs.Prelude.{settled, settled_once, settled_place, side_after, side_announced, side_ended}
+use Rattle.coap_model.specs.Prelude.{side_faulted, side_of, side_released, side_responded, side_written, steps_of}
+use Rattle.coap_model.specs.Prelude.{stored_after, ticks, world_after}
 use Rattle.coap_model.specs.world.World.{changed_at}
+use Rattle.coap_wire.proofs.NumberLaws.{none_or_some}
 use Rattle.coap_model.specs.world.World as world
 use Rattle.coap_model.proofs.world.StepLaws.{steps_keep}
-use Rattle.coap_model.proofs.world.PlaceLaws.{first_there, found, nobody, all_there, changed_here, changed_elsewhere}
-use Rattle.coap_model.proofs.world.PlaceLaws.{still_there, new_there, dropped_here, dropped_elsewhere}
-use Rattle.coap_model.proofs.world.WalkLaws.{settled_keeps, Between, Hears, Replies, Holds, LetsGo, Pongs, Rejects}
-use Rattle.coap_model.proofs.world.WalkLaws.{Ends, Releases, Announces, Responds, Writes, Composes, once_between}
-use Rattle.coap_model.proofs.world.WalkLaws.{after_between, faulted_between, written_between, ended_between}
-use Rattle.coap_model.proofs.world.WalkLaws.{released_between, announced_between, responded_between}
+use Rattle.coap_model.proofs.world.PlaceLaws.{all_there, changed_elsewhere, changed_here, dropped_elsewhere}
+use Rattle.coap_model.proofs.world.PlaceLaws.{dropped_here, first_there, found, new_there, nobody, still_there}
+use Rattle.coap_model.proofs.world.WalkLaws.{Announces, Between, Composes, Ends, Hears, Holds, LetsGo, Pongs, Rejects}
+use Rattle.coap_model.proofs.world.WalkLaws.{Releases, Replies, Responds, Writes, after_between, announced_between}
+use Rattle.coap_model.proofs.world.WalkLaws.{ended_between, faulted_between, once_between, released_between}
+use Rattle.coap_model.proofs.world.WalkLaws.{responded_between, settled_keeps, written_between}
 use Rattle.coap_model.proofs.OptionLemmas.{one_made}
-use Rattle.coap_wire.proofs.NumberLaws.{none_or_some}
+use Rattle.coap_model.proofs.world.AnswerCounts.{one}
 
 -- ---- a step
 
@@ -75,9 +75,7 @@ module _ (R : Connection → Connection → Type 0) (limits : LimitValues) (w : 
 
   if_across : (v : World) (t : Connection) (does : Bool) → (side_of id v.sides ≡ Some t → HoldsFrom R limits w st id t)
       → side_of id (cond does v w).sides ≡ Some t → HoldsFrom R limits w st id t
-  if_across v t does go =
-      cond_both does v w (λ u. side_of id u.sides ≡ Some t → HoldsFrom R limits w st id t)
-      (λ so. go) (λ not_so. same_across t)
+  if_across v t does go = search rules
 
   acted_across : (did : Step) → st ≡ did → (t : Connection) → side_of id (acted limits w did).sides ≡ Some t
       → HoldsFrom R limits w st id t

@@ -1,6 +1,6 @@
 -- The responses that the application gives are its answers to requests, in order.
 use Rattle.std.proofs.Common.{Bool, List, None, Option, Some, [], ap, append_assoc, arith, false, inl, inr, length, map}
-use Rattle.std.proofs.Common.{refl, subst, sym, true, ℕ, ◌&&◌, ◌++◌, ◌<◌, ◌∙◌, ◌∷◌, ◌≡◌, ◌≢◌, ◌≤◌}
+use Rattle.std.proofs.Common.{refl, rules, subst, sym, true, ℕ, ◌&&◌, ◌++◌, ◌<◌, ◌∙◌, ◌∷◌, ◌≡◌, ◌≢◌, ◌≤◌}
 use Rattle.std.proofs.lemmas.Bool.{and_parts, both_ways, cases_Bool, cases_eq, cond_both, eq-eqb, ne_eqb}
 use Rattle.std.proofs.lemmas.List.{append-nil, map-append}
 use Rattle.std.proofs.lemmas.List.Elements.{All-from_recursion, recursion_from_All}
@@ -11,30 +11,29 @@ use Rattle.std.proofs.lemmas.List.Sorted.{IsPermutation-trans}
 use Rattle.coap_model.specs.Prelude.{AcceptedCall, AllByRecursion, Answered, Application, ApplicationRequest}
 use Rattle.coap_model.specs.Prelude.{AreAccepted, AreAnswers, AreQueuedInOrder, ConfigValues, Connection, Engine, Fate}
 use Rattle.coap_model.specs.Prelude.{History, IsAccepted, LimitValues, Message, Phase, Step, StoreValue, Unanswered}
-use Rattle.coap_model.specs.Prelude.{World, acted, after_steps, answers, application_deadline, fate_by, first_fate, fit}
+use Rattle.coap_model.specs.Prelude.{World, acted, after_steps, answers, application_deadline, fate_by, first_fate}
 use Rattle.coap_model.specs.Prelude.{given_in, given_on, handles, has_stopped, is_asking, is_unanswered}
-use Rattle.coap_model.specs.Prelude.{is_unanswered_with, late_message, limit_now, link_of, list_any, may_hold}
-use Rattle.coap_model.specs.Prelude.{new_request, pong_with, refusal_of, requests_acted, requests_after, requests_by}
-use Rattle.coap_model.specs.Prelude.{requests_on, requests_responded, requests_then, response_of}
-use Rattle.coap_model.specs.Prelude.{response_refusal, responses_to, settled, side_of, side_responded, state_now}
-use Rattle.coap_model.specs.Prelude.{steps_by, stream_on, with_fate, without_request, world_after}
+use Rattle.coap_model.specs.Prelude.{is_unanswered_with, late_message, link_of, list_any, may_hold, new_request}
+use Rattle.coap_model.specs.Prelude.{refusal_of, requests_acted, requests_after, requests_by, requests_on}
+use Rattle.coap_model.specs.Prelude.{requests_responded, requests_then, response_of, response_refusal, responses_to}
+use Rattle.coap_model.specs.Prelude.{settled, side_of, side_responded, steps_by, stream_on, with_fate, without_request}
+use Rattle.coap_model.specs.Prelude.{world_after}
 use Rattle.coap_wire.proofs.NumberLaws.{none_or_some}
 use Rattle.coap_conn.specs.PendingEntries.{is_request_for}
+use Rattle.coap_conn.specs.declared.phase.RespondFault.TheVariants as fault
 use Rattle.coap_model.specs.world.Events as event
 use Rattle.coap_model.specs.world.World as world
 use Rattle.coap_model.proofs.OptionLemmas.{same_there}
-use Rattle.coap_model.proofs.world.WalkLaws.{sent, settled_between, there_or_not, without_first}
+use Rattle.coap_model.proofs.world.WalkLaws.{sent, settled_between, there_or_not}
 use Rattle.coap_model.proofs.world.AcrossLaws.{KeepsAll, all_across, settles_there}
 use Rattle.coap_model.proofs.world.StepLaws.{by_events, each_beyond, world_first, world_more}
 use Rattle.coap_model.proofs.world.ReachedLaws.{IsReached, OpensNext, accepted_is, ids_grow, number_given, on_one}
-use Rattle.coap_model.proofs.world.PlaceLaws.{nobody}
-use Rattle.coap_model.proofs.world.QueuedMessages.{sent_either}
+use Rattle.coap_model.proofs.world.PlaceLaws.{found, nobody}
 use Rattle.coap_model.proofs.world.EntryLemmas.{all_append, all_to}
 use Rattle.coap_model.proofs.world.FateLists.{IsOld, fate_cases, old_fate, waits}
 use Rattle.coap_model.proofs.world.FateLaws.{Accounted, IsKept, IsNext, one_waits, sent_so}
 use Rattle.coap_model.proofs.world.FateKept.{after_message, answers_if_allowed, requests_accounted, response_next}
-use Rattle.coap_model.proofs.world.FateKept.{running_live}
-use Rattle.coap_model.proofs.world.AnswerCounts.{one}
+use Rattle.coap_model.proofs.world.AnswerCounts.{one, responses}
 use Rattle.coap_model.proofs.world.FateWalk.{acted_cases, before_steps, expires, requests_last, steps_stay, then_stays}
 
 -- ---- the responses of requests
@@ -161,22 +160,7 @@ answers_runs : (p : Phase) → answers p ≡ true → has_stopped p ≡ false
 answers_runs p on = grind arith
 
 all_run : KeepsAll Runs
-all_run = record {
-  composes = record { same = λ h live. live; then = λ h k g one two live. one (two live) };
-  takes_input = λ h m takes room live. running_live h.phase takes;
-  replies = λ h token observe r does room live. answers_runs h.phase does;
-  holds = λ h by token moment opened may live. live;
-  lets_go = λ h now live. live;
-  pongs = λ h now token due room. sent_either (state_now (without_first h now)) (pong_with true token)
-      (pong_with false token) (fit (limit_now h) (pong_with true token) (pong_with false token))
-      (λ es p. has_stopped p ≡ false → has_stopped h.phase ≡ false) (λ live. live) (λ live. absurd cc);
-  rejects = λ h fault takes room live. absurd cc;
-  ends = λ h cut takes live. absurd cc;
-  releases = λ h opened none live. absurd cc;
-  announces = λ h size opened room fits live. live;
-  responds = λ h m answering none live. answers_runs h.phase answering;
-  writes = λ h n within live. live;
-}
+all_run = search rules
 
 -- A connection existed before such steps, and had not stopped if it has not stopped after them.
 others_before : (limits : LimitValues) (id : ℕ) (w : World) (ss : List Step) (t : Connection)

@@ -1,15 +1,15 @@
 -- The requests that an event hands to the application.
-use Rattle.std.proofs.Common.{Bool, Err, List, None, Ok, Option, Result, Some, [], ap, arith, cond, drop, false, filter}
-use Rattle.std.proofs.Common.{inl, inr, is_none, length, map, refl, subst, sym, true, ℕ, ◌&&◌, ◌++◌, ◌∙◌, ◌∷◌, ◌≡◌, ◌≢◌}
+use Rattle.std.proofs.lemmas.Grind.{common_steps}
+use Rattle.std.proofs.Common.{Bool, Err, List, None, Ok, Option, Result, Some, [], ap, arith, cond, drop, false, inl}
+use Rattle.std.proofs.Common.{inr, is_none, length, refl, rules, subst, sym, true, ℕ, ◌&&◌, ◌++◌, ◌∙◌, ◌∷◌, ◌≡◌, ◌≢◌}
 use Rattle.std.proofs.lemmas.Bool.{both_ways, cases_Bool, cases_eq, cond_both, eq-eqb}
-use Rattle.std.proofs.lemmas.List.{append-nil, map-append, nil_from_length}
-use Rattle.std.proofs.lemmas.List.Elements.{filter-append}
-use Rattle.std.proofs.Math.Seq.{drop-append_seam, drop-length}
+use Rattle.std.proofs.lemmas.List.{append-nil, nil_from_length}
+use Rattle.std.proofs.Math.Seq.{drop-append_seam}
 use Rattle.std.specs.List.{flat_map}
 use Rattle.coap_model.specs.Prelude.{AFault, AFrame, AcceptedCall, AllByRecursion, Application, ApplicationRequest}
 use Rattle.coap_model.specs.Prelude.{AreAccepted, ConfigValues, Connection, Delay, Engine, Fate, FormatFault}
 use Rattle.coap_model.specs.Prelude.{FrameEventValue, History, IsAccepted, LimitValues, Message, Step, StoreValue}
-use Rattle.coap_model.specs.Prelude.{StreamFault, Took, World, acted, after_steps, answer_of}
+use Rattle.coap_model.specs.Prelude.{StreamFault, Took, World, acted, after, after_steps, answer_of}
 use Rattle.coap_model.specs.Prelude.{application_deadline, asks_answer, delay_by, delay_for, delay_of, delay_or}
 use Rattle.coap_model.specs.Prelude.{fate_by, frame_then, handed_between, handed_in, handed_requests, handles, if_there}
 use Rattle.coap_model.specs.Prelude.{is_asking, is_by_application, is_unanswered_with, link_of, may_hold, message_of}
@@ -20,6 +20,7 @@ use Rattle.coap_model.specs.Prelude.{world_after}
 use Rattle.coap_model.specs.world.Events.{front_of}
 use Rattle.coap_frame.specs.Framing.{Nothing}
 use Rattle.coap_frame.proofs.FrontLaws.{added_by}
+use Rattle.coap_conn.specs.declared.phase.RespondFault.TheVariants as fault
 use Rattle.coap_model.specs.world.Events as event
 use Rattle.coap_model.specs.world.World as world
 use Rattle.coap_model.proofs.OptionLemmas.{same_there}
@@ -35,18 +36,17 @@ use Rattle.coap_model.proofs.world.AnsweredRequests.{answered_is_request}
 use Rattle.coap_model.proofs.world.FateKept.{after_message}
 use Rattle.coap_model.proofs.world.AnswerCounts.{one, requests}
 use Rattle.coap_model.proofs.world.FateWalk.{acted_cases, before_steps, requests_last, steps_stay, then_stays}
+use Rattle.coap_model.proofs.world.WalkLaws.{received}
+use Rattle.coap_model.proofs.world.PlaceLaws.{found}
 
 -- ---- lists of requests
 
 one_handed : (r : ApplicationRequest) (rs : List ApplicationRequest)
     → handed_requests (r ∷ rs) ≡ cond r.handed (r.request ∷ handed_requests rs) (handed_requests rs)
-one_handed r rs = elim (cases_Bool r.handed) [ inl is ↦ rw is refl | inr other ↦ rw other refl ]
+one_handed r rs = search rules
 
 handed_more : (rs qs : List ApplicationRequest) → handed_requests (rs ++ qs) ≡ handed_requests rs ++ handed_requests qs
-handed_more rs qs =
-    ap (map (λ (r : ApplicationRequest). r.request)) (filter-append (λ (r : ApplicationRequest). r.handed) rs qs)
-    ∙ map-append (λ (r : ApplicationRequest). r.request) (filter (λ (r : ApplicationRequest). r.handed) rs)
-    (filter (λ (r : ApplicationRequest). r.handed) qs)
+handed_more rs qs = grind (arith, common_steps)
 
 -- Another fate changes none of them.
 fate_hands : (test : ApplicationRequest → Bool) (fate : Fate) (rs : List ApplicationRequest)
@@ -84,7 +84,7 @@ module _ (store : StoreValue) (now : ℕ) (s : Connection) (m : Message) where
   engine_not (Some seconds) = elim (cases_Bool (may_hold h)) [ inl may ↦ rw may refl | inr full ↦ rw full refl ]
 
   application_may : (d : Delay) → d.by ≡ Application → is_by_application (delay_for h (Some d)) ≡ may_hold h
-  application_may d by = elim (cases_Bool (may_hold h)) [ inl may ↦ rw (may, by) refl | inr full ↦ rw full refl ]
+  application_may d by = search rules
 
   new_hands : (o : Option ℕ) → handed_requests (new_request now s m o)
       ≡ only_if (asks_answer s m) (is_by_application (delay_for h (delay_or o (answer_of store now m).hold)))
@@ -173,10 +173,7 @@ module _ (c : ConfigValues) (es : List AcceptedCall) (id : ℕ) (e : AcceptedCal
   -- No message was handled.
   quiet_hands : t.history.handled ≡ s.history.handled
       → handed_requests (requests_on c id (es ++ e ∷ [])) ≡ handed_requests rs → HandsThose
-  quiet_hands same requests =
-      requests ∙ sym (append-nil (handed_requests rs))
-      ∙ ap (λ ms. handed_requests rs ++ flat_map (handed_in w.store w.now s) ms)
-      (sym (ap (drop (length s.history.handled)) same ∙ drop-length s.history.handled))
+  quiet_hands same requests = grind (arith, common_steps)
 
   no_step : steps_by M es e ≡ [] → HandsThose
   unfolding requests_by

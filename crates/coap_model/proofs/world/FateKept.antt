@@ -1,7 +1,7 @@
 -- Each effect on a connection keeps the account of the requests that the application answers.
 use Rattle.std.proofs.Common.{Bool, List, None, Option, Some, [], ap, arith, codes, cond, false, filter, find, inl, inr}
-use Rattle.std.proofs.Common.{is_none, length, not, refl, slice_get, subst, sym, true, ℕ, ◌&&◌, ◌++◌, ◌∙◌, ◌∷◌, ◌≡◌}
-use Rattle.std.proofs.Common.{◌≢◌}
+use Rattle.std.proofs.Common.{is_none, length, not, refl, rules, slice_get, subst, sym, true, ℕ, ◌&&◌, ◌++◌, ◌∙◌, ◌∷◌}
+use Rattle.std.proofs.Common.{◌≡◌, ◌≢◌}
 use Rattle.std.proofs.lemmas.Bool.{and_from, and_left, and_parts, both_ways, cases_Bool, cond-true, cond_both, eq-eqb}
 use Rattle.std.proofs.lemmas.List.{append-nil, length-append}
 use Rattle.std.proofs.lemmas.List.Folds.{list_any-append}
@@ -11,13 +11,13 @@ use Rattle.coap_model.specs.Prelude.{AcceptedCall, AllByRecursion, Answer, Appli
 use Rattle.coap_model.specs.Prelude.{ApplicationsValue, ConfigValues, Connection, Delay, Engine, Fate, HasFate}
 use Rattle.coap_model.specs.Prelude.{HasOnlyAnswer, History, LimitValues, Message, Observer, PeerTooSmall}
 use Rattle.coap_model.specs.Prelude.{PendingEntryValue, Phase, Pong, Reaction, ReactionResult, Reason, ReleasedHere}
-use Rattle.coap_model.specs.Prelude.{Responder, Server, StoreValue, Unanswered, after, after_sent, announced, answers}
+use Rattle.coap_model.specs.Prelude.{Server, StoreValue, Unanswered, after, after_sent, announced, answers}
 use Rattle.coap_model.specs.Prelude.{application_deadline, asks_answer, asks_delayed, awaits, bare_response, delay_for}
 use Rattle.coap_model.specs.Prelude.{delay_of, end_reason, entry_for, fate_by, first_due, first_fate, fit, handles}
 use Rattle.coap_model.specs.Prelude.{has_place, has_stopped, hold_call, is_asking, is_due, is_for_application}
-use Rattle.coap_model.specs.Prelude.{is_of_application, is_open, is_response, is_unanswered, is_unanswered_with}
-use Rattle.coap_model.specs.Prelude.{is_whole, late_message, left_of, limit_now, link_of, list_any, may_hold}
-use Rattle.coap_model.specs.Prelude.{messages_of, moment_after, new_request, next_due, next_pending, notification}
+use Rattle.coap_model.specs.Prelude.{is_of_application, is_open, is_unanswered, is_unanswered_with, is_whole}
+use Rattle.coap_model.specs.Prelude.{late_message, left_of, limit_now, link_of, list_any, may_hold, messages_of}
+use Rattle.coap_model.specs.Prelude.{moment_after, new_request, next_due, next_pending, notification}
 use Rattle.coap_model.specs.Prelude.{notification_message, notified, only, own_csm, pong_with, prompt_answer, react}
 use Rattle.coap_model.specs.Prelude.{reaction_unless, refusal_of, reject_reason, release, requests_after, requests_due}
 use Rattle.coap_model.specs.Prelude.{requests_on, requests_once, requests_responded, responds, response_refusal}
@@ -69,8 +69,7 @@ off_over p over = grind arith
 
 -- Messages that are no responses.
 no_response : (token : List ℕ) (ms : List Message) → AllByRecursion IsNoResponse ms → NoneRespond token ms
-no_response token ms none =
-    all_to IsNoResponse (λ m. responds token m ≡ false) (λ m is. and_left (is_response m) _ is) ms none
+no_response token ms none = search (rules, all_to, and_left)
 
 -- ---- errors, the end of input, releases, announcements and written bytes
 
@@ -125,7 +124,7 @@ request_of_application token (Pong other) is = absurd cc
 
 has_token : (token : List ℕ) (r : ApplicationRequest) → is_unanswered_with token r ≡ true
     → (waits r ≡ true) × (r.request.token ≡ token)
-has_token token r is = let both = and_parts (waits r) _ is in (both.0, (bytes_decides r.request.token token).0 both.1)
+has_token token r is = search rules
 
 pub response_next : (h : History) (m : Message) → response_refusal (link_of h) m ≡ None
     → IsNext h (is_unanswered_with m.token) (is_request_for m.token) Application m
@@ -512,12 +511,7 @@ module _ (store : StoreValue) (now : ℕ) (s : Connection) (m : Message) (server
     late_spares : (e : PendingEntryValue)
         → ((token : List ℕ) → same_bytes m.token token ≡ false → is_engine_for token e ≡ false) → (token : List ℕ)
         → Spares (m ∷ []) s (side_with (with_late e) others) [] token
-    late_spares e new token none calm = (
-      calm_so token (with_late e) others (others_left token calm.others)
-          (all_append (λ f. is_engine_for token f ≡ false) g.pending (e ∷ []) (rw is.pending calm.engine)
-          (new token (other_token token none), tt)),
-      tt,
-    )
+    late_spares e new token none calm = search (rules, calm_so, others_left, all_append, is_engine_for, other_token)
 
     engine_late : (moment : ℕ) → is_for_application a m ≡ false
         → Passes a s (side_with (with_late (Answer Engine m.token moment)) others)

@@ -1,7 +1,7 @@
 -- The requests that the application answers are accounted for: the unanswered ones are pending, and the answer to each
 -- other one is queued at its own place. Each effect adds a request, answers one, or passes them all.
 use Rattle.std.proofs.Common.{Bool, List, Option, Some, [], ap, arith, drop, false, filter, inl, inr, length, map, not}
-use Rattle.std.proofs.Common.{refl, slice_get, suc, sym, true, ℕ, ◌&&◌, ◌++◌, ◌<◌, ◌∙◌, ◌∷◌, ◌≡◌, ◌≤◌}
+use Rattle.std.proofs.Common.{refl, rules, slice_get, suc, sym, true, ℕ, ◌&&◌, ◌++◌, ◌<◌, ◌∙◌, ◌∷◌, ◌≡◌, ◌≤◌}
 use Rattle.std.proofs.lemmas.Bool.{and_from, and_parts, and_right, both_ways, cases_Bool, cond_both}
 use Rattle.std.proofs.lemmas.List.{append-nil, drop-append-le, length-append, map-append}
 use Rattle.std.proofs.Math.Seq.{drop-append_seam, take-length}
@@ -125,8 +125,7 @@ AreApart (r ∷ rs) = AllByRecursion (Apart r) rs × AreApart rs
 
 pub have_own : (rs : List ApplicationRequest) → AreApart rs → HaveOwnAnswers rs
 have_own [] apart = tt
-have_own (r ∷ rs) apart =
-    (all_to (Apart r) (λ q. HaveOtherPlaces r.fate q.fate) (λ q is. is.0) rs apart.0, have_own rs apart.1)
+have_own (r ∷ rs) apart = search (rules, all_to, have_own rs apart.1)
 
 apart_more : (rs : List ApplicationRequest) (r : ApplicationRequest) → AllByRecursion (λ f. Apart f r) rs
     → AreApart rs → AreApart (rs ++ r ∷ [])
@@ -336,8 +335,7 @@ sent_so h by response es codes on = rw on (by_reply (fit (limit_now h) response 
 -- Messages with another token are no responses with this one.
 pub none_respond : (token other : List ℕ) (ms : List Message) → same_bytes other token ≡ false
     → AllByRecursion (λ m. m.token ≡ other) ms → NoneRespond token ms
-none_respond token other ms apart all =
-    all_to (λ m. m.token ≡ other) (λ m. responds token m ≡ false) (λ m is. rw (is, apart) (and_right (is_response m) false refl)) ms all
+none_respond token other ms apart all = search (rules, all_to, and_right)
 
 -- ---- an effect that answers a request
 
@@ -372,9 +370,7 @@ module _ (a : Option ApplicationsValue) (s : Connection) (rs : List ApplicationR
   running = grind arith
 
   stays_calm : (token : List ℕ) → Calm token s → Calm token t
-  stays_calm token calm =
-      calm_so token t.history s.observers calm.others
-      (sent.engine token (rw (sym next.left_is) (all_less _ entry s.history.pending calm.engine)))
+  stays_calm token calm = search (rules, calm_so, sent, all_less)
 
   pub one_waits : list_any test rs ≡ true
   one_waits =
@@ -410,8 +406,7 @@ module _ (a : Option ApplicationsValue) (s : Connection) (rs : List ApplicationR
 
     -- A later one with the token was not alone.
     later_kept : (g : ApplicationRequest) → IsKept s g × Apart r g → IsKept t g
-    later_kept g so = other_kept g (λ same current. both_ways (waits r)
-        (so.1.2 current.0 ((next.passing r passes).1 ∙ sym same)) (next.passing r passes).0) so.0
+    later_kept g so = search (rules, other_kept, both_ways, waits)
 
     unanswered_none : (fate : Fate) → is_unanswered fate ≡ true → messages_of fate ≡ []
     unanswered_none Unanswered so = refl
@@ -484,9 +479,7 @@ module _ (a : Option ApplicationsValue) (s : Connection) (rs : List ApplicationR
 
   all_waiting : (qs : List ApplicationRequest) → AllByRecursion (λ r. test r ≡ entry (entry_of r)) (filter waits qs)
   all_waiting [] = tt
-  all_waiting (q ∷ qs) =
-      cond_both (waits q) _ _ (AllByRecursion (λ r. test r ≡ entry (entry_of r)))
-      (λ waiting. (next.same q waiting, all_waiting qs)) (λ over. all_waiting qs)
+  all_waiting (q ∷ qs) = search (rules, cond_both, waits, all_waiting qs, all_waiting qs)
 
   pub answer_keeps : Accounted a t (with_fate test fate rs)
   answer_keeps =

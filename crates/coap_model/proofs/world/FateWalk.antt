@@ -1,18 +1,17 @@
 -- The requests that the application answers, along the events of a server. Let each effect on a connection keep a
 -- property of the connection and its requests. Then the property holds after all events.
-use Rattle.std.proofs.Common.{Bool, List, Option, Some, [], ap, cond, inl, inr, is_none, length, map, refl, subst, suc}
-use Rattle.std.proofs.Common.{sym, zero, ℕ, ◌&&◌, ◌++◌, ◌+◌, ◌==◌, ◌∙◌, ◌∷◌, ◌≡◌, ◌≢◌}
+use Rattle.std.proofs.Common.{Bool, List, Option, Some, [], cond, inl, inr, length, map, refl, rules, subst, suc, sym}
+use Rattle.std.proofs.Common.{zero, ℕ, ◌&&◌, ◌++◌, ◌+◌, ◌==◌, ◌∙◌, ◌∷◌, ◌≡◌, ◌≢◌}
 use Rattle.std.proofs.lemmas.Bool.{and_parts, cases_eq, cond_both, eq-eqb, eqb-true, ne_eqb}
 use Rattle.coap_model.specs.Prelude.{AcceptedCall, AllByRecursion, Answer, Application, ApplicationRequest}
 use Rattle.coap_model.specs.Prelude.{ApplicationsValue, ConfigValues, Connection, ConnectionEntry, Engine, History}
 use Rattle.coap_model.specs.Prelude.{LimitValues, Message, PendingEntryValue, Step, StoreValue, StreamFault, World}
 use Rattle.coap_model.specs.Prelude.{acted, after_steps, fate_by, if_there, is_unanswered_with, late_message, new_side}
-use Rattle.coap_model.specs.Prelude.{new_world, next_pending, put_refusal, requests_acted, requests_after, requests_by}
-use Rattle.coap_model.specs.Prelude.{requests_due, requests_on, requests_once, requests_responded, requests_settled}
-use Rattle.coap_model.specs.Prelude.{requests_then, requests_within, settled, settled_once, settled_place}
-use Rattle.coap_model.specs.Prelude.{settled_within, side_after, side_announced, side_ended, side_faulted, side_of}
-use Rattle.coap_model.specs.Prelude.{side_released, side_responded, side_written, steps_by, steps_of, ticks, with_fate}
-use Rattle.coap_model.specs.Prelude.{world_after}
+use Rattle.coap_model.specs.Prelude.{new_world, next_pending, requests_acted, requests_after, requests_by, requests_due}
+use Rattle.coap_model.specs.Prelude.{requests_on, requests_once, requests_responded, requests_settled, requests_then}
+use Rattle.coap_model.specs.Prelude.{requests_within, settled, settled_once, settled_place, settled_within, side_after}
+use Rattle.coap_model.specs.Prelude.{side_announced, side_ended, side_faulted, side_of, side_released, side_responded}
+use Rattle.coap_model.specs.Prelude.{side_written, steps_by, steps_of, with_fate, world_after}
 use Rattle.coap_model.specs.world.World.{changed_at}
 use Rattle.coap_wire.proofs.NumberLaws.{none_or_some}
 use Rattle.coap_model.specs.world.World as world
@@ -50,8 +49,7 @@ module _ (limits : LimitValues) (a : Option ApplicationsValue) (P : Connection �
       → P (settled_within turns store now s) (requests_within turns store now s rs)
   unfolding settled_within requests_within
   within_good zero store now s rs is = is
-  within_good (suc turns) store now s rs is =
-      within_good turns store now (settled_once store now s) (requests_once now s rs) (keeps.reported store now s rs is)
+  within_good (suc turns) store now s rs is = search (rules, within_good turns store now)
 
   settled_good : (store : StoreValue) (now : ℕ) (s : Connection) (rs : List ApplicationRequest) → P s rs
       → P (settled store now s) (requests_settled store now s rs)
@@ -67,52 +65,25 @@ module _ (limits : LimitValues) (a : Option ApplicationsValue) (P : Connection �
     changed_good : (sides : List ConnectionEntry) (at : ℕ) (f : Connection → Connection) (qs : List ApplicationRequest)
         → (at ≡ id → (s : Connection) → side_of id sides ≡ Some s → P (f s) qs) → (at ≢ id → AllGood sides qs)
         → AllGood (map (changed_at at f) sides) qs
-    changed_good sides at f qs goes away t there =
-        elim (cases_eq at id) [
-          | inl here ↦
-              let made = one_made f (side_of at sides) t
-              (sym (changed_here at f sides) ∙ ap (λ (n : ℕ). side_of n (map (changed_at at f) sides)) here ∙ there) in
-              subst (λ u. P u qs) made.2
-              (goes here made.0 (ap (λ (n : ℕ). side_of n sides) (sym here) ∙ made.1))
-          | inr apart ↦ away apart t (sym (changed_elsewhere at id f sides apart) ∙ there)
-        ]
+    changed_good sides at f qs goes away t there = search (rules, cases_eq, one_made, changed_here, changed_elsewhere)
 
     module _ (w : World) (rs : List ApplicationRequest) (good : AllGood w.sides rs) where
       -- A new connection.
       opened_good : (at : ℕ) → AllGood (acted limits w (world.Opened at)).sides
           (requests_acted id w (world.Opened at) rs)
       unfolding acted requests_acted
-      opened_good at =
-          elim (cases_eq at id) [
-            | inl here ↦ rw (eq-eqb at id here, here) (there_or_not (side_of id w.sides)
-                (λ found. AllGood (cond (is_none found)
-                (record w { sides = w.sides ++ record { id = id; side = new_side limits } ∷ []; ids = id }) w).sides
-                (cond (is_none found) [] rs))
-                (λ none t there.
-                let new : Some (new_side limits) ≡ Some t =
-                sym (first_there id (record { id = id; side = new_side limits }) [] refl)
-                ∙ sym (new_there id w.sides _ none) ∙ there in
-                subst (λ u. P u []) (same_there (new_side limits) t new) keeps.first)
-                (λ s found. good))
-            | inr apart ↦ rw (ne_eqb at id apart)
-                (cond_both (is_none (side_of at w.sides)) _ w (λ (u : World). AllGood u.sides rs)
-                (λ none t there. good t
-                (sym (other_more id w.sides (record { id = at; side = new_side limits }) apart) ∙ there)) (λ old. good))
-          ]
+      opened_good at = search (rules, cases_eq, eq-eqb, there_or_not, first_there, new_there, same_there, ne_eqb, cond_both, other_more)
 
       -- A change of the connection with one id leaves the requests, or changes them too if this is the id.
       same_good : (at : ℕ) (f : Connection → Connection) → ((s : Connection) → P s rs → P (f s) rs)
           → AllGood (map (changed_at at f) w.sides) rs
-      same_good at f kept =
-          changed_good w.sides at f rs (λ here s there. kept s (good s there)) (λ apart. good)
+      same_good at f kept = search (rules, changed_good)
 
       own_good : (at : ℕ) (f : Connection → Connection)
           (g : Connection → List ApplicationRequest → List ApplicationRequest)
           → ((s : Connection) → P s rs → P (f s) (g s rs))
           → AllGood (map (changed_at at f) w.sides) (cond (at == id) (if_there (side_of id w.sides) g rs) rs)
-      own_good at f g kept =
-          changed_good w.sides at f _ (λ here s there. rw (eq-eqb at id here, there) (kept s (good s there)))
-          (λ apart. rw (ne_eqb at id apart) good)
+      own_good at f g kept = search (rules, changed_good, eq-eqb, ne_eqb)
 
       acted_good : (st : Step) → w.store.applications ≡ a
           → AllGood (acted limits w st).sides (requests_acted id w st rs)
@@ -121,22 +92,14 @@ module _ (limits : LimitValues) (a : Option ApplicationsValue) (P : Connection �
       acted_good (world.Handled at m) same = own_good at _ _ (λ s. keeps.handled w.store w.now s m rs same)
       acted_good (world.Faulted at fault) same = same_good at _ (λ s. keeps.faulted s fault rs)
       acted_good (world.Written at n) same = same_good at _ (λ s. keeps.written s n rs)
-      acted_good (world.Ticked now) same =
-          cond_both (ticks w.now now) _ w (λ (u : World). AllGood u.sides rs) (λ may. good) (λ early. good)
-      acted_good (world.Stored path format bytes) same =
-          cond_both (is_none (put_refusal w.store path bytes)) _ w (λ (u : World). AllGood u.sides rs)
-          (λ may. good) (λ refused. good)
+      acted_good (world.Ticked now) same = search (rules, cond_both)
+      acted_good (world.Stored path format bytes) same = search (rules, cond_both)
       acted_good (world.Removed path) same = good
       acted_good (world.Ended at cut) same = same_good at _ (λ s. keeps.ended s cut rs)
       acted_good (world.Released at) same = same_good at _ (λ s. keeps.released s rs)
       acted_good (world.Announced at size) same = same_good at _ (λ s. keeps.announced s size rs)
       acted_good (world.Responded at m) same = own_good at _ _ (λ s. keeps.responded s m rs)
-      acted_good (world.Dropped at) same = λ t there. elim (cases_eq at id) [
-        | inl here ↦
-            absurd (none_or_some t (sym (dropped_here at w.sides)
-            ∙ ap (λ (n : ℕ). side_of n (acted limits w (world.Dropped at)).sides) here ∙ there))
-        | inr apart ↦ good t (sym (dropped_elsewhere at id w.sides apart) ∙ there)
-      ]
+      acted_good (world.Dropped at) same = search (rules, cases_eq, none_or_some, dropped_here, dropped_elsewhere)
 
     then_good : (w : World) (rs : List ApplicationRequest) → AllGood w.sides rs
         → AllGood (map (settled_place w.store w.now) w.sides) (requests_then id w rs)
@@ -176,17 +139,9 @@ pub acted_cases : (P : List ApplicationRequest → Type 0) (id : ℕ) (w : World
     → P (requests_responded s m rs))
     → P (requests_acted id w st rs)
 unfolding requests_acted
-acted_cases P id w (world.Opened other) rs same opened handled responded =
-    cond_both (other == id && is_none (side_of id w.sides)) [] rs P
-    (λ new. opened (ap world.Opened (eqb-true other id (and_parts (other == id) _ new).0))) (λ old. same)
-acted_cases P id w (world.Handled other m) rs same opened handled responded =
-    cond_both (other == id) _ rs P (λ here. there_or_not (side_of id w.sides)
-    (λ found. P (if_there found (λ s. requests_after w.store w.now s m) rs)) (λ none. same)
-    (λ s. handled m s (ap (λ n. world.Handled n m) (eqb-true other id here)))) (λ apart. same)
-acted_cases P id w (world.Responded other m) rs same opened handled responded =
-    cond_both (other == id) _ rs P (λ here. there_or_not (side_of id w.sides)
-    (λ found. P (if_there found (λ s. requests_responded s m) rs)) (λ none. same)
-    (λ s. responded m s (ap (λ n. world.Responded n m) (eqb-true other id here)))) (λ apart. same)
+acted_cases P id w (world.Opened other) rs same opened handled responded = search (rules, cond_both, eqb-true, and_parts)
+acted_cases P id w (world.Handled other m) rs same opened handled responded = search (rules, cond_both, there_or_not, eqb-true)
+acted_cases P id w (world.Responded other m) rs same opened handled responded = search (rules, cond_both, there_or_not, eqb-true)
 acted_cases P id w other rs same opened handled responded = same
 
 -- The unanswered requests of this entry.
@@ -208,15 +163,11 @@ module _ (P : ℕ → List ApplicationRequest → Type 0)
       → P now (requests_within turns store now s rs)
   unfolding requests_within requests_once
   within_stays zero store now s rs is = is
-  within_stays (suc turns) store now s rs is =
-      within_stays turns store now (settled_once store now s) _ (due_stays now s (next_pending now s) rs refl is)
+  within_stays (suc turns) store now s rs is = search (rules, due_stays, within_stays turns store now)
 
   pub then_stays : (id : ℕ) (w : World) (rs : List ApplicationRequest) → P w.now rs → P w.now (requests_then id w rs)
   unfolding requests_then requests_settled
-  then_stays id w rs is =
-      there_or_not (side_of id w.sides) (λ found. P w.now (if_there found (requests_settled w.store w.now) rs))
-      (λ none. is)
-      (λ s found. within_stays (length s.history.pending + length s.observers) w.store w.now s rs is)
+  then_stays id w rs is = search (rules, there_or_not, within_stays)
 
   -- Steps keep it, if their own effects do.
   pub steps_stay : (limits : LimitValues) (id : ℕ) (Allowed : Step → Type 0)
@@ -260,6 +211,4 @@ pub requests_last : (c : ConfigValues) (id : ℕ) (es : List AcceptedCall) (e : 
     → requests_on c id (es ++ e ∷ [])
     ≡ requests_by c.limits id (world_after c es) (steps_by c.limits.max_message es e) (requests_on c id es)
 unfolding requests_on world_after
-requests_last c id es e =
-    let M : ℕ = c.limits.max_message in
-    rw (steps_of_more M es e) (requests_more c.limits id (new_world c) (steps_of M es) (steps_by M es e) [])
+requests_last c id es e = search (rules, steps_of_more, requests_more)

@@ -1,31 +1,31 @@
 -- Known facts of an observer: the state that it was sent last is a state that its path had.
-use Rattle.std.proofs.Common.{◌≡◌, ℕ, ◌+◌, ◌<◌, ◌≤◌, true, false, List, Option, Some, None, refl, sym, ap, ◌∙◌, arith}
-use Rattle.std.proofs.Common.{◌==◌, nat_eq, not, ◌&&◌, inl, inr, ◌⊎◌}
-use Rattle.coap_model.specs.Prelude.{decimal, option_eq, Message, Path, same_bytes}
-use Rattle.coap_model.specs.Prelude.{Representation, StoreValue, found_in, kind_of_path, key_for, state_at, state_of}
-use Rattle.coap_model.specs.Prelude.{built, text_plain, is_observable, is_dynamic, RequestTarget, target_of, path_of}
-use Rattle.coap_model.specs.Prelude.{Change, Nothing, Put, Delete, changed, immediate_answer, prompt_answer, only}
-use Rattle.coap_model.specs.Prelude.{content, Response}
-use Rattle.coap_model.specs.Prelude.{etag_at, is_among, valid, answer_at, removes_watch, with_observe_rule, answer_of}
-use Rattle.coap_model.specs.Prelude.{without_hold_if, AreDistinct, notification_at, Time, Dynamic}
-use Rattle.coap_model.specs.Prelude.{Observer, same_state, is_due, entry_for, format_of}
-use Rattle.coap_model.specs.Prelude.{goes_on, notification, notification_message}
-use Rattle.coap_model.specs.Prelude.{response_with_observe, responds, etag_of_state, ReportsState}
-use Rattle.std.proofs.lemmas.Bool.{not-false, eqb-true, eq-eqb, and_parts, cond_both}
+use Rattle.std.proofs.Common.{List, None, Option, Some, ap, arith, false, inl, inr, nat_eq, not, refl, rules, sym, true}
+use Rattle.std.proofs.Common.{ℕ, ◌&&◌, ◌+◌, ◌<◌, ◌==◌, ◌∙◌, ◌≡◌, ◌≤◌, ◌⊎◌}
+use Rattle.std.proofs.lemmas.Bool.{and_parts, cond_both, eq-eqb, eqb-true}
 use lib.Pointwise.{bytes_decides}
+use Rattle.coap_model.specs.Prelude.{AreDistinct, Change, Delete, Dynamic, Message, Nothing, Observer, Path, Put}
+use Rattle.coap_model.specs.Prelude.{ReportsState, Representation, RequestTarget, Response, StoreValue, Time, answer_at}
+use Rattle.coap_model.specs.Prelude.{answer_of, built, changed, content, decimal, entry_for, etag_at, etag_of_state}
+use Rattle.coap_model.specs.Prelude.{format_of, found_in, goes_on, immediate_answer, is_among, is_due, is_dynamic}
+use Rattle.coap_model.specs.Prelude.{is_observable, key_for, kind_of_path, notification, notification_at}
+use Rattle.coap_model.specs.Prelude.{notification_message, only, option_eq, path_of, prompt_answer, removes_watch}
+use Rattle.coap_model.specs.Prelude.{responds, response_with_observe, same_bytes, same_state, state_at, state_of}
+use Rattle.coap_model.specs.Prelude.{target_of, text_plain, valid, with_observe_rule, without_hold_if}
 use Rattle.coap_store.specs.Answer.{Answer}
 use Rattle.coap_path.specs.declared.resource_kind.ResourceKind.{ResourceKind}
 use Rattle.coap_store.proofs.CatalogueLemmas.{same_format}
-use Rattle.coap_store.proofs.ChangeLaws.{put_is_stored, other_is_kept_on_put, other_is_kept_on_delete, deleted_is_gone}
-use Rattle.coap_store.proofs.ChangeLaws.{distinct_stays}
+use Rattle.coap_store.proofs.ChangeLaws.{deleted_is_gone, distinct_stays, other_is_kept_on_delete, other_is_kept_on_put}
+use Rattle.coap_store.proofs.ChangeLaws.{put_is_stored}
 use Rattle.coap_store.proofs.VersionLaws.{by_path}
 use Rattle.coap_store.proofs.ApplicationLaws.{prompt_cases}
 use Rattle.coap_store.proofs.WatchLaws.{promptly_watched_is_there, stored_unwatched, watched_at_once}
-use Rattle.coap_model.proofs.world.WalkLaws.{there_or_not}
 use Rattle.coap_store.proofs.AnswerLaws.{answer_cases, get_cases, store_cases}
-use Rattle.coap_wire.specs.Codes as code
-use Rattle.coap_store.specs.declared.plan.Watch.TheVariants as watch
 use Rattle.coap_model.specs.world.Observers as world
+use Rattle.coap_store.specs.declared.plan.Watch.TheVariants as watch
+use Rattle.coap_wire.specs.Codes as code
+use Rattle.coap_model.proofs.world.WalkLaws.{there_or_not}
+use Rattle.coap_model.proofs.world.PlaceLaws.{found}
+use Rattle.coap_model.proofs.world.AnswerCounts.{one, pending}
 
 -- ---- facts on an observer
 
@@ -92,16 +92,13 @@ state_is reported state e = absurd cc
 pub sent_now : (store : StoreValue) (now : ℕ) (o : Observer) → is_due store now o ≡ false
     → o.reported ≡ state_of store now o.path
 unfolding is_due
-sent_now store now o e =
-    state_is o.reported (state_of store now o.path) (not-false (same_state o.reported (state_of store now o.path)) e)
+sent_now store now o e = search rules
 
 -- An observer that was last sent the current state is not due.
 pub not_due : (store : StoreValue) (now : ℕ) (o : Observer) → o.reported ≡ state_of store now o.path
     → is_due store now o ≡ false
 unfolding is_due
-not_due store now o e =
-    ap (λ reported. not (same_state reported (state_of store now o.path))) e
-    ∙ ap not (state_itself (state_of store now o.path))
+not_due store now o e = search rules
 
 -- ---- changes of the store
 

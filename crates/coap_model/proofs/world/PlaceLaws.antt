@@ -1,13 +1,13 @@
 -- The connections of a world by id: the connection with an id after each change of the list.
-use Rattle.std.proofs.Common.{◌≡◌, ◌≢◌, ℕ, List, [], ◌∷◌, ◌++◌, map, Option, Some, None, refl, sym, ap, subst, ◌∙◌, ◌⊎◌}
-use Rattle.std.proofs.Common.{inl, inr, arith, not, filter, option_map, ◌==◌}
-use Rattle.coap_model.specs.Prelude.{AllByRecursion, Connection, ConnectionEntry, side_of}
+use Rattle.std.proofs.Common.{List, None, Option, Some, [], ap, arith, filter, inl, inr, map, not, option_map, refl}
+use Rattle.std.proofs.Common.{rules, subst, sym, ℕ, ◌++◌, ◌==◌, ◌∙◌, ◌∷◌, ◌≡◌, ◌≢◌, ◌⊎◌}
 use Rattle.std.proofs.lemmas.Bool.Decides.{nat_tests}
-use Rattle.std.proofs.lemmas.Bool.{eq-eqb, ne_eqb, eqb-true, eqb-false, cases_eq, cond_both}
+use Rattle.std.proofs.lemmas.Bool.{cond_both, eq-eqb, ne_eqb}
 use Rattle.std.proofs.lemmas.Iterator.Adapters.{option_map_id}
-use Rattle.coap_model.proofs.OptionLemmas.{same_there}
+use Rattle.coap_model.specs.Prelude.{AllByRecursion, Connection, ConnectionEntry, side_of}
 use Rattle.coap_model.specs.world.World.{changed_at}
 use Rattle.coap_wire.proofs.NumberLaws.{none_or_some}
+use Rattle.coap_model.proofs.OptionLemmas.{same_there}
 
 -- ---- the first connection, or a later one
 
@@ -26,9 +26,7 @@ later_there id p ps e = rw (ne_eqb p.id id e) refl
 by_first : (P : Option Connection → Type 0) (id : ℕ) (p : ConnectionEntry) (ps : List ConnectionEntry)
     → (p.id ≡ id → P (Some p.side)) → (p.id ≢ id → P (side_of id ps)) → P (side_of id (p ∷ ps))
 unfolding side_of
-by_first P id p ps here apart =
-    cond_both (p.id == id) (Some p.side) (side_of id ps) P (λ e. here (eqb-true p.id id e))
-    (λ e. apart (eqb-false p.id id e))
+by_first P id p ps here apart = search rules
 
 -- A connection that exists is the first or a later one.
 pub found : (id : ℕ) (s : Connection) (p : ConnectionEntry) (ps : List ConnectionEntry) → side_of id (p ∷ ps) ≡ Some s
@@ -70,7 +68,7 @@ all_there id g ps = mapped_there id (with_sides g) g (λ p. refl) (λ p here. re
 -- ---- a change of one connection that keeps each id
 
 pub changed_id : (id : ℕ) (f : Connection → Connection) (p : ConnectionEntry) → (changed_at id f p).id ≡ p.id
-changed_id id f p = cond_both (p.id == id) (with_sides f p) p (λ q. q.id ≡ p.id) (λ e. refl) (λ e. refl)
+changed_id id f p = search rules
 
 pub changed_here : (id : ℕ) (f : Connection → Connection) (ps : List ConnectionEntry)
     → side_of id (map (changed_at id f) ps) ≡ option_map f (side_of id ps)
@@ -110,11 +108,7 @@ but id ps = filter (λ p. not (p.id == id)) ps
 -- A property of the rest of a list, by cases: the first connection has the id, or it does not.
 by_but : (P : List ConnectionEntry → Type 0) (id : ℕ) (p : ConnectionEntry) (ps : List ConnectionEntry)
     → (p.id ≡ id → P (but id ps)) → (p.id ≢ id → P (p ∷ but id ps)) → P (but id (p ∷ ps))
-by_but P id p ps here apart =
-    elim (cases_eq p.id id) [
-      | inl is ↦ rw (eq-eqb p.id id is) (here is)
-      | inr away ↦ rw (ne_eqb p.id id away) (apart away)
-    ]
+by_but P id p ps here apart = search rules
 
 pub dropped_here : (id : ℕ) (ps : List ConnectionEntry) → side_of id (but id ps) ≡ None
 unfolding side_of
