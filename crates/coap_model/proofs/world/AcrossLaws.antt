@@ -55,22 +55,12 @@ module _ (R : Connection → Connection → Type 0) (limits : LimitValues) (w : 
   -- If the step changes only the connection with one id, the relation is known only of that one.
   changed_across : (at : ℕ) (f : Connection → Connection) (t : Connection) → (at ≡ id → (s : Connection) → R s (f s))
       → side_of id (map (changed_at at f) w.sides) ≡ Some t → HoldsFrom R limits w st id t
-  changed_across at f t go e =
-      elim (cases_eq at id) [
-        | inl here ↦
-            let made = one_made f (side_of at w.sides) t (cc (changed_here at f w.sides)) in
-            inl (made.0, cc (made.1), subst (R made.0) made.2 (go here made.0))
-        | inr apart ↦ same_across t (sym (changed_elsewhere at id f w.sides apart) ∙ e)
-      ]
+  changed_across at f t go e = search (rules, cases_eq, one_made, changed_here, same_across, changed_elsewhere)
 
   opened_across : (at : ℕ) (t : Connection) (there : Option Connection) → st ≡ world.Opened at
       → side_of id w.sides ≡ there → side_of id (w.sides ++ record { id = at; side = new_side limits } ∷ []) ≡ Some t
       → HoldsFrom R limits w st id t
-  opened_across at t None is none e =
-      elim (found id t (record { id = at; side = new_side limits }) [] (sym (new_there id w.sides _ none) ∙ e)) [
-        | inl here ↦ inr (none, cc (here.0), subst (R (new_side limits)) here.1 (holds.same (new_side limits)))
-        | inr later ↦ absurd (none_or_some t (sym (nobody id) ∙ later.1))
-      ]
+  opened_across at t None is none e = search (rules, found, new_there, none_or_some, nobody)
   opened_across at t (Some s) is there e = same_across t (there ∙ sym (still_there id s w.sides _ there) ∙ e)
 
   if_across : (v : World) (t : Connection) (does : Bool) → (side_of id v.sides ≡ Some t → HoldsFrom R limits w st id t)
@@ -80,13 +70,9 @@ module _ (R : Connection → Connection → Type 0) (limits : LimitValues) (w : 
   acted_across : (did : Step) → st ≡ did → (t : Connection) → side_of id (acted limits w did).sides ≡ Some t
       → HoldsFrom R limits w st id t
   unfolding acted
-  acted_across (world.Opened at) is t =
-      if_across (opened_world limits w at) t (is_none (side_of at w.sides))
-      (opened_across at t (side_of id w.sides) is refl)
-  acted_across (world.Handled at m) is t =
-      changed_across at (λ s. side_after w.store w.now s m) t (λ here s. holds.handled m (cc) s)
-  acted_across (world.Faulted at fault) is t =
-      changed_across at (λ s. side_faulted s fault) t (λ here s. holds.faulted fault (cc) s)
+  acted_across (world.Opened at) is t = search (rules, if_across, opened_across)
+  acted_across (world.Handled at m) is t = search (rules, changed_across)
+  acted_across (world.Faulted at fault) is t = search (rules, changed_across)
   acted_across (world.Written at n) is t = changed_across at (λ s. side_written s n) t (λ here s. holds.written s n)
   acted_across (world.Ticked now) is t = if_across _ t (ticks w.now now) (same_across t)
   acted_across (world.Stored path format bytes) is t =
@@ -94,14 +80,10 @@ module _ (R : Connection → Connection → Type 0) (limits : LimitValues) (w : 
   acted_across (world.Removed path) is t = same_across t
   acted_across (world.Ended at cut) is t = changed_across at (λ s. side_ended s cut) t (λ here s. holds.ended s cut)
   acted_across (world.Released at) is t = changed_across at side_released t (λ here s. holds.released s)
-  acted_across (world.Announced at size) is t =
-      changed_across at (λ s. side_announced s size) t (λ here s. holds.announced size (cc) s)
+  acted_across (world.Announced at size) is t = search (rules, changed_across)
   acted_across (world.Responded at m) is t =
       changed_across at (λ s. side_responded s m) t (λ here s. holds.responded s m)
-  acted_across (world.Dropped at) is t = λ e. elim (cases_eq at id) [
-    | inl here ↦ absurd (none_or_some t (cc (dropped_here at w.sides)))
-    | inr apart ↦ same_across t (sym (dropped_elsewhere at id w.sides apart) ∙ e)
-  ]
+  acted_across (world.Dropped at) is t = search (rules, cases_eq, none_or_some, dropped_here, same_across, dropped_elsewhere)
 
   once_across : (store : StoreValue) (now : ℕ) (t : Connection) → HoldsFrom R limits w st id t
       → HoldsFrom R limits w st id (settled_once store now t)
@@ -257,16 +239,10 @@ stored_applications w m (Some s) = changed_applications w.store (change_after w.
 pub applications_stay : (limits : LimitValues) (w : World) (st : Step)
     → (world.step limits w st).store.applications ≡ w.store.applications
 unfolding world.step acted
-applications_stay limits w (world.Opened id) =
-    cond_both (is_none (side_of id w.sides)) _ w (λ (u : World). u.store.applications ≡ w.store.applications)
-    (λ none. refl) (λ there. refl)
+applications_stay limits w (world.Opened id) = search (rules, cond_both)
 applications_stay limits w (world.Handled id m) = stored_applications w m (side_of id w.sides)
-applications_stay limits w (world.Ticked now) =
-    cond_both (ticks w.now now) _ w (λ (u : World). u.store.applications ≡ w.store.applications)
-    (λ may. refl) (λ early. refl)
-applications_stay limits w (world.Stored path format bytes) =
-    cond_both (is_none (put_refusal w.store path bytes)) _ w
-    (λ (u : World). u.store.applications ≡ w.store.applications) (λ may. refl) (λ refused. refl)
+applications_stay limits w (world.Ticked now) = search (rules, cond_both)
+applications_stay limits w (world.Stored path format bytes) = search (rules, cond_both)
 applications_stay limits w other = refl
 
 -- Keeping a property composes.

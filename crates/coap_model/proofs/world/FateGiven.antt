@@ -1,6 +1,6 @@
 -- The responses that the application gives are its answers to requests, in order.
-use Rattle.std.proofs.Common.{Bool, List, None, Option, Some, [], ap, append_assoc, arith, false, inl, inr, length, map}
-use Rattle.std.proofs.Common.{refl, rules, subst, sym, true, ℕ, ◌&&◌, ◌++◌, ◌<◌, ◌∙◌, ◌∷◌, ◌≡◌, ◌≢◌, ◌≤◌}
+use Rattle.std.proofs.Common.{Bool, List, None, Option, Some, [], ap, arith, false, inl, inr, length, map, refl, rules}
+use Rattle.std.proofs.Common.{subst, sym, true, ℕ, ◌++◌, ◌<◌, ◌∙◌, ◌∷◌, ◌≡◌, ◌≢◌, ◌≤◌}
 use Rattle.std.proofs.lemmas.Bool.{and_parts, both_ways, cases_Bool, cases_eq, cond_both, eq-eqb, ne_eqb}
 use Rattle.std.proofs.lemmas.List.{append-nil, map-append}
 use Rattle.std.proofs.lemmas.List.Elements.{All-from_recursion, recursion_from_All}
@@ -11,16 +11,13 @@ use Rattle.std.proofs.lemmas.List.Sorted.{IsPermutation-trans}
 use Rattle.coap_model.specs.Prelude.{AcceptedCall, AllByRecursion, Answered, Application, ApplicationRequest}
 use Rattle.coap_model.specs.Prelude.{AreAccepted, AreAnswers, AreQueuedInOrder, ConfigValues, Connection, Engine, Fate}
 use Rattle.coap_model.specs.Prelude.{History, IsAccepted, LimitValues, Message, Phase, Step, StoreValue, Unanswered}
-use Rattle.coap_model.specs.Prelude.{World, acted, after_steps, answers, application_deadline, fate_by, first_fate}
-use Rattle.coap_model.specs.Prelude.{given_in, given_on, handles, has_stopped, is_asking, is_unanswered}
-use Rattle.coap_model.specs.Prelude.{is_unanswered_with, late_message, link_of, list_any, may_hold, new_request}
-use Rattle.coap_model.specs.Prelude.{refusal_of, requests_acted, requests_after, requests_by, requests_on}
-use Rattle.coap_model.specs.Prelude.{requests_responded, requests_then, response_of, response_refusal, responses_to}
-use Rattle.coap_model.specs.Prelude.{settled, side_of, side_responded, steps_by, stream_on, with_fate, without_request}
-use Rattle.coap_model.specs.Prelude.{world_after}
+use Rattle.coap_model.specs.Prelude.{World, acted, after_steps, answers, fate_by, given_in, given_on, has_stopped}
+use Rattle.coap_model.specs.Prelude.{is_unanswered, is_unanswered_with, late_message, link_of, list_any, new_request}
+use Rattle.coap_model.specs.Prelude.{requests_acted, requests_after, requests_by, requests_on, requests_responded}
+use Rattle.coap_model.specs.Prelude.{requests_then, response_of, response_refusal, responses_to, settled, side_of}
+use Rattle.coap_model.specs.Prelude.{side_responded, steps_by, with_fate, without_request, world_after}
 use Rattle.coap_wire.proofs.NumberLaws.{none_or_some}
 use Rattle.coap_conn.specs.PendingEntries.{is_request_for}
-use Rattle.coap_conn.specs.declared.phase.RespondFault.TheVariants as fault
 use Rattle.coap_model.specs.world.Events as event
 use Rattle.coap_model.specs.world.World as world
 use Rattle.coap_model.proofs.OptionLemmas.{same_there}
@@ -41,9 +38,7 @@ use Rattle.coap_model.proofs.world.FateWalk.{acted_cases, before_steps, expires,
 responses_more : (rs qs : List ApplicationRequest) → responses_to (rs ++ qs) ≡ responses_to rs ++ responses_to qs
 unfolding responses_to
 responses_more [] qs = refl
-responses_more (r ∷ rs) qs =
-    ap (λ ms. response_of r.fate ++ ms) (responses_more rs qs)
-    ∙ sym (append_assoc (response_of r.fate) (responses_to rs) (responses_to qs))
+responses_more (r ∷ rs) qs = search (rules, responses_more rs qs)
 
 unanswered_gives : (fate : Fate) → is_unanswered fate ≡ true → response_of fate ≡ []
 unanswered_gives Unanswered is = refl
@@ -55,10 +50,7 @@ responses_with : (test : ApplicationRequest → Bool) (fate : Fate) → response
     → responses_to (with_fate test fate rs) ≡ responses_to rs
 unfolding responses_to with_fate
 responses_with test fate none to [] = refl
-responses_with test fate none to (r ∷ rs) =
-    cond_both (test r) _ _ (λ qs. responses_to qs ≡ response_of r.fate ++ responses_to rs)
-    (λ is. ap (λ ms. ms ++ responses_to rs) (none ∙ sym (unanswered_gives r.fate (to r is))))
-    (λ other. ap (λ ms. response_of r.fate ++ ms) (responses_with test fate none to rs))
+responses_with test fate none to (r ∷ rs) = search (rules, cond_both, unanswered_gives, responses_with test fate none to rs)
 
 -- A fate with one.
 responses_new : (test : ApplicationRequest → Bool) (fate : Fate) (m : Message × ℕ) → response_of fate ≡ m ∷ []
@@ -92,8 +84,7 @@ responses_old n (r ∷ rs) old =
 order_more : (ms : List (Message × ℕ)) (m : Message × ℕ) → AllByRecursion (λ other. other.1 < m.1) ms
     → AreQueuedInOrder ms → AreQueuedInOrder (ms ++ m ∷ [])
 order_more [] m earlier in_order = (tt, tt)
-order_more (n ∷ ms) m earlier in_order =
-    (all_append (λ other. n.1 < other.1) ms (m ∷ []) in_order.0 (earlier.0, tt), order_more ms m earlier.1 in_order.1)
+order_more (n ∷ ms) m earlier in_order = search (rules, all_append, order_more ms m earlier.1 in_order.1)
 
 -- ---- effects without a response of the application
 
@@ -103,29 +94,17 @@ engine_gives h m = fate_cases (λ f. response_of f ≡ []) Engine h m refl (λ s
 new_gives : (now : ℕ) (s : Connection) (m : Message) (o : Option ℕ) → responses_to (new_request now s m o) ≡ []
 unfolding responses_to
 new_gives now s m None = refl
-new_gives now s m (Some seconds) =
-    let h : History = after_message s m in
-    append-nil (response_of (first_fate h m))
-    ∙ cond_both (may_hold h) Unanswered (fate_by Engine h (refusal_of m)) (λ f. response_of f ≡ [])
-    (λ may. refl) (λ full. engine_gives h (refusal_of m))
+new_gives now s m (Some seconds) = search (rules, after_message, append-nil, cond_both, engine_gives)
 
 after_gives : (store : StoreValue) (now : ℕ) (s : Connection) (m : Message) (rs : List ApplicationRequest)
     → responses_to (requests_after store now s m rs) ≡ responses_to rs
 unfolding requests_after
-after_gives store now s m rs =
-    let new : List ApplicationRequest = new_request now s m (application_deadline store.applications m) in
-    cond_both (handles s && is_asking m) (rs ++ new) rs (λ qs. responses_to qs ≡ responses_to rs)
-    (λ so. responses_more rs new
-    ∙ ap (λ ms. responses_to rs ++ ms) (new_gives now s m (application_deadline store.applications m))
-    ∙ append-nil (responses_to rs)) (λ off. refl)
+after_gives store now s m rs = search (rules, cond_both, responses_more, new_gives, append-nil)
 
 due_gives : (h : History) (token : List ℕ) (moment : ℕ) (rs : List ApplicationRequest)
     → responses_to (with_fate (expires token moment) (fate_by Engine h (late_message Application token)) rs)
     ≡ responses_to rs
-due_gives h token moment rs =
-    responses_with (expires token moment) (fate_by Engine h (late_message Application token))
-    (engine_gives h (late_message Application token))
-    (λ r is. (and_parts (waits r) _ (and_parts (is_unanswered_with token r) _ is).0).0) rs
+due_gives h token moment rs = search (rules, responses_with, expires, engine_gives, and_parts, waits)
 
 then_gives : (id : ℕ) (w : World) (rs : List ApplicationRequest)
     → responses_to (requests_then id w rs) ≡ responses_to rs
@@ -177,9 +156,7 @@ pub given_then : (id : ℕ) (es : List AcceptedCall) (e : AcceptedCall)
     → given_on id (es ++ e ∷ []) ≡ given_on id es ++ given_in id e
 unfolding given_on
 given_then id [] e = append-nil (given_in id e)
-given_then id (d ∷ es) e =
-    ap (λ ms. given_in id d ++ ms) (given_then id es e)
-    ∙ sym (append_assoc (given_in id d) (given_on id es) (given_in id e))
+given_then id (d ∷ es) e = search (rules, given_then id es e)
 
 -- The event neither opens the connection nor is a response on it.
 abbrev IsOtherEvent : ℕ → AcceptedCall → Type 0
@@ -191,9 +168,7 @@ other_steps : (id M : ℕ) (es : List AcceptedCall) (e : AcceptedCall) → IsOth
     → AllByRecursion (IsOther id) (steps_by M es e)
 unfolding steps_by
 other_steps id M es (event.Opened other) apart = (apart, tt)
-other_steps id M es (event.Took other bytes) apart =
-    each_beyond (IsOther id) other (stream_on M other es) (stream_on M other (es ++ event.Took other bytes ∷ []))
-    (λ m. tt) (λ fault. tt)
+other_steps id M es (event.Took other bytes) apart = search (rules, each_beyond)
 other_steps id M es (event.Responded other m) apart = (apart, tt)
 other_steps id M es e apart = (tt, tt)
 
@@ -222,15 +197,9 @@ ids_stay c w (s ∷ ss) none =
 ids_later : (c : ConfigValues) (es : List AcceptedCall) (e : AcceptedCall) → IsAccepted c es e
     → (world_after c es).ids ≤ (world_after c (es ++ e ∷ [])).ids
 unfolding IsAccepted steps_by after_steps
-ids_later c es (event.Opened id) is =
-    rw (world_more c es (event.Opened id)) (ids_grow c (world_after c es) (world.Opened id) (is.0, is.2))
-ids_later c es (event.Took id bytes) is =
-    rw (world_more c es (event.Took id bytes))
-    (ids_stay c (world_after c es) (steps_by c.limits.max_message es (event.Took id bytes))
-    (each_beyond LeavesIds id (stream_on c.limits.max_message id es)
-    (stream_on c.limits.max_message id (es ++ event.Took id bytes ∷ [])) (λ m. tt) (λ fault. tt)))
-ids_later c es e is =
-    rw (world_more c es e) (ids_stay c (world_after c es) (steps_by c.limits.max_message es e) (tt, tt))
+ids_later c es (event.Opened id) is = search (rules, world_more, ids_grow)
+ids_later c es (event.Took id bytes) is = search (rules, world_more, ids_stay, each_beyond)
+ids_later c es e is = search (rules, world_more, ids_stay)
 
 -- ---- all events
 
@@ -243,11 +212,7 @@ module _ (c : ConfigValues) (id : ℕ) where
 
   first_all : AreAll []
   unfolding given_on
-  first_all = record {
-    none = λ later. refl;
-    answers_all = λ s there. absurd
-        (none_or_some s (sym (nobody id) ∙ ap (λ (w : World). side_of id w.sides) (sym (world_first c)) ∙ there));
-  }
+  first_all = search (rules, none_or_some, nobody, world_first)
 
   module _ (es : List AcceptedCall) (reached : IsReached c es) (is : AreAll es) where
     abbrev reached_world : World
@@ -333,7 +298,7 @@ module _ (c : ConfigValues) (id : ℕ) where
       were = is.answers_all s there
 
       given_now : given_on id (es ++ event.Responded id m ∷ []) ≡ map (λ n. n.0) were.order ++ m ∷ []
-      given_now = rw (given_then id es, eq-eqb id id refl, were.given_are, were.none (answers_runs h.phase on), append-nil) refl
+      given_now = search (rules, given_then, eq-eqb, were, answers_runs, on, append-nil)
 
       earlier : AllByRecursion (λ n. n.1 < length h.queued) were.order
       earlier =
@@ -389,17 +354,7 @@ module _ (c : ConfigValues) (id : ℕ) where
       -- A connection on which the response did not fit has stopped.
       over_then : is_unanswered (fate_by Application h m) ≡ true → has_stopped settled_so.history.phase ≡ true
       unfolding side_responded
-      over_then none =
-          let sent = sent_so h Application m (without_request m.token h.pending) next.codes on in
-          elim (cases_Bool (has_stopped settled_so.history.phase)) [
-            | inl over ↦ over
-            | inr live ↦ (
-                let before : has_stopped (side_responded s m).history.phase ≡ false =
-                settled_between Runs all_run.composes all_run.replies all_run.lets_go all_run.pongs reached_world.store
-                reached_world.now (side_responded s m) live in
-                absurd (both_ways (is_unanswered (fate_by Application h m))
-                (sent.answered (rw (on, allows) at before)).0 none))
-          ]
+      over_then none = search (rules, sent_so, next, on, cases_Bool, settled_between, all_run, both_ways)
 
       there_then : side_of id (world_after c (es ++ event.Responded id m ∷ [])).sides ≡ Some settled_so
       unfolding steps_by after_steps world.step acted
@@ -410,10 +365,7 @@ module _ (c : ConfigValues) (id : ℕ) where
       responses_are : responses_to (requests_on c id (es ++ event.Responded id m ∷ []))
           ≡ responses_to (with_fate test (fate_by Application h m) rs)
       unfolding steps_by requests_by requests_acted requests_responded
-      responses_are =
-          ap responses_to (requests_last c id es (event.Responded id m))
-          ∙ then_gives id (acted c.limits reached_world (world.Responded id m))
-          (requests_acted id reached_world (world.Responded id m) rs) ∙ rw (eq-eqb id id refl, there, allows) refl
+      responses_are = search (rules, requests_last, then_gives, eq-eqb)
 
       responded_all : IsAccepted c es (event.Responded id m) → AreAll (es ++ event.Responded id m ∷ [])
       responded_all accepted = record {
@@ -433,20 +385,8 @@ module _ (c : ConfigValues) (id : ℕ) where
 
     event_all : (e : AcceptedCall) → IsAccepted c es e → AreAll (es ++ e ∷ [])
     unfolding IsAccepted
-    event_all (event.Opened other) accepted = elim (cases_eq other id) [
-      | inl here ↦
-          subst (λ (n : ℕ). IsAccepted c es (event.Opened n) → AreAll (es ++ event.Opened n ∷ []))
-          (sym here) opened_all accepted
-      | inr apart ↦ other_all (event.Opened other) accepted apart
-    ]
-    event_all (event.Responded other m) accepted = elim (cases_eq other id) [
-      | inl here ↦
-          subst (λ (n : ℕ). IsAccepted c es (event.Responded n m) → AreAll (es ++ event.Responded n m ∷ [])) (sym here)
-          (λ own.
-          (let at = on_one (λ s. response_refusal (link_of s.history) m ≡ None) (side_of id reached_world.sides) own in
-          responded_all m at.0 at.1 at.2 own)) accepted
-      | inr apart ↦ other_all (event.Responded other m) accepted apart
-    ]
+    event_all (event.Opened other) accepted = search (rules, cases_eq, opened_all, other_all)
+    event_all (event.Responded other m) accepted = search (rules, cases_eq, on_one, responded_all, other_all)
     event_all e accepted = other_all e accepted tt
 
 -- After accepted events, the responses of the application are answers.

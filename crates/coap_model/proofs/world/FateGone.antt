@@ -1,14 +1,13 @@
 -- A connection that does not exist has no requests, or it was dropped and its requests are those before the drop.
-use Rattle.std.proofs.Common.{Bool, List, None, Option, Some, [], ap, append_assoc, cond, inl, inr, map, option_map}
-use Rattle.std.proofs.Common.{refl, subst, sym, ℕ, ◌++◌, ◌∙◌, ◌∷◌, ◌≡◌, ◌≢◌}
+use Rattle.std.proofs.Common.{Bool, List, None, Some, [], ap, append_assoc, cond, inl, inr, map, option_map, refl}
+use Rattle.std.proofs.Common.{rules, subst, sym, ℕ, ◌++◌, ◌∙◌, ◌∷◌, ◌≡◌, ◌≢◌}
 use Rattle.std.proofs.lemmas.Bool.{cases_eq, cond_both, ne_eqb}
 use Rattle.std.proofs.lemmas.List.{append-nil}
 use Rattle.coap_model.specs.Prelude.{AcceptedCall, AllByRecursion, ApplicationRequest, AreAccepted, ConfigValues}
 use Rattle.coap_model.specs.Prelude.{Connection, ConnectionEntry, IsAccepted, IsGone, LimitValues, Step, WasDropped}
-use Rattle.coap_model.specs.Prelude.{World, acted, after_steps, given_in, given_on, if_there, later_steps}
-use Rattle.coap_model.specs.Prelude.{link_of, new_side, put_in, requests_acted, requests_by, requests_on}
-use Rattle.coap_model.specs.Prelude.{requests_settled, requests_then, response_refusal, settled, side_of, steps_by}
-use Rattle.coap_model.specs.Prelude.{steps_of, stream_on, world_after}
+use Rattle.coap_model.specs.Prelude.{World, acted, after_steps, changed, given_in, given_on, if_there, later_steps}
+use Rattle.coap_model.specs.Prelude.{new_side, put_in, requests_acted, requests_by, requests_on, requests_settled}
+use Rattle.coap_model.specs.Prelude.{requests_then, settled, side_of, steps_by, steps_of, world_after}
 use Rattle.coap_model.specs.world.World.{changed_at}
 use Rattle.coap_wire.proofs.NumberLaws.{none_or_some}
 use Rattle.coap_model.specs.world.Events as event
@@ -16,12 +15,13 @@ use Rattle.coap_model.specs.world.World as world
 use Rattle.coap_model.proofs.OptionLemmas.{none_made}
 use Rattle.coap_model.proofs.world.WalkLaws.{there_or_not}
 use Rattle.coap_model.proofs.world.PlaceLaws.{all_there, but, changed_elsewhere, changed_here, dropped_elsewhere}
-use Rattle.coap_model.proofs.world.PlaceLaws.{dropped_here, none_mapped, other_more, still_there}
+use Rattle.coap_model.proofs.world.PlaceLaws.{dropped_here, found, none_mapped, other_more, still_there}
 use Rattle.coap_model.proofs.world.AcrossLaws.{opened_there}
 use Rattle.coap_model.proofs.world.StepLaws.{by_events, each_beyond, world_more, world_step}
 use Rattle.coap_model.proofs.world.ReachedLaws.{on_one, step_keeps}
 use Rattle.coap_model.proofs.world.FateGiven.{given_then}
 use Rattle.coap_model.proofs.world.FateWalk.{acted_cases, requests_last}
+use Rattle.coap_model.proofs.world.AnswerCounts.{requests}
 
 -- ---- a connection that does not exist
 
@@ -133,9 +133,7 @@ not_opened : (id M : ℕ) (es : List AcceptedCall) (e : AcceptedCall) → OpensN
     → AllByRecursion (OpensNot id) (steps_by M es e)
 unfolding steps_by
 not_opened id M es (event.Opened other) apart = (apart, tt)
-not_opened id M es (event.Took other bytes) apart =
-    each_beyond (OpensNot id) other (stream_on M other es) (stream_on M other (es ++ event.Took other bytes ∷ []))
-    (λ m. tt) (λ fault. tt)
+not_opened id M es (event.Took other bytes) apart = search (rules, each_beyond)
 not_opened id M es e apart = (tt, tt)
 
 -- The event does not drop the connection.
@@ -147,9 +145,7 @@ not_dropped : (id M : ℕ) (es : List AcceptedCall) (e : AcceptedCall) → Drops
     → AllByRecursion (DropsNot id) (steps_by M es e)
 unfolding steps_by
 not_dropped id M es (event.Dropped other) apart = (apart, tt)
-not_dropped id M es (event.Took other bytes) apart =
-    each_beyond (DropsNot id) other (stream_on M other es) (stream_on M other (es ++ event.Took other bytes ∷ []))
-    (λ m. tt) (λ fault. tt)
+not_dropped id M es (event.Took other bytes) apart = search (rules, each_beyond)
 not_dropped id M es e apart = (tt, tt)
 
 module _ (c : ConfigValues) (id : ℕ) where
@@ -204,39 +200,17 @@ module _ (c : ConfigValues) (id : ℕ) where
     still_gone : (e : AcceptedCall) → side_of id w.sides ≡ None → IsAccepted c es e
         → side_of id (world_after c (es ++ e ∷ [])).sides ≡ None → IsGone c id (es ++ e ∷ [])
     unfolding IsAccepted
-    still_gone (event.Opened other) none own gone = elim (cases_eq other id) [
-      | inl here ↦ (
-          let opened = opened_exists none in
-          absurd (none_or_some opened.0
-          (sym gone ∙ ap (λ (n : ℕ). side_of id (world_after c (es ++ event.Opened n ∷ [])).sides) here ∙ opened.1)))
-      | inr apart ↦ remains (event.Opened other) none apart refl
-    ]
-    still_gone (event.Responded other m) none own gone = elim (cases_eq other id) [
-      | inl here ↦ (
-          let found = on_one (λ s. response_refusal (link_of s.history) m ≡ None) (side_of other w.sides) own in
-          absurd (none_or_some found.0 (sym none ∙ ap (λ (n : ℕ). side_of n w.sides) (sym here) ∙ found.1)))
-      | inr apart ↦ remains (event.Responded other m) none tt (rw (ne_eqb other id apart) refl)
-    ]
+    still_gone (event.Opened other) none own gone = search (rules, cases_eq, opened_exists, none_or_some, remains)
+    still_gone (event.Responded other m) none own gone = search (rules, cases_eq, on_one, none_or_some, remains, ne_eqb)
     still_gone e none own gone = remains e none tt refl
 
     -- It existed before. So the event drops it.
     dropped_requests : requests_on c id (es ++ event.Dropped id ∷ []) ≡ rs
     unfolding steps_by requests_by requests_acted acted
-    dropped_requests =
-        requests_last c id es (event.Dropped id)
-        ∙ then_same id (acted c.limits w (world.Dropped id)) rs (dropped_here id w.sides)
+    dropped_requests = search (rules, requests_last, then_same, dropped_here)
 
     just_dropped : (s : Connection) → side_of id w.sides ≡ Some s → WasDropped c id (es ++ event.Dropped id ∷ [])
-    just_dropped s there = record {
-      earlier = es;
-      later = [];
-      connection = s;
-      parts = refl;
-      accepted = accepted;
-      there = there;
-      requests = dropped_requests;
-      given = given_then id es (event.Dropped id) ∙ append-nil (given_on id es);
-    }
+    just_dropped s there = search (rules, dropped_requests, given_then, append-nil)
 
     never_gone : (e : AcceptedCall) (s : Connection) → side_of id w.sides ≡ Some s → DropsNotBy id e
         → side_of id (world_after c (es ++ e ∷ [])).sides ≡ None → ⊥
@@ -255,9 +229,7 @@ module _ (c : ConfigValues) (id : ℕ) where
     now_gone e s there gone = absurd (never_gone e s there tt gone)
 
     event_gone : (e : AcceptedCall) → IsAccepted c es e → GoneAfter (es ++ e ∷ [])
-    event_gone e own gone =
-        there_or_not (side_of id w.sides) (λ found. IsGone c id (es ++ e ∷ [])) (λ none. still_gone e none own gone)
-        (λ s there. now_gone e s there gone)
+    event_gone e own gone = search (rules, there_or_not, still_gone, now_gone)
 
 -- After accepted events, a connection that does not exist has no requests, or it was dropped.
 pub gone_or_dropped : (c : ConfigValues) (es : List AcceptedCall) (id : ℕ) → AreAccepted c es

@@ -1,7 +1,7 @@
 -- The requests that an event hands to the application.
 use Rattle.std.proofs.lemmas.Grind.{common_steps}
 use Rattle.std.proofs.Common.{Bool, Err, List, None, Ok, Option, Result, Some, [], ap, arith, cond, drop, false, inl}
-use Rattle.std.proofs.Common.{inr, is_none, length, refl, rules, subst, sym, true, ℕ, ◌&&◌, ◌++◌, ◌∙◌, ◌∷◌, ◌≡◌, ◌≢◌}
+use Rattle.std.proofs.Common.{inr, length, refl, rules, subst, sym, true, ℕ, ◌&&◌, ◌++◌, ◌∙◌, ◌∷◌, ◌≡◌, ◌≢◌}
 use Rattle.std.proofs.lemmas.Bool.{both_ways, cases_Bool, cases_eq, cond_both, eq-eqb}
 use Rattle.std.proofs.lemmas.List.{append-nil, nil_from_length}
 use Rattle.std.proofs.Math.Seq.{drop-append_seam}
@@ -9,18 +9,15 @@ use Rattle.std.specs.List.{flat_map}
 use Rattle.coap_model.specs.Prelude.{AFault, AFrame, AcceptedCall, AllByRecursion, Application, ApplicationRequest}
 use Rattle.coap_model.specs.Prelude.{AreAccepted, ConfigValues, Connection, Delay, Engine, Fate, FormatFault}
 use Rattle.coap_model.specs.Prelude.{FrameEventValue, History, IsAccepted, LimitValues, Message, Step, StoreValue}
-use Rattle.coap_model.specs.Prelude.{StreamFault, Took, World, acted, after, after_steps, answer_of}
-use Rattle.coap_model.specs.Prelude.{application_deadline, asks_answer, delay_by, delay_for, delay_of, delay_or}
-use Rattle.coap_model.specs.Prelude.{fate_by, frame_then, handed_between, handed_in, handed_requests, handles, if_there}
-use Rattle.coap_model.specs.Prelude.{is_asking, is_by_application, is_unanswered_with, link_of, may_hold, message_of}
-use Rattle.coap_model.specs.Prelude.{new_request, requests_acted, requests_after, requests_by, requests_on}
-use Rattle.coap_model.specs.Prelude.{requests_responded, requests_then, response_refusal, settled, side_after}
-use Rattle.coap_model.specs.Prelude.{side_faulted, side_of, size_on, state_now, steps_by, stream_on, takes, with_fate}
-use Rattle.coap_model.specs.Prelude.{world_after}
+use Rattle.coap_model.specs.Prelude.{StreamFault, Took, World, after, after_steps, answer_of, asks_answer, delay_by}
+use Rattle.coap_model.specs.Prelude.{delay_for, delay_or, frame_then, handed_between, handed_in, handed_requests}
+use Rattle.coap_model.specs.Prelude.{handles, if_there, is_asking, is_by_application, may_hold, message_of, new_request}
+use Rattle.coap_model.specs.Prelude.{requests_acted, requests_after, requests_by, requests_on, requests_responded}
+use Rattle.coap_model.specs.Prelude.{requests_then, settled, side_after, side_faulted, side_of, size_on, steps_by}
+use Rattle.coap_model.specs.Prelude.{stream_on, takes, with_fate, world_after}
 use Rattle.coap_model.specs.world.Events.{front_of}
 use Rattle.coap_frame.specs.Framing.{Nothing}
 use Rattle.coap_frame.proofs.FrontLaws.{added_by}
-use Rattle.coap_conn.specs.declared.phase.RespondFault.TheVariants as fault
 use Rattle.coap_model.specs.world.Events as event
 use Rattle.coap_model.specs.world.World as world
 use Rattle.coap_model.proofs.OptionLemmas.{same_there}
@@ -53,11 +50,7 @@ fate_hands : (test : ApplicationRequest → Bool) (fate : Fate) (rs : List Appli
     → handed_requests (with_fate test fate rs) ≡ handed_requests rs
 unfolding with_fate
 fate_hands test fate [] = refl
-fate_hands test fate (r ∷ rs) =
-    cond_both (test r) _ _ (λ qs. handed_requests qs ≡ handed_requests (r ∷ rs))
-    (λ is. one_handed (record r { fate = fate }) rs ∙ sym (one_handed r rs))
-    (λ other. one_handed r (with_fate test fate rs)
-    ∙ ap (λ ms. cond r.handed (r.request ∷ ms) ms) (fate_hands test fate rs) ∙ sym (one_handed r rs))
+fate_hands test fate (r ∷ rs) = search (rules, cond_both, one_handed, fate_hands test fate rs)
 
 then_hands : (id : ℕ) (w : World) (rs : List ApplicationRequest)
     → handed_requests (requests_then id w rs) ≡ handed_requests rs
@@ -88,32 +81,17 @@ module _ (store : StoreValue) (now : ℕ) (s : Connection) (m : Message) where
 
   new_hands : (o : Option ℕ) → handed_requests (new_request now s m o)
       ≡ only_if (asks_answer s m) (is_by_application (delay_for h (delay_or o (answer_of store now m).hold)))
-  new_hands None =
-      sym (ap (only_if (asks_answer s m)) (engine_not (answer_of store now m).hold) ∙ only_none (asks_answer s m))
-  new_hands (Some seconds) =
-      one_handed _ []
-      ∙ ap (only_if (asks_answer s m)) (sym (application_may (record { by = Application; seconds = seconds }) refl))
+  new_hands None = search (rules, engine_not, only_none)
+  new_hands (Some seconds) = search (rules, one_handed, application_may)
 
   -- A message that is no request is not handed over.
   other_hands : is_asking m ≡ false → handed_in store now s m ≡ []
-  other_hands other = elim (cases_Bool (asks_answer s m)) [
-    | inl asks ↦ absurd (both_ways (is_asking m) other (answered_is_request (state_now s.history) m asks))
-    | inr not_requested ↦ ap (λ b. only_if b (is_by_application (delay_for h (delay_of store now m))))
-        not_requested
-  ]
+  other_hands other = search (rules, cases_Bool, both_ways, answered_is_request)
 
   after_hands : (rs : List ApplicationRequest) → handles s ≡ true
       → handed_requests (requests_after store now s m rs) ≡ handed_requests rs ++ handed_in store now s m
   unfolding requests_after
-  after_hands rs does =
-      let new : List ApplicationRequest = new_request now s m (application_deadline store.applications m) in
-      let Goal : Bool → Type 0 =
-      λ b. handed_requests (cond (b && is_asking m) (rs ++ new) rs) ≡ handed_requests rs ++ handed_in store now s m in
-      subst Goal (sym does) (cond_both (is_asking m) (rs ++ new) rs
-      (λ qs. handed_requests qs ≡ handed_requests rs ++ handed_in store now s m)
-      (λ asking. handed_more rs new
-      ∙ ap (λ ms. handed_requests rs ++ ms) (new_hands (application_deadline store.applications m)))
-      (λ other. sym (ap (λ ms. handed_requests rs ++ ms) (other_hands other) ∙ append-nil (handed_requests rs))))
+  after_hands rs does = search (rules, cond_both, handed_more, new_hands, other_hands, append-nil)
 
 -- ---- steps that hand over nothing
 
@@ -139,10 +117,7 @@ others_before limits id =
 responded_hands : (s : Connection) (m : Message) (rs : List ApplicationRequest)
     → handed_requests (requests_responded s m rs) ≡ handed_requests rs
 unfolding requests_responded
-responded_hands s m rs =
-    cond_both (is_none (response_refusal (link_of s.history) m)) _ rs
-    (λ qs. handed_requests qs ≡ handed_requests rs)
-    (λ may. fate_hands (is_unanswered_with m.token) (fate_by Application s.history m) rs) (λ refused. refl)
+responded_hands s m rs = search (rules, cond_both, fate_hands)
 
 others_same : (limits : LimitValues) (id : ℕ) (w : World) (ss : List Step) (rs : List ApplicationRequest)
     → AllByRecursion (IsOther id) ss → handed_requests (requests_by limits id w ss rs) ≡ handed_requests rs
@@ -177,19 +152,13 @@ module _ (c : ConfigValues) (es : List AcceptedCall) (id : ℕ) (e : AcceptedCal
 
   no_step : steps_by M es e ≡ [] → HandsThose
   unfolding requests_by
-  no_step none =
-      let same : s ≡ t =
-      same_there s t (sym (ap (λ (v : World). side_of id v.sides) (world_same c es e none) ∙ there) ∙ then) in
-      quiet_hands (ap (λ (u : Connection). u.history.handled) (sym same))
-      (ap handed_requests (requests_last c id es e ∙ ap (λ ss. requests_by c.limits id w ss rs) none))
+  no_step none = search (rules, same_there, world_same, quiet_hands, requests_last)
 
   -- The requests after one step.
   one_step : (st : Step) → steps_by M es e ≡ st ∷ []
       → handed_requests (requests_on c id (es ++ e ∷ [])) ≡ handed_requests (requests_acted id w st rs)
   unfolding requests_by
-  one_step st one =
-      ap handed_requests (requests_last c id es e ∙ ap (λ ss. requests_by c.limits id w ss rs) one)
-      ∙ then_hands id (acted c.limits w st) (requests_acted id w st rs)
+  one_step st one = search (rules, requests_last, then_hands)
 
   fault_hands : (fault : StreamFault) → handles s ≡ true → steps_by M es e ≡ world.Faulted id fault ∷ [] → HandsThose
   unfolding requests_acted
@@ -229,11 +198,7 @@ module _ (c : ConfigValues) (es : List AcceptedCall) (id : ℕ) (e : AcceptedCal
 
   -- The steps are no messages on the connection, and do not open it.
   others_hand : AllByRecursion (IsOther id) (steps_by M es e) → HandsThose
-  others_hand apart =
-      let before = others_before c.limits id w (steps_by M es e) t apart
-      (ap (λ (v : World). side_of id v.sides) (sym (world_more c es e)) ∙ then) in
-      quiet_hands (before.2 ∙ ap (λ (u : Connection). u.history.handled) (same_there before.0 s (sym before.1 ∙ there)))
-      (ap handed_requests (requests_last c id es e) ∙ others_same c.limits id w (steps_by M es e) rs apart)
+  others_hand apart = search (rules, others_before, world_more, quiet_hands, same_there, requests_last, others_same)
 
 -- ---- a take
 
@@ -283,9 +248,7 @@ other_steps : (id M : ℕ) (es : List AcceptedCall) (e : AcceptedCall) → IsOth
     → AllByRecursion (IsOther id) (steps_by M es e)
 unfolding steps_by
 other_steps id M es (event.Opened other) apart = (apart, tt)
-other_steps id M es (event.Took other bytes) apart =
-    each_beyond (IsOther id) other (stream_on M other es) (stream_on M other (es ++ event.Took other bytes ∷ []))
-    (λ m. apart) (λ fault. apart)
+other_steps id M es (event.Took other bytes) apart = search (rules, each_beyond)
 other_steps id M es e apart = (tt, tt)
 
 module _ (c : ConfigValues) (es : List AcceptedCall) (id : ℕ) (s : Connection) (accepted : AreAccepted c es)
@@ -300,8 +263,7 @@ module _ (c : ConfigValues) (es : List AcceptedCall) (id : ℕ) (s : Connection)
       ≡ handed_requests (requests_on c id es) ++ handed_between (world_after c es) s t
 
   others : (e : AcceptedCall) → IsOtherEvent id e → After e
-  others e apart t then =
-      others_hand c es id e s t reached_before there then (other_steps id c.limits.max_message es e apart)
+  others e apart t then = search (rules, others_hand, reached_before, other_steps)
 
   -- The requests handed to the application after an accepted event: those before it, and those that it hands over.
   pub event_hands : (e : AcceptedCall) → IsAccepted c es e → After e

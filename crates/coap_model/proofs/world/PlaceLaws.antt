@@ -1,6 +1,6 @@
 -- The connections of a world by id: the connection with an id after each change of the list.
-use Rattle.std.proofs.Common.{List, None, Option, Some, [], ap, arith, filter, inl, inr, map, not, option_map, refl}
-use Rattle.std.proofs.Common.{rules, subst, sym, ℕ, ◌++◌, ◌==◌, ◌∙◌, ◌∷◌, ◌≡◌, ◌≢◌, ◌⊎◌}
+use Rattle.std.proofs.Common.{List, None, Option, Some, [], arith, filter, inl, inr, map, not, option_map, refl, rules}
+use Rattle.std.proofs.Common.{subst, sym, ℕ, ◌++◌, ◌==◌, ◌∙◌, ◌∷◌, ◌≡◌, ◌≢◌, ◌⊎◌}
 use Rattle.std.proofs.lemmas.Bool.Decides.{nat_tests}
 use Rattle.std.proofs.lemmas.Bool.{cond_both, eq-eqb, ne_eqb}
 use Rattle.std.proofs.lemmas.Iterator.Adapters.{option_map_id}
@@ -72,8 +72,7 @@ changed_id id f p = search rules
 
 pub changed_here : (id : ℕ) (f : Connection → Connection) (ps : List ConnectionEntry)
     → side_of id (map (changed_at id f) ps) ≡ option_map f (side_of id ps)
-changed_here id f ps =
-    mapped_there id (changed_at id f) f (changed_id id f) (λ p here. rw (eq-eqb p.id id here) refl) ps
+changed_here id f ps = search (rules, mapped_there, changed_id, eq-eqb)
 
 pub changed_elsewhere : (id other : ℕ) (f : Connection → Connection) (ps : List ConnectionEntry) → id ≢ other
     → side_of other (map (changed_at id f) ps) ≡ side_of other ps
@@ -138,27 +137,17 @@ none_mapped id g same (p ∷ ps) none = grind (arith, nat_tests, same p, none_ma
 pub distinct_mapped : (g : ConnectionEntry → ConnectionEntry) → ((p : ConnectionEntry) → (g p).id ≡ p.id)
     → (ps : List ConnectionEntry) → AreDistinct ps → AreDistinct (map g ps)
 distinct_mapped g same [] distinct = tt
-distinct_mapped g same (p ∷ ps) distinct = (
-  none_mapped (g p).id g same ps (ap (λ (id : ℕ). side_of id ps) (same p) ∙ distinct.0),
-  distinct_mapped g same ps distinct.1,
-)
+distinct_mapped g same (p ∷ ps) distinct = search (rules, none_mapped, distinct_mapped g same ps distinct.1)
 
 -- A new id.
 pub distinct_more : (ps : List ConnectionEntry) (p : ConnectionEntry) → AreDistinct ps → side_of p.id ps ≡ None
     → AreDistinct (ps ++ p ∷ [])
 distinct_more [] p distinct none = (nobody p.id, tt)
-distinct_more (q ∷ ps) p distinct none =
-    let apart : p.id ≢ q.id = λ (e : p.id ≡ q.id). (none_parts p.id q ps none).0 (sym e) in
-    (other_more q.id ps p apart ∙ distinct.0, distinct_more ps p distinct.1 (none_parts p.id q ps none).1)
+distinct_more (q ∷ ps) p distinct none = search (rules, none_parts, other_more, distinct_more ps p distinct.1)
 
 pub distinct_but : (id : ℕ) (ps : List ConnectionEntry) → AreDistinct ps → AreDistinct (but id ps)
 distinct_but id [] distinct = tt
-distinct_but id (p ∷ ps) distinct =
-    by_but AreDistinct id p ps (λ here. distinct_but id ps distinct.1)
-    (λ apart. (
-      dropped_elsewhere id p.id ps (λ (e : id ≡ p.id). apart (sym e)) ∙ distinct.0,
-      distinct_but id ps distinct.1,
-    ))
+distinct_but id (p ∷ ps) distinct = search (rules, by_but, dropped_elsewhere, distinct_but id ps distinct.1, distinct_but id ps distinct.1)
 
 -- ---- properties of each connection
 
@@ -175,14 +164,9 @@ of_number P id s (p ∷ ps) each e =
 pub of_each : (P : ℕ → Connection → Type 0) (ps : List ConnectionEntry) → AreDistinct ps
     → ((id : ℕ) (s : Connection) → side_of id ps ≡ Some s → P id s) → AllByRecursion (λ p. P p.id p.side) ps
 of_each P [] distinct holds = tt
-of_each P (p ∷ ps) distinct holds = (
-  holds p.id p.side (first_there p.id p ps refl),
-  of_each P ps distinct.1 (λ id s e. holds id s (later_there id p ps
-      (λ (same : p.id ≡ id). none_or_some s (sym distinct.0 ∙ ap (λ (n : ℕ). side_of n ps) same ∙ e)) ∙ e)),
-)
+of_each P (p ∷ ps) distinct holds = search (rules, first_there, later_there, none_or_some, of_each P ps distinct.1)
 
 -- The identity changes no connection.
 pub places_unchanged : (id : ℕ) (ps : List ConnectionEntry) → map (changed_at id (λ s. s)) ps ≡ ps
 places_unchanged id [] = refl
-places_unchanged id (p ∷ ps) =
-    cc (cond_both (p.id == id) p p (λ q. q ≡ p) (λ e. refl) (λ e. refl), places_unchanged id ps)
+places_unchanged id (p ∷ ps) = search (rules, cond_both, places_unchanged id ps)
