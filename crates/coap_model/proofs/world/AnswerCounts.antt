@@ -1,14 +1,14 @@
 -- For each token, as many responses are queued or pending as requests with it were handled: the counts, and
 -- consequences of this statement.
-use Rattle.std.proofs.Common.{◌≡◌, ℕ, ◌+◌, ◌≤◌, Bool, true, false, List, [], ◌∷◌, ◌++◌, refl, ap, ◌∙◌, append_assoc}
-use Rattle.std.proofs.Common.{arith, sym, inl, inr}
-use Rattle.coap_model.specs.Prelude.{AllByRecursion, Message, PendingEntryValue, Answer, Pong, is_custody_pong}
-use Rattle.coap_model.specs.Prelude.{same_bytes}
-use Rattle.coap_model.specs.Prelude.{responds, asks_pong, asks_with, awaits, is_asking, HasResponse}
-use Rattle.coap_model.specs.Prelude.{HaveDistinctAnswers}
+use Rattle.std.proofs.Common.{Bool, List, [], ap, append_assoc, arith, false, inl, inr, refl, rules, sym, true, ℕ, ◌++◌}
+use Rattle.std.proofs.Common.{◌+◌, ◌∙◌, ◌∷◌, ◌≡◌, ◌≤◌}
 use Rattle.std.proofs.lemmas.Bool.{cases_Bool}
 use Rattle.std.proofs.lemmas.List.{append-nil}
 use lib.Pointwise.{bytes_decides}
+use Rattle.coap_model.specs.Prelude.{AllByRecursion, Answer, HasResponse, HaveDistinctAnswers, Message}
+use Rattle.coap_model.specs.Prelude.{PendingEntryValue, Pong, asks_pong, asks_with, awaits, is_asking, is_custody_pong}
+use Rattle.coap_model.specs.Prelude.{responds, same_bytes}
+use Rattle.coap_model.proofs.world.PlaceLaws.{found}
 
 -- ---- counts
 
@@ -178,8 +178,7 @@ own_rest m ms qs place asks few t = grind (arith, few t, one_token m.token t, co
 
 own_first : (m : Message) (ms qs : List Message) → is_asking m ≡ true → AtMost (requests (m ∷ ms)) (responses qs)
     → HasResponse m.token qs
-own_first m ms qs asks few =
-    response_found m.token qs (grind (arith, few m.token, (bytes_decides m.token m.token).1 refl))
+own_first m ms qs asks few = search (rules, response_found, bytes_decides)
 
 pub own_answers : (ms qs : List Message) → AtMost (requests ms) (responses qs) → HaveDistinctAnswers ms qs
 unfolding HaveDistinctAnswers

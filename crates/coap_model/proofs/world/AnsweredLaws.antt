@@ -1,7 +1,7 @@
 -- When a Pong with Custody is queued, each request handled before its Ping already has its response, whatever happens
 -- to a connection.
-use Rattle.std.proofs.Common.{Bool, List, None, Option, Some, [], ap, arith, codes, false, is_none, refl, subst, sym}
-use Rattle.std.proofs.Common.{true, ℕ, ◌&&◌, ◌++◌, ◌==◌, ◌∷◌, ◌≡◌, ◌≤◌}
+use Rattle.std.proofs.Common.{Bool, List, None, Option, Some, [], ap, arith, codes, false, is_none, refl, rules, subst}
+use Rattle.std.proofs.Common.{sym, true, ℕ, ◌&&◌, ◌++◌, ◌==◌, ◌∷◌, ◌≡◌, ◌≤◌}
 use Rattle.std.proofs.lemmas.Bool.{both_ways, cond-true, cond_both, or_left}
 use Rattle.std.proofs.lemmas.List.{length-append}
 use lib.Pointwise.{bytes_decides}
@@ -70,13 +70,7 @@ module _ {b d : Tally} {ms qs : List Message} {es : List PendingEntryValue} {p :
   more_follows : {c f : Tally} {q : Phase} → (answers q ≡ false → answers p ≡ false)
       → (takes_messages q ≡ true → takes_messages p ≡ true) → AtMost b (plus c (responses more))
       → AtMost d (plus f (responses more)) → FollowsBut c f ms (qs ++ more) es q
-  more_follows {c} on takes first total = record {
-    pongs = pongs_may;
-    rest = follow_grows pending ms (plus b (responses qs)) (plus c (responses (qs ++ more))) es
-        (λ t. omega (arith, first t, count_more (responds t) qs more)) is.rest;
-    all = λ live t. omega (arith, is.all (takes live) t, total t, count_more (responds t) qs more);
-    quiet = λ off. is.quiet (on off);
-  }
+  more_follows {c} on takes first total = search (rules, pongs_may, follow_grows, pending, plus, responses, count_more)
 
   -- The phase of the connection is unchanged.
   same_follows : {c f : Tally} → AtMost b (plus c (responses more)) → AtMost d (plus f (responses more))
@@ -85,8 +79,7 @@ module _ {b d : Tally} {ms qs : List Message} {es : List PendingEntryValue} {p :
 
   -- Or the connection stops.
   over_follows : {c f : Tally} {q : Phase} → takes_messages q ≡ false → FollowsBut c f ms (qs ++ more) [] q
-  over_follows over =
-      record { pongs = pongs_may; rest = tt; all = λ live. absurd (both_ways _ over live); quiet = λ off. refl }
+  over_follows over = search (rules, pongs_may, both_ways)
 
 -- One more entry is pending.
 pending_follows : {b d f : Tally} {ms qs : List Message} {es : List PendingEntryValue} {p : Phase}
@@ -130,21 +123,12 @@ token_pays b m owes is = grind arith
 -- A response that is owed.
 response_pays : (b d : Tally) (h : History) (m : Message) → OwesToken b m.token → OwesToken d m.token
     → is_response m ≡ true → IsPaying b d h m
-response_pays b d h m first total is = (
-  pongs_other h.handled (responses h.queued) (m ∷ []) (response_is_no_pong m is, tt),
-  token_pays b m first is,
-  token_pays d m total is,
-)
+response_pays b d h m first total is = search (rules, pongs_other, responses, response_is_no_pong, token_pays)
 
 owed_follows : (b d : Tally) (h : History) → OwesStill b d h → (token : List ℕ) (observe : Bool) (r : Response)
     → answers h.phase ≡ true → coded r.code ≡ true → OwesToken b token → OwesToken d token
     → PongsFollow (after h (call.Reply (response_with_observe token observe r)))
-owed_follows b d h is token observe r on is_coded first total =
-    let m : Message = response_with_observe token observe r in
-    subst PongsFollow (sym (cond-true (answers h.phase) (sent h m (bare_response m)) h on))
-    (send_follows h h.pending is m (bare_response m) (response_pays b d h m first total is_coded)
-    (response_pays b d h (bare_response m) first total (bare_coded r.code is_coded))
-    (fit (state_now h).limit m (bare_response m)))
+owed_follows b d h is token observe r on is_coded first total = search (rules, cond-true, sent, send_follows, response_pays, bare_coded)
 
 -- ---- a message that is handled
 
@@ -155,15 +139,7 @@ module _ (h : History) (m : Message) (server : h.role ≡ Server) (live : takes_
 
   -- If the message is a request, a response is owed.
   request_follows : FollowsBut nothing (λ t. one (asks_with t m)) now_handled h.queued h.pending h.phase
-  request_follows = record {
-    pongs = follow_longer queue h.handled (m ∷ []) now_handled nothing nothing h.queued refl (omega arith) is.pongs;
-    rest =
-        follow_longer pending h.handled (m ∷ []) now_handled (plus nothing (responses h.queued))
-        (plus nothing (responses h.queued)) h.pending
-        refl (omega arith) is.rest;
-    all = λ takes t. omega (arith, is.all takes t, count_more (asks_with t) h.handled (m ∷ []));
-    quiet = is.quiet;
-  }
+  request_follows = search (rules, follow_longer, queue, pending, plus, responses, count_more)
 
   -- The reaction leaves a response owed only for a request.
   abbrev owed : Reaction → Tally
@@ -178,25 +154,12 @@ module _ (h : History) (m : Message) (server : h.role ≡ Server) (live : takes_
 
   ping_follows : (n : Tally) → AtMost (requests h.handled) n → (m.code == code.ping) ≡ true → asks_custody m ≡ true
       → FollowsPing now_handled n m.token
-  ping_follows n few ping custody =
-      record {
-        earlier = h.handled;
-        ping = m;
-        later = [];
-        there = refl;
-        asks = rw (ping, custody, (bytes_decides m.token m.token).1 refl) refl;
-        few = few;
-      }
+  ping_follows n few ping custody = search (rules, bytes_decides)
 
   -- A Pong with Custody is queued at once only if nothing is pending.
   may_follow : (n : Message) → MayFollow (state_now h) m n → (is_custody_pong n ≡ true → h.pending ≡ [])
       → is_custody_pong n ≡ true → FollowsPing now_handled (responses h.queued) n.token
-  may_follow n may first custody =
-      let asks = may.pong custody in
-      subst (FollowsPing now_handled (responses h.queued)) (sym asks.2)
-      (ping_follows (responses h.queued)
-      (λ t. omega (arith, is.all live t, ap (λ (es : List PendingEntryValue). pending_count es t) (first custody)))
-      asks.0 asks.1)
+  may_follow n may first custody = search (rules, responses, ping_follows, pending_count)
 
   unless_follows : (over : Option Reason) → is_none over ≡ true → Claim (reaction_unless (state_now h) m over)
   unless_follows None none = live_so (state_now h) m Claim (record {
@@ -270,21 +233,7 @@ module _ (h : History) (is : PongsFollow h) (before : List PendingEntryValue) (e
 
   -- The response of a removed entry is still to be queued.
   let_go : FollowsBut (pending_count (e ∷ [])) (pending_count (e ∷ [])) h.handled h.queued (before ++ rest) h.phase
-  let_go = record {
-    pongs = is.pongs;
-    rest =
-        follow_without pending h.handled (plus nothing (responses h.queued))
-        (plus (pending_count (e ∷ [])) (responses h.queued)) before e rest
-        (omega arith) (subst (AllFollow pending h.handled (plus nothing (responses h.queued))) there is.rest);
-    all = λ takes t. omega (
-      arith,
-      is.all takes t,
-      rw there at (is.all takes t),
-      count_more (awaits t) before (e ∷ rest),
-      count_more (awaits t) before rest,
-    );
-    quiet = λ off. absurd (both_ways (answers h.phase) off pending_on);
-  }
+  let_go = search (rules, follow_without, pending, plus, responses, pending_count, count_more, both_ways, pending_on)
 
 late_coded : (by : Responder) → coded (late_response by).code ≡ true
 late_coded Engine = refl
