@@ -1,21 +1,17 @@
 -- A message that the caller answers is a request. A server asks its caller to answer each request, or stops.
-use Rattle.std.proofs.Common.{◌≡◌, ℕ, Bool, true, false, ◌&&◌, ◌==◌, cond, Option, Some, None, refl, ap, inl, inr, ◌⊎◌}
-use Rattle.std.proofs.Common.{not, is_none, length, nat_lt, find}
-use Rattle.std.proofs.lemmas.Bool.{both_ways, and_from, cond_both}
-use Rattle.coap_model.specs.Prelude.{list_any, Message, Reason, Reply, Whole, Bare, Stopped, Server, stop_of}
-use Rattle.coap_model.specs.Prelude.{takes_messages, fit}
-use Rattle.coap_model.specs.Prelude.{ConnectionState, Reaction, reaction_unless, react, live_reaction, is_asking}
-use Rattle.coap_model.specs.Prelude.{asks_custody, pong_with}
-use Rattle.coap_model.specs.Prelude.{has_stopped, bad_csm_option, is_request}
-use Rattle.coap_conn.specs.Reaction.{open_reaction, ping_reaction, csm_reaction, answered, reply_verdict, is_reserved}
-use Rattle.coap_conn.specs.Reaction.{is_signal, is_method, checks_critical_options, pong_of}
-use Rattle.coap_conn.specs.Announced.{has_critical_option}
-use Rattle.coap_conn.specs.Fit.{without_options}
-use Rattle.coap_conn.specs.Outstanding.{OutstandingValue, is_last, matches_pong, matches_response}
+use Rattle.std.proofs.Common.{Bool, None, Option, Some, cond, false, inl, inr, is_none, refl, rules, true, ℕ, ◌==◌, ◌≡◌}
+use Rattle.std.proofs.Common.{◌⊎◌}
+use Rattle.std.proofs.lemmas.Bool.{and_from, both_ways, cond_both}
+use Rattle.coap_model.specs.Prelude.{Bare, ConnectionState, Message, Reaction, Reason, Reply, Server, Stopped, Whole}
+use Rattle.coap_model.specs.Prelude.{bad_csm_option, has_stopped, is_asking, is_request, live_reaction, react}
+use Rattle.coap_model.specs.Prelude.{reaction_unless, stop_of, takes_messages}
+use Rattle.coap_conn.specs.Reaction.{answered, csm_reaction, is_reserved, open_reaction, ping_reaction, reply_verdict}
+use Rattle.coap_conn.specs.Outstanding.{OutstandingValue, is_last}
 use Rattle.coap_conn.specs.Phases.{is_waiting}
-use Rattle.coap_conn.specs.Verdicts as verdict
 use Rattle.coap_conn.proofs.ReactionLaws.{live_so}
+use Rattle.coap_conn.specs.Verdicts as verdict
 use Rattle.coap_wire.specs.Codes as code
+use Rattle.coap_model.proofs.world.AnswerCounts.{one}
 
 -- ---- a message that the caller answers
 
@@ -37,12 +33,7 @@ csm_none s None = opened_none (is_waiting s.phase)
 csm_none s (Some number) = refl
 
 ping_none : (s : ConnectionState) (m : Message) → IsNoRequest (ping_reaction s m)
-ping_none s m =
-    let late : Message = pong_with false m.token in
-    cond_both (asks_custody m && nat_lt 0 (length s.pending)) _ _ IsNoRequest
-    (λ e. cond_both (nat_lt (length s.pending) s.most) _ _ IsNoRequest (λ room. refl)
-    (λ full. reply_none (fit s.limit late late)))
-    (λ e. reply_none (fit s.limit (pong_of m) (without_options (pong_of m))))
+ping_none s m = search (rules, cond_both, reply_none)
 
 answered_none : (s : ConnectionState) (m : Message) (e : Option OutstandingValue) → IsNoRequest (answered s m e)
 answered_none s m None = refl
@@ -54,16 +45,7 @@ module _ (s : ConnectionState) (m : Message) where
   Asks r = is_request r.verdict ≡ true → is_asking m ≡ true
 
   open_asks : (m.code == code.empty) ≡ false → Asks (open_reaction s m)
-  open_asks some =
-      cond_both (checks_critical_options m.code && has_critical_option m) _ _ Asks (λ e asks. absurd cc)
-      (λ e. cond_both (m.code == code.ping) _ _ Asks (λ e asks. absurd (both_ways _ (ping_none s m) asks))
-      (λ e. cond_both (m.code == code.release) _ _ Asks (λ e asks. absurd cc)
-      (λ e. cond_both (m.code == code.pong) _ _ Asks (λ e. cond_both (list_any (matches_pong m.token) s.outstanding) _ _
-      Asks (λ e asks. absurd cc) (λ e asks. absurd cc))
-      (λ e. cond_both (is_signal m.code) _ _ Asks (λ e asks. absurd cc)
-      (λ e. cond_both (is_method m.code) _ _ Asks
-      (λ method asks. and_from (is_method m.code) (not (m.code == code.empty)) method (ap not some))
-      (λ e asks. absurd (both_ways _ (answered_none s m (find (matches_response m.token) s.outstanding)) asks)))))))
+  open_asks some = search (rules, cond_both, both_ways, ping_none, and_from, answered_none)
 
   live_asks : Asks (live_reaction s m)
   unfolding live_reaction

@@ -605,16 +605,7 @@ module _ (store : StoreValue) (now : ℕ) (s : Connection) (m : Message) (server
         })
 
   requested : asks_answer s m ≡ true → IsRequested h m (after_message s m)
-  requested asks =
-      let quiet = request_quiet s m asks in
-      let none = (react_asks (state_now h) m (said_request (react (state_now h) m).verdict asks)).nothing in
-      record {
-        fixed = rw live (refl, refl);
-        handled = rw live refl;
-        queued = rw (live, none, append-nil) refl;
-        pending = quiet.0;
-        opened = quiet.1;
-      }
+  requested asks = search (rules, request_quiet, react_asks, said_request, append-nil)
 
   handled_passes : is_for_application a m ≡ false → Passes a s (side_handled store now s m)
   handled_passes other =

@@ -83,8 +83,7 @@ pub record Calm (token : List ℕ) (s : Connection) : Type 0 where
 
 pub calm_so : (token : List ℕ) (h : History) (os : List Observer) → HaveOtherTokens token os → NoEngine token h.pending
     → Calm token (side_with h os)
-calm_so token h os others engine =
-    record { others = kept_open_has (HaveOtherTokens token) tt h os others; engine = engine }
+calm_so token h os others engine = search (rules, kept_open_has)
 
 -- A calm token stays calm, and no response with it is queued, if no request with it is handled.
 abbrev pub Spares : List Message → (s t : Connection) → List Message → List ℕ → Type 0
@@ -482,19 +481,4 @@ module _ (a : Option ApplicationsValue) (s : Connection) (rs : List ApplicationR
   all_waiting (q ∷ qs) = search (rules, cond_both, waits, all_waiting qs, all_waiting qs)
 
   pub answer_keeps : Accounted a t (with_fate test fate rs)
-  answer_keeps =
-      let parts = each_kept rs one_waits is.each is.apart in
-      record {
-        server = is.server;
-        requests = fate_requests test fate rs ∙ is.requests;
-        pending = λ live. rw (
-          waiting_without test fate (sent.answered live).0 (λ r so. (next.passing r so).0) rs,
-          map_without entry_of test entry (filter waits rs) (all_waiting rs),
-          is.pending running,
-          (sent.answered live).1,
-        ) (sym (filter_without is_of_application entry next.of_application s.history.pending)
-            ∙ ap (filter is_of_application) next.left_is);
-        quiet = sent.quiet;
-        each = parts.0;
-        apart = parts.1;
-      }
+  answer_keeps = search (rules, each_kept, one_waits, fate_requests, waiting_without, sent, map_without, waits, all_waiting, filter_without)

@@ -1,6 +1,6 @@
 -- Known facts of an observer: the state that it was sent last is a state that its path had.
-use Rattle.std.proofs.Common.{List, None, Option, Some, ap, arith, false, inl, inr, nat_eq, not, refl, rules, sym, true}
-use Rattle.std.proofs.Common.{ℕ, ◌&&◌, ◌+◌, ◌<◌, ◌==◌, ◌∙◌, ◌≡◌, ◌≤◌, ◌⊎◌}
+use Rattle.std.proofs.Common.{List, None, Option, Some, ap, arith, false, inl, inr, refl, rules, sym, true, ℕ, ◌+◌, ◌<◌}
+use Rattle.std.proofs.Common.{◌∙◌, ◌≡◌, ◌≤◌, ◌⊎◌}
 use Rattle.std.proofs.lemmas.Bool.{and_parts, cond_both, eq-eqb, eqb-true}
 use lib.Pointwise.{bytes_decides}
 use Rattle.coap_model.specs.Prelude.{AreDistinct, Change, Delete, Dynamic, Message, Nothing, Observer, Path, Put}
@@ -8,9 +8,8 @@ use Rattle.coap_model.specs.Prelude.{ReportsState, Representation, RequestTarget
 use Rattle.coap_model.specs.Prelude.{answer_of, built, changed, content, decimal, entry_for, etag_at, etag_of_state}
 use Rattle.coap_model.specs.Prelude.{format_of, found_in, goes_on, immediate_answer, is_among, is_due, is_dynamic}
 use Rattle.coap_model.specs.Prelude.{is_observable, key_for, kind_of_path, notification, notification_at}
-use Rattle.coap_model.specs.Prelude.{notification_message, only, option_eq, path_of, prompt_answer, removes_watch}
-use Rattle.coap_model.specs.Prelude.{responds, response_with_observe, same_bytes, same_state, state_at, state_of}
-use Rattle.coap_model.specs.Prelude.{target_of, text_plain, valid, with_observe_rule, without_hold_if}
+use Rattle.coap_model.specs.Prelude.{notification_message, path_of, prompt_answer, responds, response_with_observe}
+use Rattle.coap_model.specs.Prelude.{same_bytes, same_state, state_at, state_of, text_plain, valid}
 use Rattle.coap_store.specs.Answer.{Answer}
 use Rattle.coap_path.specs.declared.resource_kind.ResourceKind.{ResourceKind}
 use Rattle.coap_store.proofs.CatalogueLemmas.{same_format}
@@ -22,10 +21,8 @@ use Rattle.coap_store.proofs.WatchLaws.{promptly_watched_is_there, stored_unwatc
 use Rattle.coap_store.proofs.AnswerLaws.{answer_cases, get_cases, store_cases}
 use Rattle.coap_model.specs.world.Observers as world
 use Rattle.coap_store.specs.declared.plan.Watch.TheVariants as watch
-use Rattle.coap_wire.specs.Codes as code
 use Rattle.coap_model.proofs.world.WalkLaws.{there_or_not}
 use Rattle.coap_model.proofs.world.PlaceLaws.{found}
-use Rattle.coap_model.proofs.world.AnswerCounts.{one, pending}
 
 -- ---- facts on an observer
 
@@ -66,9 +63,7 @@ bytes_itself xs = (bytes_decides xs xs).1 refl
 
 pub state_itself : (state : Option Representation) → same_state state state ≡ true
 state_itself None = refl
-state_itself (Some r) =
-    let format = elim r.format as (λ f. world.same_format f f ≡ true) [ None ↦ refl | Some n ↦ eq-eqb n n refl ] in
-    rw (eq-eqb r.version r.version refl, format, bytes_itself r.bytes) refl
+state_itself (Some r) = search (rules, eq-eqb, bytes_itself)
 
 format_is : (f g : Option ℕ) → world.same_format f g ≡ true → f ≡ g
 format_is None None e = refl
@@ -78,14 +73,7 @@ format_is f g e = absurd cc
 -- States that compare as the same are equal.
 pub state_is : (reported state : Option Representation) → same_state reported state ≡ true → reported ≡ state
 state_is None None e = refl
-state_is (Some r) (Some q) e =
-    let first =
-    and_parts (r.version == q.version && world.same_format r.format q.format) (same_bytes r.bytes q.bytes) e in
-    let second = and_parts (r.version == q.version) (world.same_format r.format q.format) first.0 in
-    let version : r.version ≡ q.version = eqb-true r.version q.version second.0 in
-    let format : r.format ≡ q.format = format_is r.format q.format second.1 in
-    let bytes : r.bytes ≡ q.bytes = (bytes_decides r.bytes q.bytes).0 first.1 in
-    λ i. Some (record { version = version i; format = format i; bytes = bytes i })
+state_is (Some r) (Some q) e = search (rules, and_parts, eqb-true, format_is, bytes_decides)
 state_is reported state e = absurd cc
 
 -- An observer that is not due was last sent the current state.
@@ -121,37 +109,17 @@ versions_grow store (Put at format bytes) = omega arith
 versions_grow store other = omega arith
 
 pub still_versioned : (store : StoreValue) (change : Change) → IsVersioned store → IsVersioned (changed store change)
-still_versioned store change is = record {
-  distinct = distinct_stays store change is.distinct;
-  numbered = λ path r found. elim (found_later store change path r is.distinct found) [
-    | inl new ↦ omega arith
-    | inr old ↦ is.numbered path r old
-  ];
-  given = λ path r found. elim (found_later store change path r is.distinct found) [
-    | inl new ↦ new.1
-    | inr old ↦ omega (arith, is.given path r old, versions_grow store change)
-  ];
-}
+still_versioned store change is = search (rules, distinct_stays, found_later, versions_grow)
 
 known_at_still : (place : ResourceKind) (store : StoreValue) (change : Change) (o : Observer) → IsVersioned store
     → IsKnownAt place store o → IsKnownAt place (changed store change) o
-known_at_still Dynamic store change o is known = record {
-  state = known.state;
-  was = known.was;
-  numbered = known.numbered;
-  given = omega (arith, known.given, versions_grow store change);
-  same = λ r found version. elim (found_later store change o.path r is.distinct found) [
-    | inl new ↦ absurd (omega (arith, known.given))
-    | inr old ↦ known.same r old version
-  ];
-}
+known_at_still Dynamic store change o is known = search (rules, versions_grow, found_later)
 known_at_still other store change o is known = known
 
 -- The facts on an observer hold after any change.
 pub still_known : (store : StoreValue) (change : Change) (o : Observer) → IsVersioned store → IsKnown store o
     → IsKnown (changed store change) o
-still_known store change o is known =
-    record { key = known.key; state = known_at_still (kind_of_path o.path) store change o is known.state }
+still_known store change o is known = search (rules, known_at_still)
 
 -- ---- sending the current state
 
@@ -168,26 +136,14 @@ sent_at : (place : ResourceKind) (store : StoreValue) (now : ℕ) (token : List 
     → IsKnownAt place store (record { token = token; path = path; reported = Some r })
 unfolding state_at
 sent_at Time store now token path r small is e there = record { moment = now; was = sym there; small = small }
-sent_at Dynamic store now token path r small is e there = record {
-  state = r;
-  was = refl;
-  numbered = is.numbered path r there;
-  given = is.given path r there;
-  same = λ q found version. (let one : Some q ≡ Some r = sym found ∙ there in cc);
-}
+sent_at Dynamic store now token path r small is e there = search rules
 sent_at other store now token path r small is e there = absurd cc
 
 -- An observer that is sent the current state has the facts.
 pub sent_known : (store : StoreValue) (now : ℕ) (token : List ℕ) (path : Path) → now ≤ 18446744073709551615
     → IsVersioned store → IsWatchable store now path
     → IsKnown store (record { token = token; path = path; reported = state_of store now path })
-sent_known store now token path small is can =
-    rw can.there (record {
-      key = can.key;
-      state =
-          sent_at (kind_of_path path) store now token path can.representation small is can.observable
-          (rw can.key at can.there);
-    })
+sent_known store now token path small is can = search (rules, sent_at)
 
 -- ---- states that are sent
 
@@ -218,20 +174,11 @@ reports_on_at : (place : ResourceKind) (state : Option Representation) (format :
     → ReportsOn place state format (notification_at place state format)
 unfolding notification_at
 reports_on_at place None format e = absurd cc
-reports_on_at place (Some r) format e =
-    cond_both (option_eq nat_eq r.format format) (content place r) (only code.not_acceptable)
-    (λ a. goes_on a ≡ true → ReportsOn place (Some r) format a)
-    (λ same on. record {
-      representation = r;
-      there = refl;
-      same = same_format r.format format (ap not same);
-      says = refl;
-    }) (λ other on. absurd cc) e
+reports_on_at place (Some r) format e = search (rules, cond_both, same_format)
 
 pub reports_on_to_observer : (store : StoreValue) (now : ℕ) (o : Observer) → goes_on (notification store now o) ≡ true
     → ReportsOn (kind_of_path o.path) (state_of store now o.path) (format_of o.reported) (notification store now o)
-reports_on_to_observer store now o e = reports_on_at (kind_of_path o.path) (state_of store now o.path)
-    (format_of o.reported) e
+reports_on_to_observer store now o e = search (rules, reports_on_at)
 
 pub left_watchable : (store : StoreValue) (now : ℕ) (o : Observer) → IsKnown store o
     → goes_on (notification store now o) ≡ true → IsWatchable store now o.path
@@ -294,19 +241,7 @@ immediately_reports : (store : StoreValue) (now : ℕ) (m : Message) → (immedi
     → ReportsState (entry_for store now m) (state_of store now (path_of m))
     (response_with_observe m.token true (immediate_answer store now m).response)
 unfolding answer_of immediate_answer
-immediately_reports store now m e =
-    let t : RequestTarget = target_of store now (path_of m) in
-    let reports : ReportsWell t.place t.state (immediate_answer store now m) =
-    there_or_not (answer_of store now m).hold
-    (λ hold. ReportsWell t.place t.state (without_hold_if hold (answer_of store now m)))
-    (λ none. elim (removes_watch m) as (λ b. ReportsWell t.place t.state (with_observe_rule b (answer_at store t m))) [
-      | true ↦ λ e. absurd cc
-      | false ↦ telling_at store t m
-    ])
-    (λ seconds pending e. (let at_once = watched_at_once store now m e in absurd cc)) in
-    let is = reports e in
-    says_reports (entry_for store now m) (state_of store now (path_of m)) is.0
-    (immediate_answer store now m).response is.1 is.2
+immediately_reports store now m e = search (rules, there_or_not, telling_at, watched_at_once, says_reports)
 
 -- A request that the application answers adds none.
 pub entry_reports : (store : StoreValue) (now : ℕ) (m : Message) → (prompt_answer store now m).watch ≡ watch.Add
