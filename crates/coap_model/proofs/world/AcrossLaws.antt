@@ -20,7 +20,6 @@ use Rattle.coap_model.proofs.world.WalkLaws.{Releases, Replies, Responds, Writes
 use Rattle.coap_model.proofs.world.WalkLaws.{ended_between, faulted_between, once_between, released_between}
 use Rattle.coap_model.proofs.world.WalkLaws.{responded_between, settled_keeps, written_between}
 use Rattle.coap_model.proofs.OptionLemmas.{one_made}
-use Rattle.coap_model.proofs.world.AnswerCounts.{one}
 
 -- ---- a step
 

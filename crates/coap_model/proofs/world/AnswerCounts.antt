@@ -8,7 +8,6 @@ use lib.Pointwise.{bytes_decides}
 use Rattle.coap_model.specs.Prelude.{AllByRecursion, Answer, HasResponse, HaveDistinctAnswers, Message}
 use Rattle.coap_model.specs.Prelude.{PendingEntryValue, Pong, asks_pong, asks_with, awaits, is_asking, is_custody_pong}
 use Rattle.coap_model.specs.Prelude.{responds, same_bytes}
-use Rattle.coap_model.proofs.world.PlaceLaws.{found}
 
 -- ---- counts
 

@@ -1,6 +1,6 @@
 -- When a Pong with Custody is queued, each request handled before its Ping already has its response, whatever happens
 -- to a connection.
-use Rattle.std.proofs.Common.{Bool, List, None, Option, Some, [], ap, arith, codes, false, is_none, refl, rules, subst}
+use Rattle.std.proofs.Common.{Bool, List, None, Option, Some, [], ap, arith, false, is_none, refl, rules, subst}
 use Rattle.std.proofs.Common.{sym, true, ℕ, ◌&&◌, ◌++◌, ◌==◌, ◌∷◌, ◌≡◌, ◌≤◌}
 use Rattle.std.proofs.lemmas.Bool.{both_ways, cond-true, cond_both, or_left}
 use Rattle.std.proofs.lemmas.List.{length-append}
@@ -8,7 +8,7 @@ use lib.Pointwise.{bytes_decides}
 use Rattle.coap_model.specs.Prelude.{AcceptedCall, AllByRecursion, Answer, Application, ApplicationsValue, Bare}
 use Rattle.coap_model.specs.Prelude.{ConfigValues, Connection, Engine, FollowsAnswers, History, LimitValues, Message}
 use Rattle.coap_model.specs.Prelude.{Observer, PendingEntryValue, Phase, Pong, Reaction, Reason, Reply, Responder}
-use Rattle.coap_model.specs.Prelude.{Response, Server, Stopped, StoreValue, Whole, after, after_sent, announced}
+use Rattle.coap_model.specs.Prelude.{Response, Server, Stopped, StoreValue, Whole, after, after_sent}
 use Rattle.coap_model.specs.Prelude.{answers, asks_answer, asks_custody, asks_with, awaits, bare_response, first_due}
 use Rattle.coap_model.specs.Prelude.{fit, goes_on, handles, is_asking, is_custody_pong, is_request, is_response}
 use Rattle.coap_model.specs.Prelude.{late_message, late_response, limit_now, link_of, list_any, next_due, notification}
@@ -18,7 +18,6 @@ use Rattle.coap_model.specs.Prelude.{send_as, side_after, side_handled, side_of,
 use Rattle.coap_model.specs.Prelude.{takes, takes_messages, with_effect, without_due, without_request, world_after}
 use Rattle.coap_conn.proofs.PendingLaws.{custody_at_once, due_answer, due_pong}
 use Rattle.coap_conn.proofs.ReactionLaws.{IsNoPong, IsPlain, MayFollow, abort_plain, live_so}
-use Rattle.coap_conn.specs.Reaction.{answered}
 use Rattle.coap_conn.specs.Calls as call
 use Rattle.coap_wire.specs.Codes as code
 use Rattle.coap_model.proofs.world.WalkLaws.{announced_between, answer_goes, due_is, ended_between, faulted_between}
@@ -35,7 +34,6 @@ use Rattle.coap_model.proofs.world.AnswerCounts.{requests, responses}
 use Rattle.coap_model.proofs.world.AnswerCodes.{bare_coded, coded, prompt_coded}
 use Rattle.coap_model.proofs.world.EntryLemmas.{all_to}
 use Rattle.coap_model.proofs.world.RespondedLaws.{allowed, answered_request, plain_codes, response_is_no_pong}
-use Rattle.coap_model.proofs.world.PlaceLaws.{found}
 
 abbrev nothing : Tally
 nothing token = 0

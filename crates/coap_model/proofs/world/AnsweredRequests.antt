@@ -11,7 +11,6 @@ use Rattle.coap_conn.specs.Phases.{is_waiting}
 use Rattle.coap_conn.proofs.ReactionLaws.{live_so}
 use Rattle.coap_conn.specs.Verdicts as verdict
 use Rattle.coap_wire.specs.Codes as code
-use Rattle.coap_model.proofs.world.AnswerCounts.{one}
 
 -- ---- a message that the caller answers
 

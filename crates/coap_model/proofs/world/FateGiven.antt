@@ -25,12 +25,12 @@ use Rattle.coap_model.proofs.world.WalkLaws.{sent, settled_between, there_or_not
 use Rattle.coap_model.proofs.world.AcrossLaws.{KeepsAll, all_across, settles_there}
 use Rattle.coap_model.proofs.world.StepLaws.{by_events, each_beyond, world_first, world_more}
 use Rattle.coap_model.proofs.world.ReachedLaws.{IsReached, OpensNext, accepted_is, ids_grow, number_given, on_one}
-use Rattle.coap_model.proofs.world.PlaceLaws.{found, nobody}
+use Rattle.coap_model.proofs.world.PlaceLaws.{nobody}
 use Rattle.coap_model.proofs.world.EntryLemmas.{all_append, all_to}
 use Rattle.coap_model.proofs.world.FateLists.{IsOld, fate_cases, old_fate, waits}
 use Rattle.coap_model.proofs.world.FateLaws.{Accounted, IsKept, IsNext, one_waits, sent_so}
 use Rattle.coap_model.proofs.world.FateKept.{after_message, answers_if_allowed, requests_accounted, response_next}
-use Rattle.coap_model.proofs.world.AnswerCounts.{one, responses}
+use Rattle.coap_model.proofs.world.AnswerCounts.{one}
 use Rattle.coap_model.proofs.world.FateWalk.{acted_cases, before_steps, expires, requests_last, steps_stay, then_stays}
 
 -- ---- the responses of requests

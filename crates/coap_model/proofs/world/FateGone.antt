@@ -5,7 +5,7 @@ use Rattle.std.proofs.lemmas.Bool.{cases_eq, cond_both, ne_eqb}
 use Rattle.std.proofs.lemmas.List.{append-nil}
 use Rattle.coap_model.specs.Prelude.{AcceptedCall, AllByRecursion, ApplicationRequest, AreAccepted, ConfigValues}
 use Rattle.coap_model.specs.Prelude.{Connection, ConnectionEntry, IsAccepted, IsGone, LimitValues, Step, WasDropped}
-use Rattle.coap_model.specs.Prelude.{World, acted, after_steps, changed, given_in, given_on, if_there, later_steps}
+use Rattle.coap_model.specs.Prelude.{World, acted, after_steps, given_in, given_on, if_there, later_steps}
 use Rattle.coap_model.specs.Prelude.{new_side, put_in, requests_acted, requests_by, requests_on, requests_settled}
 use Rattle.coap_model.specs.Prelude.{requests_then, settled, side_of, steps_by, steps_of, world_after}
 use Rattle.coap_model.specs.world.World.{changed_at}
@@ -15,13 +15,12 @@ use Rattle.coap_model.specs.world.World as world
 use Rattle.coap_model.proofs.OptionLemmas.{none_made}
 use Rattle.coap_model.proofs.world.WalkLaws.{there_or_not}
 use Rattle.coap_model.proofs.world.PlaceLaws.{all_there, but, changed_elsewhere, changed_here, dropped_elsewhere}
-use Rattle.coap_model.proofs.world.PlaceLaws.{dropped_here, found, none_mapped, other_more, still_there}
+use Rattle.coap_model.proofs.world.PlaceLaws.{dropped_here, none_mapped, other_more, still_there}
 use Rattle.coap_model.proofs.world.AcrossLaws.{opened_there}
 use Rattle.coap_model.proofs.world.StepLaws.{by_events, each_beyond, world_more, world_step}
 use Rattle.coap_model.proofs.world.ReachedLaws.{on_one, step_keeps}
 use Rattle.coap_model.proofs.world.FateGiven.{given_then}
 use Rattle.coap_model.proofs.world.FateWalk.{acted_cases, requests_last}
-use Rattle.coap_model.proofs.world.AnswerCounts.{requests}
 
 -- ---- a connection that does not exist
 

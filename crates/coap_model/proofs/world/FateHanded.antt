@@ -9,7 +9,7 @@ use Rattle.std.specs.List.{flat_map}
 use Rattle.coap_model.specs.Prelude.{AFault, AFrame, AcceptedCall, AllByRecursion, Application, ApplicationRequest}
 use Rattle.coap_model.specs.Prelude.{AreAccepted, ConfigValues, Connection, Delay, Engine, Fate, FormatFault}
 use Rattle.coap_model.specs.Prelude.{FrameEventValue, History, IsAccepted, LimitValues, Message, Step, StoreValue}
-use Rattle.coap_model.specs.Prelude.{StreamFault, Took, World, after, after_steps, answer_of, asks_answer, delay_by}
+use Rattle.coap_model.specs.Prelude.{StreamFault, Took, World, after_steps, answer_of, asks_answer, delay_by}
 use Rattle.coap_model.specs.Prelude.{delay_for, delay_or, frame_then, handed_between, handed_in, handed_requests}
 use Rattle.coap_model.specs.Prelude.{handles, if_there, is_asking, is_by_application, may_hold, message_of, new_request}
 use Rattle.coap_model.specs.Prelude.{requests_acted, requests_after, requests_by, requests_on, requests_responded}
@@ -33,8 +33,6 @@ use Rattle.coap_model.proofs.world.AnsweredRequests.{answered_is_request}
 use Rattle.coap_model.proofs.world.FateKept.{after_message}
 use Rattle.coap_model.proofs.world.AnswerCounts.{one, requests}
 use Rattle.coap_model.proofs.world.FateWalk.{acted_cases, before_steps, requests_last, steps_stay, then_stays}
-use Rattle.coap_model.proofs.world.WalkLaws.{received}
-use Rattle.coap_model.proofs.world.PlaceLaws.{found}
 
 -- ---- lists of requests
 

@@ -1,5 +1,5 @@
 -- Each effect on a connection keeps the account of the requests that the application answers.
-use Rattle.std.proofs.Common.{Bool, List, None, Option, Some, [], ap, arith, codes, cond, false, filter, find, inl, inr}
+use Rattle.std.proofs.Common.{Bool, List, None, Option, Some, [], ap, arith, cond, false, filter, find, inl, inr}
 use Rattle.std.proofs.Common.{is_none, length, not, refl, rules, slice_get, subst, sym, true, ℕ, ◌&&◌, ◌++◌, ◌∙◌, ◌∷◌}
 use Rattle.std.proofs.Common.{◌≡◌, ◌≢◌}
 use Rattle.std.proofs.lemmas.Bool.{and_from, and_left, and_parts, both_ways, cases_Bool, cond-true, cond_both, eq-eqb}
@@ -11,19 +11,19 @@ use Rattle.coap_model.specs.Prelude.{AcceptedCall, AllByRecursion, Answer, Appli
 use Rattle.coap_model.specs.Prelude.{ApplicationsValue, ConfigValues, Connection, Delay, Engine, Fate, HasFate}
 use Rattle.coap_model.specs.Prelude.{HasOnlyAnswer, History, LimitValues, Message, Observer, PeerTooSmall}
 use Rattle.coap_model.specs.Prelude.{PendingEntryValue, Phase, Pong, Reaction, ReactionResult, Reason, ReleasedHere}
-use Rattle.coap_model.specs.Prelude.{Server, StoreValue, Unanswered, after, after_sent, announced, answers}
+use Rattle.coap_model.specs.Prelude.{Server, StoreValue, Unanswered, after, after_sent, answers}
 use Rattle.coap_model.specs.Prelude.{application_deadline, asks_answer, asks_delayed, awaits, bare_response, delay_for}
 use Rattle.coap_model.specs.Prelude.{delay_of, end_reason, entry_for, fate_by, first_due, first_fate, fit, handles}
 use Rattle.coap_model.specs.Prelude.{has_place, has_stopped, hold_call, is_asking, is_due, is_for_application}
 use Rattle.coap_model.specs.Prelude.{is_of_application, is_open, is_unanswered, is_unanswered_with, is_whole}
 use Rattle.coap_model.specs.Prelude.{late_message, left_of, limit_now, link_of, list_any, may_hold, messages_of}
 use Rattle.coap_model.specs.Prelude.{moment_after, new_request, next_due, next_pending, notification}
-use Rattle.coap_model.specs.Prelude.{notification_message, notified, only, own_csm, pong_with, prompt_answer, react}
+use Rattle.coap_model.specs.Prelude.{notification_message, notified, own_csm, pong_with, prompt_answer, react}
 use Rattle.coap_model.specs.Prelude.{reaction_unless, refusal_of, reject_reason, release, requests_after, requests_due}
 use Rattle.coap_model.specs.Prelude.{requests_on, requests_once, requests_responded, responds, response_refusal}
 use Rattle.coap_model.specs.Prelude.{response_with_observe, same_bytes, send, settled_once, side_after, side_announced}
 use Rattle.coap_model.specs.Prelude.{side_answered, side_ended, side_faulted, side_handled, side_of, side_released}
-use Rattle.coap_model.specs.Prelude.{side_responded, side_with, side_written, state_now, stop, stop_of, takes}
+use Rattle.coap_model.specs.Prelude.{side_responded, side_with, side_written, state_now, stop, stop_of}
 use Rattle.coap_model.specs.Prelude.{takes_messages, with_effect, with_history, without_due, without_request}
 use Rattle.coap_model.specs.Prelude.{without_token, world_after}
 use Rattle.coap_store.proofs.ApplicationLaws.{prompt_handed}
@@ -54,8 +54,6 @@ use Rattle.coap_model.proofs.world.FateLaws.{calm_so, is_engine_for, none_respon
 use Rattle.coap_model.proofs.world.FateLaws.{pending_over, pending_same, request_with, sent_so}
 use Rattle.coap_model.proofs.world.AnsweredRequests.{answered_is_request, requested_or_over}
 use Rattle.coap_model.proofs.world.FateWalk.{KeepsRequests, expires, requests_kept}
-use Rattle.coap_model.proofs.world.PlaceLaws.{found}
-use Rattle.coap_model.proofs.world.AnswerCounts.{one, requests}
 
 -- The history after a message.
 abbrev pub after_message : Connection → Message → History

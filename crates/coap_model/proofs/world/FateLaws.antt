@@ -27,8 +27,6 @@ use Rattle.coap_model.proofs.world.FateLists.{fate_all, fate_requests, filter_no
 use Rattle.coap_model.proofs.world.FateLists.{found_one, kept_at, map_without, new_then_old, next_at, none_filter}
 use Rattle.coap_model.proofs.world.FateLists.{none_waiting, old_fate, old_then_new, still_at, still_fate}
 use Rattle.coap_model.proofs.world.FateLists.{waiting_without, waits, without_passing}
-use Rattle.coap_model.proofs.world.RespondedLaws.{allowed}
-use Rattle.coap_model.proofs.world.AnswerCounts.{one}
 
 -- ---- pending entries and the phase
 

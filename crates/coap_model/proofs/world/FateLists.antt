@@ -10,8 +10,7 @@ use Rattle.coap_model.specs.Prelude.{History, Message, PendingEntryValue, Reply,
 use Rattle.coap_model.specs.Prelude.{after, answers, awaits, bare_response, entry_of, fate_by, fate_of, fit, fitted}
 use Rattle.coap_model.specs.Prelude.{has_stopped, is_unanswered, limit_now, list_any, same_bytes, stay, with_fate}
 use Rattle.coap_model.proofs.world.EntryLemmas.{all_to}
-use Rattle.coap_model.proofs.world.WalkLaws.{received, sent}
-use Rattle.coap_model.proofs.world.RespondedLaws.{allowed}
+use Rattle.coap_model.proofs.world.WalkLaws.{sent}
 
 -- ---- a list without the first element that passes a test
 

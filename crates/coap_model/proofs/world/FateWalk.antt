@@ -17,12 +17,11 @@ use Rattle.coap_wire.proofs.NumberLaws.{none_or_some}
 use Rattle.coap_model.specs.world.World as world
 use Rattle.coap_model.proofs.OptionLemmas.{one_made, same_there}
 use Rattle.coap_model.proofs.world.PlaceLaws.{all_there, changed_elsewhere, changed_here, dropped_elsewhere}
-use Rattle.coap_model.proofs.world.PlaceLaws.{dropped_here, first_there, found, new_there, nobody, other_more}
+use Rattle.coap_model.proofs.world.PlaceLaws.{dropped_here, first_there, new_there, nobody, other_more}
 use Rattle.coap_model.proofs.world.WalkLaws.{Between, there_or_not}
 use Rattle.coap_model.proofs.world.AcrossLaws.{HoldsOf, applications_stay, step_across}
 use Rattle.coap_model.proofs.world.RespondedLaws.{allowed}
 use Rattle.coap_model.proofs.world.StepLaws.{steps_of_more}
-use Rattle.coap_model.proofs.world.ReachedLaws.{opens}
 
 -- A property of a new connection without requests that every effect keeps, in a server with these applications.
 pub record KeepsRequests (limits : LimitValues) (a : Option ApplicationsValue)
