@@ -82,7 +82,8 @@ module _ (R : Connection → Connection → Type 0) (limits : LimitValues) (w : 
   acted_across (world.Announced at size) is t = search (rules, changed_across)
   acted_across (world.Responded at m) is t =
       changed_across at (λ s. side_responded s m) t (λ here s. holds.responded s m)
-  acted_across (world.Dropped at) is t = search (rules, cases_eq, none_or_some, dropped_here, same_across, dropped_elsewhere)
+  acted_across (world.Dropped at) is t =
+      search (rules, cases_eq, none_or_some, dropped_here, same_across, dropped_elsewhere)
 
   once_across : (store : StoreValue) (now : ℕ) (t : Connection) → HoldsFrom R limits w st id t
       → HoldsFrom R limits w st id (settled_once store now t)

@@ -21,7 +21,7 @@ use Rattle.coap_conn.proofs.ReactionLaws.{IsNoPong, IsPlain, MayFollow, abort_pl
 use Rattle.coap_conn.specs.Calls as call
 use Rattle.coap_wire.specs.Codes as code
 use Rattle.coap_model.proofs.world.WalkLaws.{announced_between, answer_goes, due_is, ended_between, faulted_between}
-use Rattle.coap_model.proofs.world.WalkLaws.{received, released_between, responded_between, sent, without_first}
+use Rattle.coap_model.proofs.world.WalkLaws.{received, released_between, responded_between, without_first}
 use Rattle.coap_model.proofs.world.WalkLaws.{written_between}
 use Rattle.coap_model.proofs.world.GoingOn.{Keeps, kept_after}
 use Rattle.coap_model.proofs.world.SideLaws.{handles_parts, pending_room, settled_cases}
@@ -121,12 +121,13 @@ token_pays b m owes is = grind arith
 -- A response that is owed.
 response_pays : (b d : Tally) (h : History) (m : Message) → OwesToken b m.token → OwesToken d m.token
     → is_response m ≡ true → IsPaying b d h m
-response_pays b d h m first total is = search (rules, pongs_other, responses, response_is_no_pong, token_pays)
+response_pays b d h m first total is = search (rules, pongs_other, response_is_no_pong, token_pays)
 
 owed_follows : (b d : Tally) (h : History) → OwesStill b d h → (token : List ℕ) (observe : Bool) (r : Response)
     → answers h.phase ≡ true → coded r.code ≡ true → OwesToken b token → OwesToken d token
     → PongsFollow (after h (call.Reply (response_with_observe token observe r)))
-owed_follows b d h is token observe r on is_coded first total = search (rules, cond-true, sent, send_follows, response_pays, bare_coded)
+owed_follows b d h is token observe r on is_coded first total =
+    search (rules, cond-true, send_follows, response_pays, bare_coded)
 
 -- ---- a message that is handled
 

@@ -1,11 +1,12 @@
 -- A message that the caller answers is a request. A server asks its caller to answer each request, or stops.
-use Rattle.std.proofs.Common.{Bool, None, Option, Some, cond, false, inl, inr, is_none, refl, rules, true, ℕ, ◌==◌, ◌≡◌}
-use Rattle.std.proofs.Common.{◌⊎◌}
+use Rattle.std.proofs.Common.{Bool, None, Option, Some, arith, cond, false, inl, inr, is_none, refl, rules, true, ℕ}
+use Rattle.std.proofs.Common.{◌==◌, ◌≡◌, ◌⊎◌}
 use Rattle.std.proofs.lemmas.Bool.{and_from, both_ways, cond_both}
+use Rattle.std.proofs.lemmas.Grind.{common_steps}
 use Rattle.coap_model.specs.Prelude.{Bare, ConnectionState, Message, Reaction, Reason, Reply, Server, Stopped, Whole}
-use Rattle.coap_model.specs.Prelude.{bad_csm_option, has_stopped, is_asking, is_request, live_reaction, react}
-use Rattle.coap_model.specs.Prelude.{reaction_unless, stop_of, takes_messages}
-use Rattle.coap_conn.specs.Reaction.{answered, csm_reaction, is_reserved, open_reaction, ping_reaction, reply_verdict}
+use Rattle.coap_model.specs.Prelude.{has_stopped, is_asking, is_request, live_reaction, react, reaction_unless, stop_of}
+use Rattle.coap_model.specs.Prelude.{takes_messages}
+use Rattle.coap_conn.specs.Reaction.{answered, csm_reaction, open_reaction, ping_reaction, reply_verdict}
 use Rattle.coap_conn.specs.Outstanding.{OutstandingValue, is_last}
 use Rattle.coap_conn.specs.Phases.{is_waiting}
 use Rattle.coap_conn.proofs.ReactionLaws.{live_so}
@@ -48,13 +49,7 @@ module _ (s : ConnectionState) (m : Message) where
 
   live_asks : Asks (live_reaction s m)
   unfolding live_reaction
-  live_asks =
-      cond_both (is_reserved m.code) _ _ Asks (λ e asks. absurd cc)
-      (λ e. cond_both (m.code == code.empty) _ _ Asks (λ e asks. absurd cc)
-      (λ some. cond_both (m.code == code.abort) _ _ Asks (λ e asks. absurd cc)
-      (λ e. cond_both (m.code == code.csm) _ _ Asks
-      (λ e asks. absurd (both_ways _ (csm_none s (bad_csm_option m)) asks))
-      (λ e. cond_both (is_waiting s.phase) _ _ Asks (λ e asks. absurd cc) (λ e. open_asks some)))))
+  live_asks = grind (arith, common_steps, cond_both, both_ways, csm_none, open_asks)
 
   unless_asks : (over : Option Reason) → Asks (reaction_unless s m over)
   unless_asks None = live_asks

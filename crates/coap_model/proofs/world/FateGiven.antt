@@ -50,7 +50,8 @@ responses_with : (test : ApplicationRequest → Bool) (fate : Fate) → response
     → responses_to (with_fate test fate rs) ≡ responses_to rs
 unfolding responses_to with_fate
 responses_with test fate none to [] = refl
-responses_with test fate none to (r ∷ rs) = search (rules, cond_both, unanswered_gives, responses_with test fate none to rs)
+responses_with test fate none to (r ∷ rs) =
+    search (rules, cond_both, unanswered_gives, responses_with test fate none to rs)
 
 -- A fate with one.
 responses_new : (test : ApplicationRequest → Bool) (fate : Fate) (m : Message × ℕ) → response_of fate ≡ m ∷ []
@@ -63,7 +64,8 @@ responses_new test fate m one to (r ∷ rs) some =
     let new : List (Message × ℕ) = responses_to (with_fate test fate rs) in
     elim (cases_Bool (test r)) [
       | inl is ↦ rw (is, one, unanswered_gives r.fate (to r is)) (IsPermutation-refl (m ∷ responses_to rs))
-      | inr other ↦ rw other (IsPermutation-trans (old ++ new) (old ++ m ∷ responses_to rs) (m ∷ (old ++ responses_to rs))
+      | inr other ↦ rw other (IsPermutation-trans (old ++ new) (old ++ m ∷ responses_to rs)
+          (m ∷ (old ++ responses_to rs))
           (IsPermutation-append_right old new (m ∷ responses_to rs)
           (responses_new test fate m one to rs (rw other at some))) (IsPermutation-middle old m (responses_to rs)))
     ]
@@ -124,7 +126,8 @@ others_give : (limits : LimitValues) (id : ℕ) (w : World) (ss : List Step) (rs
     → AllByRecursion (IsOther id) ss → responses_to (requests_by limits id w ss rs) ≡ responses_to rs
 others_give limits id w ss rs apart =
     steps_stay (λ now qs. responses_to qs ≡ responses_to rs)
-    (λ now s token moment qs is same. due_gives s.history token moment qs ∙ same) limits id (IsOther id) (λ v st qs other same.
+    (λ now s token moment qs is same. due_gives s.history token moment qs ∙ same) limits id (IsOther id)
+    (λ v st qs other same.
     acted_cases (λ ps. responses_to ps ≡ responses_to rs) id v st qs same
     (λ is. absurd ((subst (IsOther id) is other) refl)) (λ m s is there. after_gives v.store v.now s m qs ∙ same)
     (λ m s is there. absurd ((subst (IsOther id) is other) refl))) w ss rs apart refl

@@ -1,8 +1,9 @@
 -- A connection that does not exist has no requests, or it was dropped and its requests are those before the drop.
-use Rattle.std.proofs.Common.{Bool, List, None, Some, [], ap, append_assoc, cond, inl, inr, map, option_map, refl}
-use Rattle.std.proofs.Common.{rules, subst, sym, ℕ, ◌++◌, ◌∙◌, ◌∷◌, ◌≡◌, ◌≢◌}
+use Rattle.std.proofs.Common.{Bool, List, None, Some, [], ap, arith, cond, inl, inr, map, option_map, refl, rules}
+use Rattle.std.proofs.Common.{subst, sym, ℕ, ◌++◌, ◌∙◌, ◌∷◌, ◌≡◌, ◌≢◌}
 use Rattle.std.proofs.lemmas.Bool.{cases_eq, cond_both, ne_eqb}
 use Rattle.std.proofs.lemmas.List.{append-nil}
+use Rattle.std.proofs.lemmas.Grind.{common_steps}
 use Rattle.coap_model.specs.Prelude.{AcceptedCall, AllByRecursion, ApplicationRequest, AreAccepted, ConfigValues}
 use Rattle.coap_model.specs.Prelude.{Connection, ConnectionEntry, IsAccepted, IsGone, LimitValues, Step, WasDropped}
 use Rattle.coap_model.specs.Prelude.{World, acted, after_steps, given_in, given_on, if_there, later_steps}
@@ -167,25 +168,7 @@ module _ (c : ConfigValues) (id : ℕ) where
     remains : (e : AcceptedCall) → side_of id w.sides ≡ None → OpensNotBy id e → given_in id e ≡ []
         → IsGone c id (es ++ e ∷ [])
     remains e none apart nothing =
-        let requests : requests_on c id (es ++ e ∷ []) ≡ rs =
-        requests_last c id es e ∙ steps_same c.limits id w (steps_by c.limits.max_message es e) rs
-        (not_opened id c.limits.max_message es e apart) none in
-        let given : given_on id (es ++ e ∷ []) ≡ given_on id es =
-        given_then id es e ∙ ap (λ ms. given_on id es ++ ms) nothing ∙ append-nil (given_on id es) in
-        elim (before none) [
-          | inl never ↦ inl (requests ∙ never.0, given ∙ never.1)
-          | inr was ↦ inr (record {
-            earlier = was.earlier;
-            later = was.later ++ e ∷ [];
-            connection = was.connection;
-            parts =
-                ap (λ ds. ds ++ e ∷ []) was.parts ∙ append_assoc was.earlier (event.Dropped id ∷ was.later) (e ∷ []);
-            accepted = was.accepted;
-            there = was.there;
-            requests = requests ∙ was.requests;
-            given = given ∙ was.given;
-          })
-        ]
+        grind (arith, common_steps, requests_last, steps_same, not_opened, given_then, append-nil)
 
     -- An event that opens it leaves it there.
     opened_exists : side_of id w.sides ≡ None → Exists id (world_after c (es ++ event.Opened id ∷ [])).sides

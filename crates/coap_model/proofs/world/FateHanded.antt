@@ -110,7 +110,8 @@ others_before : (limits : LimitValues) (id : ℕ) (w : World) (ss : List Step) (
     → AllByRecursion (IsOther id) ss → side_of id (after_steps limits w ss).sides ≡ Some t
     → (s : Connection) × (side_of id w.sides ≡ Some s) × (t.history.handled ≡ s.history.handled)
 others_before limits id =
-    before_steps HandlesNone (λ h k. k.handled ≡ h.handled) (λ h. refl) (λ h k g one two. two ∙ one.handled) limits id (IsOther id) (λ apart. apart refl) (λ w st other. rests_of w st id (elsewhere id st other))
+    before_steps HandlesNone (λ h k. k.handled ≡ h.handled) (λ h. refl) (λ h k g one two. two ∙ one.handled)
+    limits id (IsOther id) (λ apart. apart refl) (λ w st other. rests_of w st id (elsewhere id st other))
 
 responded_hands : (s : Connection) (m : Message) (rs : List ApplicationRequest)
     → handed_requests (requests_responded s m rs) ≡ handed_requests rs

@@ -209,7 +209,8 @@ module _ (a : Option ApplicationsValue) where
 
   -- A reply with a token that is not calm, after messages that queued nothing.
   module _ (s : Connection) (received : List Message) (none : filter (is_for_application a) received ≡ [])
-      (g : History) (fixed : (g.limits ≡ s.history.limits) × (g.role ≡ s.history.role)) (handled : g.handled ≡ s.history.handled ++ received)
+      (g : History) (fixed : (g.limits ≡ s.history.limits) × (g.role ≡ s.history.role))
+      (handled : g.handled ≡ s.history.handled ++ received)
       (queued : g.queued ≡ s.history.queued)
       (pending : StillPending s.history.pending s.history.phase g.pending g.phase) (m : Message) (os : List Observer)
       (apart : (token : List ℕ) → NoneAsk token received → Calm token s
@@ -226,7 +227,8 @@ module _ (a : Option ApplicationsValue) where
           none = none;
           extends = record {
             fixed = cond_both (answers g.phase) _ g
-                (λ (f : History). (f.limits ≡ s.history.limits) × (f.role ≡ s.history.role)) (λ on. fixed) (λ off. fixed);
+                (λ (f : History). (f.limits ≡ s.history.limits) × (f.role ≡ s.history.role))
+                (λ on. fixed) (λ off. fixed);
             handled = reply_either g m (λ ms es p. ms ≡ s.history.handled ++ received) handled handled;
             more = queues.more;
             queued = queues.same ∙ ap (λ ms. ms ++ queues.more) queued;
@@ -250,7 +252,8 @@ module _ (a : Option ApplicationsValue) where
       subst (λ g. Passes a s (with_history s (after g (call.Reply (late_message Engine own)))))
       (sym (answer_goes h now Engine own moment is))
       (reply_passes s [] refl (without_first h now) (refl, refl) (sym (append-nil h.handled)) refl
-      (pending_gone first.before e first.after h.phase h.pending (without_due now h.pending) first.there first.without refl)
+      (pending_gone first.before e first.after h.phase h.pending (without_due now h.pending) first.there
+      first.without refl)
       (late_message Engine own) s.observers (λ token none calm.
       let due = no_engine_without token first.before e first.after (subst (NoEngine token) first.there calm.engine) in
       (calm.others, subst (NoEngine token) (sym first.without) due.1, due.0)))
@@ -337,7 +340,8 @@ module _ (a : Option ApplicationsValue) where
       let same : after_sent h now (Answer Application token moment) ≡ sent g m (bare_response m) =
       ap (λ f. after f (call.Reply m)) (answer_goes h now Application token moment is)
       ∙ cond-true (answers h.phase) (sent g m (bare_response m)) g on in
-      subst (λ k. Accounted a (with_history s k) (requests_due s (Some (Answer Application token moment)) rs)) (sym same)
+      subst (λ k. Accounted a (with_history s k) (requests_due s (Some (Answer Application token moment)) rs))
+      (sym same)
       (answer_keeps a s rs (expires token moment) _ Engine m (without_due now h.pending)
       (deadline_next h now token moment is) account on)
   due_kept s now (Pong token) rs is account = passes_keep a s _ rs (pong_passes s now token is) account
@@ -574,7 +578,8 @@ module _ (store : StoreValue) (now : ℕ) (s : Connection) (m : Message) (server
         let more : k.queued ≡ h.queued ++ messages_of fate =
         ap (λ ms. g.queued ++ ms) sent.queued ∙ ap (λ ms. ms ++ messages_of fate) is.queued in
         let apart : (asks_answer s m && may_hold (after_message s m)) ≡ false = grind (arith, full) in
-        subst (λ b. AddsRequest s (side_with (cond b k g) others) (request_with now s m seconds fate)) (sym on) (record {
+        subst (λ b. AddsRequest s (side_with (cond b k g) others) (request_with now s m seconds fate))
+        (sym on) (record {
           extends = record {
             fixed = is.fixed;
             handled = is.handled;
@@ -625,7 +630,8 @@ module _ (store : StoreValue) (now : ℕ) (s : Connection) (m : Message) (server
       let g : History = after_message s m in
       let fate : Bool → Fate = λ may. cond may Unanswered (fate_by Engine g (refusal_of m)) in
       let IsAdded : Connection → Type 0 = λ t. AddsRequest s t (request_with now s m seconds (first_fate g m)) in
-      let by_place : (may : Bool) (t : Connection) → may_hold g ≡ may → AddsRequest s t (request_with now s m seconds (fate may))
+      let by_place : (may : Bool) (t : Connection) → may_hold g ≡ may
+      → AddsRequest s t (request_with now s m seconds (fate may))
       → IsAdded t =
       λ may t is. subst (λ b. AddsRequest s t (request_with now s m seconds (fate b))) (sym is) in
       let d : Delay = record { by = Application; seconds = seconds } in
@@ -648,7 +654,8 @@ module _ (store : StoreValue) (now : ℕ) (s : Connection) (m : Message) (server
             let got = cond-true (takes_messages h.phase) (received h m) h live in
             let off = off_over g.phase (rw got over) in
             subst (λ k. IsAdded (with_history s k)) (sym got)
-            (subst (λ f. AddsRequest s after_it (request_with now s m seconds f)) (sym (unanswered_over (may_hold g) off))
+            (subst (λ f. AddsRequest s after_it (request_with now s m seconds f))
+            (sym (unanswered_over (may_hold g) off))
             (over_adds seconds over)))
       ])
     where
@@ -692,7 +699,8 @@ accounts_keep limits a =
     → Accounted a s rs → Accounted a t rs =
     λ s t rs is others. passes_keep a s t rs (plain_passes a s t is others) in
     record {
-      first = record { server = refl; requests = refl; pending = λ on. refl; quiet = λ off. refl; each = tt; apart = tt };
+      first =
+          record { server = refl; requests = refl; pending = λ on. refl; quiet = λ off. refl; each = tt; apart = tt };
       handled = λ store now s m rs same. subst (λ b. Accounted b s rs
           → Accounted b (side_after store now s m) (requests_after store now s m rs)) same
           (handled_kept store now s m rs);
@@ -708,7 +716,8 @@ accounts_keep limits a =
           (λ h opened none. stops_plain h ReleasedHere (release ∷ []) ((refl, refl), tt)) s)
           (λ token. (calm token).released s);
       announced = λ s size rs. plain s (side_announced s size) rs (announced_between IsPlainOver same_plain
-          (λ h n opened room fit. stays_plain h _ (own_csm n ∷ []) refl ((refl, refl), tt) (refl, refl) refl refl refl) s size)
+          (λ h n opened room fit. stays_plain h _ (own_csm n ∷ []) refl ((refl, refl), tt) (refl, refl) refl refl refl)
+          s size)
           (λ token. (calm token).announced s size);
       responded = responded_kept a;
       reported = reported_kept a;

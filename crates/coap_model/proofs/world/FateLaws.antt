@@ -44,9 +44,9 @@ pub pending_over : (es : List PendingEntryValue) (p : Phase) (why : Reason) → 
 pending_over es p why = record { running = λ on. absurd cc; quiet = λ quiet off. refl }
 
 -- An entry that is no request for the application is removed.
-pub pending_gone : (before : List PendingEntryValue) (e : PendingEntryValue) (later : List PendingEntryValue) (p : Phase)
-    (es fs : List PendingEntryValue) → es ≡ before ++ e ∷ later → fs ≡ before ++ later → is_of_application e ≡ false
-    → StillPending es p fs p
+pub pending_gone : (before : List PendingEntryValue) (e : PendingEntryValue) (later : List PendingEntryValue)
+    (p : Phase) (es fs : List PendingEntryValue) → es ≡ before ++ e ∷ later → fs ≡ before ++ later
+    → is_of_application e ≡ false → StillPending es p fs p
 pending_gone before e later p es fs there left other = rw (there, left) (record {
   running = λ on. (
     on,
@@ -109,8 +109,8 @@ pub record IsKept (s : Connection) (r : ApplicationRequest) : Type 0 where
   pub handed : has_stopped s.history.phase ≡ false → waits r ≡ true → r.handed ≡ true
   pub only : IsOnly s r
 
--- Two requests have different answers, and the first was handled first. If no response with its token was pending before
--- the second, the first was answered then, if it has this token.
+-- Two requests have different answers, and the first was handled first. If no response with its token was pending
+-- before the second, the first was answered then, if it has this token.
 abbrev pub Apart : ApplicationRequest → ApplicationRequest → Type 0
 Apart f r =
     HaveOtherPlaces f.fate r.fate × (f.handled < r.handled)
@@ -476,7 +476,19 @@ module _ (a : Option ApplicationsValue) (s : Connection) (rs : List ApplicationR
 
   all_waiting : (qs : List ApplicationRequest) → AllByRecursion (λ r. test r ≡ entry (entry_of r)) (filter waits qs)
   all_waiting [] = tt
-  all_waiting (q ∷ qs) = search (rules, cond_both, waits, all_waiting qs, all_waiting qs)
+  all_waiting (q ∷ qs) = search (rules, cond_both, waits, all_waiting qs)
 
   pub answer_keeps : Accounted a t (with_fate test fate rs)
-  answer_keeps = search (rules, each_kept, one_waits, fate_requests, waiting_without, sent, map_without, waits, all_waiting, filter_without)
+  answer_keeps =
+      search (
+        rules,
+        each_kept,
+        one_waits,
+        fate_requests,
+        waiting_without,
+        sent,
+        map_without,
+        waits,
+        all_waiting,
+        filter_without,
+      )

@@ -1,14 +1,15 @@
 -- Lists of requests that the application answers: one of them gets another fate.
-use Rattle.std.proofs.Common.{Bool, List, Some, [], ap, arith, cond, drop, false, filter, inl, inr, length, map, refl}
-use Rattle.std.proofs.Common.{slice_get, subst, suc, true, zero, ℕ, ◌++◌, ◌<◌, ◌∷◌, ◌≡◌, ◌≤◌}
+use Rattle.std.proofs.Common.{Bool, List, Some, [], ap, arith, cond, drop, false, filter, length, map, refl, slice_get}
+use Rattle.std.proofs.Common.{subst, suc, true, zero, ℕ, ◌++◌, ◌<◌, ◌∷◌, ◌≡◌, ◌≤◌}
 use Rattle.std.proofs.lemmas.List.{length-append, take-append-le}
 use Rattle.std.proofs.lemmas.Bool.{both_ways, cases_Bool, cond_both}
 use Rattle.std.proofs.lemmas.Option.{slice_get_within}
+use Rattle.std.proofs.lemmas.Grind.{common_steps}
 use lib.Pointwise.{bytes_decides}
 use Rattle.coap_model.specs.Prelude.{AllByRecursion, Answered, ApplicationRequest, Bare, Fate, HasFate, HaveOtherPlaces}
 use Rattle.coap_model.specs.Prelude.{History, Message, PendingEntryValue, Reply, Responder, Stopped, Unanswered, Whole}
 use Rattle.coap_model.specs.Prelude.{after, answers, awaits, bare_response, entry_of, fate_by, fate_of, fit, fitted}
-use Rattle.coap_model.specs.Prelude.{has_stopped, is_unanswered, limit_now, list_any, same_bytes, stay, with_fate}
+use Rattle.coap_model.specs.Prelude.{has_stopped, is_unanswered, limit_now, list_any, stay, with_fate}
 use Rattle.coap_model.proofs.world.EntryLemmas.{all_to}
 use Rattle.coap_model.proofs.world.WalkLaws.{sent}
 
@@ -29,8 +30,7 @@ pub all_less : {A : Type 0} (P : A → Type 0) (p : A → Bool) (xs : List A) �
     → AllByRecursion P (without_passing p xs)
 unfolding without_passing
 all_less P p [] all = tt
-all_less P p (x ∷ xs) all =
-    cond_both (p x) _ _ (AllByRecursion P) (λ is. all.1) (λ other. (all.0, all_less P p xs all.1))
+all_less P p (x ∷ xs) all = grind (arith, common_steps, cond_both, all_less P p xs all.1)
 
 -- The elements that pass another test are without it too.
 pub filter_without : {A : Type 0} (f p : A → Bool) → ((x : A) → p x ≡ true → f x ≡ true) → (xs : List A)
@@ -61,10 +61,7 @@ all_parts P (x ∷ xs) ys all = let rest = all_parts P xs ys all.1 in ((all.0, r
 pub found_one : {A : Type 0} (P : A → Type 0) (test : A → Bool) (xs : List A) → list_any test xs ≡ true
     → AllByRecursion P xs → (x : A) × (test x ≡ true) × P x
 found_one P test [] some all = absurd cc
-found_one P test (x ∷ xs) some all = elim (cases_Bool (test x)) [
-  | inl is ↦ (x, is, all.0)
-  | inr other ↦ found_one P test xs (rw other at some) all.1
-]
+found_one P test (x ∷ xs) some all = grind (arith, common_steps, cases_Bool, found_one P test xs)
 
 -- An element at an index that was not dropped.
 pub kept_at : {A : Type 0} (P : A → Type 0) (n i : ℕ) (xs : List A) (x : A) → n ≤ i → slice_get xs i ≡ Some x
@@ -112,9 +109,7 @@ pub fate_requests : (test : ApplicationRequest → Bool) (fate : Fate) (rs : Lis
     → map (λ r. r.request) (with_fate test fate rs) ≡ map (λ r. r.request) rs
 unfolding with_fate
 fate_requests test fate [] = refl
-fate_requests test fate (r ∷ rs) =
-    cond_both (test r) _ _ (λ (qs : List ApplicationRequest). map (λ q. q.request) qs ≡ map (λ q. q.request) (r ∷ rs))
-    (λ is. refl) (λ other. ap (λ ms. r.request ∷ ms) (fate_requests test fate rs))
+fate_requests test fate (r ∷ rs) = grind (arith, common_steps, cond_both, fate_requests test fate rs)
 
 -- An unanswered request whose entry passes a test.
 pub any_waiting : (test : ApplicationRequest → Bool) (entry : PendingEntryValue → Bool)
@@ -129,16 +124,7 @@ pub none_waiting : (token : List ℕ) (when : Bool) (rs : List ApplicationReques
     → AllByRecursion (λ r. when ≡ true → r.request.token ≡ token → waits r ≡ false) rs
 none_waiting token when [] none = tt
 none_waiting token when (r ∷ rs) none =
-    elim (cases_Bool (waits r)) [
-      | inl is ↦ (
-          let entries : when ≡ true → list_any (awaits token) (entry_of r ∷ map entry_of (filter waits rs)) ≡ false =
-          λ so. rw is at none so in (
-            (λ so same. let none = entries so in absurd (both_ways (same_bytes r.request.token token) (grind arith)
-                ((bytes_decides r.request.token token).1 same))),
-            none_waiting token when rs (λ so. let none = entries so in grind arith),
-          ))
-      | inr over ↦ ((λ so same. over), none_waiting token when rs (λ so. rw over at none so))
-    ]
+    grind (arith, common_steps, cases_Bool, both_ways, bytes_decides, none_waiting token when rs)
 
 -- The fate of a request to which a response is sent.
 pub fate_cases : (P : Fate → Type 0) (by : Responder) (h : History) (response : Message) → P Unanswered
@@ -162,8 +148,7 @@ pub fate_all : (P Q : ApplicationRequest → Type 0) (test : ApplicationRequest 
 unfolding with_fate
 fate_all P Q test fate stay change [] all = tt
 fate_all P Q test fate stay change (r ∷ rs) all =
-    cond_both (test r) _ _ (AllByRecursion Q) (λ is. (change r is all.0, all_to P Q stay rs all.1))
-    (λ other. (stay r all.0, fate_all P Q test fate stay change rs all.1))
+    grind (arith, common_steps, cond_both, all_to, fate_all P Q test fate stay change rs all.1)
 
 -- ---- places
 
@@ -207,7 +192,8 @@ pub next_at : {A : Type 0} (xs : List A) (x : A) (ys : List A) → slice_get (xs
 next_at [] x ys = refl
 next_at (z ∷ xs) x ys = next_at xs x ys
 
--- A history has the fixed values and the messages of another one. It handled these messages since, and queued perhaps more.
+-- A history has the fixed values and the messages of another one. It handled these messages since, and perhaps
+-- queued more.
 pub record Extends (received : List Message) (h k : History) : Type 0 where
   pub fixed : (k.limits ≡ h.limits) × (k.role ≡ h.role)
   pub handled : k.handled ≡ h.handled ++ received
@@ -219,16 +205,5 @@ pub record Extends (received : List Message) (h k : History) : Type 0 where
 pub still_fate : {received : List Message} (h k : History) → Extends received h k → (r : ApplicationRequest)
     (fate : Fate) → HasFate h r fate → HasFate k r fate
 still_fate h k e r Unanswered has = tt
-still_fate {received} h k e r (Answered by response sent handled place) has = record {
-  allowed = has.allowed;
-  reduced = rw (e.fixed.0, e.handled, take-append-le handled h.handled received has.within) has.reduced;
-  there = rw e.queued (still_at h.queued e.more place sent has.there);
-  later = has.later;
-  after_it = has.after_it;
-  within = omega (
-    arith,
-    has.within,
-    ap length e.handled,
-    length-append h.handled received,
-  );
-}
+still_fate {received} h k e r (Answered by response sent handled place) has =
+    grind (arith, common_steps, take-append-le, still_at, length-append)

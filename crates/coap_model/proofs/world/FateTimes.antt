@@ -1,15 +1,13 @@
 -- The deadlines of the requests that the application answers.
-use Rattle.std.proofs.Common.{Bool, List, None, Option, Some, [], ap, arith, cond, false, filter, inl, inr}
-use Rattle.std.proofs.Common.{is_none, map, nat_le, subst, sym, true, ℕ, ◌&&◌, ◌<◌, ◌∷◌, ◌≡◌, ◌≤◌}
+use Rattle.std.proofs.Common.{Bool, List, None, Option, Some, [], arith, cond, false, filter, inl, inr, map, nat_le}
+use Rattle.std.proofs.Common.{rules, subst, sym, true, ℕ, ◌<◌, ◌∷◌, ◌≡◌, ◌≤◌}
 use Rattle.std.proofs.lemmas.Bool.{and_parts, both_ways, cases_Bool, cond_both, eqb-true, leb-false, leb-true}
 use Rattle.coap_model.specs.Prelude.{AcceptedCall, AllByRecursion, Answered, Application, ApplicationRequest}
 use Rattle.coap_model.specs.Prelude.{ConfigValues, Connection, Engine, Fate, History, IsTimely, IsUpToDate, LimitValues}
-use Rattle.coap_model.specs.Prelude.{Message, Step, StoreValue, Unanswered, World, acted, application_deadline}
-use Rattle.coap_model.specs.Prelude.{due_moment, entry_of, fate_by, handles, has_room, has_stopped, is_asking}
-use Rattle.coap_model.specs.Prelude.{is_of_application, is_unanswered, is_unanswered_with, late_message, link_of}
-use Rattle.coap_model.specs.Prelude.{may_hold, moment_after, new_request, new_world, put_refusal, refusal_of}
-use Rattle.coap_model.specs.Prelude.{requests_after, requests_on, requests_responded, response_refusal, side_of}
-use Rattle.coap_model.specs.Prelude.{steps_of, ticks, with_fate, world_after}
+use Rattle.coap_model.specs.Prelude.{Message, Step, StoreValue, Unanswered, World, acted, due_moment, entry_of, fate_by}
+use Rattle.coap_model.specs.Prelude.{has_room, has_stopped, is_of_application, is_unanswered, is_unanswered_with}
+use Rattle.coap_model.specs.Prelude.{late_message, new_request, new_world, refusal_of, requests_after, requests_on}
+use Rattle.coap_model.specs.Prelude.{requests_responded, side_of, steps_of, with_fate, world_after}
 use Rattle.coap_conn.proofs.PendingLaws.{due_answer}
 use Rattle.coap_model.specs.world.World as world
 use Rattle.coap_model.proofs.world.WalkLaws.{sent}
@@ -41,26 +39,16 @@ engine_timely now token deadline h m come =
 
 -- 5.03 is not 5.04.
 never_late : (m : Message) (token : List ℕ) → refusal_of m ≡ late_message Application token → ⊥
-never_late m token same =
-    let codes : ◌≡◌ {A = ℕ} 163 164 = ap (λ (n : Message). n.code) same in
-    absurd (omega (arith, codes))
+never_late m token same = search rules
 
 new_timely : (now at : ℕ) (s : Connection) (m : Message) (o : Option ℕ) → AreTimely at (new_request now s m o)
 new_timely now at s m None = tt
-new_timely now at s m (Some seconds) =
-    let h : History = after_message s m in (
-      cond_both (may_hold h) Unanswered (fate_by Engine h (refusal_of m))
-          (λ f. IsTimely at m.token (moment_after now seconds) f) (λ may. tt) (λ full. engine_timely at m.token
-          (moment_after now seconds) h (refusal_of m) (λ same. absurd (never_late m m.token same))),
-      tt,
-    )
+new_timely now at s m (Some seconds) = search (rules, after_message, cond_both, engine_timely, never_late)
 
 after_timely : (store : StoreValue) (now : ℕ) (s : Connection) (m : Message) (rs : List ApplicationRequest)
     → AreTimely now rs → AreTimely now (requests_after store now s m rs)
 unfolding requests_after
-after_timely store now s m rs are =
-    cond_both (handles s && is_asking m) _ rs (AreTimely now)
-    (λ so. all_append _ rs _ are (new_timely now now s m (application_deadline store.applications m))) (λ off. are)
+after_timely store now s m rs are = search (rules, cond_both, all_append, new_timely)
 
 -- Another fate, if it is timely.
 fate_timely : (now : ℕ) (test : ApplicationRequest → Bool) (fate : Fate)
@@ -71,22 +59,14 @@ fate_timely now test fate is rs are = fate_all _ _ test fate (λ r so. so) (λ r
 responded_timely : (now : ℕ) (s : Connection) (m : Message) (rs : List ApplicationRequest) → AreTimely now rs
     → AreTimely now (requests_responded s m rs)
 unfolding requests_responded
-responded_timely now s m rs are =
-    cond_both (is_none (response_refusal (link_of s.history) m)) _ rs (AreTimely now)
-    (λ so. fate_timely now _ _ (λ r passes. fate_cases (λ f. IsTimely now r.request.token r.deadline f) Application
-    s.history m tt (λ sent. tt)) rs are) (λ off. are)
+responded_timely now s m rs are = search (rules, cond_both, fate_timely, fate_cases)
 
 -- The time does not go back.
 acted_later : (limits : LimitValues) (w : World) (st : Step) → w.now ≤ (acted limits w st).now
 unfolding acted
-acted_later limits w (world.Opened other) =
-    cond_both (is_none (side_of other w.sides)) _ w (λ (u : World). w.now ≤ u.now) (λ new. omega arith) (λ old. omega arith)
-acted_later limits w (world.Ticked now) =
-    cond_both (ticks w.now now) _ w (λ (u : World). w.now ≤ u.now)
-    (λ may. leb-true w.now now (and_parts (nat_le w.now now) _ may).0) (λ early. omega arith)
-acted_later limits w (world.Stored path format bytes) =
-    cond_both (is_none (put_refusal w.store path bytes)) _ w (λ (u : World). w.now ≤ u.now) (λ may. omega arith)
-    (λ refused. omega arith)
+acted_later limits w (world.Opened other) = search (rules, cond_both)
+acted_later limits w (world.Ticked now) = search (rules, cond_both, leb-true, and_parts)
+acted_later limits w (world.Stored path format bytes) = search (rules, cond_both)
 acted_later limits w other = omega arith
 
 -- After any events, a request is answered by 5.04 only if its deadline has come.
@@ -115,9 +95,7 @@ expired_late c es id =
 -- ---- deadlines to come
 
 not_come : (now deadline : ℕ) → (cond (nat_le deadline now) (Some deadline) None) ≡ None → now < deadline
-not_come now deadline =
-    cond_both (nat_le deadline now) (Some deadline) None (λ o. o ≡ None → now < deadline)
-    (λ come none. absurd cc) (λ later none. leb-false deadline now later)
+not_come now deadline = search (rules, cond_both, leb-false)
 
 -- No deadline of an unanswered request has come, if no entry is due.
 deadlines_come : (now : ℕ) (rs : List ApplicationRequest)

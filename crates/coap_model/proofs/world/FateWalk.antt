@@ -71,7 +71,19 @@ module _ (limits : LimitValues) (a : Option ApplicationsValue) (P : Connection �
       opened_good : (at : ℕ) → AllGood (acted limits w (world.Opened at)).sides
           (requests_acted id w (world.Opened at) rs)
       unfolding acted requests_acted
-      opened_good at = search (rules, cases_eq, eq-eqb, there_or_not, first_there, new_there, same_there, ne_eqb, cond_both, other_more)
+      opened_good at =
+          search (
+            rules,
+            cases_eq,
+            eq-eqb,
+            there_or_not,
+            first_there,
+            new_there,
+            same_there,
+            ne_eqb,
+            cond_both,
+            other_more,
+          )
 
       -- A change of the connection with one id leaves the requests, or changes them too if this is the id.
       same_good : (at : ℕ) (f : Connection → Connection) → ((s : Connection) → P s rs → P (f s) rs)
@@ -138,9 +150,12 @@ pub acted_cases : (P : List ApplicationRequest → Type 0) (id : ℕ) (w : World
     → P (requests_responded s m rs))
     → P (requests_acted id w st rs)
 unfolding requests_acted
-acted_cases P id w (world.Opened other) rs same opened handled responded = search (rules, cond_both, eqb-true, and_parts)
-acted_cases P id w (world.Handled other m) rs same opened handled responded = search (rules, cond_both, there_or_not, eqb-true)
-acted_cases P id w (world.Responded other m) rs same opened handled responded = search (rules, cond_both, there_or_not, eqb-true)
+acted_cases P id w (world.Opened other) rs same opened handled responded =
+    search (rules, cond_both, eqb-true, and_parts)
+acted_cases P id w (world.Handled other m) rs same opened handled responded =
+    search (rules, cond_both, there_or_not, eqb-true)
+acted_cases P id w (world.Responded other m) rs same opened handled responded =
+    search (rules, cond_both, there_or_not, eqb-true)
 acted_cases P id w other rs same opened handled responded = same
 
 -- The unanswered requests of this entry.

@@ -147,7 +147,7 @@ distinct_more (q ∷ ps) p distinct none = search (rules, none_parts, other_more
 
 pub distinct_but : (id : ℕ) (ps : List ConnectionEntry) → AreDistinct ps → AreDistinct (but id ps)
 distinct_but id [] distinct = tt
-distinct_but id (p ∷ ps) distinct = search (rules, by_but, dropped_elsewhere, distinct_but id ps distinct.1, distinct_but id ps distinct.1)
+distinct_but id (p ∷ ps) distinct = search (rules, by_but, dropped_elsewhere, distinct_but id ps distinct.1)
 
 -- ---- properties of each connection
 
