@@ -1,9 +1,10 @@
 -- For each token, as many responses are queued or pending as requests with it were handled: the counts, and
 -- consequences of this statement.
-use Rattle.std.proofs.Common.{Bool, List, [], ap, append_assoc, arith, false, inl, inr, refl, rules, sym, true, ℕ, ◌++◌}
-use Rattle.std.proofs.Common.{◌+◌, ◌∙◌, ◌∷◌, ◌≡◌, ◌≤◌}
+use Rattle.std.proofs.Common.{Bool, List, [], ap, arith, false, inl, inr, refl, rules, sym, true, ℕ, ◌++◌, ◌+◌, ◌∷◌}
+use Rattle.std.proofs.Common.{◌≡◌, ◌≤◌}
 use Rattle.std.proofs.lemmas.Bool.{cases_Bool}
 use Rattle.std.proofs.lemmas.List.{append-nil}
+use Rattle.std.proofs.lemmas.Grind.{common_steps}
 use lib.Pointwise.{bytes_decides}
 use Rattle.coap_model.specs.Prelude.{AllByRecursion, Answer, HasResponse, HaveDistinctAnswers, Message}
 use Rattle.coap_model.specs.Prelude.{PendingEntryValue, Pong, asks_pong, asks_with, awaits, is_asking, is_custody_pong}
@@ -56,14 +57,7 @@ pub record FollowsPing (ms : List Message) (n : Tally) (token : List ℕ) : Type
 
 still_follows : (ms more ns : List Message) (n k : Tally) → ns ≡ ms ++ more → AtMost n k → (token : List ℕ)
     → FollowsPing ms n token → FollowsPing ns k token
-still_follows ms more ns n k grown grows token is = record {
-  earlier = is.earlier;
-  ping = is.ping;
-  later = is.later ++ more;
-  there = grown ∙ ap (λ (xs : List Message). xs ++ more) is.there ∙ append_assoc is.earlier (is.ping ∷ is.later) more;
-  asks = is.asks;
-  few = λ t. omega (arith, is.few t, grows t);
-}
+still_follows ms more ns n k grown grows token is = grind (arith, common_steps)
 
 -- ---- items in a row
 

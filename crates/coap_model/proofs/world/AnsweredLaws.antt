@@ -4,18 +4,19 @@ use Rattle.std.proofs.Common.{Bool, List, None, Option, Some, [], ap, arith, fal
 use Rattle.std.proofs.Common.{sym, true, ℕ, ◌&&◌, ◌++◌, ◌==◌, ◌∷◌, ◌≡◌, ◌≤◌}
 use Rattle.std.proofs.lemmas.Bool.{both_ways, cond-true, cond_both, or_left}
 use Rattle.std.proofs.lemmas.List.{length-append}
+use Rattle.std.proofs.lemmas.Grind.{common_steps}
 use lib.Pointwise.{bytes_decides}
 use Rattle.coap_model.specs.Prelude.{AcceptedCall, AllByRecursion, Answer, Application, ApplicationsValue, Bare}
 use Rattle.coap_model.specs.Prelude.{ConfigValues, Connection, Engine, FollowsAnswers, History, LimitValues, Message}
 use Rattle.coap_model.specs.Prelude.{Observer, PendingEntryValue, Phase, Pong, Reaction, Reason, Reply, Responder}
 use Rattle.coap_model.specs.Prelude.{Response, Server, Stopped, StoreValue, Whole, after, after_sent}
 use Rattle.coap_model.specs.Prelude.{answers, asks_answer, asks_custody, asks_with, awaits, bare_response, first_due}
-use Rattle.coap_model.specs.Prelude.{fit, goes_on, handles, is_asking, is_custody_pong, is_request, is_response}
-use Rattle.coap_model.specs.Prelude.{late_message, late_response, limit_now, link_of, list_any, next_due, notification}
-use Rattle.coap_model.specs.Prelude.{notified, own_csm, pong_with, prompt_answer, react, reaction_unless, reject_reason}
-use Rattle.coap_model.specs.Prelude.{release, responds, response_refusal, response_with_observe, same_bytes, send}
-use Rattle.coap_model.specs.Prelude.{send_as, side_after, side_handled, side_of, state_now, state_without, stop_of}
-use Rattle.coap_model.specs.Prelude.{takes, takes_messages, with_effect, without_due, without_request, world_after}
+use Rattle.coap_model.specs.Prelude.{fit, goes_on, is_asking, is_custody_pong, is_request, is_response, late_message}
+use Rattle.coap_model.specs.Prelude.{late_response, limit_now, link_of, list_any, next_due, notification, notified}
+use Rattle.coap_model.specs.Prelude.{own_csm, pong_with, prompt_answer, react, reaction_unless, reject_reason, release}
+use Rattle.coap_model.specs.Prelude.{responds, response_refusal, response_with_observe, same_bytes, send, send_as}
+use Rattle.coap_model.specs.Prelude.{side_after, side_handled, side_of, state_now, state_without, stop_of, takes}
+use Rattle.coap_model.specs.Prelude.{takes_messages, with_effect, without_due, without_request, world_after}
 use Rattle.coap_conn.proofs.PendingLaws.{custody_at_once, due_answer, due_pong}
 use Rattle.coap_conn.proofs.ReactionLaws.{IsNoPong, IsPlain, MayFollow, abort_plain, live_so}
 use Rattle.coap_conn.specs.Calls as call
@@ -218,9 +219,7 @@ module _ (store : StoreValue) (now : ℕ) (s : Connection) (m : Message) (server
 
   after_follows : PongsFollow (side_after store now s m).history
   unfolding side_after
-  after_follows =
-      cond_both (handles s) (side_handled store now s m) s (λ t. PongsFollow t.history)
-      (λ does. handled_follows (received_follows s.history m server (handles_parts s does).0 is)) (λ off. is)
+  after_follows = grind (arith, common_steps, cond_both, handled_follows, received_follows, handles_parts)
 
 -- ---- settling
 

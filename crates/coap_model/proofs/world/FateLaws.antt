@@ -1,5 +1,6 @@
 -- The requests that the application answers are accounted for: the unanswered ones are pending, and the answer to each
 -- other one is queued at its own place. Each effect adds a request, answers one, or passes them all.
+use Rattle.std.proofs.lemmas.Grind.{common_steps}
 use Rattle.std.proofs.Common.{Bool, List, Option, Some, [], ap, arith, drop, false, filter, inl, inr, length, map, not}
 use Rattle.std.proofs.Common.{refl, rules, slice_get, suc, sym, true, ℕ, ◌&&◌, ◌++◌, ◌<◌, ◌∙◌, ◌∷◌, ◌≡◌, ◌≤◌}
 use Rattle.std.proofs.lemmas.Bool.{and_from, and_parts, and_right, both_ways, cases_Bool, cond_both}
@@ -297,22 +298,7 @@ sent_so h by response es codes on = rw on (by_reply (fit (limit_now h) response 
         → (is_response sent ≡ true) × (sent.token ≡ response.token)
         → IsSent h by response es (record (stay state) { queued = sent ∷ [] })
         (Answered by response sent (length h.handled) (length h.queued))
-    goes sent reduced is = record {
-      queued = refl;
-      new = omega arith;
-      answered = λ live. (refl, refl);
-      quiet = λ off. absurd cc;
-      engine = λ token none. none;
-      has = λ q may few since. record {
-        allowed = may;
-        reduced = rw take-length reduced;
-        there = next_at h.queued sent [];
-        later = few;
-        after_it = since;
-        within = omega arith;
-      };
-      responses = (is, tt);
-    }
+    goes sent reduced is = grind (arith, common_steps, take-length, next_at)
 
     by_reply : (r : Reply) → fit (limit_now h) response (bare_response response) ≡ r
         → IsSent h by response es (send_as state response (bare_response response) r)
