@@ -2,7 +2,6 @@ pub mod PathLemmas
 mod FillLemmas
 mod PlaceLemmas
 pub mod MatchLemmas
-mod UriPathLemmas
 mod Worked
 pub mod PathStartLemmas
 pub mod LongestLemmas

@@ -1,7 +1,7 @@
 -- The kind of resource that a path names, by the bytes of its key.
-use Rattle.std.proofs.Common.{rules, ◌≡◌, ℕ, nat_eq, Bool, true, false, List, [], ◌∷◌, length, sym, ap, ◌∙◌}
-use Rattle.std.proofs.lemmas.Bool.{cond-true, cond-false}
-use Rattle.coap_path.specs.Prelude.{Path, same_path, written, kind_of_path, root_path, time_path, async_path}
+use Rattle.std.proofs.Common.{rules, ◌≡◌, ℕ, nat_eq, Bool, false, List, [], ◌∷◌, length, sym, ◌∙◌}
+use Rattle.coap_path.specs.Prelude.{if◌then◌else◌, Path, same_path, written, kind_of_path, root_path, time_path}
+use Rattle.coap_path.specs.Prelude.{async_path}
 use Rattle.coap_path.specs.Prelude.{listing_path, Root, Time, Async, Listing, Dynamic}
 use Rattle.coap_path.proofs.PathLemmas.{key_equality}
 use lib.Pointwise.{pointwise}
@@ -15,46 +15,17 @@ unfolding written
 root_test [] = search rules
 root_test (s ∷ ss) = search rules
 
--- The test of the bytes `w` of `p` against those of `q`.
-same_kept : (p q : Path) (w : List ℕ) (b : Bool) → w ≡ written p
-    → pointwise nat_eq w (written q) ≡ b → same_path p q ≡ b
-same_kept p q w b kept test = sym (written_equality p q) ∙ sym (ap (λ x. pointwise nat_eq x (written q)) kept) ∙ test
-
-empty_test : (p : Path) (w : List ℕ) (b : Bool) → w ≡ written p → nat_eq (length w) 0 ≡ b → same_path p root_path ≡ b
-empty_test p w b kept test = sym (root_test p) ∙ sym (ap (λ x. nat_eq (length x) 0) kept) ∙ test
-
-pub at_root : (p : Path) (w : List ℕ) → w ≡ written p → nat_eq (length w) 0 ≡ true → Root ≡ kind_of_path p
+pub kind_by_bytes : (p : Path) → kind_of_path p
+    ≡ (if nat_eq (length (written p)) 0 then Root
+    else (if pointwise nat_eq (written p) (written time_path) then Time
+    else (if pointwise nat_eq (written p) (written async_path) then Async
+    else (if pointwise nat_eq (written p) (written listing_path) then Listing
+    else Dynamic))))
 unfolding kind_of_path
-at_root p w kept a = sym (cond-true _ _ _ (empty_test p w true kept a))
+kind_by_bytes p =
+    rw (root_test p, written_equality p time_path, written_equality p async_path, written_equality p listing_path)
 
-pub at_time : (p : Path) (w : List ℕ) → w ≡ written p → nat_eq (length w) 0 ≡ false
-    → pointwise nat_eq w (written time_path) ≡ true → Time ≡ kind_of_path p
-unfolding kind_of_path
-at_time p w kept a b =
-    sym (cond-false _ _ _ (empty_test p w false kept a) ∙ cond-true _ _ _ (same_kept p time_path w true kept b))
-
-pub at_async : (p : Path) (w : List ℕ) → w ≡ written p → nat_eq (length w) 0 ≡ false
-    → pointwise nat_eq w (written time_path) ≡ false → pointwise nat_eq w (written async_path) ≡ true
-    → Async ≡ kind_of_path p
-unfolding kind_of_path
-at_async p w kept a b c =
-    sym (cond-false _ _ _ (empty_test p w false kept a) ∙ cond-false _ _ _ (same_kept p time_path w false kept b)
-    ∙ cond-true _ _ _ (same_kept p async_path w true kept c))
-
-pub at_listing : (p : Path) (w : List ℕ) → w ≡ written p → nat_eq (length w) 0 ≡ false
+pub last_kind : (p : Path) (w : List ℕ) (listing : Bool) → w ≡ written p → nat_eq (length w) 0 ≡ false
     → pointwise nat_eq w (written time_path) ≡ false → pointwise nat_eq w (written async_path) ≡ false
-    → pointwise nat_eq w (written listing_path) ≡ true → Listing ≡ kind_of_path p
-unfolding kind_of_path
-at_listing p w kept a b c d =
-    sym (cond-false _ _ _ (empty_test p w false kept a) ∙ cond-false _ _ _ (same_kept p time_path w false kept b)
-    ∙ cond-false _ _ _ (same_kept p async_path w false kept c)
-    ∙ cond-true _ _ _ (same_kept p listing_path w true kept d))
-
-pub elsewhere : (p : Path) (w : List ℕ) → w ≡ written p → nat_eq (length w) 0 ≡ false
-    → pointwise nat_eq w (written time_path) ≡ false → pointwise nat_eq w (written async_path) ≡ false
-    → pointwise nat_eq w (written listing_path) ≡ false → Dynamic ≡ kind_of_path p
-unfolding kind_of_path
-elsewhere p w kept a b c d =
-    sym (cond-false _ _ _ (empty_test p w false kept a) ∙ cond-false _ _ _ (same_kept p time_path w false kept b)
-    ∙ cond-false _ _ _ (same_kept p async_path w false kept c)
-    ∙ cond-false _ _ _ (same_kept p listing_path w false kept d))
+    → pointwise nat_eq w (written listing_path) ≡ listing → (if listing then Listing else Dynamic) ≡ kind_of_path p
+last_kind p w listing same a b c d = sym (kind_by_bytes p ∙ rw (← same, a, b, c, d))

@@ -113,6 +113,7 @@ impl Applications {
     /// - `Method`: there is no method, a code is of another class than 0 or is Empty, or a method occurs twice.
     /// - `Attributes`: the attributes do not have the form of RFC 6690 section 2, or have more than 255 bytes.
     /// - `Memory`: allocation failed.
+    #[tactic(auto, using(crate::proofs::AddLemmas::entries_added), unfolding(crate::specs::Refusals::entry_refusal))]
     pub fn add(
         &mut self,
         prefix: &PathKey,
@@ -168,6 +169,7 @@ impl Applications {
     ///
     /// Only the entry with the longest prefix decides. If it does not name the method, the engine answers, even if an
     /// entry with a shorter prefix names it.
+    #[tactic(auto, using(crate::proofs::PathStartLemmas::answers_steps), unfolding(crate::specs::Applications::is_answered))]
     pub fn answers(&self, path: UriPath, code: Code) -> bool
         ensures { result ≡ is_answered self.now.entries path.entry code }
     {
@@ -186,6 +188,7 @@ impl Applications {
 }
 
 /// Returns `true` if an entry has this prefix.
+#[tactic(auto, using(crate::proofs::PathLemmas::key_equality, std::proofs::lemmas::Grind::common_steps))]
 fn has_prefix(entries: &[ApplicationEntry], prefix: &PathKey) -> bool
     ensures { result ≡ is_prefix entries.now prefix.now }
 {
@@ -224,6 +227,7 @@ fn better<'e>(
 }
 
 /// Returns the entry with the longest prefix that a path begins with.
+#[tactic(auto, using(crate::proofs::LongestLemmas::longest_goes_on, crate::proofs::LongestLemmas::longer_none))]
 fn longest<'e>(entries: &'e [ApplicationEntry], path: &[&[u8]]) -> Option<&'e ApplicationEntry>
     ensures { option_copied result ≡ entry_for entries.now (segment_list path.now) }
 {

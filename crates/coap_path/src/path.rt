@@ -26,6 +26,7 @@ fn names_dots(segment: &[u8]) -> bool
 }
 
 /// Returns `true` if a segment of the list is `.` or `..`.
+#[tactic(auto, using(crate::proofs::PathLemmas::any_segment))]
 fn any_dots(segments: &[&[u8]]) -> bool
     ensures { result ≡ list_any is_dots (segment_list segments.now) }
 {
@@ -62,6 +63,7 @@ fn are_path(segments: &[&[u8]]) -> bool
 }
 
 /// Returns the segments, each after a byte with its length.
+#[tactic(auto, using(crate::proofs::PathLemmas::bytes_of_steps), unfolding(crate::specs::PathViews::written))]
 fn bytes_of(segments: &[&[u8]]) -> ArrayVec<u8, MAX_BYTES>
     requires { written_length (segment_list segments.now) ≤ 255 }
     ensures { result.items ≡ written (segment_list segments.now) }
@@ -78,6 +80,7 @@ fn bytes_of(segments: &[&[u8]]) -> ArrayVec<u8, MAX_BYTES>
 
 /// Returns `true` if these are the segments of a path. In this case `bytes` has each segment after a byte with its
 /// length. One pass checks and writes them.
+#[tactic(auto, using(crate::proofs::FillLemmas::write_path_steps), unfolding(crate::specs::Paths::is_path, crate::specs::PathViews::written))]
 fn write_path(bytes: &mut ArrayVec<u8, MAX_BYTES>, segments: UriPath) -> bool
     requires { bytes.old.items ≡ [] }
     ensures path { result ≡ is_path segments.entry }
@@ -158,6 +161,7 @@ impl PathKey {
     /// If it returns `false`, the path of the key is not specified.
     ///
     /// A key is large and costly to move, so this fills it in place.
+    #[tactic(auto, using(crate::proofs::PathLemmas::segments_written), unfolding(crate::specs::Paths::is_path, crate::specs::PathViews::written, crate::specs::PathViews::segments_at, crate::specs::PathViews::segments_by))]
     pub fn fill(&mut self, segments: UriPath) -> bool
         ensures path { result ≡ is_path segments.entry }
         ensures filled { result ≡ true → self.new ≡ segments.entry }
@@ -174,6 +178,7 @@ impl PathKey {
     ///
     /// A slash in a segment is a byte like any other. The segment `a/b` and the two segments `a` and `b` are different
     /// paths (RFC 7252 section 5.10.1).
+    #[tactic(auto, using(crate::proofs::PathLemmas::segments_written, crate::proofs::PathLemmas::path_fits))]
     pub fn from_segments(segments: &[&[u8]]) -> Option<PathKey>
         ensures { result ≡ (if is_path (segment_list segments.now) then Some (segment_list segments.now) else None) }
     {
@@ -245,6 +250,7 @@ impl<'a> Iterator for Segments<'a> {
 
     ghost remaining = { item_count (λ segments. segments) };
 
+    #[tactic(auto, using(crate::proofs::PathLemmas::no_segment_left, crate::proofs::PathLemmas::first_segment))]
     fn next(&mut self) -> Option<&'a [u8]> {
         let (length, after) = self.rest.split_first()?;
         let (segment, rest) = after.split_at(usize::from(*length));

@@ -13,6 +13,7 @@ use arrayvec::ArrayVec;
 const MAX_SEGMENTS: usize = 16;
 
 /// Returns the first 16 segments of a path. They decide which prefixes the path begins with.
+#[tactic(auto, using(crate::proofs::PathStartLemmas::first_segments_steps))]
 pub(crate) fn first_segments<'r>(path: UriPath<'r>) -> ArrayVec<&'r [u8], MAX_SEGMENTS>
     ensures { segment_list result.items ≡ take 16 path.entry }
 {
@@ -27,6 +28,7 @@ pub(crate) fn first_segments<'r>(path: UriPath<'r>) -> ArrayVec<&'r [u8], MAX_SE
 }
 
 /// Returns the kind of resource that a path names.
+#[tactic(auto, using(crate::proofs::MatchLemmas::place_by_match, std::proofs::lemmas::Grind::common_steps))]
 pub(crate) fn kind_of(path: &[&[u8]]) -> ResourceKind
     ensures { result ≡ kind_of_path (segment_list path.now) }
 {
@@ -52,6 +54,7 @@ pub(crate) fn begins(prefix: &PathKey, path: &[&[u8]]) -> bool
 }
 
 /// Returns the number of segments of a prefix.
+#[tactic(auto, using(crate::proofs::PathLemmas::few_segments))]
 pub(crate) fn segment_count(prefix: &PathKey) -> usize
     ensures { result ≡ length prefix.now }
 {

@@ -46,7 +46,7 @@ impl ResourceKind {
 
 impl PathKey {
     /// Returns the kind of resource that the path names.
-    #[tactic(auto, using(crate::proofs::PlaceLemmas::at_root, crate::proofs::PlaceLemmas::at_time, crate::proofs::PlaceLemmas::at_async, crate::proofs::PlaceLemmas::at_listing, crate::proofs::PlaceLemmas::elsewhere), unfolding(crate::specs::PathViews::written))]
+    #[tactic(auto, using(crate::proofs::PlaceLemmas::kind_by_bytes), unfolding(crate::specs::PathViews::written))]
     pub fn kind(&self) -> ResourceKind
         ensures { result ≡ place_named self.now }
     {
