@@ -4,56 +4,47 @@ use Rattle.std.proofs.Common.{None, refl, sym, ap, ◌∙◌, arith}
 use Rattle.std.specs.Prelude.{position}
 use Rattle.std.specs.List.{remove}
 use Rattle.std.specs.Map.{keys_of}
-use Rattle.coap_store.specs.Prelude.{option_map, not, nat_eq, option_eq, Bor, lookup, insert_entry, set_value_at}
-use Rattle.coap_store.specs.Prelude.{if◌then◌else◌, Path, same_path, Representation, found_in, put_at, removed_at}
+use Rattle.coap_store.specs.Prelude.{option_map, not, nat_eq, option_eq, lookup, insert_entry, set_value_at}
+use Rattle.coap_store.specs.Prelude.{Path, Representation, found_in, put_at, removed_at}
 use Rattle.coap_store.specs.Prelude.{entry_bytes}
 use Rattle.coap_store.specs.Prelude.{built_in_bytes, first_bytes, representation, resources_in, texts_of, Resource}
-use Rattle.coap_store.specs.Prelude.{IsFoundAt, replaced_at, resource_at}
-use Rattle.std.specs.Option.{is_some, option_copied}
-use Rattle.std.proofs.lemmas.Bool.{eqb-true}
+use Rattle.coap_store.specs.Prelude.{IsFoundAt, replaced_at}
+use Rattle.std.specs.Option.{is_some}
+use Rattle.std.proofs.lemmas.Bool.{eqb-true, not-false}
 use Rattle.std.proofs.lemmas.List.{length-map}
 use Rattle.coap_store.specs.Store as store
 use Rattle.coap_path.specs.contracts.path.PathKeyPartialEq.TheImpl as key_eq
 use Rattle.coap_path.proofs.PathLemmas.{key_equality}
 use Rattle.coap_store.proofs.ListingLemmas.{IsFirstAt, resources_found, resources_put, resources_removed}
 use Rattle.coap_store.proofs.ListingLemmas.{texts_created, first_at, first_within}
+use Rattle.coap_store.proofs.ListingLemmas.{by_head, head_is}
+use Rattle.coap_store.proofs.ListingLemmas.{texts_removed, texts_count}
+use Rattle.std.proofs.lemmas.Grind.{common_steps}
+use Rattle.coap_store.proofs.ListingLemmas.{texts_length}
+use Rattle.coap_store.proofs.LinkLemmas.{end_within}
+use Rattle.coap_store.proofs.ListingLemmas.{entry_of, text_at, texts_kept, texts_changed}
 
 -- The comparison of keys in the map.
 abbrev pub key_test : Path → Path → Bool
 key_test = (key_eq.ghosts).eq
 
-some_mapped : (found : Option Resource) → is_some (option_map representation found) ≡ is_some found
-some_mapped None = refl
-some_mapped (Some r) = refl
-
-none_of_some : (found : Option Representation) → is_some found ≡ false → found ≡ None
-none_of_some None is = refl
-none_of_some (Some r) is = absurd cc
+none_mapped : (found : Option Resource) → is_some found ≡ false → option_map representation found ≡ None
+none_mapped None is = refl
+none_mapped (Some r) is = absurd cc
 
 -- The map finds the resource that the list has.
-pub found_at : (entries : List (Path × Resource)) (path : Path) (found : Option (Bor Resource))
-    → option_copied found ≡ lookup (key_test path) entries
-    → option_map (λ r. representation r.now) found ≡ found_in (resources_in entries) path
-found_at entries path None is =
-    ap (option_map representation) is ∙ sym (resources_found key_test key_equality entries path)
-found_at entries path (Some r) is =
-    ap (option_map representation) is ∙ sym (resources_found key_test key_equality entries path)
+pub resources_are : (entries : List (Path × Resource)) (path : Path)
+    → found_in (resources_in entries) path ≡ option_map representation (lookup (key_test path) entries)
+resources_are entries path = resources_found key_test key_equality entries path
 
 pub count_resources : (entries : List (Path × Resource)) → length (resources_in entries) ≡ length entries
 unfolding resources_in
 count_resources entries = length-map entries _
 
--- The map has a path if and only if the list has it.
-pub has_found : (entries : List (Path × Resource)) (path : Path) (found : Bool)
-    → found ≡ is_some (lookup (key_test path) entries) → is_some (found_in (resources_in entries) path) ≡ found
-has_found entries path found is =
-    ap is_some (resources_found key_test key_equality entries path)
-    ∙ some_mapped (lookup (key_test path) entries) ∙ sym is
-
 -- A path that is not in the map is not in the list.
 pub absent_path : (entries : List (Path × Resource)) (path : Path) → is_some (lookup (key_test path) entries) ≡ false
     → found_in (resources_in entries) path ≡ None
-absent_path entries path none = none_of_some _ (has_found entries path false (sym none))
+absent_path entries path none = resources_are entries path ∙ none_mapped _ none
 
 pub none_there : (entries : List (Path × Resource)) → entries ≡ [] → resources_in entries ≡ []
 unfolding resources_in
@@ -66,28 +57,23 @@ texts_of_none entries none = ap (λ es. texts_of (first_bytes None) (resources_i
 
 pub equal_format : (a b : Option ℕ) → option_eq nat_eq a b ≡ true → a ≡ b
 equal_format None None is = refl
-equal_format None (Some n) is = absurd cc
-equal_format (Some m) None is = absurd cc
 equal_format (Some m) (Some n) is = ap Some (eqb-true m n is)
+equal_format _ _ is = absurd cc
 
 -- Content-Formats that do not compare unequal are equal.
 pub same_format : (a b : Option ℕ) → not (option_eq nat_eq a b) ≡ false → a ≡ b
-same_format a b is = equal_format a b (not_false (option_eq nat_eq a b) is)
-  where
-    not_false : (b : Bool) → not b ≡ false → b ≡ true
-    not_false true is = refl
-    not_false false is = sym is
+same_format a b is = equal_format a b (not-false _ is)
 
 module _ (entries after : List (Path × Resource)) (path : Path) (r : Resource)
     (is : after ≡ insert_entry key_test entries path r) where
   pub stored_list : resources_in after ≡ put_at (resources_in entries) path (representation r)
-  stored_list = ap resources_in is ∙ resources_put key_test key_equality entries path r
+  stored_list = rw is (resources_put key_test key_equality entries path r)
 
   -- The text of a new resource follows those of the others.
   pub texts_of_created : (first : List ℕ) → found_in (resources_in entries) path ≡ None
       → texts_of first (resources_in after) ≡ texts_of first (resources_in entries) ++ entry_bytes path r.format ∷ []
   texts_of_created first absent =
-      ap (texts_of first) stored_list ∙ texts_created first (resources_in entries) path (representation r) absent
+      rw stored_list (texts_created first (resources_in entries) path (representation r) absent)
 
 module _ (entries : List (Path × Resource)) (path : Path) (i : ℕ)
     (at : position (key_test path) (keys_of entries) ≡ Some i) where
@@ -100,12 +86,7 @@ module _ (entries : List (Path × Resource)) (path : Path) (i : ℕ)
 removed_none : (rs : List store.Resource) (path : Path) → found_in rs path ≡ None → removed_at rs path ≡ rs
 unfolding found_in removed_at
 removed_none [] path none = refl
-removed_none (r ∷ rs) path none =
-    elim (same_path path r.path) as (λ b. (if b then Some r.now else found_in rs path) ≡ None
-    → (if b then rs else (r ∷ removed_at rs path)) ≡ (r ∷ rs)) [
-      | true ↦ λ e. absurd cc
-      | false ↦ λ e. ap (λ (ss : List store.Resource). r ∷ ss) (removed_none rs path e)
-    ] none
+removed_none (r ∷ rs) path none = grind (arith, removed_none rs path)
 
 -- Removing a path that is not there changes nothing.
 pub removed_absent : (entries : List (Path × Resource)) (path : Path) → is_some (lookup (key_test path) entries) ≡ false
@@ -136,7 +117,7 @@ pub replaced_list : (entries : List (Path × Resource)) (i : ℕ) (r : Resource)
 unfolding resources_in replaced_at
 replaced_list [] i r = refl
 replaced_list (e ∷ es) zero r = refl
-replaced_list (e ∷ es) (suc i) r = ap (λ (rs : List store.Resource). resource_at e ∷ rs) (replaced_list es i r)
+replaced_list (e ∷ es) (suc i) r = rw (replaced_list es i r)
 
 pub removed_index : (entries : List (Path × Resource)) (i : ℕ)
     → resources_in (remove entries i) ≡ remove (resources_in entries) i
@@ -144,7 +125,7 @@ unfolding resources_in
 removed_index [] zero = refl
 removed_index [] (suc i) = refl
 removed_index (e ∷ es) zero = refl
-removed_index (e ∷ es) (suc i) = ap (λ (rs : List store.Resource). resource_at e ∷ rs) (removed_index es i)
+removed_index (e ∷ es) (suc i) = rw (removed_index es i)
 
 -- A representation that is stored at an index is stored at the path of its resource.
 pub put_by_index : (rs : List store.Resource) (path : Path) (i : ℕ) (now : Representation) → IsFoundAt rs path i
@@ -152,8 +133,7 @@ pub put_by_index : (rs : List store.Resource) (path : Path) (i : ℕ) (now : Rep
 unfolding replaced_at put_at
 put_by_index [] path i now found = absurd found
 put_by_index (r ∷ rs) path zero now found = rw found refl
-put_by_index (r ∷ rs) path (suc i) now found =
-    rw found.0 (ap (λ (ss : List store.Resource). r ∷ ss) (put_by_index rs path i now found.1))
+put_by_index (r ∷ rs) path (suc i) now found = rw (found.0, put_by_index rs path i now found.1)
 
 -- The resource that is removed at an index is that at its path.
 pub removed_by_index : (rs : List store.Resource) (path : Path) (i : ℕ) → IsFoundAt rs path i
@@ -161,5 +141,19 @@ pub removed_by_index : (rs : List store.Resource) (path : Path) (i : ℕ) → Is
 unfolding removed_at
 removed_by_index [] path i found = absurd found
 removed_by_index (r ∷ rs) path zero found = rw found refl
-removed_by_index (r ∷ rs) path (suc i) found =
-    rw found.0 (ap (λ (ss : List store.Resource). r ∷ ss) (removed_by_index rs path i found.1))
+removed_by_index (r ∷ rs) path (suc i) found = rw (found.0, removed_by_index rs path i found.1)
+
+pub ruleset new_steps = (none_there, texts_of_none)
+
+pub ruleset put_steps = (absent_path, count_resources, found_place, put_by_index, by_head, head_is)
+
+pub ruleset replace_steps = (count_resources, replaced_list, by_head, head_is)
+
+pub ruleset remove_at_steps = (count_resources, removed_index, texts_removed, texts_count, common_steps)
+
+pub ruleset remove_steps = (found_within, removed_list, removed_absent, texts_removed, texts_count)
+
+pub ruleset create_steps = (stored_list, texts_of_created, texts_length)
+
+pub ruleset replace_text_steps =
+    (equal_format, end_within, entry_of, text_at, texts_kept, texts_changed, texts_length, texts_count)

@@ -1,6 +1,6 @@
 -- The options of a request, each with a flag that states if it is recognised.
-use Rattle.std.proofs.Common.{◌≡◌, Bool, true, false, not, ◌&&◌, ◌||◌, cond, List, [], ◌∷◌, map, filter, Option, Some}
-use Rattle.std.proofs.Common.{refl, ap}
+use Rattle.std.proofs.Common.{arith, ◌≡◌, Bool, not, ◌&&◌, List, [], ◌∷◌, map, filter}
+use Rattle.std.proofs.Common.{refl}
 use Rattle.std.specs.Prelude.{find}
 use Rattle.coap_store.specs.Prelude.{is_some, option_map, list_any, CoapOption, Placed, placed, is_recognised}
 use Rattle.coap_store.specs.Prelude.{is_critical}
@@ -20,33 +20,15 @@ has_bad cs = list_any is_bad cs
 
 -- ---- the lists of options
 
-recognised_front : (known : Bool) (p : Placed) (cs : List CheckedOptionValue) (ps : List Placed)
-    → map (λ (c : CheckedOptionValue). c.option) cs ≡ map (λ (p : Placed). p.option) ps
-    → map (λ (c : CheckedOptionValue). c.option) (cond known (checked_at p ∷ cs) cs)
-    ≡ map (λ (p : Placed). p.option) (cond known (p ∷ ps) ps)
-recognised_front true p cs ps same = ap (λ (os : List CoapOption). p.option ∷ os) same
-recognised_front false p cs ps same = same
-
 recognised_placed : (ps : List Placed) → recognised_in (map checked_at ps)
     ≡ map (λ (p : Placed). p.option) (filter (λ (p : Placed). is_recognised p.before p.option) ps)
 recognised_placed [] = refl
-recognised_placed (p ∷ ps) =
-    recognised_front (is_recognised p.before p.option) p
-    (filter (λ (c : CheckedOptionValue). c.recognised) (map checked_at ps))
-    (filter (λ (p : Placed). is_recognised p.before p.option) ps) (recognised_placed ps)
-
-bad_front : (bad : Bool) (p : Placed) (any : Bool) (found : Option Placed)
-    → any ≡ is_some (option_map (λ (p : Placed). p.option.number) found)
-    → (bad || any) ≡ is_some (option_map (λ (p : Placed). p.option.number) (cond bad (Some p) found))
-bad_front true p any found same = refl
-bad_front false p any found same = same
+recognised_placed (p ∷ ps) = grind (arith, recognised_placed ps)
 
 bad_placed : (ps : List Placed) → has_bad (map checked_at ps) ≡ is_some (option_map (λ (p : Placed). p.option.number)
     (find (λ (p : Placed). is_critical p.option && not (is_recognised p.before p.option)) ps))
 bad_placed [] = refl
-bad_placed (p ∷ ps) =
-    bad_front (is_critical p.option && not (is_recognised p.before p.option)) p (has_bad (map checked_at ps))
-    (find (λ (p : Placed). is_critical p.option && not (is_recognised p.before p.option)) ps) (bad_placed ps)
+bad_placed (p ∷ ps) = grind (arith, bad_placed ps)
 
 -- The recognised options among all are those of the message.
 pub recognised_of_all : (os : List CoapOption) → recognised_in (checked_options os) ≡ known_options os

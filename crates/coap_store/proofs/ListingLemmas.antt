@@ -1,17 +1,18 @@
 -- The listing, and the texts of the resources, after a change.
 use Rattle.std.proofs.Common.{◌≡◌, ℕ, zero, suc, ◌+◌, ◌*◌, ◌<◌, ◌≤◌, Bool, true, false, List, [], ◌∷◌, ◌++◌, length}
-use Rattle.std.proofs.Common.{map, get_or, set, Option, Some, None, refl, sym, ap, ◌∙◌, append_assoc, arith}
+use Rattle.std.proofs.Common.{map, get_or, set, Option, Some, None, refl, sym, ap, ◌∙◌, arith, add-one}
 use Rattle.std.specs.Prelude.{slice_get, position}
 use Rattle.std.specs.List.{remove}
-use Rattle.coap_store.specs.Prelude.{IfSome, option_map, if◌then◌else◌, AllByRecursion, flat_map}
+use Rattle.coap_store.specs.Prelude.{IfSome, option_map, AllByRecursion, flat_map}
 use Rattle.coap_store.specs.Prelude.{lookup, insert_entry, set_value_at, joined}
 use Rattle.coap_store.specs.Prelude.{Path, same_path, is_path, Representation, found_in, put_at}
 use Rattle.coap_store.specs.Prelude.{removed_at}
-use Rattle.coap_store.specs.Prelude.{entry_bytes, built_in_bytes, listing, representation, resource_at, resources_in}
-use Rattle.coap_store.specs.Prelude.{ApplicationsValue, application_bytes, first_bytes}
+use Rattle.coap_store.specs.Prelude.{entry_bytes, listing, representation, resource_at, resources_in}
+use Rattle.coap_store.specs.Prelude.{ApplicationsValue, first_bytes}
 use Rattle.coap_store.specs.Prelude.{Resource, texts_of, head_of, end_bytes, with_end}
 use Rattle.std.specs.Map.{keys_of}
 use Rattle.std.proofs.lemmas.List.{length-append, length-map, set-get_or}
+use Rattle.std.proofs.lemmas.Option.{same_Some}
 use Rattle.std.proofs.lemmas.List.Quantifiers.{position-Some}
 use Rattle.coap_store.specs.Store as store
 use Rattle.coap_store.proofs.LinkLemmas.{entry_changed, entry_short}
@@ -29,44 +30,30 @@ lines_created : (rs : List store.Resource) (path : Path) (now : Representation) 
     → map line (put_at rs path now) ≡ map line rs ++ entry_bytes path now.format ∷ []
 unfolding found_in put_at
 lines_created [] path now none = refl
-lines_created (r ∷ rs) path now none =
-    elim (same_path path r.path) as (λ b. (if b then Some r.now else found_in rs path) ≡ None
-    → map line (if b then (record r { now = now } ∷ rs) else (r ∷ put_at rs path now))
-    ≡ map line (r ∷ rs) ++ entry_bytes path now.format ∷ []) [
-      | true ↦ λ e. absurd cc
-      | false ↦ λ e. ap (λ (ts : List (List ℕ)). line r ∷ ts) (lines_created rs path now e)
-    ] none
+lines_created (r ∷ rs) path now none = grind (arith, lines_created rs path now)
 
 -- A new resource is last in the listing.
 pub texts_created : (first : List ℕ) (rs : List store.Resource) (path : Path) (now : Representation)
     → found_in rs path ≡ None
     → texts_of first (put_at rs path now) ≡ texts_of first rs ++ entry_bytes path now.format ∷ []
 unfolding texts_of
-texts_created first rs path now none = ap (λ (ts : List (List ℕ)). first ∷ ts) (lines_created rs path now none)
+texts_created first rs path now none = rw (lines_created rs path now none)
 
 lines_joined : (rs : List store.Resource) → joined (map line rs) ≡ lines rs
 unfolding joined
 lines_joined [] = refl
-lines_joined (r ∷ rs) = ap (λ (t : List ℕ). line r ++ t) (lines_joined rs)
+lines_joined (r ∷ rs) = rw (lines_joined rs)
 
 pub texts_joined : (applications : Option ApplicationsValue) (rs : List store.Resource)
     → joined (texts_of (first_bytes applications) rs) ≡ listing applications rs
 unfolding joined texts_of first_bytes listing
-texts_joined applications rs =
-    ap (λ (t : List ℕ). (built_in_bytes ++ application_bytes applications) ++ t) (lines_joined rs)
-    ∙ append_assoc built_in_bytes (application_bytes applications) (lines rs)
+texts_joined applications rs = rw (lines_joined rs)
 
 -- The length of the texts, by that of the listing without an application.
 pub texts_length : (first : List ℕ) (rs : List store.Resource)
     → length (joined (texts_of first rs)) ≤ length first + length (listing None rs)
 unfolding joined texts_of listing
-texts_length first rs =
-    omega (
-      arith,
-      length-append first (joined (map line rs)),
-      ap length (lines_joined rs),
-      length-append built_in_bytes (lines rs),
-    )
+texts_length first rs = rw (lines_joined rs) (omega (arith, length-append {A = ℕ}))
 
 -- ---- the length of the text
 
@@ -83,14 +70,7 @@ lines_bound (r ∷ rs) h =
 pub listing_bound : (applications : Option ApplicationsValue) (rs : List store.Resource) → AllByRecursion CanBeListed rs
     → length rs ≤ 1000 → length (first_bytes applications) ≤ 16423 → length (listing applications rs) ≤ 1048576
 unfolding listing first_bytes
-listing_bound applications rs each few short =
-    omega (
-      arith,
-      lines_bound rs each,
-      length-append built_in_bytes (application_bytes applications),
-      length-append built_in_bytes (application_bytes applications ++ lines rs),
-      length-append (application_bytes applications) (lines rs),
-    )
+listing_bound applications rs each few short = omega (arith, lines_bound rs each, length-append {A = ℕ})
 
 -- ---- the map and the list of the resources
 
@@ -127,32 +107,27 @@ line_at : (es : List (Path × Resource)) (i : ℕ) (e : Path × Resource) → sl
     → get_or (entry_lines es) i [] ≡ entry_bytes e.0 e.1.format
 unfolding resources_in
 line_at [] i e at = absurd cc
-line_at (f ∷ es) zero e at = let is : f ≡ e = cc in ap (λ (g : Path × Resource). entry_bytes g.0 g.1.format) is
+line_at (f ∷ es) zero e at = rw (same_Some f e at)
 line_at (f ∷ es) (suc i) e at = line_at es i e at
 
 lines_set : (es : List (Path × Resource)) (i : ℕ) (e : Path × Resource) (r : Resource) → slice_get es i ≡ Some e
     → entry_lines (set_value_at es i r) ≡ set (entry_lines es) i (entry_bytes e.0 r.format)
 unfolding resources_in
 lines_set [] i e r at = absurd cc
-lines_set (f ∷ es) zero e r at =
-    let is : f ≡ e = cc in
-    ap (λ (g : Path × Resource). entry_bytes g.0 r.format ∷ entry_lines es) is
-lines_set (f ∷ es) (suc i) e r at = ap (λ (ts : List (List ℕ)). line (resource_at f) ∷ ts) (lines_set es i e r at)
+lines_set (f ∷ es) zero e r at = rw (same_Some f e at)
+lines_set (f ∷ es) (suc i) e r at = rw (lines_set es i e r at)
 
 lines_removed : (es : List (Path × Resource)) (i : ℕ) → i < length es
     → entry_lines (remove es i) ≡ remove (entry_lines es) i
 unfolding resources_in
 lines_removed [] i within = absurd (omega arith)
 lines_removed (e ∷ es) zero within = refl
-lines_removed (e ∷ es) (suc i) within =
-    ap (λ (ts : List (List ℕ)). line (resource_at e) ∷ ts) (lines_removed es i (omega arith))
+lines_removed (e ∷ es) (suc i) within = rw (lines_removed es i (omega arith))
 
 pub text_at : (first : List ℕ) (es : List (Path × Resource)) (i : ℕ) (e : Path × Resource) → slice_get es i ≡ Some e
     → get_or (texts_of first (resources_in es)) (i + 1) [] ≡ entry_bytes e.0 e.1.format
 unfolding texts_of
-text_at first es i e at =
-    let next : i + 1 ≡ suc i = omega arith in
-    ap (λ k. get_or (first ∷ entry_lines es) k []) next ∙ line_at es i e at
+text_at first es i e at = rw add-one (line_at es i e at)
 
 -- The text of a resource is replaced if it is.
 pub texts_set : (first : List ℕ) (es : List (Path × Resource)) (i : ℕ) (e : Path × Resource) (r : Resource)
@@ -160,20 +135,14 @@ pub texts_set : (first : List ℕ) (es : List (Path × Resource)) (i : ℕ) (e :
     → texts_of first (resources_in (set_value_at es i r))
     ≡ set (texts_of first (resources_in es)) (i + 1) (entry_bytes e.0 r.format)
 unfolding texts_of
-texts_set first es i e r at =
-    let next : suc i ≡ i + 1 = omega arith in
-    ap (λ (ts : List (List ℕ)). first ∷ ts) (lines_set es i e r at)
-    ∙ ap (λ k. set (first ∷ entry_lines es) k (entry_bytes e.0 r.format)) next
+texts_set first es i e r at = rw (add-one, lines_set es i e r at)
 
 -- A resource that keeps its Content-Format keeps its text.
 pub texts_kept : (first : List ℕ) (es : List (Path × Resource)) (i : ℕ) (e : Path × Resource) (r : Resource)
     → slice_get es i ≡ Some e → e.1.format ≡ r.format
     → texts_of first (resources_in (set_value_at es i r)) ≡ texts_of first (resources_in es)
 texts_kept first es i e r at same =
-    texts_set first es i e r at
-    ∙ ap (λ t. set (texts_of first (resources_in es)) (i + 1) t)
-    (ap (λ f. entry_bytes e.0 f) (sym same) ∙ sym (text_at first es i e at))
-    ∙ set-get_or (texts_of first (resources_in es)) (i + 1) []
+    rw (texts_set first es i e r at, ← same, ← text_at first es i e at) (set-get_or _ (i + 1) [])
 
 -- The entry at an index, which has this Content-Format.
 pub entry_of : (es : List (Path × Resource)) (i : ℕ) (format : Option ℕ)
@@ -192,19 +161,13 @@ pub texts_changed : (first : List ℕ) (es : List (Path × Resource)) (i : ℕ) 
     → ts ≡ texts_of first (resources_in es) → at ≡ i + 1 → n ≡ length (end_bytes e.1.format) → end ≡ end_bytes r.format
     → set ts at (with_end (get_or ts at []) n end) ≡ texts_of first (resources_in (set_value_at es i r))
 texts_changed first es i e r ts at n end found listed place count ends =
-    (λ k. set (listed k) (place k) (with_end (get_or (listed k) (place k) []) (count k) (ends k)))
-    ∙ ap (λ t. set (texts_of first (resources_in es)) (i + 1)
-    (with_end t (length (end_bytes e.1.format)) (end_bytes r.format))) (text_at first es i e found)
-    ∙ ap (λ t. set (texts_of first (resources_in es)) (i + 1) t) (entry_changed e.0 e.1.format r.format)
-    ∙ sym (texts_set first es i e r found)
+    rw (listed, place, count, ends, text_at first es i e found, entry_changed e.0 e.1.format r.format)
+    (sym (texts_set first es i e r found))
 
 pub texts_removed : (first : List ℕ) (es : List (Path × Resource)) (i : ℕ) → i < length es
     → texts_of first (resources_in (remove es i)) ≡ remove (texts_of first (resources_in es)) (i + 1)
 unfolding texts_of
-texts_removed first es i within =
-    let next : suc i ≡ i + 1 = omega arith in
-    ap (λ (ts : List (List ℕ)). first ∷ ts) (lines_removed es i within)
-    ∙ ap (λ k. remove (first ∷ entry_lines es) k) next
+texts_removed first es i within = rw (add-one, lines_removed es i within)
 
 pub texts_count : (first : List ℕ) (es : List (Path × Resource))
     → length (texts_of first (resources_in es)) ≡ length es + 1
@@ -231,32 +194,20 @@ module _ (eq : Path → Path → Bool) (same : (p q : Path) → eq p q ≡ same_
       → resources_in (insert_entry eq entries path r) ≡ put_at (resources_in entries) path (representation r)
   unfolding resources_in put_at
   resources_put [] path r = refl
-  resources_put (e ∷ es) path r =
-      rw (same path e.0)
-      (elim (same_path path e.0) as (λ b. resources_in (if b then (e.0, r) ∷ es else (e ∷ insert_entry eq es path r))
-      ≡ (if b then (record { path = e.0; now = representation r } ∷ resources_in es)
-      else (resource_at e ∷ put_at (resources_in es) path (representation r)))) [
-        | true ↦ refl
-        | false ↦ ap (λ (rs : List store.Resource). resource_at e ∷ rs) (resources_put es path r)
-      ])
+  resources_put (e ∷ es) path r = grind (arith, same path e.0, resources_put es path r)
 
   pub resources_removed : (entries : List (Path × Resource)) (path : Path) (i : ℕ) → IsFirstAt (eq path) entries i
       → resources_in (remove entries i) ≡ removed_at (resources_in entries) path
   unfolding resources_in removed_at
   resources_removed [] path i first = absurd first
-  resources_removed (e ∷ es) path zero first = let is = sym (same path e.0) ∙ first in rw is refl
+  resources_removed (e ∷ es) path zero first = rw (sym (same path e.0) ∙ first)
   resources_removed (e ∷ es) path (suc i) first =
-      let other = sym (same path e.0) ∙ first.0 in
-      rw other (ap (λ (rs : List store.Resource). resource_at e ∷ rs) (resources_removed es path i first.1))
+      rw (sym (same path e.0) ∙ first.0, resources_removed es path i first.1)
 
   pub resources_found : (entries : List (Path × Resource)) (path : Path)
       → found_in (resources_in entries) path ≡ option_map representation (lookup (eq path) entries)
   unfolding resources_in found_in
   resources_found [] path = refl
-  resources_found (e ∷ es) path =
-      rw (same path e.0)
-      (elim (same_path path e.0) as (λ b. (if b then Some (representation e.1) else found_in (resources_in es) path)
-      ≡ option_map representation (if b then Some e.1 else lookup (eq path) es)) [
-        | true ↦ refl
-        | false ↦ resources_found es path
-      ])
+  resources_found (e ∷ es) path = grind (arith, same path e.0, resources_found es path)
+
+pub ruleset set_applications_steps = (texts_count, texts_first, texts_length)

@@ -1,11 +1,12 @@
 -- Bytes that are moved.
-use Rattle.std.proofs.Common.{◌≡◌, ℕ, ◌+◌, ◌-◌, ◌≤◌, List, [], ◌++◌, length, take, drop, refl, sym, ap, ◌∙◌}
+use Rattle.std.proofs.Common.{◌≡◌, ℕ, ◌+◌, ◌-◌, ◌≤◌, List, [], ◌++◌, length, take, drop, sym, ◌∙◌}
 use Rattle.std.proofs.Common.{append_assoc, length-append, arith}
 use Rattle.std.proofs.lemmas.List.{append-nil, take-append-drop, take-take, drop-drop, drop-take, drop-append-le}
 use Rattle.std.proofs.lemmas.List.{drop_all, length-take-le, length-drop}
-use Rattle.std.proofs.lemmas.List.Edits.{drop-paste, length-paste}
+use Rattle.std.proofs.lemmas.List.Edits.{drop-paste}
 use lib.Seq.{paste}
 use borrow.Rule.Slice.PartMut.{put_mid}
+use Rattle.std.proofs.lemmas.Grind.{common_steps}
 
 take_sum : (n m : ℕ) (s : List ℕ) → take (n + m) s ≡ take n s ++ take m (drop n s)
 take_sum n m s =
@@ -14,16 +15,7 @@ take_sum n m s =
 pub length_written : (xs new : List ℕ) (a k : ℕ) → length new ≡ k → a + k ≤ length xs
     → length (put_mid a k xs new) ≡ length xs
 length_written xs new a k count within =
-    let rest = drop k (drop a xs) in
-    omega (
-      arith,
-      count,
-      length-append (take a xs) (new ++ rest),
-      length-append new rest,
-      length-take-le a xs (omega (arith, within)),
-      length-drop k (drop a xs),
-      length-drop a xs,
-    )
+    omega (arith, length-append {A = ℕ}, length-drop {A = ℕ}, length-take-le a xs (omega arith))
 
 -- ---- a move within a part
 
@@ -36,56 +28,41 @@ module _ (xs : List ℕ) (at n gap k : ℕ) (is : k ≡ n + gap) (within : at + 
       ≡ paste xs (at + gap) (drop at xs) n
   shifted_up =
       let s = drop at xs in
-      let part = take k s in
-      let none : drop (gap + n) part ≡ [] = drop_all (gap + n) part (omega (arith, size, is)) in
-      let inner : paste part gap part n ≡ take gap s ++ take n s =
-      (λ i. take-take gap k s (omega (arith, is)) i ++ take-take n k s (omega (arith, is)) i ++ none i)
-      ∙ append-nil (take gap s ++ take n s) in
-      let sums : at + k ≡ at + gap + n = omega (arith, is) in
-      let back : drop k s ≡ drop (at + gap + n) xs = drop-drop k at xs ∙ ap (λ (m : ℕ). drop m xs) sums in
-      (λ i. take at xs ++ (inner i ++ back i))
-      ∙ sym (append_assoc (take at xs) (take gap s ++ take n s) (drop (at + gap + n) xs))
-      ∙ ap (λ (t : List ℕ). t ++ drop (at + gap + n) xs) (sym (append_assoc (take at xs) (take gap s) (take n s)))
-      ∙ ap (λ (t : List ℕ). t ++ take n s ++ drop (at + gap + n) xs) (sym (take_sum at gap xs))
+      let none : drop (gap + n) (take k s) ≡ [] = drop_all (gap + n) (take k s) (omega (arith, size)) in
+      let sums : at + k ≡ at + gap + n = omega arith in
+      rw (take-take gap k s (omega arith), take-take n k s (omega arith), none, drop-drop k at xs, sums)
+      (rw (take_sum at gap xs) (simp (append_assoc, append-nil)))
 
   -- The last bytes of the part are moved to its front.
   pub shifted_down : put_mid at k xs (paste (take k (drop at xs)) 0 (drop gap (take k (drop at xs))) n)
       ≡ paste xs at (drop (at + gap) xs) n
   shifted_down =
       let s = drop at xs in
-      let u = drop (at + gap) xs in
-      let other : k ≡ gap + n = omega (arith, is) in
+      let other : k ≡ gap + n = omega arith in
       let zero_more : 0 + n ≡ n = omega arith in
-      let moved : take n (drop gap (take k s)) ≡ take n u =
-      ap (λ (m : ℕ). take n (drop gap (take m s))) other ∙ ap (take n) (drop-take gap n s)
-      ∙ take-take n n (drop gap s) (omega arith) ∙ ap (take n) (drop-drop gap at xs) in
-      let rest : drop (0 + n) (take k s) ≡ take gap (drop n s) =
-      (λ i. drop (zero_more i) (take (is i) s)) ∙ drop-take n gap s in
-      let tail : drop k s ≡ drop gap (drop n s) = ap (λ (m : ℕ). drop m s) is ∙ sym (drop-drop gap n s) in
-      (λ i. take at xs ++ ((moved i ++ rest i) ++ tail i))
-      ∙ ap (λ (t : List ℕ). take at xs ++ t) (append_assoc (take n u) (take gap (drop n s)) (drop gap (drop n s))
-      ∙ ap (λ (t : List ℕ). take n u ++ t) (take-append-drop gap (drop n s) ∙ drop-drop n at xs))
-      ∙ sym (append_assoc (take at xs) (take n u) (drop (at + n) xs))
+      let moved : take n (drop gap (take k s)) ≡ take n (drop (at + gap) xs) =
+      rw (other, drop-take, take-take n n (drop gap s) (omega arith), drop-drop) in
+      let rest : drop (0 + n) (take k s) ≡ take gap (drop n s) = rw (zero_more, is, drop-take) in
+      let tail : drop k s ≡ drop gap (drop n s) = rw is (sym (drop-drop gap n s)) in
+      rw (moved, rest, tail) (simp append_assoc (rw (take-append-drop gap (drop n s), drop-drop n at xs)))
 
 -- ---- bytes after a start that is not used
 
 module _ (xs : List ℕ) (s : ℕ) where
   pub front_of : (ys : List ℕ) (at : ℕ) → take (s + at) ys ≡ take (s + at) xs
       → take at (drop s ys) ≡ take at (drop s xs)
-  front_of ys at same = sym (drop-take s at ys) ∙ ap (λ (t : List ℕ). drop s t) same ∙ drop-take s at xs
+  front_of ys at same = rw (← drop-take s at ys, same) (drop-take s at xs)
 
   drop_front : (at : ℕ) (ys : List ℕ) → s + at ≤ length xs → drop s (take (s + at) xs ++ ys) ≡ take at (drop s xs) ++ ys
   drop_front at ys within =
-      drop-append-le s (take (s + at) xs) ys (omega (arith, length-take-le (s + at) xs within))
-      ∙ ap (λ (t : List ℕ). t ++ ys) (drop-take s at xs)
+      rw (drop-append-le s (take (s + at) xs) ys (omega (arith, length-take-le (s + at) xs within)), drop-take)
 
   -- A gap after the start is removed.
-  pub closed_gap : (ys : List ℕ) (at gap : ℕ) → s + at ≤ length xs → ys ≡ take (s + at) xs ++ drop (s + at + gap) xs
-      → drop s ys ≡ take at (drop s xs) ++ drop (at + gap) (drop s xs)
-  closed_gap ys at gap within is =
+  pub closed_gap : (at gap : ℕ) → s + at ≤ length xs
+      → drop s (take (s + at) xs ++ drop (s + at + gap) xs) ≡ take at (drop s xs) ++ drop (at + gap) (drop s xs)
+  closed_gap at gap within =
       let sums : s + at + gap ≡ s + (at + gap) = omega arith in
-      ap (drop s) is ∙ drop_front at (drop (s + at + gap) xs) within
-      ∙ ap (λ (t : List ℕ). take at (drop s xs) ++ t) (ap (λ (k : ℕ). drop k xs) sums ∙ sym (drop-drop (at + gap) s xs))
+      rw (drop_front at (drop (s + at + gap) xs) within, sums, drop-drop (at + gap) s xs)
 
   -- The bytes before a gap are moved down.
   pub opened_gap : (ys : List ℕ) (at gap : ℕ) → gap ≤ s → s + at ≤ length xs
@@ -97,21 +74,18 @@ module _ (xs : List ℕ) (s : ℕ) where
       let from : s - gap + (at + gap) ≡ s - gap + at + gap = omega arith in
       let to : s - gap + at + gap ≡ s + at = omega (arith, few) in
       let now : ys ≡ paste xs (s - gap) (drop s xs) at = is ∙ (λ i. paste xs (s - gap) (drop (back i) xs) (count i)) in
-      drop-drop (at + gap) (s - gap) ys
-      ∙ ap (λ (k : ℕ). drop k ys) from
-      ∙ sym (drop-drop gap (s - gap + at) ys)
-      ∙ ap (λ (t : List ℕ). drop gap (drop (s - gap + at) t)) now
-      ∙ ap (λ (t : List ℕ). drop gap t)
-      (drop-paste xs (s - gap) (drop s xs) at (omega (arith, within, few)) (omega (arith, within, length-drop s xs)))
-      ∙ drop-drop gap (s - gap + at) xs
-      ∙ ap (λ (k : ℕ). drop k xs) to
-      ∙ sym (drop-drop at s xs)
+      rw (drop-drop (at + gap) (s - gap) ys, from, ← drop-drop gap (s - gap + at) ys, now)
+      (rw (drop-paste xs (s - gap) (drop s xs) at (omega arith) (omega (arith, length-drop s xs)))
+      (rw (drop-drop gap (s - gap + at) xs, to) (sym (drop-drop at s xs))))
 
   -- A part after the start is written.
   pub written_part : (new : List ℕ) (at k : ℕ) → s + at ≤ length xs
       → drop s (put_mid (s + at) k xs new) ≡ take at (drop s xs) ++ (new ++ drop (at + k) (drop s xs))
   written_part new at k within =
       let sums : s + at + k ≡ s + (at + k) = omega arith in
-      drop_front at (new ++ drop k (drop (s + at) xs)) within
-      ∙ ap (λ (t : List ℕ). take at (drop s xs) ++ (new ++ t))
-      (drop-drop k (s + at) xs ∙ ap (λ (n : ℕ). drop n xs) sums ∙ sym (drop-drop (at + k) s xs))
+      rw (drop_front at (new ++ drop k (drop (s + at) xs)) within, drop-drop k (s + at) xs, sums)
+      (rw (drop-drop (at + k) s xs))
+
+pub ruleset replace_steps = (written_part, length_written, common_steps)
+
+pub ruleset shift_steps = (shifted_up, shifted_down, length_written, common_steps)

@@ -1,38 +1,25 @@
 -- The options collected from all recognised options are those of the request.
 use Rattle.std.proofs.Common.{◌≡◌, ℕ, Bool, true, false, ◌||◌, ◌==◌, cond, List, [], ◌∷◌, map, filter, Option, Some}
-use Rattle.std.proofs.Common.{None, refl, ap, ◌∙◌}
+use Rattle.std.proofs.Common.{None, refl, sym, ap, ◌∙◌, arith}
 use Rattle.coap_store.specs.Prelude.{CoapOption, Message, known_options, values_of, value_of, has_option, path_of}
 use Rattle.coap_store.specs.Prelude.{is_given, first_or_none, match_along, place_at, RequestOptions, nothing}
 use Rattle.coap_store.specs.Prelude.{first_given}
-use Rattle.coap_store.specs.Prelude.{match_after, options_after, all_noted, AreOptionsOf, PathMatch}
+use Rattle.coap_store.specs.Prelude.{options_after, all_noted, AreOptionsOf}
 use Rattle.coap_wire.specs.OptionNumbers as numbers
-use Rattle.coap_store.proofs.RequestLemmas.{has_number, values_in, given_at}
+use Rattle.coap_store.proofs.RequestLemmas.{has_number, values_in}
 use Rattle.coap_path.proofs.MatchLemmas.{place_by_match}
 
-or_false : (b : Bool) → b ≡ (b || false)
-or_false true = refl
-or_false false = refl
-
-or_moved : (a b c : Bool) → ((a || b) || c) ≡ (a || (b || c))
-or_moved true b c = refl
-or_moved false b c = refl
+pub or_none_more : (b : Bool) → (b || false) ≡ b
+or_none_more true = refl
+or_none_more false = refl
 
 -- The presence of an option.
 module _ (field : RequestOptions → Bool) (number : ℕ)
     (step : (n : RequestOptions) (o : CoapOption) → field (options_after n o) ≡ (field n || o.number == number)) where
   pub flag_noted : (n : RequestOptions) (os : List CoapOption)
       → field (all_noted n os) ≡ (field n || is_given (values_in number os))
-  flag_noted n [] = or_false (field n)
-  flag_noted n (o ∷ os) =
-      flag_noted (options_after n o) os
-      ∙ ap (λ (b : Bool). b || is_given (values_in number os)) (step n o)
-      ∙ or_moved (field n) (o.number == number) (is_given (values_in number os))
-      ∙ ap (λ (b : Bool). field n || b)
-      (given_at (has_number number o) o (filter (has_number number) os) (is_given (values_in number os)) refl)
-
-pub or_none_more : (b : Bool) → (b || false) ≡ b
-or_none_more true = refl
-or_none_more false = refl
+  flag_noted n [] = sym (or_none_more (field n))
+  flag_noted n (o ∷ os) = grind (arith, flag_noted (options_after n o) os, step n o)
 
 pub or_one : (b : Bool) → (b || true) ≡ true
 or_one true = refl
@@ -75,24 +62,15 @@ module _ (field : RequestOptions → Option (List ℕ)) (number : ℕ) (step : (
       → field (all_noted n os) ≡ or_first (field n) (first_or_none (values_in number os))
   first_noted n [] = or_none (field n)
   first_noted n (o ∷ os) =
-      first_noted (options_after n o) os
-      ∙ ap (λ (v : Option (List ℕ)). or_first v (first_or_none (values_in number os))) (step n o)
-      ∙ first_moved (field n) (has_number number o) o (filter (has_number number) os)
+      rw (first_noted (options_after n o) os, step n o)
+      (first_moved (field n) (has_number number o) o (filter (has_number number) os))
 
 -- The state of matching the path.
-match_moved : (matched : PathMatch) (here : Bool) (o : CoapOption) (os : List CoapOption)
-    → match_along (match_after matched here o.value) (map (λ (o : CoapOption). o.value) os)
-    ≡ match_along matched (map (λ (o : CoapOption). o.value) (cond here (o ∷ os) os))
-match_moved matched true o os = refl
-match_moved matched false o os = refl
-
 match_noted : (n : RequestOptions) (os : List CoapOption)
     → (all_noted n os).matched ≡ match_along n.matched (values_in numbers.uri_path os)
 unfolding options_after
 match_noted n [] = refl
-match_noted n (o ∷ os) =
-    match_noted (options_after n o) os
-    ∙ match_moved n.matched (has_number numbers.uri_path o) o (filter (has_number numbers.uri_path) os)
+match_noted n (o ∷ os) = grind (arith, match_noted (options_after n o) os)
 
 -- All recognised options of a request.
 pub scan_options : (m : Message) → AreOptionsOf m (all_noted nothing (known_options m.options))
@@ -111,3 +89,5 @@ scan_options m =
       query = first_noted (λ n. n.query) numbers.uri_query (λ n o. refl) nothing os;
       accept = first_noted (λ n. n.accept) numbers.accept (λ n o. refl) nothing os;
     }
+
+pub ruleset note_steps = (or_none_more, or_one, not_given, nothing_noted)

@@ -1,12 +1,13 @@
 -- The changes by the embedding program that are rejected, and those that are not.
-use Rattle.std.proofs.Common.{◌≡◌, ℕ, ◌<◌, ◌^◌, Bool, true, false, ◌&&◌, List, [], ◌∷◌, length, Option, Some, None}
-use Rattle.std.proofs.Common.{refl, sym, ap, subst, ◌∙◌}
-use Rattle.coap_store.specs.Prelude.{is_some, is_none, nat_le, nat_lt, ◌==◌, not, option_map, IfSome, if◌then◌else◌}
-use Rattle.coap_store.specs.Prelude.{Bor, AllByRecursion, Path, is_path, Representation, StoreValue, found_in}
-use Rattle.coap_store.specs.Prelude.{put_in, kind_of_path, is_dynamic, greatest_version, representation, TakesPut}
-use Rattle.coap_store.specs.Prelude.{IsStore, first_fault, refusal_in, put_refusal, remove_refusal, StoreFault}
-use Rattle.coap_store.specs.Prelude.{NoSuch, TooLarge, Limit, BadPath, VersionsSpent}
-use Rattle.std.proofs.lemmas.Bool.{ltb-false}
+use Rattle.std.proofs.Common.{◌≡◌, ℕ, ◌<◌, ◌^◌, Bool, true, false, List, length, Option, Some, None}
+use Rattle.std.proofs.Common.{refl, sym, ap, ◌∙◌}
+use Rattle.coap_store.specs.Prelude.{is_some, is_none, not, option_map, IfSome, if◌then◌else◌}
+use Rattle.coap_store.specs.Prelude.{Bor, Path, is_path, Representation, StoreValue, found_in}
+use Rattle.coap_store.specs.Prelude.{put_in, kind_of_path, is_dynamic, representation, TakesPut}
+use Rattle.coap_store.specs.Prelude.{IsStore, put_refusal, remove_refusal}
+use Rattle.coap_store.specs.Prelude.{NoSuch}
+use Rattle.std.proofs.Common.{arith}
+use Rattle.std.proofs.lemmas.Bool.Decides.{nat_tests}
 use Rattle.coap_store.specs.declared.resource.Resource as lent
 use Rattle.coap_store.proofs.AnswerLaws.{place_dynamic, version_fits, has_room}
 use Rattle.coap_store.proofs.StoreLemmas.{store_put, found_kept}
@@ -19,50 +20,19 @@ pub passed : {F : Type 0} (holds : Bool) (fault : F) (rest : Option F) → (if h
 passed true fault rest none = absurd cc
 passed false fault rest none = (refl, none)
 
--- No check gives the error `Memory`.
-first_fault_refuses : (checks : List (Bool × StoreFault)) (fault : StoreFault)
-    → AllByRecursion (λ check. refusal_in check.1 ≡ Some check.1) checks → first_fault checks ≡ Some fault
-    → refusal_in fault ≡ Some fault
-first_fault_refuses [] fault all is = absurd cc
-first_fault_refuses (check ∷ checks) fault all is =
-    elim check.0
-    as (λ b. (if b then Some check.1 else first_fault checks) ≡ Some fault → refusal_in fault ≡ Some fault) [
-      | true ↦ λ here. (let same : check.1 ≡ fault = cc in subst (λ (f : StoreFault). refusal_in f ≡ Some f) same all.0)
-      | false ↦ λ later. first_fault_refuses checks fault all.1 later
-    ] is
-
 -- ---- put
-
-pub put_reported : (s : StoreValue) (path : Path) (bytes : List ℕ) (fault : StoreFault)
-    → put_refusal s path bytes ≡ Some fault → put_refusal s path bytes ≡ refusal_in fault
-unfolding put_refusal
-put_reported s path bytes fault is =
-    is ∙ sym
-    (first_fault_refuses ((nat_lt s.rep_max (length bytes), TooLarge) ∷ (not (is_dynamic (kind_of_path path)), BadPath)
-    ∷ (is_none (found_in s.resources path) && nat_le s.dynamic_max (length s.resources), Limit)
-    ∷ (s.versions == greatest_version, VersionsSpent) ∷ []) fault (refl, (refl, (refl, (refl, tt)))) is)
-
-is_dynamic_place : (dynamic : Bool) → not dynamic ≡ false → dynamic ≡ true
-is_dynamic_place true is = refl
-is_dynamic_place false is = absurd cc
 
 -- The store accepts a representation that is not rejected.
 pub takes_put : (s : StoreValue) (path : Path) (bytes : List ℕ) → is_path path ≡ true → s.versions < 2 ^ 64
     → put_refusal s path bytes ≡ None → TakesPut s path bytes
 unfolding put_refusal
-takes_put s path bytes is fits none =
-    let small = passed (nat_lt s.rep_max (length bytes)) TooLarge _ none in
-    let dynamic = passed (not (is_dynamic (kind_of_path path))) BadPath _ small.1 in
-    let room =
-    passed (is_none (found_in s.resources path) && nat_le s.dynamic_max (length s.resources)) Limit _ dynamic.1 in
-    let left = passed (s.versions == greatest_version) VersionsSpent _ room.1 in
-    record {
-      path_ok = is;
-      place = place_dynamic (kind_of_path path) (is_dynamic_place (is_dynamic (kind_of_path path)) dynamic.0);
-      small = ltb-false s.rep_max (length bytes) small.0;
-      room = has_room (found_in s.resources path) s.dynamic_max (length s.resources) room.0;
-      version_left = version_fits s.versions left.0 fits;
-    }
+takes_put s path bytes is fits none = record {
+  path_ok = is;
+  place = place_dynamic _ (grind arith);
+  small = grind (arith, nat_tests);
+  room = has_room _ s.dynamic_max (length s.resources) (grind arith);
+  version_left = version_fits s.versions (grind arith) fits;
+}
 
 pub put_keeps : (s : StoreValue) (path : Path) (format : Option ℕ) (bytes : List ℕ) → IsStore s → is_path path ≡ true
     → put_refusal s path bytes ≡ None → IfSome format (λ number. number < 65536) → IsStore (put_in s path format bytes)
@@ -81,12 +51,7 @@ pub remove_absent : (s : StoreValue) (path : Path) (lent : Option (Bor lent.Reso
     → option_map (λ r. representation r.now) lent ≡ found_in s.resources path → is_none lent ≡ true
     → remove_refusal s path ≡ Some NoSuch
 unfolding remove_refusal
-remove_absent s path lent same none =
-    rw (sym (lent_alike lent (found_in s.resources path) same) ∙ none)
-    (elim (not (is_dynamic (kind_of_path path))) as (λ b. (if b then Some NoSuch else Some NoSuch) ≡ Some NoSuch) [
-      | true ↦ refl
-      | false ↦ refl
-    ])
+remove_absent s path lent same none = grind (arith, lent_alike lent (found_in s.resources path) same)
 
 found_dynamic : (s : StoreValue) (path : Path) (found : Option Representation) → IsStore s
     → found_in s.resources path ≡ found → is_none found ≡ false → not (is_dynamic (kind_of_path path)) ≡ false
@@ -98,9 +63,8 @@ pub remove_present : (s : StoreValue) (path : Path) (lent : Option (Bor lent.Res
     → remove_refusal s path ≡ None
 unfolding remove_refusal
 remove_present s path lent is same some =
-    let there : is_none (found_in s.resources path) ≡ false =
-    sym (lent_alike lent (found_in s.resources path) same) ∙ some in
-    rw (found_dynamic s path (found_in s.resources path) is refl there, there) refl
+    let there = sym (lent_alike lent (found_in s.resources path) same) ∙ some in
+    rw (found_dynamic s path (found_in s.resources path) is refl there, there)
 
 -- A resource is removed if and only if one is found.
 pub removal_reported : (s : StoreValue) (path : Path) (lent : Option (Bor lent.Resource)) → IsStore s

@@ -1,5 +1,6 @@
 -- A version identifies a representation, even if that is no longer stored.
-use Rattle.std.proofs.Common.{◌≡◌, ◌+◌, Some, sym, ap, ◌∙◌, arith}
+use Rattle.std.proofs.Common.{◌≡◌, Some, sym, ap, ◌∙◌, arith}
+use Rattle.std.proofs.lemmas.Option.{same_Some, none-some}
 use Rattle.coap_store.specs.Prelude.{Path, Representation, StoreValue, found_in, Change, Nothing, Put, Delete}
 use Rattle.coap_store.specs.Prelude.{changed, IsStore, WasStored}
 use Rattle.coap_store.proofs.StoreLemmas.{one_version, found_kept}
@@ -19,19 +20,13 @@ was_stored s Nothing path sent is was = was
 was_stored s (Put at format bytes) path sent is was = record {
   given = omega (arith, was.given);
   same = λ other r found versions. by_path other at
-      (λ here. (let put = put_is_stored s at format bytes in
-      let there : found_in (changed s (Put at format bytes)).resources at ≡ Some r =
-      ap (found_in (changed s (Put at format bytes)).resources) (sym here) ∙ found in
-      let now : record { version = s.versions + 1; format = format; bytes = bytes } ≡ r = cc in
-      absurd (omega (arith, was.given, versions, ap (λ (x : Representation). x.version) now))))
+      (λ here. (let now = same_Some _ _ (sym (put_is_stored s at format bytes) ∙ rw here at found) in
+      absurd (omega (arith, was.given, versions, ap (λ x. x.version) now))))
       (λ apart. was.same other r (sym (other_is_kept_on_put s at other format bytes apart) ∙ found) versions);
 }
 was_stored s (Delete at) path sent is was = record {
   given = was.given;
   same = λ other r found versions. by_path other at
-      (λ here. (let gone = deleted_is_gone s at is.paths in
-      let there : found_in (changed s (Delete at)).resources at ≡ Some r =
-      ap (found_in (changed s (Delete at)).resources) (sym here) ∙ found in
-      absurd cc))
+      (λ here. absurd (none-some r (sym (deleted_is_gone s at is.paths) ∙ rw here at found)))
       (λ apart. was.same other r (sym (other_is_kept_on_delete s at other apart) ∙ found) versions);
 }

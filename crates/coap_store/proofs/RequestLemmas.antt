@@ -1,14 +1,18 @@
 -- The recognised options with one number, and their values.
-use Rattle.std.proofs.Common.{◌≡◌, ℕ, ◌<◌, ◌≤◌, Bool, true, false, ◌&&◌, ◌||◌, cond, ◌==◌, List, [], ◌∷◌, length, map}
-use Rattle.std.proofs.Common.{filter, get_or, Option, Some, None, refl, sym, ap, subst, ◌∙◌, arith}
+use Rattle.std.proofs.Common.{◌≡◌, ℕ, ◌<◌, ◌≤◌, Bool, true, false, ◌&&◌, ◌||◌, ◌==◌, List, [], ◌∷◌, length, map}
+use Rattle.std.proofs.Common.{filter, get_or, Option, Some, None, refl, sym, ap, ◌∙◌, arith}
 use Rattle.coap_store.specs.Prelude.{option_map, nat_le, is_some, IfSome, then_some, list_any, list_all, CoapOption}
 use Rattle.coap_store.specs.Prelude.{Message, Placed, placed, once, kind_of, has_kind, is_recognised, known_given}
 use Rattle.coap_store.specs.Prelude.{known_options, uint_of, bytes_of_uint, OptionKind, same_bytes, Representation}
 use Rattle.coap_store.specs.Prelude.{values_of, has_option, value_of, number_of, is_given, first_or_none}
 use Rattle.coap_store.specs.Prelude.{match_holds, is_digit, digits_mean, is_seconds}
-use Rattle.std.proofs.lemmas.Bool.{and_parts, and_left, and_right, leb-true, le-leb, lt-leb, eqb-true}
+use Rattle.std.proofs.lemmas.Bool.{and_parts, and_left, and_right, leb-true, le-leb, eqb-true}
+use Rattle.std.proofs.lemmas.Bool.Decides.{nat_tests}
+use Rattle.std.proofs.lemmas.Option.{same_Some}
 use Rattle.std.proofs.lemmas.List.Folds.{list_all_at}
 use Rattle.coap_wire.specs.OptionNumbers as numbers
+use Rattle.coap_store.proofs.AnswerLaws.{either}
+use Rattle.std.proofs.lemmas.Grind.{common_steps}
 
 -- ---- in a list of options
 
@@ -18,24 +22,10 @@ has_number number o = o.number == number
 abbrev pub values_in : ℕ → List CoapOption → List (List ℕ)
 values_in number os = map (λ o. o.value) (filter (has_number number) os)
 
-pub given_at : (test : Bool) (o : CoapOption) (os : List CoapOption) (any : Bool)
-    → any ≡ is_given (map (λ (o : CoapOption). o.value) os)
-    → (test || any) ≡ is_given (map (λ (o : CoapOption). o.value) (cond test (o ∷ os) os))
-given_at true o os any rest = refl
-given_at false o os any rest = rest
-
-any_at : (passes : List ℕ → Bool) (test : Bool) (o : CoapOption) (os : List CoapOption) (any : Bool)
-    → any ≡ list_any passes (map (λ (o : CoapOption). o.value) os)
-    → ((test && passes o.value) || any) ≡ list_any passes (map (λ (o : CoapOption). o.value) (cond test (o ∷ os) os))
-any_at passes true o os any rest = ap (λ (b : Bool). passes o.value || b) rest
-any_at passes false o os any rest = rest
-
 any_in : (passes : List ℕ → Bool) (number : ℕ) (os : List CoapOption)
     → list_any (λ (o : CoapOption). has_number number o && passes o.value) os ≡ list_any passes (values_in number os)
 any_in passes number [] = refl
-any_in passes number (o ∷ os) =
-    any_at passes (has_number number o) o (filter (has_number number) os)
-    (list_any (λ (o : CoapOption). has_number number o && passes o.value) os) (any_in passes number os)
+any_in passes number (o ∷ os) = grind (arith, any_in passes number os)
 
 -- ---- in a request
 
@@ -62,31 +52,8 @@ recognised_fits : (before : List CoapOption) (o : CoapOption) (kind : OptionKind
     → is_recognised before o ≡ true → length o.value ≤ kind.max
 unfolding is_recognised
 recognised_fits before o kind is test =
-    let known : has_kind before o (Some kind) ≡ true = ap (has_kind before o) (sym is) ∙ test in
+    let known : has_kind before o (Some kind) ≡ true = rw is at test in
     leb-true (length o.value) kind.max (and_parts _ _ (and_parts _ _ known).0).1
-
--- A first option with the number has the first value.
-front_fits : (same : Bool) (number : ℕ) (kind : OptionKind) (p : Placed) (rest : List CoapOption) (value : List ℕ)
-    → has_number number p.option ≡ same → is_recognised p.before p.option ≡ true → kind_of number ≡ Some kind
-    → (first_or_none (map (λ (o : CoapOption). o.value) rest) ≡ Some value → length value ≤ kind.max)
-    → first_or_none (map (λ (o : CoapOption). o.value) (cond same (p.option ∷ rest) rest)) ≡ Some value
-    → length value ≤ kind.max
-front_fits true number kind p rest value same known is later found =
-    let of_it : kind_of p.option.number ≡ Some kind = ap kind_of (eqb-true p.option.number number same) ∙ is in
-    let its : p.option.value ≡ value = cc in
-    subst (λ (v : List ℕ). length v ≤ kind.max) its (recognised_fits p.before p.option kind of_it known)
-front_fits false number kind p rest value same known is later found = later found
-
--- A first option that is not recognised is skipped.
-placed_front : (known : Bool) (number : ℕ) (kind : OptionKind) (p : Placed) (ps : List Placed) (value : List ℕ)
-    → is_recognised p.before p.option ≡ known → kind_of number ≡ Some kind
-    → (first_or_none (values_in number (map (λ (p : Placed). p.option) ps)) ≡ Some value → length value ≤ kind.max)
-    → first_or_none (values_in number (map (λ (p : Placed). p.option) (cond known (p ∷ ps) ps))) ≡ Some value
-    → length value ≤ kind.max
-placed_front true number kind p ps value known is later found =
-    front_fits (has_number number p.option) number kind p
-    (filter (has_number number) (map (λ (p : Placed). p.option) ps)) value refl known is later found
-placed_front false number kind p ps value known is later found = later found
 
 -- The first value with the number, among the recognised options.
 abbrev first_placed : ℕ → List Placed → Option (List ℕ)
@@ -97,9 +64,12 @@ placed_fits : (number : ℕ) (kind : OptionKind) (ps : List Placed) (value : Lis
     → first_placed number ps ≡ Some value → length value ≤ kind.max
 placed_fits number kind [] value is found = let bad : ◌≡◌ {A = Option (List ℕ)} None (Some value) = found in absurd cc
 placed_fits number kind (p ∷ ps) value is found =
-    placed_front (is_recognised p.before p.option) number kind p
-    (filter (λ (p : Placed). is_recognised p.before p.option) ps) value refl is
-    (placed_fits number kind ps value is) found
+    either (is_recognised p.before p.option) (λ known.
+    either (has_number number p.option) (λ same.
+    let its : p.option.value ≡ value = same_Some _ _ (rw (known, same) at found) in
+    rw (← its) (recognised_fits p.before p.option kind (ap kind_of (eqb-true p.option.number number same) ∙ is) known))
+    (λ other. placed_fits number kind ps value is (rw (known, other) at found)))
+    (λ skipped. placed_fits number kind ps value is (rw skipped at found))
 
 -- A value of a recognised option has at most the maximum length of its kind.
 pub value_fits : (number : ℕ) (kind : OptionKind) (m : Message) (value : List ℕ) → kind_of number ≡ Some kind
@@ -121,21 +91,19 @@ number_found number m value found = ap (option_map uint_of) found
 -- A value of Observe has at most 3 bytes.
 pub observe_fits : (m : Message) (value : List ℕ) → Some value ≡ value_of numbers.observe m → length value ≤ 4
 unfolding kind_of
-observe_fits m value found =
-    let short : length value ≤ 3 = value_fits numbers.observe (once 0 3) m value refl found in
-    omega arith
+observe_fits m value found = let short = value_fits numbers.observe (once 0 3) m value refl found in omega arith
 
 -- ---- preconditions
 
 pub match_not_requested : (state : Option Representation) (m : Message) → false ≡ has_option numbers.if_match m
     → true ≡ match_holds state m
 unfolding match_holds
-match_not_requested state m absent = rw (sym absent) refl
+match_not_requested state m absent = rw (← absent)
 
 pub match_of_none : (state : Option Representation) (m : Message) → true ≡ has_option numbers.if_match m
     → None ≡ option_map (λ (r : Representation). r.version) state → false ≡ match_holds state m
 unfolding match_holds
-match_of_none None m requested is = rw (sym requested) refl
+match_of_none None m requested is = rw (← requested)
 match_of_none (Some r) m requested is = let bad : ◌≡◌ {A = Option ℕ} None (Some r.version) = is in absurd cc
 
 -- A value of If-Match holds for a version with this ETag.
@@ -151,20 +119,17 @@ match_of_version None m version etag requested is etag_is =
     let bad : ◌≡◌ {A = Option ℕ} (Some version) None = is in
     absurd cc
 match_of_version (Some r) m version etag requested is etag_is =
-    let same : version ≡ r.version = cc in
-    let etags : etag ≡ bytes_of_uint r.version = etag_is ∙ ap bytes_of_uint same in
-    rw (sym requested) (ap (λ (e : List ℕ). list_any (is_match e) (values_of numbers.if_match m)) etags)
+    rw (← requested, etag_is, same_Some _ _ is)
 
 -- ---- seconds
 
 pub no_seconds_empty : (text : List ℕ) → length text ≡ 0 → false ≡ is_seconds text
 unfolding is_seconds
-no_seconds_empty [] e = refl
-no_seconds_empty (b ∷ bs) e = absurd (omega arith)
+no_seconds_empty text e = grind (arith, nat_tests)
 
 pub no_seconds_long : (text : List ℕ) → 4 < length text → false ≡ is_seconds text
 unfolding is_seconds
-no_seconds_long text long = sym (and_left _ _ (and_left _ _ (and_right _ _ (lt-leb (length text) 4 long))))
+no_seconds_long text long = grind (arith, nat_tests)
 
 pub no_seconds_at : (text : List ℕ) (i d : ℕ) → i < length text → is_digit (get_or text i d) ≡ false
     → false ≡ is_seconds text
@@ -183,3 +148,20 @@ is_some-then_some false n = refl
 pub if_then_some : (test : Bool) (n m : ℕ) → n ≡ m → IfSome (then_some test n) (λ k. k ≡ m)
 if_then_some true n m e = e
 if_then_some false n m e = tt
+
+pub ruleset number_steps = (value_fits, no_number, number_found)
+
+pub ruleset observe_steps = (observe_fits, no_number, number_found)
+
+pub ruleset match_holds_steps = (value_passes, match_not_requested, match_of_none, match_of_version)
+
+pub ruleset seconds_in_steps = (
+  no_seconds_empty,
+  no_seconds_long,
+  no_seconds_at,
+  seconds_of_digits,
+  if_then_some,
+  is_some-then_some,
+  nat_tests,
+  common_steps,
+)

@@ -1,5 +1,5 @@
 -- The state of a path by its key.
-use Rattle.std.proofs.Common.{◌≡◌, ℕ, ◌+◌, true, List, Option, Some, None, sym, ap, ◌∙◌}
+use Rattle.std.proofs.Common.{◌≡◌, ℕ, ◌+◌, true, List, Option, Some, None, ap, ◌∙◌}
 use Rattle.std.proofs.lemmas.Bool.{cond-true}
 use Rattle.coap_store.specs.Prelude.{Path, is_path, StoreValue, found_in, put_in, removed_in, is_dynamic, kind_of_path}
 use Rattle.coap_store.specs.Prelude.{key_for, stored_at, state_at, state_of, AreDistinct, ResourceKind, Dynamic}
@@ -12,8 +12,7 @@ own_key path is = cond-true (is_path path) (Some path) None is
 
 pub state_by_key : (s : StoreValue) (now : ℕ) (path : Path) (place : ResourceKind) → is_path path ≡ true
     → place ≡ kind_of_path path → state_at s now (Some path) place ≡ state_of s now path
-state_by_key s now path place is at =
-    ap (state_at s now (Some path)) at ∙ ap (λ key. state_at s now key (kind_of_path path)) (sym (own_key path is))
+state_by_key s now path place is at = rw (at, own_key path is)
 
 -- The state of a created resource is its stored representation.
 pub state_stored : (s : StoreValue) (now : ℕ) (path : Path) → is_path path ≡ true → kind_of_path path ≡ Dynamic

@@ -1,18 +1,24 @@
 -- Each change keeps the invariant of a store, and stored resources satisfy it.
-use Rattle.std.proofs.Common.{◌≡◌, ◌≢◌, ℕ, ◌+◌, ◌<◌, ◌≤◌, ◌^◌, true, false, ◌||◌, List, [], ◌∷◌, length, Option, Some}
-use Rattle.std.proofs.Common.{None, refl, sym, ap, subst, ◌∙◌, arith, nat_lt}
-use Rattle.coap_store.specs.Prelude.{IfSome, option_map, if◌then◌else◌, Bor, AllByRecursion, Path, same_path}
+use Rattle.std.proofs.Common.{◌≡◌, ◌≢◌, ℕ, ◌+◌, ◌<◌, ◌≤◌, ◌^◌, true, ◌||◌, List, [], ◌∷◌, length, Option, Some}
+use Rattle.std.proofs.Common.{None, refl, sym, arith, nat_lt, rules}
+use Rattle.coap_store.specs.Prelude.{IfSome, option_map, Bor, AllByRecursion, Path, same_path}
 use Rattle.coap_store.specs.Prelude.{Representation, StoreValue, found_in, put_at, removed_at, put_in, removed_in}
 use Rattle.coap_store.specs.Prelude.{listing, representation, Change, Nothing, Put, Delete, changed, TakesPut}
 use Rattle.coap_store.specs.Prelude.{TakesChange, is_path, HasSmallFormat, HaveOwnVersions, IsKept, IsStore}
 use Rattle.coap_store.specs.Prelude.{ApplicationsValue, first_bytes}
 use Rattle.std.specs.Option.{is_some}
-use Rattle.std.proofs.lemmas.Bool.{ltb-true}
+use Rattle.std.proofs.lemmas.Bool.{cond_both}
+use Rattle.std.proofs.lemmas.Bool.Decides.{nat_tests}
+use Rattle.std.proofs.lemmas.Option.{same_Some}
 use Rattle.coap_store.specs.Store.{Resource}
 use Rattle.coap_store.specs.declared.resource.Resource as lent
 use Rattle.coap_path.proofs.PathLemmas.{same_path_sound}
 use Rattle.coap_store.proofs.ListingLemmas.{CanBeListed, listing_bound}
+use Rattle.coap_store.proofs.AnswerLaws.{either}
 use Rattle.coap_store.proofs.ChangeLaws.{put_distinct, removed_distinct}
+use Rattle.coap_store.proofs.LinkLemmas.{entry_short}
+use Rattle.coap_store.proofs.CatalogueLemmas.{place_within, put_by_index}
+use Rattle.coap_store.proofs.CatalogueLemmas.{removed_by_index}
 
 -- ---- each resource
 
@@ -28,36 +34,23 @@ module _ (P : Resource → Type 0) where
   unfolding found_in
   holds_of_found [] path now all is = absurd cc
   holds_of_found (r ∷ rs) path now all is =
-      elim (same_path path r.path) as (λ b. same_path path r.path ≡ b
-      → (if b then Some r.now else found_in rs path) ≡ Some now → P (record { path = path; now = now })) [
-        | true ↦ λ same e. (let here : r.now ≡ now = cc in
-            subst (λ (p : Path). P (record { path = p; now = now })) (sym (same_path_sound path r.path same))
-            (subst (λ (n : Representation). P (record { path = r.path; now = n })) here all.0))
-        | false ↦ λ other e. holds_of_found rs path now all.1 e
-      ] refl is
+      either (same_path path r.path)
+      (λ same. rw (same_path_sound path r.path same, ← same_Some _ _ (rw same at is)) all.0)
+      (λ other. holds_of_found rs path now all.1 (rw other at is))
 
   pub put_all : (rs : List Resource) (path : Path) (now : Representation) → AllByRecursion P rs
       → P (record { path = path; now = now }) → AllByRecursion P (put_at rs path now)
   unfolding put_at
   put_all [] path now all here = (here, tt)
   put_all (r ∷ rs) path now all here =
-      elim (same_path path r.path) as (λ b. same_path path r.path ≡ b
-      → AllByRecursion P (if b then (record r { now = now } ∷ rs) else (r ∷ put_at rs path now))) [
-        | true ↦ λ is. (
-          subst (λ (p : Path). P (record { path = p; now = now })) (same_path_sound path r.path is) here,
-          all.1,
-        )
-        | false ↦ λ is. (all.0, put_all rs path now all.1 here)
-      ] refl
+      cond_both (same_path path r.path) _ _ (AllByRecursion P)
+      (λ is. (rw (same_path_sound path r.path is) at here, all.1)) (λ _. (all.0, put_all rs path now all.1 here))
 
   pub removed_all : (rs : List Resource) (path : Path) → AllByRecursion P rs → AllByRecursion P (removed_at rs path)
   unfolding removed_at
   removed_all [] path all = all
   removed_all (r ∷ rs) path all =
-      elim (same_path path r.path) as (λ b. AllByRecursion P (if b then rs else (r ∷ removed_at rs path))) [
-        | true ↦ all.1
-        | false ↦ (all.0, removed_all rs path all.1)
-      ]
+      cond_both (same_path path r.path) _ _ (AllByRecursion P) (λ _. all.1) (λ _. (all.0, removed_all rs path all.1))
 
 -- ---- no version occurs twice
 
@@ -70,21 +63,17 @@ put_own : (rs : List Resource) (path : Path) (now : Representation) → AllByRec
 unfolding put_at
 put_own [] path now fresh own = (tt, tt)
 put_own (r ∷ rs) path now fresh own =
-    elim (same_path path r.path)
-    as (λ b. HaveOwnVersions (if b then (record r { now = now } ∷ rs) else (r ∷ put_at rs path now))) [
-      | true ↦ (fresh.1, own.1)
-      | false ↦
-          (put_all (HasOther r.now.version) rs path now own.0 (λ e. fresh.0 (sym e)), put_own rs path now fresh.1 own.1)
-    ]
+    cond_both (same_path path r.path) _ _ HaveOwnVersions (λ _. (fresh.1, own.1)) (λ _. (
+      put_all (HasOther r.now.version) rs path now own.0 (λ e. fresh.0 (sym e)),
+      put_own rs path now fresh.1 own.1,
+    ))
 
 removed_own : (rs : List Resource) (path : Path) → HaveOwnVersions rs → HaveOwnVersions (removed_at rs path)
 unfolding removed_at
 removed_own [] path own = own
 removed_own (r ∷ rs) path own =
-    elim (same_path path r.path) as (λ b. HaveOwnVersions (if b then rs else (r ∷ removed_at rs path))) [
-      | true ↦ own.1
-      | false ↦ (removed_all (HasOther r.now.version) rs path own.0, removed_own rs path own.1)
-    ]
+    cond_both (same_path path r.path) _ _ HaveOwnVersions (λ _. own.1)
+    (λ _. (removed_all (HasOther r.now.version) rs path own.0, removed_own rs path own.1))
 
 -- Two representations with the same version are the same.
 pub one_version : (rs : List Resource) (p q : Path) (a b : Representation) → HaveOwnVersions rs → found_in rs p ≡ Some a
@@ -92,26 +81,14 @@ pub one_version : (rs : List Resource) (p q : Path) (a b : Representation) → H
 unfolding found_in
 one_version [] p q a b own at_p at_q same = absurd cc
 one_version (r ∷ rs) p q a b own at_p at_q same =
-    elim (same_path p r.path)
-    as (λ c. same_path p r.path ≡ c → (if c then Some r.now else found_in rs p) ≡ Some a → (p ≡ q) × (a ≡ b)) [
-      | true ↦ λ is_p e. elim (same_path q r.path)
-          as (λ d. same_path q r.path ≡ d → (if d then Some r.now else found_in rs q) ≡ Some b → (p ≡ q) × (a ≡ b)) [
-            | true ↦ λ is_q f. (
-              same_path_sound p r.path is_p ∙ sym (same_path_sound q r.path is_q),
-              (let one : r.now ≡ a = cc in let two : r.now ≡ b = cc in sym one ∙ two),
-            )
-            | false ↦
-                λ no f. (let one : r.now ≡ a = cc in absurd (holds_of_found (HasOther r.now.version) rs q b own.0 f
-                (ap (λ (n : Representation). n.version) one ∙ same)))
-          ] refl at_q
-      | false ↦ λ no e. elim (same_path q r.path)
-          as (λ d. same_path q r.path ≡ d → (if d then Some r.now else found_in rs q) ≡ Some b → (p ≡ q) × (a ≡ b)) [
-            | true ↦
-                λ is_q f. (let two : r.now ≡ b = cc in absurd (holds_of_found (HasOther r.now.version) rs p a own.0 e
-                (ap (λ (n : Representation). n.version) two ∙ sym same)))
-            | false ↦ λ other f. one_version rs p q a b own.1 e f same
-          ] refl at_q
-    ] refl at_p
+    grind (
+      arith,
+      same_path_sound p r.path,
+      same_path_sound q r.path,
+      holds_of_found (HasOther r.now.version) rs q b own.0,
+      holds_of_found (HasOther r.now.version) rs p a own.0,
+      one_version rs p q a b own.1,
+    )
 
 -- ---- the number of resources
 
@@ -119,60 +96,25 @@ put_present : (rs : List Resource) (path : Path) (now : Representation) → is_s
     → length (put_at rs path now) ≡ length rs
 unfolding found_in put_at
 put_present [] path now present = absurd cc
-put_present (r ∷ rs) path now present =
-    elim (same_path path r.path) as (λ b. is_some (if b then Some r.now else found_in rs path) ≡ true
-    → length (if b then (record r { now = now } ∷ rs) else (r ∷ put_at rs path now)) ≡ length (r ∷ rs)) [
-      | true ↦ λ is. refl
-      | false ↦ λ is. omega (arith, put_present rs path now is)
-    ] present
+put_present (r ∷ rs) path now present = grind (arith, put_present rs path now)
 
 put_more : (rs : List Resource) (path : Path) (now : Representation) → length (put_at rs path now) ≤ length rs + 1
 unfolding put_at
 put_more [] path now = omega arith
-put_more (r ∷ rs) path now =
-    elim (same_path path r.path)
-    as (λ b. length (if b then (record r { now = now } ∷ rs) else (r ∷ put_at rs path now)) ≤ length (r ∷ rs) + 1) [
-      | true ↦ omega arith
-      | false ↦ omega (arith, put_more rs path now)
-    ]
+put_more (r ∷ rs) path now = grind (arith, put_more rs path now)
 
 -- The resource exists, or the limit allows another one.
 pub put_few : (rs : List Resource) (path : Path) (now : Representation) (slots : ℕ)
     → (is_some (found_in rs path) || nat_lt (length rs) slots) ≡ true → length rs ≤ slots
     → length (put_at rs path now) ≤ slots
-put_few rs path now slots room few =
-    elim (is_some (found_in rs path)) as (λ b. is_some (found_in rs path) ≡ b → (b || nat_lt (length rs) slots) ≡ true
-    → length (put_at rs path now) ≤ slots) [
-      | true ↦ λ is left. omega (arith, put_present rs path now is)
-      | false ↦ λ is left. (let less = ltb-true (length rs) slots left in omega (arith, put_more rs path now))
-    ] refl room
+put_few rs path now slots room few = grind (arith, nat_tests, put_present rs path now, put_more rs path now)
 
 pub removed_few : (rs : List Resource) (path : Path) → length (removed_at rs path) ≤ length rs
 unfolding removed_at
 removed_few [] path = omega arith
-removed_few (r ∷ rs) path =
-    elim (same_path path r.path) as (λ b. length (if b then rs else (r ∷ removed_at rs path)) ≤ length (r ∷ rs)) [
-      | true ↦ omega arith
-      | false ↦ omega (arith, removed_few rs path)
-    ]
+removed_few (r ∷ rs) path = grind (arith, removed_few rs path)
 
 -- ---- the store
-
--- A larger last version keeps the property.
-more_given : (versions more rep_max : ℕ) (r : Resource) → versions ≤ more
-    → IsKept versions rep_max r → IsKept more rep_max r
-more_given versions more rep_max r le kept = record {
-  path = kept.path;
-  place = kept.place;
-  numbered = kept.numbered;
-  given = omega (arith, kept.given);
-  format = kept.format;
-  small = kept.small;
-}
-
--- No resource has a version that was not given.
-next_version_is_other : (versions rep_max : ℕ) (r : Resource) → IsKept versions rep_max r → HasOther (versions + 1) r
-next_version_is_other versions rep_max r kept = λ e. omega (arith, kept.given)
 
 -- Storing a representation that the store accepts keeps the invariant.
 pub store_put : (s : StoreValue) (path : Path) (format : Option ℕ) (bytes : List ℕ) → IsStore s → TakesPut s path bytes
@@ -180,9 +122,9 @@ pub store_put : (s : StoreValue) (path : Path) (format : Option ℕ) (bytes : Li
 store_put s path format bytes is takes short =
     let now : Representation = record { version = s.versions + 1; format = format; bytes = bytes } in
     let kept = all_resources_to (IsKept s.versions s.rep_max) (IsKept (s.versions + 1) s.rep_max)
-    (λ r. more_given s.versions (s.versions + 1) s.rep_max r (omega arith)) s.resources is.kept in
+    (λ r is. let less = is.given in search (rules, arith)) s.resources is.kept in
     let fresh = all_resources_to (IsKept s.versions s.rep_max) (HasOther (s.versions + 1))
-    (next_version_is_other s.versions s.rep_max) s.resources is.kept in
+    (λ r is e. omega (arith, is.given)) s.resources is.kept in
     record {
       paths = put_distinct s.resources path now is.paths;
       own_versions = put_own s.resources path now fresh is.own_versions;
@@ -226,15 +168,7 @@ pub store_empty : (dynamic_max rep_max versions : ℕ) (applications : Option Ap
       versions = versions;
       applications = applications;
     })
-store_empty dynamic_max rep_max versions applications most largest fits = record {
-  paths = tt;
-  own_versions = tt;
-  kept = tt;
-  few = omega arith;
-  most = most;
-  largest = largest;
-  versions = fits;
-}
+store_empty dynamic_max rep_max versions applications most largest fits = search (rules, arith)
 
 -- A resource that is found has the property of stored resources.
 pub found_kept : (s : StoreValue) (path : Path) (now : Representation) → IsStore s
@@ -261,18 +195,20 @@ pub lent_small : (s : StoreValue) (path : Path) (found : Option (Bor lent.Resour
 lent_small s path None is same = tt
 lent_small s path (Some r) is same = stored_small s is path (representation r.now) (sym same)
 
-listable : (versions rep_max : ℕ) (rs : List Resource) → AllByRecursion (IsKept versions rep_max) rs
-    → AllByRecursion CanBeListed rs
-listable versions rep_max rs kept =
-    all_resources_to (IsKept versions rep_max) CanBeListed (λ r is. (is.path, is.format)) rs kept
-
 -- The listing of a store whose application has a short text.
 pub listing_short : (s : StoreValue) (applications : Option ApplicationsValue) → IsStore s
     → length (first_bytes applications) ≤ 16423 → length (listing applications s.resources) ≤ 1048576
 listing_short s applications is short =
-    listing_bound applications s.resources (listable s.versions s.rep_max s.resources is.kept)
+    listing_bound applications s.resources
+    (all_resources_to (IsKept s.versions s.rep_max) CanBeListed (λ r is. (is.path, is.format)) s.resources is.kept)
     (omega (arith, is.few, is.most)) short
 
 pub bare_listing_short : (s : StoreValue) → IsStore s → length (listing None s.resources) ≤ 1048576
 unfolding first_bytes
 bare_listing_short s is = listing_short s None is (omega arith)
+
+pub ruleset store_steps = (entry_short, store_put, bare_listing_short)
+
+pub ruleset replace_steps = (place_within, put_by_index, store_put, bare_listing_short)
+
+pub ruleset delete_at_steps = (place_within, removed_by_index, store_removed)

@@ -1,26 +1,21 @@
 -- The target of a request.
-use Rattle.std.proofs.Common.{◌≡◌, ◌≢◌, ℕ, true, false, [], Option, Some, None, refl, sym, ap, ◌∙◌}
-use Rattle.std.proofs.lemmas.Bool.{cond-false, cond_both, false_from_ne_true, true_from_ne_false, both_ways}
-use Rattle.std.proofs.lemmas.Option.{none-some}
-use Rattle.coap_store.specs.Prelude.{unwrap_or, if◌then◌else◌, Path, same_path, is_path, Representation, StoreValue}
+use Rattle.std.proofs.Common.{◌≡◌, ◌≢◌, ℕ, true, false, [], Option, Some, None, refl, sym, ap, ◌∙◌, arith}
+use Rattle.std.proofs.lemmas.Bool.{false_from_ne_true, true_from_ne_false, both_ways}
+use Rattle.coap_store.specs.Prelude.{if◌then◌else◌, Path, same_path, is_path, Representation, StoreValue}
 use Rattle.coap_store.specs.Prelude.{found_in, key_for, kind_of_path, root_path, time_path, async_path, listing_path}
-use Rattle.coap_store.specs.Prelude.{is_dynamic, state_at, state_of, RequestTarget, target_of, ResourceKind, Root, Time}
-use Rattle.coap_store.specs.Prelude.{Async}
-use Rattle.coap_store.specs.Prelude.{Listing, Dynamic}
+use Rattle.coap_store.specs.Prelude.{is_dynamic, state_at, RequestTarget, target_of, ResourceKind}
+use Rattle.coap_store.specs.Prelude.{Dynamic}
 use Rattle.coap_path.proofs.PathLemmas.{same_path_sound}
+use Rattle.coap_store.proofs.AnswerLaws.{key_is}
 use Rattle.coap_store.proofs.StateLemmas.{own_key}
 
 pub key_is_path : (path p : Path) → Some p ≡ key_for path → p ≡ path
 unfolding key_for
-key_is_path path p e =
-    cond_both (is_path path) (Some path) None (λ k. Some p ≡ k → p ≡ path) (λ yes same. ap (λ k. unwrap_or k p) same)
-    (λ none same. absurd (none-some p (sym same))) e
+key_is_path path p e = sym (key_is path p (sym e)).1
 
 no_key : (path : Path) → None ≡ key_for path → is_path path ≡ false
 unfolding key_for
-no_key path e =
-    cond_both (is_path path) (Some path) None (λ k. None ≡ k → is_path path ≡ false)
-    (λ yes same. absurd (none-some path same)) (λ none same. none) e
+no_key path e = grind arith
 
 -- A list of segments that is no path is not the path of a built-in resource.
 not_same : (path q : Path) → is_path path ≡ false → is_path q ≡ true → same_path path q ≡ false
@@ -48,18 +43,17 @@ pub no_key_elsewhere : (path : Path) → None ≡ key_for path → Dynamic ≡ k
 unfolding kind_of_path
 no_key_elsewhere path e =
     let none = no_key path e in
-    sym
-    (cond-false _ _ _ (not_same path root_path none is_root) ∙ cond-false _ _ _ (not_same path time_path none is_time)
-    ∙ cond-false _ _ _ (not_same path async_path none is_async)
-    ∙ cond-false _ _ _ (not_same path listing_path none is_listing))
+    rw (
+      not_same path root_path none is_root,
+      not_same path time_path none is_time,
+      not_same path async_path none is_async,
+      not_same path listing_path none is_listing,
+    )
 
 -- ---- the presence of a key
 
 pub is_path_by_key : (path p : Path) → Some p ≡ key_for path → is_path path ≡ true
-unfolding key_for
-is_path_by_key path p e =
-    cond_both (is_path path) (Some path) None (λ k. Some p ≡ k → is_path path ≡ true) (λ yes same. yes)
-    (λ none same. absurd (none-some p (sym same))) e
+is_path_by_key path p e = let k = key_is path p (sym e) in rw k.1 k.0
 
 pub without_key : (path : Path) → is_path path ≡ false → key_for path ≡ None
 unfolding key_for
@@ -85,34 +79,26 @@ target_with key place state = record { key = key; place = place; state = state }
 built_state : (s : StoreValue) (now : ℕ) (place : ResourceKind) (key : Option Path) → is_dynamic place ≡ false
     → state_at s now None place ≡ state_at s now key place
 unfolding state_at
-built_state s now Root key built = refl
-built_state s now Time key built = refl
-built_state s now Async key built = refl
-built_state s now Listing key built = refl
 built_state s now Dynamic key built = absurd cc
+built_state s now _ key built = refl
 
 pub built_target : (s : StoreValue) (now : ℕ) (path : Path) (place : ResourceKind) (state : Option Representation)
     → place ≡ kind_of_path path → is_dynamic place ≡ false → state ≡ state_at s now None place
     → target_with (Some path) place state ≡ target_of s now path
 built_target s now path place state is built found =
     let key = own_key path (is_path_by_place path (sym (ap is_dynamic is) ∙ built)) in
-    ap (target_with (Some path) place) (found ∙ built_state s now place (key_for path) built)
-    ∙ ap (λ p. target_with (Some path) p (state_at s now (key_for path) p)) is
-    ∙ ap (λ k. target_with k (kind_of_path path) (state_of s now path)) (sym key)
+    rw (key, ← is, found, built_state s now place (Some path) built)
 
 pub stored_target : (s : StoreValue) (now : ℕ) (path p : Path) (state : Option Representation) → Some p ≡ key_for path
     → kind_of_path path ≡ Dynamic → state ≡ found_in s.resources p
     → target_with (Some path) Dynamic state ≡ target_of s now path
 unfolding state_at
 stored_target s now path p state key place found =
-    let there : key_for path ≡ Some path = own_key path (is_path_by_key path p key) in
-    ap (target_with (Some path) Dynamic) (found ∙ ap (found_in s.resources) (key_is_path path p key))
-    ∙ ap (λ k. target_with k Dynamic (state_at s now k Dynamic)) (sym there)
-    ∙ ap (λ l. target_with (key_for path) l (state_at s now (key_for path) l)) (sym place)
+    rw (own_key path (is_path_by_key path p key), place, found, key_is_path path p key)
 
 pub no_target : (s : StoreValue) (now : ℕ) (path : Path) → None ≡ key_for path → kind_of_path path ≡ Dynamic
     → target_with None Dynamic None ≡ target_of s now path
 unfolding state_at
-no_target s now path none place =
-    ap (λ k. target_with k Dynamic (state_at s now k Dynamic)) none
-    ∙ ap (λ l. target_with (key_for path) l (state_at s now (key_for path) l)) (sym place)
+no_target s now path none place = rw (← none, place)
+
+pub ruleset dynamic_target_steps = (own_key, without_key, stored_target, no_target)

@@ -1,11 +1,13 @@
 -- No version is given twice, over all changes.
-use Rattle.std.proofs.Common.{◌≡◌, ◌≢◌, ◌⊎◌, inl, inr, ℕ, ◌+◌, ◌<◌, ◌≤◌, ◌^◌, true, false, List, [], ◌∷◌, Option, Some}
-use Rattle.std.proofs.Common.{refl, sym, ap, ◌∙◌, arith}
+use Rattle.std.proofs.Common.{◌≡◌, ◌≢◌, ◌⊎◌, inl, inr, ℕ, ◌<◌, ◌≤◌, ◌^◌, List, [], ◌∷◌, Option, Some}
+use Rattle.std.proofs.Common.{sym, ap, ◌∙◌, arith}
+use Rattle.std.proofs.lemmas.Option.{same_Some, none-some}
 use Rattle.coap_wire.proofs.UintLaws.{bytes_are_one}
 use Rattle.coap_store.specs.Prelude.{Path, same_path, Representation, StoreValue, found_in, etag_of, Change, Nothing}
 use Rattle.coap_store.specs.Prelude.{Put, Delete, changed, TakesChange, changed_by, TakesChanges, AreDistinct}
 use Rattle.coap_store.specs.Prelude.{IsStore}
 use Rattle.coap_path.proofs.PathLemmas.{same_path_sound}
+use Rattle.coap_store.proofs.AnswerLaws.{either}
 use Rattle.coap_store.proofs.StoreLemmas.{one_version, found_kept}
 use Rattle.coap_store.proofs.ChangeLaws.{put_is_stored, other_is_kept_on_put, other_is_kept_on_delete, deleted_is_gone}
 use Rattle.coap_store.proofs.ChangeLaws.{distinct_stays, apart_from}
@@ -51,25 +53,18 @@ later_than_itself s is = record {
 
 -- The path is that of the change, or another one.
 pub by_path : {A : Type 0} (q path : Path) → (q ≡ path → A) → (q ≢ path → A) → A
-by_path {A = A} q path same other =
-    elim (same_path q path) as (λ b. same_path q path ≡ b → A) [
-      | true ↦ λ is. same (same_path_sound q path is)
-      | false ↦ λ no. other (λ is. apart_from q path no (sym is))
-    ] refl
+by_path q path same other =
+    either (same_path q path) (λ is. same (same_path_sound q path is))
+    (λ no. other (λ is. apart_from q path no (sym is)))
 
 change_later : (s t : StoreValue) (c : Change) → ComesLater s t → TakesChange t c → ComesLater s (changed t c)
 change_later s t Nothing so takes = so
 change_later s t (Put path format bytes) so takes =
     let n : StoreValue = changed t (Put path format bytes) in
-    let new : (q : Path) (b : Representation) → found_in n.resources q ≡ Some b → q ≡ path
-    → t.versions + 1 ≡ b.version = λ q b found is. (
-    let put = put_is_stored t path format bytes in
-    let here : found_in n.resources path ≡ Some b = ap (found_in n.resources) (sym is) ∙ found in
-    let now : record { version = t.versions + 1; format = format; bytes = bytes } ≡ b = cc in
-    ap (λ (r : Representation). r.version) now) in
-    let old : (q : Path) (b : Representation) → found_in n.resources q ≡ Some b → q ≢ path
-    → found_in t.resources q ≡ Some b =
-    λ q b found apart. sym (other_is_kept_on_put t path q format bytes apart) ∙ found in
+    let new = λ (q : Path) (b : Representation) (found : found_in n.resources q ≡ Some b) (is : q ≡ path).
+    ap (λ r. r.version) (same_Some _ _ (sym (put_is_stored t path format bytes) ∙ rw is at found)) in
+    let old = λ (q : Path) (b : Representation) (found : found_in n.resources q ≡ Some b) (apart : q ≢ path).
+    sym (other_is_kept_on_put t path q format bytes apart) ∙ found in
     record {
       distinct = distinct_stays t (Put path format bytes) so.distinct;
       fits = takes.version_left;
@@ -83,8 +78,7 @@ change_later s t (Delete path) so takes =
     let n : StoreValue = changed t (Delete path) in
     let old : (q : Path) (b : Representation) → found_in n.resources q ≡ Some b → found_in t.resources q ≡ Some b =
     λ q b found. by_path q path
-    (λ is. (let gone = deleted_is_gone t path so.distinct in
-    let here : found_in n.resources path ≡ Some b = ap (found_in n.resources) (sym is) ∙ found in absurd cc))
+    (λ is. absurd (none-some b (sym (deleted_is_gone t path so.distinct) ∙ rw is at found)))
     (λ apart. sym (other_is_kept_on_delete t path q apart) ∙ found) in
     record {
       distinct = distinct_stays t (Delete path) so.distinct;
@@ -117,6 +111,7 @@ pub newer : (s : StoreValue) (path other : Path) (format : Option ℕ) (bytes : 
     → IsStore s → found_in s.resources other ≡ Some old
     → found_in (changed s (Put path format bytes)).resources path ≡ Some new → old.version < new.version
 newer s path other format bytes old new is before after =
-    let put = put_is_stored s path format bytes in
-    let now : record { version = s.versions + 1; format = format; bytes = bytes } ≡ new = cc in
-    omega (arith, (found_kept s other old is before).given, ap (λ (r : Representation). r.version) now)
+    let now = same_Some _ _ (sym (put_is_stored s path format bytes) ∙ after) in
+    omega (arith, (found_kept s other old is before).given, ap (λ r. r.version) now)
+
+pub ruleset versions_come_once_steps = (newer, together, later)

@@ -51,6 +51,7 @@ impl Store {
     /// # Preconditions
     ///
     /// - The plan is new (`Plan::new`).
+    #[tactic(auto, using(crate::proofs::AnswerLemmas::fill_plan_steps))]
     pub fn fill_plan<'s, 'r>(
         &'s self,
         request: &MessageRef<'r>,
@@ -109,6 +110,7 @@ impl Store {
     }
 
     /// Returns the target of a request, with the state of its path at the time `now`.
+    #[tactic(auto, using(crate::proofs::TargetLemmas::is_path_by_place, crate::proofs::TargetLemmas::built_target))]
     fn target(&self, parsed: &ParsedRequest, now: u64) -> RequestTarget<'_>
         ensures value { target_value parsed.now result ≡ target_of self.now now (path_of parsed.now) }
         ensures path { result.is_path ≡ is_path (path_of parsed.now) }
@@ -130,6 +132,7 @@ impl Store {
     /// Returns the target of a request whose path is not that of a built-in resource.
     // Always inlined: the large key is cleared only where this is reached, and the result is not moved.
     #[inline(always)]
+    #[tactic(auto, using(crate::proofs::TargetLemmas::dynamic_target_steps))]
     fn dynamic_target(&self, parsed: &ParsedRequest) -> RequestTarget<'_>
         requires { kind_of_path (path_of parsed.now) ≡ Dynamic }
         ensures value { (now : ℕ) → target_value parsed.now result ≡ target_of self.now now (path_of parsed.now) }
@@ -300,7 +303,7 @@ fn read<'s, 'r>(parsed: &ParsedRequest<'_, 'r>, target: RequestTarget<'s>, plan:
 
 /// Fills a new plan with that for GET of a resource that exists. For `/async`, the first Uri-Query has the delay of the
 /// response in seconds, and the default is 5.
-#[tactic(auto, unfolding(crate::specs::Answer::get_answer))]
+#[tactic(auto, using(crate::proofs::GetLemmas::get_steps), unfolding(crate::specs::Answer::get_answer))]
 fn get<'s, 'r>(
     parsed: &ParsedRequest<'_, 'r>,
     place: ResourceKind,

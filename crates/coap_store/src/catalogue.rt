@@ -43,6 +43,7 @@ impl Model for Catalogue {
 
 impl Catalogue {
     /// Creates a catalogue without created resources and without an application.
+    #[tactic(auto, using(crate::proofs::CatalogueLemmas::new_steps), unfolding(crate::specs::Texts::joined, crate::specs::Links::first_bytes))]
     pub(crate) fn new(alloc: Global) -> Result<Catalogue, AllocError>
         ensures { IfOk result (λ c. c ≡ record { applications = None; resources = [] }) }
     {
@@ -57,6 +58,7 @@ impl Catalogue {
     }
 
     /// Sets the entries of the application. Their text follows that of the built-in resources in the listing.
+    #[tactic(auto, using(crate::proofs::ListingLemmas::set_applications_steps))]
     pub(crate) fn set_applications(&mut self, applications: Applications) -> Result<(), AllocError>
         requires { length (listing_of None self.old.resources) ≤ LARGEST_MESSAGE }
         ensures { OnOk result (self.new ≡ record self.old { applications = Some applications }) }
@@ -85,6 +87,7 @@ impl Catalogue {
         let _read = self.alloc;
     }
 
+    #[tactic(auto, using(crate::proofs::CatalogueLemmas::count_resources))]
     pub(crate) fn len(&self) -> usize
         ensures { result ≡ length self.now.resources }
     {
@@ -92,6 +95,7 @@ impl Catalogue {
     }
 
     /// Returns the resource at a path.
+    #[tactic(auto, using(crate::proofs::CatalogueLemmas::resources_are))]
     pub(crate) fn get(&self, path: &PathKey) -> Option<&Resource>
         ensures { option_map (λ r. representation r.now) result ≡ found_in self.now.resources path.now }
     {
@@ -101,6 +105,7 @@ impl Catalogue {
     /// Returns the resource at a path, and its index.
     // Always inlined: a call saves and restores registers, and its result is in memory.
     #[inline(always)]
+    #[tactic(auto, using(crate::proofs::CatalogueLemmas::resources_are, crate::proofs::CatalogueLemmas::found_place))]
     pub(crate) fn find(&self, path: &PathKey) -> Option<(usize, &Resource)>
         ensures value { option_map (λ r. representation r.1.now) result ≡ found_in self.now.resources path.now }
         ensures index { IfSome result (λ r. IsFoundAt self.now.resources path.now r.0) }
@@ -113,6 +118,7 @@ impl Catalogue {
 
     /// Returns the resource at a path, and its index. First compares the path of the resource with the index `near`,
     /// and searches only if it is another one.
+    #[tactic(auto, using(crate::proofs::CatalogueLemmas::resources_are))]
     pub(crate) fn find_near(&self, path: &PathKey, near: usize) -> Option<(usize, &Resource)>
         ensures { option_map (λ r. representation r.1.now) result ≡ found_in self.now.resources path.now }
     {
@@ -125,6 +131,7 @@ impl Catalogue {
     }
 
     /// Returns the bytes of `/.well-known/core` (RFC 6690).
+    #[tactic(auto, using(crate::proofs::ListingLemmas::texts_joined))]
     pub(crate) fn listing(&self) -> &[u8]
         ensures { result.now ≡ listing_of self.now.applications self.now.resources }
     {
@@ -133,6 +140,7 @@ impl Catalogue {
 
     /// Stores a representation. A new resource goes last, and a present one keeps its place. If allocation fails, the
     /// resources are unchanged.
+    #[tactic(auto, using(crate::proofs::CatalogueLemmas::put_steps))]
     pub(crate) fn put(
         &mut self,
         path: PathKey,
@@ -167,6 +175,7 @@ impl Catalogue {
     }
 
     /// Stores a representation at the resource with this index. If allocation fails, the resources are unchanged.
+    #[tactic(auto, using(crate::proofs::CatalogueLemmas::replace_steps))]
     pub(crate) fn replace(
         &mut self,
         index: usize,
@@ -191,6 +200,7 @@ impl Catalogue {
     }
 
     /// Removes the resource with this index; the others keep their order. Moves the later part of the listing once.
+    #[tactic(auto, using(crate::proofs::CatalogueLemmas::remove_at_steps))]
     pub(crate) fn remove_at(&mut self, index: usize)
         requires { index < length self.old.resources }
         ensures { self.new ≡ record self.old { resources = remove self.old.resources index } }
@@ -200,6 +210,7 @@ impl Catalogue {
     }
 
     /// Removes a resource; the others keep their order. Moves the later part of the listing once.
+    #[tactic(auto, using(crate::proofs::CatalogueLemmas::remove_steps))]
     pub(crate) fn remove(&mut self, path: &PathKey)
         ensures { self.new ≡ record self.old { resources = removed_at self.old.resources path.now } }
     {
@@ -212,6 +223,7 @@ impl Catalogue {
 }
 
 /// Adds a resource that is absent, and its text. Memory is reserved first, so the insertion cannot fail.
+#[tactic(auto, using(crate::proofs::CatalogueLemmas::create_steps))]
 fn create(
     resources: &mut Resources,
     listing: &mut Listing,
@@ -239,6 +251,7 @@ fn create(
 }
 
 /// Replaces the resource at an index. Replaces the end of its text if the Content-Format changes.
+#[tactic(auto, using(crate::proofs::CatalogueLemmas::replace_text_steps))]
 fn replace(
     resources: &mut Resources,
     listing: &mut Listing,

@@ -17,6 +17,7 @@ use coap_path::PathKey;
 
 /// States that a store changes if and only if the response is 2.01, 2.04, or 2.02 for a resource that existed (RFC 7252
 /// section 5.9.1).
+#[tactic(auto, using(crate::proofs::ChangeLaws::said, crate::proofs::ChangeLaws::not_said))]
 pub fn only_success_changes_store()
     ensures said { (s : StoreValue) (now : ℕ) (m : Message) →
         IsTrue (says_change (answer_of s now m).response (state_of s now (path_of m))) →
@@ -27,6 +28,7 @@ pub fn only_success_changes_store()
 {}
 
 /// States the same as `only_success_changes_store` for a full pending list, which allows no delayed response.
+#[tactic(auto, using(crate::proofs::ChangeLaws::said_promptly, crate::proofs::ChangeLaws::not_said_promptly))]
 pub fn only_immediate_success_changes_store()
     ensures said { (s : StoreValue) (now : ℕ) (m : Message) →
         IsTrue (says_change (immediate_answer s now m).response (state_of s now (path_of m))) →
@@ -37,6 +39,7 @@ pub fn only_immediate_success_changes_store()
 {}
 
 /// States that a representation put at a path is found there, with the next version.
+#[tactic(auto, using(crate::proofs::ChangeLaws::put_is_stored))]
 pub fn what_is_put_is_found()
     ensures { (s : StoreValue) (path : Path) (format : Option ℕ) (bytes : List ℕ) →
         found_in (changed s (Put path format bytes)).resources path
@@ -44,12 +47,14 @@ pub fn what_is_put_is_found()
 {}
 
 /// States that nothing is found at a path after its deletion, if no path occurs twice.
+#[tactic(auto, using(crate::proofs::ChangeLaws::deleted_is_gone))]
 pub fn what_is_deleted_is_gone()
     ensures { (s : StoreValue) (path : Path) → AreDistinct s.resources →
         found_in (changed s (Delete path)).resources path ≡ None }
 {}
 
 /// States that a change keeps the representations at other paths.
+#[tactic(auto, using(crate::proofs::ChangeLaws::other_paths_stay_steps))]
 pub fn other_paths_stay()
     ensures put { (s : StoreValue) (path other : Path) (format : Option ℕ) (bytes : List ℕ) → other ≢ path →
         found_in (changed s (Put path format bytes)).resources other ≡ found_in s.resources other }
@@ -58,6 +63,7 @@ pub fn other_paths_stay()
 {}
 
 /// States that no path ever occurs twice.
+#[tactic(auto, using(crate::proofs::ChangeLaws::distinct_stays))]
 pub fn paths_stay_distinct()
     ensures begun { AreDistinct [] }
     ensures changed { (s : StoreValue) (change : Change) → AreDistinct s.resources →
@@ -66,6 +72,7 @@ pub fn paths_stay_distinct()
 
 /// States that an empty store has the invariant of a store. Each change that the store accepts keeps the invariant, if
 /// a Content-Format in it is a 16-bit number.
+#[tactic(auto, using(crate::proofs::StoreLemmas::store_empty, crate::proofs::StoreLemmas::store_changed))]
 pub fn changes_keep_store_invariant()
     ensures empty { (dynamic_max rep_max versions : ℕ) (applications : Option ApplicationsValue) → dynamic_max ≤ 1000 →
         rep_max ≤ LARGEST_MESSAGE → versions < 2 ^ 64 → IsStore (record {
@@ -81,6 +88,7 @@ pub fn changes_keep_store_invariant()
 
 /// States that a new representation has a larger version than each stored one. So all present and later representations
 /// with one ETag are the same representation of the same path (RFC 7252 section 5.10.6).
+#[tactic(auto, using(crate::proofs::VersionLaws::versions_come_once_steps))]
 pub fn versions_come_once()
     ensures newer { (s : StoreValue) (path other : Path) (format : Option ℕ) (bytes : List ℕ) (old new : Representation)
         →
@@ -96,12 +104,14 @@ pub fn versions_come_once()
 {}
 
 /// States that a GET changes nothing (RFC 7252 section 5.8.1).
+#[tactic(auto, using(crate::proofs::ServingLaws::get_keeps))]
 pub fn get_changes_nothing()
     ensures { (s : StoreValue) (now : ℕ) (m : Message) → IsTrue (is_get m) → (answer_of s now m).change ≡ Nothing }
 {}
 
 /// States that a 2.05 has the bytes, the format and the ETag, if any, of the path's state (RFC 7252 sections 5.9.1.5,
 /// 5.10.6). A 2.03 has the ETag (section 5.9.1.3).
+#[tactic(auto, using(crate::proofs::ServingLaws::content_reports, crate::proofs::ServingLaws::valid_reports))]
 pub fn responses_report_state()
     ensures content { (s : StoreValue) (now : ℕ) (m : Message) → (answer_of s now m).response.code ≡ code.content →
         ReportsState (kind_of_path (path_of m)) (state_of s now (path_of m)) (answer_of s now m).response }
@@ -111,6 +121,7 @@ pub fn responses_report_state()
 
 /// States that a GET with no option but Uri-Path returns a stored representation with 2.05 (RFC 7252 section 5.8.1).
 /// After a 2.01 or 2.04, this is the payload of that request, with its Content-Format and the ETag of a new version.
+#[tactic(auto, using(crate::proofs::ServingLaws::stored_is_served, crate::proofs::ServingLaws::put_is_served))]
 pub fn what_is_stored_is_served()
     ensures stored { (s : StoreValue) (now : ℕ) (token : List ℕ) (path : Path) (r : Representation) →
         IsTrue (is_path path) → kind_of_path path ≡ Dynamic → found_in s.resources path ≡ Some r →
@@ -122,6 +133,7 @@ pub fn what_is_stored_is_served()
 {}
 
 /// States that a change keeps the state of every other path except the listing. A request changes only its own path.
+#[tactic(auto, using(crate::proofs::ServingLaws::state_elsewhere, crate::proofs::ServingLaws::others_stay))]
 pub fn other_states_stay()
     ensures change { (s : StoreValue) (change : Change) (now : ℕ) (other : Path) → kind_of_path other ≢ Listing →
         IsElsewhere other change → state_of (changed s change) now other ≡ state_of s now other }
@@ -135,6 +147,7 @@ pub fn keys_are_equal_where_their_segments_are()
 {}
 
 /// States that a `put` without an error, and every `remove`, keep the invariant of a store.
+#[tactic(auto, using(crate::proofs::StoreLemmas::store_removed, crate::proofs::RefusalLemmas::put_keeps))]
 pub fn puts_and_removals_keep_stores()
     ensures put { (s : StoreValue) (path : Path) (format : Option ℕ) (bytes : List ℕ) → IsStore s →
         IsTrue (is_path path) → put_refusal s path bytes ≡ None → IfSome format (λ number. number < 65536) →
@@ -144,6 +157,7 @@ pub fn puts_and_removals_keep_stores()
 
 /// States that a representation put by the embedding program is the state of its path at all times, with the next
 /// version. A removed path is absent. All other paths keep their state, except for the listing.
+#[tactic(auto, using(crate::proofs::ServingLaws::what_is_put_is_the_state_steps))]
 pub fn what_is_put_is_the_state()
     ensures put { (s : StoreValue) (now : ℕ) (path : Path) (format : Option ℕ) (bytes : List ℕ) →
         IsTrue (is_path path) → kind_of_path path ≡ Dynamic →
@@ -160,6 +174,7 @@ pub fn what_is_put_is_the_state()
 
 /// States that a version identifies a representation, so a caller can record the version alone. Stored representations
 /// satisfy `WasStored`, changes keep this, and a stored one with the same version is the same, at the same path.
+#[tactic(auto, using(crate::proofs::RememberingLaws::is_stored, crate::proofs::RememberingLaws::was_stored))]
 pub fn versions_identify_representations()
     ensures stored { (s : StoreValue) (path : Path) (sent : Representation) → IsStore s →
         found_in s.resources path ≡ Some sent → WasStored s path sent }
@@ -171,6 +186,7 @@ pub fn versions_identify_representations()
 
 /// States that a 2.05 notification has the state of its path, in the format of earlier ones (RFC 7641 section 4.2). For
 /// a created resource it equals the response to a GET with no option but Uri-Path.
+#[tactic(auto, using(crate::proofs::NotificationLaws::notifications_report_state_steps))]
 pub fn notifications_report_state()
     ensures content { (s : StoreValue) (now : ℕ) (path : Path) (format : Option ℕ) →
         (notification_of s now path format).code ≡ code.content →
@@ -184,6 +200,7 @@ pub fn notifications_report_state()
 
 /// States that a request that registers an observer (RFC 7641 section 4.1) names an existing, observable resource. It
 /// changes nothing, and its response is 2.05 or 2.03.
+#[tactic(auto, using(crate::proofs::WatchLaws::watched_is_there, crate::proofs::WatchLaws::promptly_watched_is_there))]
 pub fn what_is_watched_is_there()
     ensures watched { (s : StoreValue) (now : ℕ) (m : Message) → (answer_of s now m).watch ≡ Add →
         MayObserve s now (path_of m) (answer_of s now m) }
@@ -193,6 +210,7 @@ pub fn what_is_watched_is_there()
 
 /// States that only a response to a GET of `/async` is delayed, by at most 3,600 seconds, and is always the same. Such
 /// a GET changes nothing and registers no observer. If the pending list is full, the response is 5.03.
+#[tactic(auto, using(crate::proofs::HoldLaws::delayed_response_is_constant_steps))]
 pub fn delayed_response_is_constant()
     ensures delayed { (s : StoreValue) (now : ℕ) (m : Message) (seconds : ℕ) → (answer_of s now m).hold ≡ Some seconds →
         IsTrue (is_delayed m) × ((answer_of s now m).response ≡ delayed_response)

@@ -27,6 +27,7 @@ pub const ESCAPED: AsciiSet = ascii_set!(
 );
 
 /// Appends a slash and the escaped segment (RFC 3986 section 2.1).
+#[tactic(auto, using(crate::proofs::EscapeLemmas::segment_is))]
 fn push_segment(text: &mut String, segment: &[u8]) -> Result<(), AllocError>
     ensures { OnOk result (string_bytes text.new ≡ string_bytes text.old ++
         (slash ∷ flat_map encoded_byte segment.now)) }
@@ -93,6 +94,7 @@ fn target_text(alloc: Global, path: &PathKey) -> Result<String, AllocError>
 }
 
 /// Returns the text of the built-in resources and of the application, with which the listing begins.
+#[tactic(auto, using(crate::proofs::LinkLemmas::first_text_steps), unfolding(crate::specs::Links::first_bytes))]
 pub fn first_text(alloc: Global, applications: &Applications) -> Result<Vec<u8>, AllocError>
     ensures text { IfOk result (λ text. text.items ≡ first_bytes (Some applications.now)) }
     ensures short { IfOk result (λ text. length text.items ≤ 16423) }
@@ -106,6 +108,7 @@ pub fn first_text(alloc: Global, applications: &Applications) -> Result<Vec<u8>,
 }
 
 /// Appends the text of an entry of the application.
+#[tactic(auto, using(crate::proofs::LinkLemmas::push_link_steps))]
 fn push_link(alloc: Global, text: &mut Vec<u8>, entry: &ApplicationEntry) -> Result<(), AllocError>
     ensures { OnOk result (text.new.items ≡ text.old.items ++ link_bytes entry.now) }
 {

@@ -32,6 +32,7 @@ impl Model for Listing {
 
 impl Listing {
     /// Creates a listing without entries, and allocates nothing.
+    #[tactic(auto, unfolding(crate::specs::Texts::split_by))]
     pub fn new(alloc: Global) -> Listing
         ensures { result ≡ [] }
     {
@@ -42,6 +43,7 @@ impl Listing {
     }
 
     /// Returns the entries, one after the other.
+    #[tactic(auto, using(crate::proofs::EntryLemmas::joined_split))]
     pub fn text(&self) -> &[u8]
         ensures { result.now ≡ joined self.now }
     {
@@ -57,6 +59,7 @@ impl Listing {
     /// # Preconditions
     ///
     /// - The text stays shorter than 4 GiB.
+    #[tactic(auto, using(crate::proofs::EntryLemmas::append_steps))]
     pub fn append(&mut self, entry: &[u8]) -> Result<(), AllocError>
         requires { length (joined self.old) + length entry.now < 2 ^ 32 }
         ensures ok { OnOk result (self.new ≡ self.old ++ entry.now ∷ []) }
@@ -78,6 +81,7 @@ impl Listing {
     ///
     /// - The entry exists and has `count` bytes.
     /// - The text stays shorter than 4 GiB.
+    #[tactic(auto, using(crate::proofs::EntryLemmas::replace_end_steps))]
     pub fn replace_end(&mut self, index: usize, count: usize, end: &[u8]) -> Result<(), AllocError>
         requires exists { index < length self.old }
         requires within { count ≤ length (slice_index_or self.old index []) }
@@ -103,6 +107,7 @@ impl Listing {
     ///
     /// - The entry exists.
     /// - The text stays shorter than 4 GiB.
+    #[tactic(auto, using(crate::proofs::EntryLemmas::counted, crate::proofs::EntryLemmas::length_at))]
     pub fn replace(&mut self, index: usize, entry: &[u8]) -> Result<(), AllocError>
         requires exists { index < length self.old }
         requires short { length (joined self.old) + length entry.now < 2 ^ 32 }
@@ -118,6 +123,7 @@ impl Listing {
     /// # Preconditions
     ///
     /// - The entry exists.
+    #[tactic(auto, using(crate::proofs::EntryLemmas::remove_steps))]
     pub fn remove(&mut self, index: usize)
         requires { index < length self.old }
         ensures { self.new ≡ remove self.old index }

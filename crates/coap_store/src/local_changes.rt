@@ -21,6 +21,7 @@ impl Store {
     /// - `Limit`: the path is absent, and the limit of created resources is reached.
     /// - `VersionsSpent`: no version is left.
     /// - `Memory`: allocation failed.
+    #[tactic(auto, using(crate::proofs::RefusalLemmas::takes_put), unfolding(crate::specs::Refusals::put_refusal))]
     pub fn put(
         &mut self,
         path: &PathKey,
@@ -47,6 +48,7 @@ impl Store {
     /// # Errors
     ///
     /// - `NoSuch`: the path is absent or that of a built-in resource. The store is unchanged.
+    #[tactic(auto, using(crate::proofs::RefusalLemmas::remove_absent, crate::proofs::RefusalLemmas::remove_present))]
     pub fn remove(&mut self, path: &PathKey) -> Result<(), StoreFault>
         ensures answer { RefusedBy result (remove_refusal self.old path.now) }
         ensures ok { OnOk result (self.new ≡ removed_in self.old path.now) }
@@ -62,6 +64,7 @@ impl Store {
     }
 
     /// Returns `true` if `remove` would succeed at a path. The call allocates nothing.
+    #[tactic(auto, using(crate::proofs::RefusalLemmas::removal_reported))]
     pub fn can_remove(&self, path: &PathKey) -> bool
         ensures { result ≡ is_none (remove_refusal self.now path.now) }
     {

@@ -28,6 +28,7 @@ pub(crate) fn move_up(bytes: &mut Vec<u8>, at: usize, end: usize, gap: usize)
 
 /// Moves the bytes from `at` to `end` up by `gap`, which is a constant in each case.
 #[inline(always)]
+#[tactic(auto, using(crate::proofs::MoveLemmas::shift_steps))]
 fn shift_up(bytes: &mut Vec<u8>, at: usize, end: usize, gap: usize)
     requires order { at ≤ end }
     requires within { end + gap ≤ length bytes.old.items }
@@ -38,6 +39,7 @@ fn shift_up(bytes: &mut Vec<u8>, at: usize, end: usize, gap: usize)
 
 /// Moves the bytes from `at + gap` to `end + gap` down by `gap`, which is a constant in each case.
 #[inline(always)]
+#[tactic(auto, using(crate::proofs::MoveLemmas::shift_steps))]
 fn shift_down(bytes: &mut Vec<u8>, at: usize, end: usize, gap: usize)
     requires order { at ≤ end }
     requires within { end + gap ≤ length bytes.old.items }

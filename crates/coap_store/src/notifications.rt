@@ -55,6 +55,7 @@ impl Store {
     /// # Preconditions
     ///
     /// - The plan is new (`Plan::new`), and the kind is that of the path.
+    #[tactic(auto, using(crate::proofs::StateLemmas::state_by_key), unfolding(crate::specs::Notifications::notification_at))]
     pub fn fill_notification<'s, 'r>(
         &'s self,
         observed: ObservedPath<'_>,
@@ -85,6 +86,7 @@ impl Store {
 
     /// Returns the representation of a resource at the time `now`, if it exists, and its index, which is 0 if
     /// it is built in.
+    #[tactic(auto, using(crate::proofs::AnswerLaws::state_dynamic))]
     fn found_near(
         &self,
         observed: ObservedPath<'_>,

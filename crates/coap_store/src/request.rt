@@ -40,6 +40,7 @@ impl<'q, 'r> Model for ParsedRequest<'q, 'r> {
 // Never inlined, so that the fields of `known` stay in memory: an inlined loop would keep each in a
 // register or reload it.
 #[inline(never)]
+#[tactic(auto, using(crate::proofs::CheckedLemmas::recognised_of_all, crate::proofs::CheckedLemmas::bad_of_all))]
 fn scan_options<'r>(request: &MessageRef<'r>, known: &mut RequestOptions<'r>) -> bool
     requires { options_value known.old ≡ nothing }
     ensures known { options_value known.new ≡ all_noted nothing (known_options request.now.options) }
@@ -149,6 +150,7 @@ impl<'q, 'r> ParsedRequest<'q, 'r> {
     }
 
     /// Returns the Content-Format of the payload (RFC 7252 section 5.10.3).
+    #[tactic(auto, using(crate::proofs::RequestLemmas::number_steps))]
     pub(crate) fn content_format(&self) -> Option<u16>
         ensures { result ≡ spec.number_of numbers.content_format self.now }
     {
@@ -157,6 +159,7 @@ impl<'q, 'r> ParsedRequest<'q, 'r> {
     }
 
     /// Returns the Content-Format in Accept (RFC 7252 section 5.10.4).
+    #[tactic(auto, using(crate::proofs::RequestLemmas::number_steps))]
     pub(crate) fn accept(&self) -> Option<u16>
         ensures { result ≡ spec.number_of numbers.accept self.now }
     {
@@ -165,6 +168,7 @@ impl<'q, 'r> ParsedRequest<'q, 'r> {
     }
 
     /// Returns the number in Observe (RFC 7641 section 2).
+    #[tactic(auto, using(crate::proofs::RequestLemmas::observe_steps))]
     pub(crate) fn observe(&self) -> Option<u32>
         ensures { result ≡ spec.number_of numbers.observe self.now }
     {
@@ -198,6 +202,7 @@ impl<'q, 'r> ParsedRequest<'q, 'r> {
 
     /// Returns `true` if the request has no If-Match. Otherwise the resource must exist, and a value of If-Match must
     /// be empty or the ETag of its version (RFC 7252 section 5.10.8.1).
+    #[tactic(auto, using(crate::proofs::RequestLemmas::match_holds_steps))]
     pub(crate) fn match_holds(&self, version: Option<u64>) -> bool
         ensures { (state : Option Representation) → version ≡ option_map (λ r. r.version) state →
             result ≡ spec.match_holds state self.now }
@@ -222,6 +227,7 @@ impl<'q, 'r> ParsedRequest<'q, 'r> {
     }
 
     /// Returns `true` if the request has this ETag (RFC 7252 section 5.10.6.2).
+    #[tactic(auto, using(crate::proofs::RequestLemmas::value_passes, crate::proofs::RequestLemmas::none_passes))]
     pub(crate) fn has_etag(&self, etag: &[u8]) -> bool
         ensures { result ≡ list_any (λ value. same_bytes value etag.now) (spec.values_of numbers.etag self.now) }
     {
@@ -244,6 +250,7 @@ const MAX_SECONDS: u16 = 3600;
 const USUAL_SECONDS: u32 = 5;
 
 /// Returns the number of seconds in 1 to 4 decimal digits, or `None` for a number above 3,600 or for other bytes.
+#[tactic(auto, using(crate::proofs::RequestLemmas::seconds_in_steps))]
 fn seconds_in(bytes: &[u8]) -> Option<u16>
     ensures good { is_some result ≡ spec.is_seconds bytes.now }
     ensures value { IfSome result (λ seconds. seconds ≡ digits_mean bytes.now) }

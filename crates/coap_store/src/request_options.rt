@@ -55,7 +55,7 @@ impl<'r> RequestOptions<'r> {
     }
 
     /// Adds the next recognised option.
-    #[tactic(auto, unfolding(crate::specs::OptionScan::options_after))]
+    #[tactic(auto, using(crate::proofs::OptionScanLemmas::note_steps), unfolding(crate::specs::OptionScan::options_after))]
     pub(crate) fn note(&mut self, option: &OptionRef<'r>)
         ensures { options_value self.new ≡ options_after (options_value self.old) (coap_option option.now) }
     {

@@ -62,6 +62,7 @@ impl<'s> Present<'s> {
 
 impl Store {
     /// Returns the state of a path, built-in or not, at the time `now` in seconds. The call allocates nothing.
+    #[tactic(auto, using(crate::proofs::StateLemmas::state_by_key))]
     pub fn state(&self, path: &PathKey, now: u64) -> State<'_>
         ensures { state_value result ≡ state_of self.now now path.now }
     {

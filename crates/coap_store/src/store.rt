@@ -102,6 +102,7 @@ impl Store {
     /// # Errors
     ///
     /// - `AllocError`: allocation for the links failed.
+    #[tactic(auto, using(crate::proofs::StoreLemmas::bare_listing_short))]
     pub fn with_applications(self, applications: Applications) -> Result<Store, AllocError>
         ensures value { IfOk result (λ s. s ≡ record self { applications = Some applications }) }
         ensures store { IfOk result IsStore }
@@ -185,6 +186,7 @@ impl Store {
     ///
     /// - The store accepts the change, and the index is that of its resource. This is the case if `fill_plan` returned
     ///   both and the store has not changed since.
+    #[tactic(auto, using(crate::proofs::StoreLemmas::found_is_path))]
     pub fn apply_at(
         &mut self,
         change: &PlannedChange,
@@ -218,6 +220,7 @@ impl Store {
     }
 
     /// Returns the created resource at a path.
+    #[tactic(auto, using(crate::proofs::StoreLemmas::lent_small))]
     pub(crate) fn find(&self, path: &PathKey) -> Option<&Resource>
         ensures value { option_map (λ r. representation r.now) result ≡ found_in self.now.resources path.now }
         ensures small { IfSome result (λ r. length r.now.bytes.items ≤ LARGEST_MESSAGE) }
@@ -251,6 +254,7 @@ impl Store {
     }
 
     /// Returns the representation of `/.well-known/core` (RFC 6690).
+    #[tactic(auto, using(crate::proofs::StoreLemmas::listing_short))]
     pub(crate) fn listing(&self) -> &[u8]
         ensures value { result.now ≡ listing_of self.now.applications self.now.resources }
         ensures short { length result.now ≤ LARGEST_MESSAGE }
@@ -289,6 +293,7 @@ impl Store {
     }
 
     /// Reads the store, which gives its invariant to the proof of a caller. Does nothing else.
+    #[tactic(auto, using(crate::proofs::StoreLemmas::listing_short))]
     pub(crate) fn is_kept(&self)
         ensures store { IsStore self.now }
         ensures listed { length (listing_of self.now.applications self.now.resources) ≤ LARGEST_MESSAGE }
@@ -312,6 +317,7 @@ impl Store {
     }
 
     /// Stores a representation with the next version. If allocation fails, the store is unchanged.
+    #[tactic(auto, using(crate::proofs::StoreLemmas::store_steps))]
     pub(crate) fn store(
         &mut self,
         path: PathKey,
@@ -331,6 +337,7 @@ impl Store {
 
     /// Stores a representation with the next version at the path in a request, whose resource has this index. If
     /// allocation fails, the store is unchanged.
+    #[tactic(auto, using(crate::proofs::StoreLemmas::replace_steps))]
     fn replace(
         &mut self,
         _body: &Body,
@@ -351,6 +358,7 @@ impl Store {
     }
 
     /// Removes the resource at the path in a request, which has this index.
+    #[tactic(auto, using(crate::proofs::StoreLemmas::delete_at_steps))]
     fn delete_at(&mut self, _body: &Body, index: usize)
         requires { IsFoundAt self.old.resources (body_path _body.now) index }
         ensures removed { self.new ≡ removed_in self.old (body_path _body.now) }
@@ -360,6 +368,7 @@ impl Store {
     }
 
     /// Removes the resource at a path, if there is one.
+    #[tactic(auto, using(crate::proofs::StoreLemmas::store_removed))]
     pub(crate) fn delete(&mut self, path: &PathKey)
         ensures removed { self.new ≡ removed_in self.old path.now }
         ensures store { IsStore self.new }

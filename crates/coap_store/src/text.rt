@@ -61,6 +61,7 @@ impl Text {
     }
 
     /// Replaces `gone` bytes at `at` by others. If allocation fails, the text is unchanged.
+    #[tactic(auto, using(crate::proofs::MoveLemmas::replace_steps))]
     pub(crate) fn replace(&mut self, at: usize, gone: usize, new: &[u8]) -> Result<(), AllocError>
         requires within { at + gone ≤ length self.old }
         requires short { length self.old + length new.now < 2 ^ 62 }
@@ -93,6 +94,7 @@ impl Text {
     }
 
     /// Removes `gap` bytes at `at`. Allocates nothing.
+    #[tactic(auto, using(crate::proofs::MoveLemmas::closed_gap, std::proofs::lemmas::Grind::common_steps))]
     pub(crate) fn remove(&mut self, at: usize, gap: usize)
         requires { at + gap ≤ length self.old }
         ensures { self.new ≡ take at self.old ++ drop (at + gap) self.old }
@@ -108,6 +110,7 @@ impl Text {
     }
 
     /// Inserts `gap` unspecified bytes at `at`. If allocation fails, the text is unchanged.
+    #[tactic(auto, using(crate::proofs::MoveLemmas::front_of, crate::proofs::MoveLemmas::opened_gap))]
     fn insert(&mut self, at: usize, gap: usize) -> Result<(), AllocError>
         requires within { at ≤ length self.old }
         requires short { length self.old + gap < 2 ^ 62 }

@@ -1,8 +1,8 @@
 use Rattle.std.proofs.Common.{length, get_or, [], sym, ap, ◌∙◌, arith}
-use Rattle.coap_store.specs.Prelude.{joined, resources_in, head_of, texts_of, end_bytes}
+use Rattle.coap_store.specs.Prelude.{resources_in, head_of, texts_of, end_bytes}
 use Rattle.coap_store.proofs.CatalogueLemmas.{equal_format}
 use Rattle.coap_store.proofs.LinkLemmas.{end_within}
-use Rattle.coap_store.proofs.ListingLemmas.{entry_of, text_at, texts_kept, texts_changed, texts_length, texts_count}
+use Rattle.coap_store.proofs.ListingLemmas.{entry_of, text_at, texts_kept}
 use Rattle.coap_store.proofs.catalogue.replace.Goals as goal
 
 pub returns-then-eq-clause-listed : goal.returns-then-eq-clause-listed
@@ -14,16 +14,6 @@ returns-then-eq-clause-listed c =
     ∙ sym (texts_kept (head_of c.args.listing.now) entries c.args.index found.0 c.args.resource found.1 same)
     ∙ ap (λ es. texts_of (head_of c.args.listing.now) (resources_in es)) (sym c.write_at.ensures)
 
-pub replace_end-requires-clause-exists : goal.replace_end-requires-clause-exists
-replace_end-requires-clause-exists c =
-    omega (
-      arith,
-      c.requires.within,
-      c.text_index-text.ensures,
-      ap length c.requires.listed,
-      texts_count (head_of c.args.listing.now) c.args.resources.now.entries,
-    )
-
 pub replace_end-requires-clause-within : goal.replace_end-requires-clause-within
 replace_end-requires-clause-within c =
     let entries = c.args.resources.now.entries in
@@ -32,26 +22,3 @@ replace_end-requires-clause-within c =
     ∙ text_at (head_of c.args.listing.now) entries c.args.index found.0 found.1 in
     let count = c.len.ensures.value ∙ ap length c.entry_end.ensures ∙ ap (λ f. length (end_bytes f)) found.2 in
     omega (arith, count, ap length text, end_within found.0.0 found.0.1.format)
-
-pub replace_end-requires-clause-short : goal.replace_end-requires-clause-short
-replace_end-requires-clause-short c =
-    omega (
-      arith,
-      c.requires.short,
-      c.requires.first,
-      c.as_str.ensures.fits,
-      ap length c.as_bytes.ensures.value,
-      ap (λ es. length (joined es)) c.requires.listed,
-      texts_length (head_of c.args.listing.now) (resources_in c.args.resources.now.entries),
-    )
-
-pub returns-clause-listed : goal.returns-clause-listed
-returns-clause-listed c =
-    let entries = c.args.resources.now.entries in
-    let found = entry_of entries c.args.index c.format_at-old.result c.format_at-old.ensures in
-    let count = c.len.ensures.value ∙ ap length c.entry_end.ensures ∙ ap (λ f. length (end_bytes f)) found.2 in
-    let end = c.as_bytes.ensures.value ∙ c.as_str.ensures.value ∙ c.entry_end-end.ensures in
-    c.in_ok-replace_end.ensures.ok
-    ∙ texts_changed (head_of c.args.listing.now) entries c.args.index found.0 c.args.resource _ _ _ _ found.1
-    c.requires.listed c.text_index-text.ensures count end
-    ∙ ap (λ es. texts_of (head_of c.args.listing.now) (resources_in es)) (sym c.write_at-2.ensures)

@@ -1,13 +1,6 @@
 use Rattle.coap_store.specs.Prelude.{Put, Delete}
 use Rattle.coap_store.proofs.ServingLaws.{state_elsewhere}
-use Rattle.coap_store.proofs.StateLemmas.{state_put, state_removed}
 use Rattle.coap_store.proofs.laws.what_is_put_is_the_state.Goals as goal
-
-pub returns-clause-put : goal.returns-clause-put
-returns-clause-put c = state_put
-
-pub returns-clause-removed : goal.returns-clause-removed
-returns-clause-removed c = λ s now path is. state_removed s now path is.paths
 
 pub returns-clause-put_elsewhere : goal.returns-clause-put_elsewhere
 returns-clause-put_elsewhere c = λ s now path other format bytes. state_elsewhere s (Put path format bytes) now other

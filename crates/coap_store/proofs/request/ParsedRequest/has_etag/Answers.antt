@@ -1,18 +1,10 @@
-use Rattle.std.proofs.Common.{◌≡◌, List, ℕ, false, ◌&&◌, rules, tests, sym, ap, ◌∙◌}
+use Rattle.std.proofs.Common.{List, ℕ, ◌&&◌, rules, tests, ap, ◌∙◌}
 use Rattle.coap_store.specs.Prelude.{list_any, CoapOption, coap_option, same_bytes, values_of}
 use Rattle.std.proofs.lemmas.Iterator.Consumers.{YieldsList-from_first}
 use Rattle.std.proofs.lemmas.Iterator.Search.{any_from_yields_List}
 use Rattle.coap_wire.specs.OptionNumbers as numbers
-use Rattle.coap_store.proofs.RequestLemmas.{has_number, value_passes, none_passes}
+use Rattle.coap_store.proofs.RequestLemmas.{has_number, value_passes}
 use Rattle.coap_store.proofs.request.ParsedRequest.has_etag.Goals as goal
-
-pub returns-then-not-self : goal.returns-then-not-self
-returns-then-not-self c =
-    let absent : c.self.inside.known.now.has_etag ≡ false = cc in
-    none_passes (λ (value : List ℕ). same_bytes value c.args.etag.now) numbers.etag c.self.inside.request.now
-    (sym absent ∙ c.self.invariant.known.etag)
-    ∙ ap (λ m. list_any (λ (value : List ℕ). same_bytes value c.args.etag.now) (values_of numbers.etag m))
-    c.self.view_is
 
 pub returns : goal.returns
 returns c =

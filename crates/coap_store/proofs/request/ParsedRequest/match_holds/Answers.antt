@@ -1,23 +1,11 @@
-use Rattle.std.proofs.Common.{◌≡◌, true, false, ◌&&◌, rules, tests, sym, ap, ◌∙◌}
+use Rattle.std.proofs.Common.{◌≡◌, true, ◌&&◌, rules, tests, sym, ap, ◌∙◌}
 use Rattle.std.proofs.lemmas.Iterator.Consumers.{YieldsList-from_first}
 use Rattle.std.proofs.lemmas.Iterator.Search.{any_from_yields_List}
 use Rattle.coap_store.specs.Prelude.{CoapOption, coap_option, match_holds}
 use Rattle.coap_wire.specs.OptionNumbers as numbers
-use Rattle.coap_store.proofs.RequestLemmas.{has_number, is_match, value_passes, match_not_requested, match_of_none}
+use Rattle.coap_store.proofs.RequestLemmas.{has_number, is_match, value_passes}
 use Rattle.coap_store.proofs.RequestLemmas.{match_of_version}
 use Rattle.coap_store.proofs.request.ParsedRequest.match_holds.Goals as goal
-
-pub returns-then-not-self : goal.returns-then-not-self
-returns-then-not-self c state is =
-    let absent : c.self.inside.known.now.has_if_match ≡ false = cc in
-    match_not_requested state c.self.inside.request.now (sym absent ∙ c.self.invariant.known.if_match)
-    ∙ ap (match_holds state) c.self.view_is
-
-pub returns-in_default : goal.returns-in_default
-returns-in_default c state is =
-    let requested : c.self.inside.known.now.has_if_match ≡ true = cc in
-    match_of_none state c.self.inside.request.now (sym requested ∙ c.self.invariant.known.if_match)
-    (sym c.in_default.is ∙ is) ∙ ap (match_holds state) c.self.view_is
 
 pub returns : goal.returns
 returns c state is =
