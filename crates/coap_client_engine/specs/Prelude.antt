@@ -3,92 +3,73 @@
 -- ---- std and the kit's crates
 pub use Rattle.std.specs.Borrow.{sem, follows_so}
 pub use Rattle.std.specs.List.{AllByRecursion, list_any, flat_map}
-pub use Rattle.std.specs.Prelude.{IfOk, OnOk, [], codes, find, if◌then◌else◌, is_none, nat_le, nat_lt, option_map, ◌&&◌}
-pub use Rattle.std.specs.Prelude.{◌+◌, ◌==◌, ◌||◌, ◌≢◌, ◌≤◌}
+pub use Rattle.std.specs.Prelude.{IfOk, OnOk, [], nat_le, nat_lt, option_map}
+pub use Rattle.std.specs.Prelude.{◌==◌, ◌≢◌}
 pub use mathlib.Core.Option.{none}
 -- ---- coap_wire
-pub use Rattle.coap_wire.specs.StreamPrefix.{StreamPrefix, Faulty, Unfinished, Whole, prefix_kind, fault_bytes}
+pub use Rattle.coap_wire.specs.StreamPrefix.{StreamPrefix, Unfinished, Whole, prefix_kind, fault_bytes}
 pub use Rattle.coap_wire.specs.Message.{Message}
 pub use Rattle.coap_wire.specs.Reading.{message_of}
 pub use Rattle.coap_wire.specs.Recognition.{first_critical}
-unfoldable pub use Rattle.coap_wire.specs.Recognition.{first_critical_given, is_recognised, known_given}
 pub use Rattle.coap_wire.specs.Refusal.{RefusedBy}
 unfoldable pub use Rattle.coap_wire.specs.Spelling.{spelling}
 pub use Rattle.coap_wire.specs.Stream.{StreamFault, Format, OfFrame, Stream, stream_after, frame_then, continued, split}
 pub use Rattle.coap_wire.specs.Stream.{sized_split, split_on}
 pub use Rattle.coap_wire.specs.Frames.{constant_size, sizes_first}
 pub use Rattle.coap_wire.specs.declared.fault.FormatFault.{FormatFault}
-pub use Rattle.coap_wire.specs.declared.fault.FrameFault.{FrameFault}
 -- ---- coap_frame
-pub use Rattle.coap_frame.specs.FramedViews.{finding_laid_out}
 pub use Rattle.coap_frame.specs.Framing.{IsFramer, framing_of, framer_after, frame_back, AFault, AFrame}
 pub use Rattle.coap_frame.specs.Framing.{FrameEventValue}
 pub use Rattle.coap_frame.specs.Framing.{FramerValue, Framing, Nothing, framing_at, split_frame}
 pub use Rattle.coap_frame.specs.Raising.{raise_refusal, with_size}
 unfoldable pub use Rattle.coap_frame.specs.Framing.{framing}
 -- ---- coap_conn
-pub use Rattle.coap_conn.specs.Announced.{bad_csm_option, has_critical_option}
-unfoldable pub use Rattle.coap_conn.specs.Announced.{announced}
-pub use Rattle.coap_conn.specs.RequestState.{next_token, else_refusal, entry_of, ping_with, with_token}
-unfoldable pub use Rattle.coap_conn.specs.RequestState.{asking_refusal, cancel_refusal, new_refusal}
-unfoldable pub use Rattle.coap_conn.specs.RequestState.{observation_refusal}
-pub use Rattle.coap_conn.specs.Calls.{link_after, end_reason, may_announce, may_forget, release}
-pub use Rattle.coap_conn.specs.Fit.{AllFit, bare_response, fit, fits, without_options}
-pub use Rattle.coap_conn.specs.PendingEntries.{PendingEntryValue, Pong}
-pub use Rattle.coap_conn.specs.History.{History, limit_now, waiting_of, IsHistory, after, after_asking, asking_now}
-pub use Rattle.coap_conn.specs.History.{link_of, new_history, state_now, with_effect}
+pub use Rattle.coap_conn.specs.Announced.{bad_csm_option}
+pub use Rattle.coap_conn.specs.RequestState.{next_token, ping_with, with_token}
+unfoldable pub use Rattle.coap_conn.specs.RequestState.{asking_refusal}
+pub use Rattle.coap_conn.specs.Calls.{link_after, may_announce, may_forget, release}
+pub use Rattle.coap_conn.specs.Fit.{AllFit, fits}
+pub use Rattle.coap_conn.specs.PendingEntries.{PendingEntryValue}
+pub use Rattle.coap_conn.specs.History.{History, limit_now, waiting_of, IsHistory, after, asking_now}
+pub use Rattle.coap_conn.specs.History.{link_of, new_history, state_now}
 pub use Rattle.coap_conn.specs.Limits.{LimitValues, AreInRange, default_limits}
-pub use Rattle.coap_conn.specs.LinkValue.{state_in, LinkValue, asking_in, bytes_of, free_in, limit_in, own_csm}
+pub use Rattle.coap_conn.specs.LinkValue.{state_in, LinkValue, bytes_of, free_in, limit_in, own_csm}
 pub use Rattle.coap_conn.specs.LinkValue.{sizes_of}
-pub use Rattle.coap_conn.specs.Outstanding.{Observation, OutstandingValue, Ping, Request, cancelled_by}
-pub use Rattle.coap_conn.specs.Outstanding.{matches_response}
-pub use Rattle.coap_conn.specs.Outstanding.{is_last, matches_pong, with_cancelled, without_matching, without_pinged}
-pub use Rattle.coap_conn.specs.Outstanding.{is_entry_of, without_entry_of}
-unfoldable pub use Rattle.coap_conn.specs.Outstanding.{is_notification}
-pub use Rattle.coap_conn.specs.Phases.{IsLive, is_open, is_waiting, stop_of, takes_messages}
-pub use Rattle.coap_conn.specs.Reaction.{ReactionResult, Reaction, ConnectionState, abort, aborts, answered}
-pub use Rattle.coap_conn.specs.Reaction.{asks_custody}
-pub use Rattle.coap_conn.specs.Reaction.{csm_reaction, holds, is_method, is_reserved, is_signal, late_pong, leaves}
-pub use Rattle.coap_conn.specs.Reaction.{checks_critical_options, not_implemented, open_reaction, ping_reaction}
-pub use Rattle.coap_conn.specs.Reaction.{pong_of}
-pub use Rattle.coap_conn.specs.Reaction.{pong_reaction, pong_with, reaction_unless, release_reaction, request_reaction}
-pub use Rattle.coap_conn.specs.Reaction.{stay}
-pub use Rattle.coap_conn.specs.Reaction.{response_reaction, sends, stop, reports, reply_verdict}
+pub use Rattle.coap_conn.specs.Outstanding.{OutstandingValue}
+pub use Rattle.coap_conn.specs.Outstanding.{with_cancelled}
+pub use Rattle.coap_conn.specs.Outstanding.{is_entry_of}
+pub use Rattle.coap_conn.specs.Phases.{IsLive, is_open, takes_messages}
+pub use Rattle.coap_conn.specs.Reaction.{ReactionResult, Reaction, ConnectionState, aborts}
+pub use Rattle.coap_conn.specs.Reaction.{csm_reaction}
+pub use Rattle.coap_conn.specs.Reaction.{ping_reaction}
+pub use Rattle.coap_conn.specs.Reaction.{pong_reaction, release_reaction, request_reaction}
+pub use Rattle.coap_conn.specs.Reaction.{response_reaction, reports}
 unfoldable pub use Rattle.coap_conn.specs.Reaction.{react, live_reaction}
 pub use Rattle.coap_conn.specs.Reasons.{abort_of}
-pub use Rattle.coap_conn.specs.Rejects.{reject_reason, reject_of, reject_of_frame}
+pub use Rattle.coap_conn.specs.Rejects.{reject_reason, reject_of}
 pub use Rattle.coap_conn.specs.Release.{release_refusal}
 pub use Rattle.coap_conn.specs.Verdicts.{VerdictValue}
 pub use Rattle.coap_conn.specs.declared.phase.Phase.{Phase}
-pub use Rattle.coap_conn.specs.declared.phase.Phase.TheVariants.{Open, Releasing, Stopped, Waiting}
-pub use Rattle.coap_conn.specs.declared.phase.Reject.{Reject}
-pub use Rattle.coap_conn.specs.declared.phase.Reply.{Reply}
-pub use Rattle.coap_conn.specs.declared.phase.Reply.TheVariants.{Bare}
+pub use Rattle.coap_conn.specs.declared.phase.Phase.TheVariants.{Stopped}
 pub use Rattle.coap_conn.specs.declared.phase.RequestFault.{RequestFault}
-pub use Rattle.coap_conn.specs.declared.phase.RequestFault.TheVariants.{NoRoom, NoSuchToken, NotOpen, TokensSpent}
-pub use Rattle.coap_conn.specs.declared.phase.RequestFault.TheVariants.{TooBig, TooMany}
-pub use Rattle.coap_conn.specs.declared.phase.SendFault.{SendFault}
-pub use Rattle.coap_conn.specs.declared.phase.Role.{Role}
-pub use Rattle.coap_conn.specs.declared.phase.Role.TheVariants.{Client, Server}
+pub use Rattle.coap_conn.specs.declared.phase.RequestFault.TheVariants.{NoRoom}
+pub use Rattle.coap_conn.specs.declared.phase.Role.TheVariants.{Client}
 pub use Rattle.coap_conn.specs.declared.reason.Reason.{Reason}
-pub use Rattle.coap_conn.specs.declared.reason.Reason.TheVariants.{BadSignalOption, CsmExpected, PeerAbort}
-pub use Rattle.coap_conn.specs.declared.reason.Reason.TheVariants.{ReleasedHere, ReservedCode, TokenLength}
 -- ---- coap_io
 pub use Rattle.coap_io.specs.declared.output.WriteFailed.{WriteFailed}
 pub use Rattle.coap_io.specs.declared.wire.Got.{Got}
-pub use Rattle.coap_io.specs.declared.wire.Got.TheVariants.{Bytes, End, Failed, Later}
+pub use Rattle.coap_io.specs.declared.wire.Got.TheVariants.{Bytes, End}
 pub use Rattle.coap_io.specs.streams.Device.{AddsBytes}
 pub use Rattle.coap_io.specs.streams.DeviceTraces.{AddsCalls}
 pub use Rattle.coap_io.specs.streams.Wires.{bytes_passed, count_passed}
 -- ---- coap_request
 pub use Rattle.coap_request.specs.RequestViews.{extras_value}
 pub use Rattle.coap_request.specs.Requests.{ExtrasValue}
-unfoldable pub use Rattle.coap_request.specs.Requests.{cancel_of, has_long_extra, host_sent, insert_option, is_too_long}
-unfoldable pub use Rattle.coap_request.specs.Requests.{observe_sent, own_options, request_of, with_extra}
+unfoldable pub use Rattle.coap_request.specs.Requests.{cancel_of}
+unfoldable pub use Rattle.coap_request.specs.Requests.{request_of}
 pub use Rattle.coap_request.specs.Targets.{TargetValue}
 pub use Rattle.coap_request.specs.declared.plan.ClientPlan.{ClientPlan}
 pub use Rattle.coap_request.specs.declared.request.Method.{Method}
-pub use Rattle.coap_request.specs.declared.request.Method.TheVariants.{Get}
 -- ---- coap_client_engine
 pub use Rattle.coap_client_engine.specs.ClientLaws.{AreDifferent, KeepsSize, tokens_given, token_given, later_tokens}
 pub use Rattle.coap_client_engine.specs.ClientRun.{IsReady, IsClientRun, IsExplainedRun, FailedBeforeStart, records}
@@ -120,31 +101,26 @@ unfoldable pub use Rattle.coap_client_engine.specs.ClientWorld.{after_steps, lat
 pub use Rattle.coap_client_engine.specs.EventViews.{event_value, answer_read, pong_read, received_event, taken_event}
 pub use Rattle.coap_client_engine.specs.EventViews.{taken_frame}
 pub use Rattle.coap_client_engine.specs.EventViews.{taking_framed, IsClient}
-pub use Rattle.coap_client_engine.specs.RunTrace.{IsFresh, Begins, Calls, RunTrace, GivesUp, HasWaited}
-pub use Rattle.coap_client_engine.specs.RunTrace.{IsRequestedWhereDue, IsBetween, IsCancelledWhereDue, IsRunTrace}
-pub use Rattle.coap_client_engine.specs.RunTrace.{IsDone}
-pub use Rattle.coap_client_engine.specs.RunTrace.{IsPlanned, IsRefused, IsResting, IsTakenUp, MayWrite, Reads, Refuses}
-pub use Rattle.coap_client_engine.specs.RunTrace.{Rests, Turns, answers_in, calls_in, cancelled_in, client_in}
-pub use Rattle.coap_client_engine.specs.RunTrace.{errors_in, event_in, first_in, given_in, has_looked, history_in}
-pub use Rattle.coap_client_engine.specs.RunTrace.{is_cancel_due, is_late_since, is_overdue, is_overdue_since}
-pub use Rattle.coap_client_engine.specs.RunTrace.{moment_in, moments_in, or_then, output_in, phase_in, rest_in}
-pub use Rattle.coap_client_engine.specs.RunTrace.{since_in, started_in, status_in, status_stopped, stop_read}
-pub use Rattle.coap_client_engine.specs.RunTrace.{stop_text, taken_in, token_in, turns_in, waiting_in, waits_since}
+pub use Rattle.coap_client_engine.specs.RunTrace.{IsFresh, Begins, Calls, RunTrace, GivesUp}
+pub use Rattle.coap_client_engine.specs.RunTrace.{IsRequestedWhereDue, IsBetween, IsRunTrace}
+pub use Rattle.coap_client_engine.specs.RunTrace.{IsPlanned, IsResting, IsTakenUp, MayWrite, Reads, Refuses}
+pub use Rattle.coap_client_engine.specs.RunTrace.{Rests, Turns, calls_in, client_in}
+pub use Rattle.coap_client_engine.specs.RunTrace.{event_in, given_in, has_looked, history_in}
+pub use Rattle.coap_client_engine.specs.RunTrace.{is_cancel_due}
+pub use Rattle.coap_client_engine.specs.RunTrace.{or_then, rest_in}
+pub use Rattle.coap_client_engine.specs.RunTrace.{status_in, status_stopped}
+pub use Rattle.coap_client_engine.specs.RunTrace.{stop_text, taken_in, turns_in, waiting_in}
 pub use Rattle.coap_client_engine.specs.RunTrace.{written_in}
-pub use Rattle.coap_client_engine.specs.RunCauses.{cause_after, cause_stopped, cause_of, event_cause, cause_refused_as}
-pub use Rattle.coap_client_engine.specs.RunCauses.{cause_refused, awaited_in, cause_waited, watched_cause, cause_in}
+pub use Rattle.coap_client_engine.specs.RunCauses.{cause_after, cause_stopped, event_cause}
+pub use Rattle.coap_client_engine.specs.RunCauses.{cause_refused, watched_cause}
 pub use Rattle.coap_client_engine.specs.RunFaults.{is_output_fault, IfMemory, IsStatus, EndsWithStatus}
 pub use Rattle.coap_client_engine.specs.RunSteps.{calls_read, calls_written, cancelled_at, client_asking}
 pub use Rattle.coap_client_engine.specs.RunSteps.{client_cancelling, client_read, ended_by, event_errors, event_first}
-pub use Rattle.coap_client_engine.specs.RunSteps.{has_passed, must_send_request, is_to_cancel, timeout_status, may_take}
+pub use Rattle.coap_client_engine.specs.RunSteps.{must_send_request, is_to_cancel, may_take}
 pub use Rattle.coap_client_engine.specs.RunSteps.{event_output}
 pub use Rattle.coap_client_engine.specs.RunSteps.{planned_extras, refusal_text, event_status, stop_after, stop_written}
-pub use Rattle.coap_client_engine.specs.RunSteps.{token_asking, unless_refused, watched}
+pub use Rattle.coap_client_engine.specs.RunSteps.{token_asking, watched}
 -- ---- coap_client_engine, declared
 pub use Rattle.coap_client_engine.specs.declared.client.Client.TheInside.{Inside}
-pub use Rattle.coap_client_engine.specs.declared.client.Received.{Received}
-pub use Rattle.coap_client_engine.specs.declared.client.signals.ClientAnnounceFault.{ClientAnnounceFault}
 pub use Rattle.coap_client_engine.specs.declared.run.state.Run.{Run}
-pub use Rattle.coap_client_engine.specs.declared.run_end.Awaited.{Awaited}
-pub use Rattle.coap_client_engine.specs.declared.run_end.Cause.{Cause}
 pub use Rattle.coap_client_engine.specs.declared.run_end.RunEnd.{RunEnd}

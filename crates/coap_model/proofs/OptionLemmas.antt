@@ -11,10 +11,7 @@ there_is_none o e = grind arith
 pub same_there : {A : Type 0} (x y : A) → Some x ≡ Some y → x ≡ y
 same_there x y e = cc
 
--- An optional value that is kept only if a flag is true: if it is absent, so is the result.
-pub none_made_where : {A : Type 0} (so : Bool) (o : Option A) → o ≡ None → (if so then o else None) ≡ None
-none_made_where so o none = grind arith
-
+-- An optional value that is kept only if a flag is true.
 pub some_where : {A : Type 0} (so : Bool) (o : Option A) (x : A) → (if so then o else None) ≡ Some x → o ≡ Some x
 some_where so o x some = grind arith
 

@@ -6,10 +6,8 @@ pub use Rattle.std.specs.Iterator.{YieldsFirstBy, item_count}
 pub use Rattle.std.specs.List.{list_any}
 pub use Rattle.std.specs.Prelude.{codes, if◌then◌else◌}
 pub use Rattle.std.specs.List.{AllByRecursion}
-pub use Rattle.std.specs.Prelude.{nat_le, nat_lt, not, option_copied, ◌==◌}
+pub use Rattle.std.specs.Prelude.{nat_lt, option_copied}
 pub use Rattle.coap_wire.specs.Refusal.{RefusedBy}
-pub use Rattle.coap_wire.specs.Message.{CoapOption}
-pub use Rattle.coap_wire.specs.Views.{coap_option}
 -- ---- coap_path
 pub use Rattle.coap_path.specs.PathMatches.{first_match, match_with, place_at, match_along}
 pub use Rattle.coap_path.specs.PathViews.{segment_list, IsWritten}
@@ -20,12 +18,10 @@ pub use Rattle.coap_path.specs.ResourceKinds.{is_dynamic, is_async, is_observabl
 pub use Rattle.coap_path.specs.ResourceKinds.{time_path}
 unfoldable pub use Rattle.coap_path.specs.ResourceKinds.{kind_of_path}
 pub use Rattle.coap_path.specs.UriPaths.{uri_segments, body_path}
-pub use Rattle.coap_path.specs.declared.resource_kind.ResourceKind.{ResourceKind}
 pub use Rattle.coap_path.specs.declared.resource_kind.ResourceKind.TheVariants.{Async, Dynamic, Listing, Root, Time}
-pub use Rattle.coap_path.specs.declared.path_match.PathMatch.{PathMatch}
-pub use Rattle.coap_path.specs.declared.path_match.PathMatch.TheVariants.{Elsewhere, WellKnown}
+pub use Rattle.coap_path.specs.declared.path_match.PathMatch.TheVariants.{Elsewhere}
 pub use Rattle.coap_path.specs.Applications.{ApplicationEntryValue, ApplicationsValue, begins_with, entry_for}
-pub use Rattle.coap_path.specs.Applications.{longer_entry, names_method}
+pub use Rattle.coap_path.specs.Applications.{longer_entry}
 unfoldable pub use Rattle.coap_path.specs.Applications.{is_answered}
 pub use Rattle.coap_path.specs.Attributes.{is_alphanumeric, is_quoted_char, scan_after, scan_with, may_end}
 pub use Rattle.coap_path.specs.Attributes.{after_name, after_name_start, after_quoted, after_token}
@@ -35,7 +31,6 @@ pub use Rattle.coap_path.specs.Invariant.{AreEntries, HaveOwnPrefixes, IsEntry, 
 pub use Rattle.coap_path.specs.Methods.{are_distinct_methods, has_method, is_method}
 unfoldable pub use Rattle.coap_path.specs.Methods.{are_methods}
 pub use Rattle.coap_path.specs.LongestPrefix.{IsLongest}
-pub use Rattle.coap_path.specs.Refusals.{RefusedOrMemory, first_fault, refusal_in, with_entry}
+pub use Rattle.coap_path.specs.Refusals.{RefusedOrMemory, with_entry}
 unfoldable pub use Rattle.coap_path.specs.Refusals.{entry_refusal}
 pub use Rattle.coap_path.specs.declared.fault.ApplicationFault.{ApplicationFault}
-pub use Rattle.coap_path.specs.declared.fault.ApplicationFault.TheVariants.{Attributes, BuiltIn, Full, Method, Twice}

@@ -13,7 +13,6 @@ pub use Rattle.std.specs.Net.Text.{groups_text, ipv4_text, leading_zero_digits, 
 unfoldable pub use Rattle.std.specs.Net.Text.{hex, hex_groups_text}
 pub use Rattle.std.specs.Prelude.{MatchOption, Option, if◌then◌else◌, is_ok, is_some, nat_le, nat_lt, not}
 pub use Rattle.std.specs.Prelude.{option_copied, option_map, slice_index, slice_range, unwrap_or}
-pub use Rattle.std.specs.Result.{result_ok}
 pub use Rattle.std.specs.declared.net.ipv4_addr.Ipv4Addr.{Ipv4Addr}
 pub use Rattle.std.specs.declared.net.ipv6_addr.Ipv6Addr.{Ipv6Addr}
 pub use Rattle.url.specs.Host.{borrowed_host, host_text, IsHostOf, is_empty_host}
@@ -26,8 +25,6 @@ pub use Rattle.url.specs.declared.scheme.SchemeType.{SchemeType}
 -- ---- coap_wire
 pub use Rattle.coap_wire.specs.Message.{Message, last_number, AreOrdered, CoapOption}
 pub use Rattle.coap_wire.specs.Spelling.{HasOptionForm}
-unfoldable pub use Rattle.coap_wire.specs.Spelling.{spelling}
-unfoldable pub use Rattle.coap_wire.specs.Uint.{bytes_of_uint}
 pub use Rattle.coap_wire.specs.Views.{coap_options, with_option, coap_option, payload_refusal}
 pub use Rattle.coap_wire.specs.declared.fault.BuildFault.{BuildFault}
 pub use Rattle.coap_wire.specs.declared.fault.BuildFault.TheVariants.{TooLong}
@@ -42,9 +39,8 @@ unfoldable pub use Rattle.coap_request.specs.Requests.{observe_sent, own_options
 pub use Rattle.coap_request.specs.TargetViews.{IsShort, byte_lists, named_value, IsTarget}
 pub use Rattle.coap_request.specs.Targets.{GivesUnlessMemory, target_of, TargetValue, has_long_part, has_many_parts}
 pub use Rattle.coap_request.specs.Targets.{is_dotted, is_long, unless}
-unfoldable pub use Rattle.coap_request.specs.Targets.{arguments_named, decoded_parts, domain_named, form_refusal}
-unfoldable pub use Rattle.coap_request.specs.Targets.{host_named, names_address, segments_named, size_refusal}
+unfoldable pub use Rattle.coap_request.specs.Targets.{domain_named, form_refusal}
+unfoldable pub use Rattle.coap_request.specs.Targets.{host_named, size_refusal}
 unfoldable pub use Rattle.coap_request.specs.Targets.{target_in, value_named}
 -- ---- coap_request, declared
 pub use Rattle.coap_request.specs.declared.request.Method.{Method}
-pub use Rattle.coap_request.specs.declared.request.Method.TheVariants.{Get, Put}

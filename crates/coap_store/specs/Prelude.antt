@@ -12,7 +12,7 @@ pub use Rattle.std.specs.List.{list_any, AllByRecursion, flat_map, list_all}
 pub use Rattle.std.specs.Map.{lookup}
 pub use Rattle.std.specs.Option.{option_eq}
 pub use Rattle.std.specs.Prelude.{IfSome, codes, if◌then◌else◌, is_none, is_some, nat_eq, nat_le, nat_lt, not}
-pub use Rattle.std.specs.Prelude.{option_copied, option_map, unwrap_or, ◌%◌, ◌/◌, ◌==◌, ◌⊎◌}
+pub use Rattle.std.specs.Prelude.{option_copied, option_map, ◌==◌, ◌⊎◌}
 pub use Rattle.std.specs.String.{string_bytes}
 pub use Rattle.std.specs.List.{remove, sum}
 pub use Rattle.percent_encoding.specs.Percent.{encode_byte}
@@ -25,7 +25,6 @@ pub use Rattle.coap_wire.specs.Recognition.{checked_options, checked_at, Checked
 unfoldable pub use Rattle.coap_wire.specs.Recognition.{first_critical_given, is_recognised, kind_of, known_given}
 unfoldable pub use Rattle.coap_wire.specs.Recognition.{checked_given}
 pub use Rattle.coap_wire.specs.Refusal.{RefusedBy}
-unfoldable pub use Rattle.coap_wire.specs.Spelling.{spelling}
 pub use Rattle.coap_wire.specs.Uint.{uint_of}
 unfoldable pub use Rattle.coap_wire.specs.Uint.{bytes_of_uint}
 pub use Rattle.coap_wire.specs.Views.{coap_option}
@@ -39,7 +38,6 @@ pub use Rattle.coap_path.specs.ResourceKinds.{is_dynamic, is_async, is_observabl
 pub use Rattle.coap_path.specs.ResourceKinds.{time_path}
 unfoldable pub use Rattle.coap_path.specs.ResourceKinds.{kind_of_path}
 pub use Rattle.coap_path.specs.UriPaths.{body_path}
-pub use Rattle.coap_path.specs.declared.path_match.PathMatch.{PathMatch}
 pub use Rattle.coap_path.specs.declared.resource_kind.ResourceKind.TheVariants.{Async, Dynamic, Listing, Root, Time}
 pub use Rattle.coap_path.specs.declared.resource_kind.ResourceKind.{ResourceKind}
 pub use Rattle.coap_path.specs.Applications.{ApplicationEntryValue, ApplicationsValue}
@@ -51,10 +49,9 @@ pub use Rattle.coap_store.specs.Answer.{expired_response}
 pub use Rattle.coap_store.specs.Answer.{Change, Nothing, Put, Delete, only, no_answer, is_delayed, changed}
 pub use Rattle.coap_store.specs.Answer.{without_hold}
 pub use Rattle.coap_store.specs.Answer.{greatest_version, Answer, Response, content, deletion, with_observe_rule}
-pub use Rattle.coap_store.specs.Answer.{first_of}
-pub use Rattle.coap_store.specs.Answer.{is_number, late, put_of, refuse, stored_under, too_large, without_hold_if}
+pub use Rattle.coap_store.specs.Answer.{late, put_of, stored_under, too_large, without_hold_if}
 pub use Rattle.coap_store.specs.Answer.{valid}
-pub use Rattle.coap_store.specs.Answer.{watched, when}
+pub use Rattle.coap_store.specs.Answer.{watched}
 unfoldable pub use Rattle.coap_store.specs.Answer.{get_answer, answer_of, answer_at, resource_answer, store_answer}
 unfoldable pub use Rattle.coap_store.specs.Answer.{immediate_answer, method_answer}
 pub use Rattle.coap_store.specs.ApplicationRequests.{passes_checks, unless_handed}
@@ -62,22 +59,20 @@ unfoldable pub use Rattle.coap_store.specs.ApplicationRequests.{application_dead
 pub use Rattle.coap_store.specs.Changes.{TakesChange, changes, says_change, HasSmallFormat, changed_by, TakesChanges}
 pub use Rattle.coap_store.specs.Changes.{TakesPut, IsPut, IsChangeAt}
 pub use Rattle.coap_store.specs.Invariant.{IsStore, AreDistinct, HaveOwnVersions, IsKept}
-pub use Rattle.coap_store.specs.Catalogues.{CatalogueValue}
-pub use Rattle.coap_store.specs.Listing.{slash, format_bytes, built_in_bytes, hex_digit, is_unreserved}
-pub use Rattle.coap_store.specs.Listing.{application_bytes, attribute_bytes, end_bytes}
+pub use Rattle.coap_store.specs.Listing.{slash, format_bytes, built_in_bytes, is_unreserved}
+pub use Rattle.coap_store.specs.Listing.{attribute_bytes, end_bytes}
 unfoldable pub use Rattle.coap_store.specs.Listing.{listing, entry_bytes, encoded_byte, first_bytes, link_bytes}
 unfoldable pub use Rattle.coap_store.specs.Listing.{path_bytes}
-pub use Rattle.coap_store.specs.Messages.{each_at, response_message}
+pub use Rattle.coap_store.specs.Messages.{each_at}
 pub use Rattle.coap_store.specs.Notifications.{notification_of}
 unfoldable pub use Rattle.coap_store.specs.Notifications.{notification_at}
 pub use Rattle.coap_store.specs.OptionScan.{first_given, nothing, options_value, all_noted, AreOptionsOf}
 pub use Rattle.coap_store.specs.OptionScan.{RequestOptions}
-pub use Rattle.coap_store.specs.OptionScan.{match_after}
 unfoldable pub use Rattle.coap_store.specs.OptionScan.{options_after}
 pub use Rattle.coap_store.specs.PlanViews.{bytes_in, IsTextOf, change_value, planned_value, IsAtPath, IsNamedPath}
 pub use Rattle.coap_store.specs.PlanViews.{path_or_root}
 pub use Rattle.coap_store.specs.PlanViews.{location_in}
-pub use Rattle.coap_store.specs.Refusals.{RefusedOrMemory, first_fault, refusal_in}
+pub use Rattle.coap_store.specs.Refusals.{RefusedOrMemory}
 unfoldable pub use Rattle.coap_store.specs.Refusals.{put_refusal, remove_refusal}
 pub use Rattle.coap_store.specs.VersionHistory.{WasStored}
 pub use Rattle.coap_store.specs.Requests.{path_of, is_method, preconditions_hold, is_get, etag_of, digits_mean}
@@ -99,9 +94,7 @@ pub use Rattle.coap_store.specs.StoreViews.{store_value}
 pub use Rattle.coap_store.specs.RequestTargetViews.{found_value, target_value}
 pub use Rattle.coap_store.specs.Observing.{MayObserve}
 -- ---- coap_store, declared
-pub use Rattle.coap_store.specs.declared.fault.StoreFault.{StoreFault}
-pub use Rattle.coap_store.specs.declared.fault.StoreFault.TheVariants.{BadPath, Limit, NoSuch, TooLarge}
-pub use Rattle.coap_store.specs.declared.fault.StoreFault.TheVariants.{VersionsSpent}
+pub use Rattle.coap_store.specs.declared.fault.StoreFault.TheVariants.{NoSuch}
 pub use Rattle.coap_store.specs.declared.plan.Watch.TheVariants.{Add, Drop}
 pub use Rattle.coap_store.specs.declared.resource.Resource.{Resource}
 unfoldable pub use Rattle.coap_store.specs.Texts.{split_by}

@@ -47,10 +47,6 @@ identified_base : (os : List CoapOption) (parts : List ℕ × ℕ × List ℕ) �
 unfolding identified
 identified_base os parts h = grind (arith, h, base_holds (named (codes "base") os))
 
-read_links : (r : Result (List Link) ℕ) (links : List Link) → refused refusal.Links r ≡ Ok links → r ≡ Ok links
-read_links (Ok given) links h = cc
-read_links (Err e) links h = absurd cc
-
 links_hold : (payload : List ℕ) (links : List Link) → links_in payload ≡ Ok links → list_all is_link links ≡ true
 unfolding links_in
 links_hold payload links h =

@@ -9,7 +9,7 @@ pub use Rattle.directory_links.specs.Links.{attribute_text}
 pub use Rattle.directory_links.specs.Links.{link_text}
 pub use Rattle.directory_links.specs.Links.{links_text, Writes}
 unfoldable pub use Rattle.directory_links.specs.Links.{is_quoted_text, attributes_text, more_links_text}
-pub use Rattle.directory_links.specs.Reading.{◌>>=◌, run_of, plus, links_after, map_err, attributes_read, links_read}
+pub use Rattle.directory_links.specs.Reading.{◌>>=◌, run_of, plus, links_after, attributes_read, links_read}
 unfoldable pub use Rattle.directory_links.specs.Reading.{name_at, token_at, quoted_length, quoted_at, given_at}
 unfoldable pub use Rattle.directory_links.specs.Reading.{extended_at}
 unfoldable pub use Rattle.directory_links.specs.Reading.{value_at, attribute_at, attributes_within, attributes_at}

@@ -27,10 +27,6 @@ pub all_map : {O R : Type 0} (P : O → Type 0) (Q : R → Type 0) (f : O → R)
 all_map P Q f to [] all = tt
 all_map P Q f to (o ∷ os) all = (to o all.0, all_map P Q f to os all.1)
 
-pub all_if : {O : Type 0} (P : O → Type 0) (b : Bool) (os : List O) → AllByRecursion P os
-    → AllByRecursion P (if b then os else [])
-all_if P b os all = grind arith
-
 pub all_entered : {O : Type 0} (P : O → Type 0) (enters : Bool) (os : List O) (o : O) → AllByRecursion P os
     → (enters ≡ true → P o) → AllByRecursion P (with_entry enters os o)
 all_entered P enters os o all new = grind (arith, all_append)

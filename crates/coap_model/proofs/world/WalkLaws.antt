@@ -151,10 +151,6 @@ module _ (P : Connection → Type 0) (store : StoreValue) (now : ℕ)
   unfolding settled
   settled_keeps s = grind (arith, within_keeps)
 
-pub if_between : (R : History → History → Type 0) (does : Bool) (h k : History) → R h h
-    → (does ≡ true → R h k) → R h (cond does k h)
-if_between R does h k same goes = grind arith
-
 -- The removal of a due entry may need a weaker relation than a reply. R holds across the removal, and E, which
 -- continues R, across the reply.
 module _ (R E : History → History → Type 0) (same : (h : History) → R h h)
