@@ -1,7 +1,5 @@
 -- Lemmas on the effect of each function of the server on the values that the server holds.
 pub mod ServerLemmas
-pub mod TurnLemmas
-pub mod ServerDueLemmas
 pub mod ServerCauseLemmas
 pub mod ServerTakenLemmas
 pub mod ChangedLemmas

@@ -1,5 +1,4 @@
 -- Lemmas: each call of a server shows its event, and the messages that a server has processed or rejected after events.
-pub mod SameServers
 pub mod ShowLaws
 pub mod CallLaws
 pub mod HandledLaws

@@ -21,6 +21,7 @@ pub struct IndexSet {
 
 impl IndexSet {
     /// Returns the set without the indices below 256.
+    #[tactic(auto, using(crate::proofs::values::IndexSetLemmas::none_set))]
     #[inline(always)]
     pub fn empty() -> IndexSet
         ensures { (i : ℕ) → bit_of result.words i ≡ 0 }
@@ -29,6 +30,7 @@ impl IndexSet {
     }
 
     /// Returns the set of all indices.
+    #[tactic(auto, using(crate::proofs::values::IndexSetLemmas::all_set))]
     pub fn full() -> IndexSet
         ensures { (i : ℕ) → i < 256 → bit_of result.words i ≡ 1 }
     {
@@ -38,6 +40,7 @@ impl IndexSet {
     }
 
     /// Adds an index.
+    #[tactic(auto, using(crate::proofs::values::IndexSetLemmas::inserted_same, crate::proofs::values::IndexSetLemmas::inserted_other))]
     pub fn insert(&mut self, at: usize)
         ensures set { at < 256 → bit_of self.new.words at ≡ 1 }
         ensures others { (i : ℕ) → i ≢ at → bit_of self.new.words i ≡ bit_of self.old.words i }
@@ -64,6 +67,7 @@ impl IndexSet {
     }
 
     /// Removes an index, if it is less than 256.
+    #[tactic(auto, using(crate::proofs::values::IndexSetLemmas::removed_same, crate::proofs::values::IndexSetLemmas::removed_other))]
     pub fn remove(&mut self, at: usize)
         ensures clear { at < 256 → bit_of self.new.words at ≡ 0 }
         ensures others { (i : ℕ) → i ≢ at → bit_of self.new.words i ≡ bit_of self.old.words i }

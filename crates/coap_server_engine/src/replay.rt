@@ -194,6 +194,7 @@ impl Server {
     }
 
     /// Runs an `open` event.
+    #[tactic(auto, using(crate::proofs::scripting::ShownLemmas::shows_same), unfolding(crate::specs::script::Replay::event_ran, crate::specs::script::Shown::events_made))]
     fn run_open(&mut self) -> Result<OutputLine, AllocError>
         ensures run { IsRun self.old event.Open self.new result }
         ensures shows { ShowsRun self.old event.Open self.new result }
@@ -208,6 +209,7 @@ impl Server {
     }
 
     /// Runs an `in` event.
+    #[tactic(auto, using(crate::proofs::scripting::ShownLemmas::shows_same), unfolding(crate::specs::script::Replay::event_ran, crate::specs::script::Shown::events_made))]
     fn run_in(&mut self, id: ConnId, bytes: &[u8]) -> Result<OutputLine, AllocError>
         ensures run { IsRun self.old (event.In id bytes.now) self.new result }
         ensures shows { ShowsRun self.old (event.In id bytes.now) self.new result }
@@ -232,6 +234,7 @@ impl Server {
     }
 
     /// Runs a `drain` event.
+    #[tactic(auto, using(crate::proofs::scripting::ShownLemmas::shows_same), unfolding(crate::specs::script::Replay::event_ran, crate::specs::script::Shown::events_made))]
     fn run_drain(&mut self, id: ConnId, most: Option<u64>) -> Result<OutputLine, AllocError>
         ensures run { IsRun self.old (event.Drain id most) self.new result }
         ensures shows { ShowsRun self.old (event.Drain id most) self.new result }
@@ -266,6 +269,7 @@ impl Server {
     }
 
     /// Runs a `tick` event.
+    #[tactic(auto, using(crate::proofs::scripting::ShownLemmas::shows_same), unfolding(crate::specs::script::Replay::event_ran, crate::specs::script::Shown::events_made))]
     fn run_tick(&mut self, moment: u64) -> OutputLine
         ensures server { self.new ≡ (event_ran self.old (event.Tick moment)).server }
         ensures line { line_bytes result ≡ (event_ran self.old (event.Tick moment)).text }
@@ -278,6 +282,7 @@ impl Server {
     }
 
     /// Runs a `put` event.
+    #[tactic(auto, using(crate::proofs::scripting::ShownLemmas::shows_same), unfolding(crate::specs::script::Replay::event_ran, crate::specs::script::Shown::events_made))]
     fn run_put(
         &mut self,
         path: &PathKey,
@@ -297,6 +302,7 @@ impl Server {
     }
 
     /// Runs a `remove` event.
+    #[tactic(auto, using(crate::proofs::scripting::ShownLemmas::shows_same), unfolding(crate::specs::script::Replay::event_ran, crate::specs::script::Shown::events_made))]
     fn run_remove(&mut self, path: &PathKey, text: &[u8]) -> Result<OutputLine, AllocError>
         ensures run { IsRun self.old (event.Remove path.now text.now) self.new result }
         ensures shows { ShowsRun self.old (event.Remove path.now text.now) self.new result }
@@ -313,6 +319,7 @@ impl Server {
     }
 
     /// Runs an `end` event.
+    #[tactic(auto, using(crate::proofs::scripting::ShownLemmas::shows_same), unfolding(crate::specs::script::Replay::event_ran, crate::specs::script::Shown::events_made))]
     fn run_end(&mut self, id: ConnId) -> OutputLine
         ensures server { self.new ≡ (event_ran self.old (event.End id)).server }
         ensures line { line_bytes result ≡ (event_ran self.old (event.End id)).text }
@@ -325,6 +332,7 @@ impl Server {
     }
 
     /// Runs a `release` event.
+    #[tactic(auto, using(crate::proofs::scripting::ShownLemmas::shows_same), unfolding(crate::specs::script::Replay::event_ran, crate::specs::script::Shown::events_made))]
     fn run_release(&mut self, id: ConnId) -> OutputLine
         ensures server { self.new ≡ (event_ran self.old (event.Release id)).server }
         ensures line { line_bytes result ≡ (event_ran self.old (event.Release id)).text }
@@ -337,6 +345,7 @@ impl Server {
     }
 
     /// Runs a `respond` event.
+    #[tactic(auto, using(crate::proofs::scripting::ShownLemmas::shows_same), unfolding(crate::specs::script::Replay::event_ran, crate::specs::script::Shown::events_made))]
     fn run_respond(&mut self, id: ConnId, response: &[u8]) -> OutputLine
         ensures server { self.new ≡ (event_ran self.old (event.Respond id response.now)).server }
         ensures line { line_bytes result ≡ (event_ran self.old (event.Respond id response.now)).text }
@@ -353,6 +362,7 @@ impl Server {
     }
 
     /// Runs a `drop` event.
+    #[tactic(auto, using(crate::proofs::scripting::ShownLemmas::shows_same), unfolding(crate::specs::script::Replay::event_ran, crate::specs::script::Shown::events_made))]
     fn run_drop(&mut self, id: ConnId) -> OutputLine
         ensures server { self.new ≡ (event_ran self.old (event.Drop id)).server }
         ensures line { line_bytes result ≡ (event_ran self.old (event.Drop id)).text }
@@ -365,6 +375,7 @@ impl Server {
     }
 
     /// Runs a `status` event.
+    #[tactic(auto, using(crate::proofs::scripting::ShownLemmas::shows_same), unfolding(crate::specs::script::Replay::event_ran, crate::specs::script::Shown::events_made))]
     fn run_status(&mut self, id: ConnId) -> Result<OutputLine, AllocError>
         ensures run { IsRun self.old (event.Status id) self.new result }
         ensures shows { ShowsRun self.old (event.Status id) self.new result }

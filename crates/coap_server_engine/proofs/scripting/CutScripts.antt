@@ -1,34 +1,28 @@
 -- Scripts that divide the bytes of their `in`s differently leave the same server, and write the same lines apart from
 -- those of the `in`s.
-use Rattle.std.proofs.Common.{◌≡◌, ℕ, ◌+◌, ◌<◌, ◌≤◌, ◌^◌, ◌==◌, nat_le, map, List, [], ◌∷◌, ◌++◌, length, drop, Option}
-use Rattle.std.proofs.Common.{Some, None, option_map, codes, refl, sym, ◌∙◌, arith}
-use Rattle.coap_server_engine.specs.Prelude.{concat, release_refusal, put_refusal, remove_refusal, ScriptEventValue}
-use Rattle.coap_server_engine.specs.Prelude.{Open, In}
-use Rattle.coap_server_engine.specs.Prelude.{Drain, Tick, Remove, Release, Drop, Status, EventResult, comes_to}
-use Rattle.coap_server_engine.specs.Prelude.{open_number}
-use Rattle.coap_server_engine.specs.Prelude.{store_number, release_number, tick_refusal, unless_refused, on_connection}
-use Rattle.coap_server_engine.specs.Prelude.{in_result}
-use Rattle.coap_server_engine.specs.Prelude.{in_ran, request_lines, drained, drain_ran, status_ran, event_ran, replayed}
-use Rattle.coap_server_engine.specs.Prelude.{open_line}
-use Rattle.coap_server_engine.specs.Prelude.{tick_line, put_line, remove_line, word_line, in_before, joined}
-use Rattle.coap_server_engine.specs.Prelude.{DifferInCuts}
-use Rattle.coap_server_engine.specs.Prelude.{lines_of, other_lines, IsInTime, AreInTime, SessionValue, ServerValue}
-use Rattle.coap_server_engine.specs.Prelude.{session_of, server_opened, server_taken, server_ticked, server_put}
-use Rattle.coap_server_engine.specs.Prelude.{server_removed, server_ended, server_released, server_dropped}
-use Rattle.coap_server_engine.specs.Prelude.{open_refusal}
-use Rattle.coap_server_engine.specs.Prelude.{released_refusal_on, released_refusal, AcceptedCall, Shows}
-use Rattle.coap_server_engine.specs.Prelude.{Respond, response_number, responded_refusal, server_given}
-use Rattle.std.proofs.lemmas.Bool.{leb-true, leb-false, eqb-true, eqb-false, true_from_ne_false, cond_both}
+use Rattle.std.proofs.Common.{◌≡◌, ℕ, ◌+◌, ◌<◌, ◌≤◌, ◌^◌, ◌==◌, map, List, [], ◌∷◌, ◌++◌, length, drop, Option, Some}
+use Rattle.std.proofs.Common.{None, codes, refl, sym, ◌∙◌, arith}
+use Rattle.coap_server_engine.specs.Prelude.{concat, ScriptEventValue, Open, In, Drain, Tick, Remove, Release, Drop}
+use Rattle.coap_server_engine.specs.Prelude.{Status, EventResult, open_number, store_number, release_number}
+use Rattle.coap_server_engine.specs.Prelude.{unless_refused, on_connection, in_result, in_ran, request_lines, drained}
+use Rattle.coap_server_engine.specs.Prelude.{event_ran, replayed, in_before, joined, DifferInCuts, lines_of}
+use Rattle.coap_server_engine.specs.Prelude.{other_lines, IsInTime, AreInTime, SessionValue, ServerValue, session_of}
+use Rattle.coap_server_engine.specs.Prelude.{server_taken, open_refusal, released_refusal_on, AcceptedCall, Shows}
+use Rattle.coap_server_engine.specs.Prelude.{Respond, response_number, NoSuch, release_fault, comes_to, server_opened}
+use Rattle.coap_server_engine.specs.Prelude.{server_ticked, server_put, server_removed, server_ended, server_released}
+use Rattle.coap_server_engine.specs.Prelude.{server_given, server_dropped, open_line, drain_ran, tick_line, put_line}
+use Rattle.coap_server_engine.specs.Prelude.{remove_line, word_line, status_ran}
+use Rattle.std.proofs.lemmas.Bool.{eqb-true, cond_both}
 use Rattle.std.proofs.lemmas.List.{length-take}
+use Rattle.coap_model.specs.declared.answers.ReleaseFault.TheVariants as releasing
 use Rattle.coap_script.specs.script.Events.{Put, End}
-use Rattle.coap_model.specs.declared.answers.OpenFault.TheVariants as opening
 use Rattle.coap_server_engine.proofs.world.ShowLaws.{shows_opened, shows_taken, shows_written, shows_ticked, shows_put}
 use Rattle.coap_server_engine.proofs.world.ShowLaws.{shows_removed, shows_ended, shows_released, shows_dropped}
 use Rattle.coap_server_engine.proofs.scripting.CutTakes.{fed_in_parts}
 use Rattle.coap_server_engine.proofs.scripting.ShownLemmas.{turns_keep, absent_stuck, stuck_turns}
-use Rattle.coap_server_engine.proofs.world.CallLaws.{shows_given, not_refused}
+use Rattle.coap_server_engine.proofs.world.CallLaws.{shows_given, where_free}
 use Rattle.coap_model.proofs.OptionLemmas.{none_made}
-use Rattle.coap_store.proofs.RefusalLemmas.{passed}
+use Rattle.std.proofs.lemmas.Bool.Decides.{nat_tests}
 
 -- ---- a server that shows a history shows one after each event of a script
 
@@ -49,20 +43,6 @@ connection_shown : (v : ServerValue) (word : List ℕ) (id : ℕ) (does : Sessio
 connection_shown v word id does None shown next = shown
 connection_shown v word id does (Some s) shown next = next s refl
 
--- `open`
-open_shown : (v : ServerValue) → IsShown v → open_refusal v ≡ None → IsShown (server_opened v)
-open_shown v shown none =
-    let room = passed (nat_le v.config.connections (length v.sessions)) opening.Full _ none in
-    let left = passed (v.ids == 18446744073709551615) opening.IdsSpent None room.1 in
-    let few = leb-false v.config.connections (length v.sessions) room.0 in
-    let fits : v.ids + 1 ≤ 18446744073709551615 =
-    omega (arith, eqb-false v.ids 18446744073709551615 left.0, shown.ids) in
-    record {
-      events = _;
-      shows = shows_opened v shown.events shown.shows fits (omega (arith, few));
-      ids = omega (arith, fits);
-    }
-
 -- `in`
 take_shown_by : (v : ServerValue) (id : ℕ) (piece : List ℕ) (found : Option SessionValue)
     → session_of id v.sessions ≡ found → IsShown v → IsShown (server_taken v id piece)
@@ -71,106 +51,87 @@ take_shown_by v id piece None at shown = rw at shown
 take_shown_by v id piece (Some s) at shown =
     record { events = _; shows = shows_taken v shown.events id piece s shown.shows at; ids = rw at shown.ids }
 
--- `release`
-release_finds : (v : ServerValue) (id : ℕ) (found : Option SessionValue) → session_of id v.sessions ≡ found
-    → released_refusal_on found ≡ None
-    → (s : SessionValue) × (session_of id v.sessions ≡ Some s) × (release_refusal s.link ≡ None)
-release_finds v id None at none = absurd cc
-release_finds v id (Some s) at none = (s, at, not_refused (release_refusal s.link) none)
-
 event_shown : (v : ServerValue) (e : ScriptEventValue) → IsInTime e → IsShown v → IsShown (event_ran v e).server
 unfolding event_ran
 event_shown v Open in_time shown =
-    unless_shown v (codes "open") None (comes_to (server_opened v) (open_line (v.ids + 1)))
-    (option_map open_number (open_refusal v)) shown
-    (λ none. open_shown v shown (none_made open_number (open_refusal v) none))
+    unless_shown v (codes "open") None (comes_to (server_opened v) (open_line (v.ids + 1))) _ shown (λ none.
+    let free = none_made open_number (open_refusal v) none in
+    let small : v.ids + 1 ≤ 18446744073709551615 = grind (arith, nat_tests, free, shown.ids) in
+    let few : length v.sessions < v.config.connections = grind (arith, nat_tests, free) in
+    record { events = _; shows = shows_opened v shown.events shown.shows small few; ids = omega (arith, small) })
 event_shown v (In id bytes) in_time shown =
-    connection_shown v (codes "in") id (λ s. in_ran id (request_lines v id bytes) (in_result v id bytes))
-    (session_of id v.sessions) shown (λ s at.
+    connection_shown v (codes "in") id (λ s. in_ran id (request_lines v id bytes) (in_result v id bytes)) _ shown
+    (λ s at.
     turns_keep (λ f. IsShown f.server) id bytes
     (λ f now. take_shown_by f.server id (drop f.count bytes) (session_of id f.server.sessions) refl now) v
     shown (length bytes))
 event_shown v (Drain id most) in_time shown =
-    connection_shown v (codes "drain") id (λ s. drain_ran v id (drained most s.link.waiting))
-    (session_of id v.sessions) shown
-    (λ s at.
-    let few : length (drained most s.link.waiting) ≤ length s.link.waiting = grind (arith, length-take {A = ℕ}) in
-    record {
+    connection_shown v (codes "drain") id (λ s. drain_ran v id (drained most s.link.waiting)) _ shown
+    (λ s at. record {
       events = _;
-      shows = shows_written v shown.events id (length (drained most s.link.waiting)) s shown.shows at few;
+      shows = shows_written v shown.events id (length (drained most s.link.waiting)) s shown.shows at
+          (grind (arith, length-take {A = ℕ}));
       ids = shown.ids;
     })
 event_shown v (Tick now) in_time shown =
-    unless_shown v (codes "tick") None (comes_to (server_ticked v now) (tick_line now)) (tick_refusal v now) shown
-    (λ none.
-    let later =
-    leb-true v.shared.now now (true_from_ne_false (nat_le v.shared.now now) (λ no. let bad = rw no at none in cc)) in
-    record {
+    unless_shown v (codes "tick") None (comes_to (server_ticked v now) (tick_line now)) _ shown (λ none. record {
       events = _;
-      shows = shows_ticked v shown.events now shown.shows later (omega (arith, in_time));
+      shows = shows_ticked v shown.events now shown.shows (grind (arith, nat_tests, none)) (omega (arith, in_time));
       ids = shown.ids;
     })
 event_shown v (Put path format bytes) in_time shown =
-    unless_shown v (codes "put") None (comes_to (server_put v path format bytes) (put_line (v.shared.store.versions
-    + 1)))
-    (option_map store_number (put_refusal v.shared.store path bytes)) shown
-    (λ none. record {
+    unless_shown v (codes "put") None
+    (comes_to (server_put v path format bytes) (put_line (v.shared.store.versions + 1))) _ shown (λ none. record {
       events = _;
-      shows =
-          shows_put v shown.events path format bytes shown.shows
-          (none_made store_number (put_refusal v.shared.store path bytes) none);
+      shows = shows_put v shown.events path format bytes shown.shows (none_made store_number _ none);
       ids = shown.ids;
     })
 event_shown v (Remove path text) in_time shown =
-    unless_shown v (codes "remove") None (comes_to (server_removed v path) (remove_line text))
-    (option_map store_number (remove_refusal v.shared.store path)) shown
-    (λ none. record {
+    unless_shown v (codes "remove") None (comes_to (server_removed v path) (remove_line text)) _ shown (λ none. record {
       events = _;
-      shows =
-          shows_removed v shown.events path shown.shows
-          (none_made store_number (remove_refusal v.shared.store path) none);
+      shows = shows_removed v shown.events path shown.shows (none_made store_number _ none);
       ids = shown.ids;
     })
 event_shown v (End id) in_time shown =
-    connection_shown v (codes "end") id (λ s. comes_to (server_ended v id) (word_line (codes "end") id))
-    (session_of id v.sessions) shown
-    (λ s at. record { events = _; shows = shows_ended v shown.events id s shown.shows at; ids = shown.ids })
+    connection_shown v (codes "end") id (λ s. comes_to (server_ended v id) (word_line (codes "end") id)) _ shown
+    (λ s at.
+    record { events = _; shows = shows_ended v shown.events id s shown.shows at; ids = shown.ids })
 event_shown v (Release id) in_time shown =
-    unless_shown v (codes "release") (Some id) (comes_to (server_released v id) (word_line (codes "release") id))
-    (option_map release_number (released_refusal v id)) shown
-    (λ none.
-    let may =
-    release_finds v id (session_of id v.sessions) refl (none_made release_number (released_refusal v id) none) in
-    record { events = _; shows = shows_released v shown.events id may.0 shown.shows may.1 may.2; ids = shown.ids })
-event_shown v (Respond id bytes) in_time shown =
-    unless_shown v (codes "respond") (Some id) (comes_to (server_given v id bytes) (word_line (codes "respond") id))
-    (option_map response_number (responded_refusal v id bytes)) shown
-    (λ none. record {
+    unless_shown v (codes "release") (Some id) (comes_to (server_released v id) (word_line (codes "release") id)) _
+    shown (λ none.
+    let at = where_free released_refusal_on releasing.NoSuch (session_of id v.sessions) refl
+    (none_made release_number _ none) in
+    record {
       events = _;
-      shows =
-          shows_given v shown.events id bytes shown.shows
-          (none_made response_number (responded_refusal v id bytes) none);
+      shows = shows_released v shown.events id at.0 shown.shows at.1 (none_made release_fault _ at.2);
+      ids = shown.ids;
+    })
+event_shown v (Respond id bytes) in_time shown =
+    unless_shown v (codes "respond") (Some id) (comes_to (server_given v id bytes) (word_line (codes "respond") id)) _
+    shown (λ none. record {
+      events = _;
+      shows = shows_given v shown.events id bytes shown.shows (none_made response_number _ none);
       ids = shown.ids;
     })
 event_shown v (Drop id) in_time shown =
-    connection_shown v (codes "drop") id (λ s. comes_to (server_dropped v id) (word_line (codes "drop") id))
-    (session_of id v.sessions) shown
-    (λ s at. record { events = _; shows = shows_dropped v shown.events id s shown.shows at; ids = shown.ids })
+    connection_shown v (codes "drop") id (λ s. comes_to (server_dropped v id) (word_line (codes "drop") id)) _ shown
+    (λ s at.
+    record { events = _; shows = shows_dropped v shown.events id s shown.shows at; ids = shown.ids })
 event_shown v (Status id) in_time shown =
-    connection_shown v (codes "status") id (status_ran v id) (session_of id v.sessions) shown (λ s at. shown)
+    connection_shown v (codes "status") id (status_ran v id) _ shown (λ s at. shown)
 
 -- ---- a divided `in`
-
-in_by : (v : ServerValue) (id : ℕ) (bytes : List ℕ) (found : Option SessionValue) → session_of id v.sessions ≡ found
-    → (on_connection v (codes "in") id (λ s. in_ran id (request_lines v id bytes) (in_result v id bytes)) found).server
-    ≡ (in_result v id bytes).server
-in_by v id bytes None at = sym (stuck_turns v id (absent_stuck v id at) bytes (length bytes)).server
-in_by v id bytes (Some s) at = refl
 
 in_server : (v : ServerValue) (id : ℕ) (bytes : List ℕ)
     → (event_ran v (In id bytes)).server ≡ (in_result v id bytes).server
 unfolding event_ran
-in_server v id bytes = in_by v id bytes (session_of id v.sessions) refl
+in_server v id bytes = by (session_of id v.sessions) refl
+  where
+    by : (found : Option SessionValue) → session_of id v.sessions ≡ found
+        → (on_connection v (codes "in") id (λ s. in_ran id (request_lines v id bytes) (in_result v id bytes))
+        found).server ≡ (in_result v id bytes).server
+    by None at = sym (stuck_turns v id (absent_stuck v id at) bytes (length bytes)).server
+    by (Some s) at = refl
 
 in_parts : (v : ServerValue) (id : ℕ) (xs ys : List ℕ) → IsShown v
     → (event_ran (event_ran v (In id xs)).server (In id ys)).server ≡ (event_ran v (In id (xs ++ ys))).server
@@ -207,10 +168,8 @@ run_before : (v : ServerValue) (id : ℕ) (bytes : List ℕ) (es : List ScriptEv
     → RunAlike v (In id bytes ∷ es) (in_before id bytes es)
 unfolding in_before
 run_before v id bytes (In other more ∷ es) shown =
-    cond_both (other == id) (In id (bytes ++ more) ∷ es) (In id bytes ∷ In other more ∷ es)
-    (RunAlike v (In id bytes ∷ In other more ∷ es))
-    (λ same. rw (eqb-true other id same) (run_joined v id bytes more es shown))
-    (λ differ. run_same v (In id bytes ∷ In other more ∷ es))
+    cond_both (other == id) _ _ (RunAlike v (In id bytes ∷ In other more ∷ es))
+    (λ same. rw (eqb-true other id same) (run_joined v id bytes more es shown)) (λ differ. run_same v _)
 run_before v id bytes es shown = run_same v (In id bytes ∷ es)
 
 -- A script runs as the one with joined `in`s.

@@ -8,14 +8,10 @@ use Rattle.std.proofs.lemmas.List.{append-nil, length-append, length-drop, drop-
 use Rattle.std.proofs.lemmas.List.{length-take}
 use Rattle.std.proofs.Math.Seq.{drop-length, drop-append-add, take-append-add, take-length}
 use Rattle.coap_server_engine.specs.Prelude.{Stream, StreamPrefix, Unfinished, Faulty, prefix_kind, fault_bytes}
-use Rattle.coap_server_engine.specs.Prelude.{framing_at}
-use Rattle.coap_server_engine.specs.Prelude.{framing, ConfigValues, InResult, unfed, fed_once, fed_turns, in_result}
-use Rattle.coap_server_engine.specs.Prelude.{SessionValue}
-use Rattle.coap_server_engine.specs.Prelude.{ServerValue, session_of, server_taken, count_taken, Connection, handles}
-use Rattle.coap_server_engine.specs.Prelude.{World}
-use Rattle.coap_server_engine.specs.Prelude.{side_of, AcceptedCall, Took, stream_on, world_after, size_on}
-use Rattle.coap_server_engine.specs.Prelude.{session_shown}
-use Rattle.coap_server_engine.specs.Prelude.{server_shown, server_of, Shows}
+use Rattle.coap_server_engine.specs.Prelude.{framing_at, framing, ConfigValues, InResult, unfed, fed_once, fed_turns}
+use Rattle.coap_server_engine.specs.Prelude.{in_result, SessionValue, ServerValue, session_of, server_taken}
+use Rattle.coap_server_engine.specs.Prelude.{count_taken, Connection, handles, side_of, AcceptedCall, Took, stream_on}
+use Rattle.coap_server_engine.specs.Prelude.{world_after, size_on, session_shown, server_shown, server_of, Shows}
 use Rattle.coap_wire.specs.StreamPrefix.{Whole}
 use Rattle.coap_wire.proofs.StreamSteps.{whole_more, faulty_more, fault_bytes_more}
 use Rattle.coap_frame.proofs.FrontLaws.{some_in_front}
@@ -27,10 +23,9 @@ use Rattle.coap_model.proofs.world.CutLaws.{cut_worlds, SpellAlike, stream_alike
 use Rattle.coap_model.proofs.world.TookLaws.{no_bytes_steps, Adds, adds_nothing}
 use Rattle.coap_model.proofs.world.ReachedLaws.{accepted_is, handling_goes_on, takes_there}
 use Rattle.coap_server_engine.proofs.world.ShowLaws.{session_there, side_there, takes_shown, shows_taken}
-use Rattle.coap_server_engine.proofs.scripting.ShownLemmas.{config_stays}
+use Rattle.coap_server_engine.proofs.scripting.ShownLemmas.{config_stays, IsStuck, absent_stuck, stuck_turns}
 use Rattle.coap_server_engine.proofs.scripting.ReplayLemmas.{all_turns_made}
 use Rattle.std.proofs.lemmas.Bool.Decides.{nat_tests}
-use Rattle.coap_server_engine.proofs.scripting.ShownLemmas.{IsStuck, absent_stuck, stuck_turns}
 
 -- ---- servers that show equal histories
 
@@ -40,12 +35,11 @@ same_where_alike : (u v : ServerValue) (es fs : List AcceptedCall) → u.config 
 unfolding server_of
 same_where_alike u v es fs config first second alike same =
     let M : ℕ = v.config.limits.max_message in
-    let w : World = world_after v.config fs in
     let streams : ◌≡◌ {A = ℕ → Stream} (λ id. stream_on M id es) (λ id. stream_on M id fs) =
     λ i id. stream_alike M id es fs alike i in
     first.same ∙ ap (λ (c : ConfigValues). server_of c es) config ∙ ap (server_shown v.config es) same
-    ∙ ap (λ (s : ℕ → Stream). record (server_shown v.config es w) {
-      sessions = map (λ p. (p.id, session_shown (s p.id).rest p.side)) w.sides;
+    ∙ ap (λ (s : ℕ → Stream). record (server_shown v.config es (world_after v.config fs)) {
+      sessions = map (λ p. (p.id, session_shown (s p.id).rest p.side)) (world_after v.config fs).sides;
     }) streams
     ∙ sym second.same
 
@@ -119,7 +113,7 @@ module _ (M : ℕ) (kept piece : List ℕ) where
   finding_at : (b : StreamPrefix) → prefix_kind M (kept ++ piece) ≡ b
       → (framing M kept piece).finding ≡ (framing_at kept piece b).finding
   unfolding framing
-  finding_at b is = ap (λ (b : StreamPrefix). (framing_at kept piece b).finding) is
+  finding_at b is = rw is refl
 
   all_at : prefix_kind M kept ≡ Unfinished → prefix_kind M (kept ++ piece) ≡ Unfinished
       → front_of M kept piece ≡ length piece
@@ -129,10 +123,8 @@ module _ (M : ℕ) (kept piece : List ℕ) where
   bytes_taken_are : prefix_kind M kept ≡ Unfinished → (b : StreamPrefix) → prefix_kind M (kept ++ piece) ≡ b
       → kept ++ take (front_of M kept piece) piece ≡ bytes_in_front (kept ++ piece) b
   bytes_taken_are unfinished Unfinished is = rw (all_at unfinished is, take-length)
-  bytes_taken_are unfinished (Whole frame left) is =
-      sym (frame_taken M kept piece frame unfinished (finding_at (Whole frame left) is))
-  bytes_taken_are unfinished (Faulty fault) is =
-      (fault_taken M kept piece fault unfinished (finding_at (Faulty fault) is)).1
+  bytes_taken_are unfinished (Whole frame left) is = sym (frame_taken M kept piece frame unfinished (finding_at _ is))
+  bytes_taken_are unfinished (Faulty fault) is = (fault_taken M kept piece fault unfinished (finding_at _ is)).1
 
 module _ (M : ℕ) (kept xs zs : List ℕ) (unfinished : prefix_kind M kept ≡ Unfinished) where
   -- If a frame or an error is found, later bytes make no difference.
@@ -231,10 +223,7 @@ stuck_parts v id xs ys stuck =
     let whole = stuck_turns v id stuck (xs ++ ys) (length (xs ++ ys)) in
     let first = stuck_turns v id stuck xs (length xs) in
     let second = stuck_turns v id stuck ys (length ys) in
-    record {
-      server = cc (whole.server, first.server, second.server);
-      count = cc (whole.count, first.count, first.server, second.count);
-    }
+    record { server = cc (whole.server, first.server, second.server); count = cc (first.server, second.count) }
 
 -- One of the parts is empty.
 no_first_part : (v : ServerValue) (id : ℕ) (ys : List ℕ) → IsFedInParts v id [] ys
@@ -247,6 +236,12 @@ no_second_part v id xs = record { server = rw append-nil; count = rw append-nil 
 
 module _ (v : ServerValue) (es : List AcceptedCall) (id : ℕ) (xs ys : List ℕ) (shows : Shows v es)
     (goes : Goes v es id) where
+  abbrev size_now : ℕ
+  size_now = size_here v es id
+
+  abbrev rest_now : List ℕ
+  rest_now = rest_here v es id
+
   abbrev whole_taken : ServerValue
   whole_taken = server_taken v id (xs ++ ys)
 
@@ -259,15 +254,15 @@ module _ (v : ServerValue) (es : List AcceptedCall) (id : ℕ) (xs ys : List ℕ
       rw counted at (shows_taken v es id bytes _ shows (side_there v es id goes.side shows goes.there))
 
   -- A frame or an error is found in the first part: the first take is the same.
-  found_parts : 0 < length xs → front_of (size_here v es id) (rest_here v es id) (xs ++ ys)
-      ≡ front_of (size_here v es id) (rest_here v es id) xs
+  found_parts : 0 < length xs → front_of size_now rest_now (xs ++ ys)
+      ≡ front_of size_now rest_now xs
       → ((w : ServerValue) (fs : List AcceptedCall) (zs : List ℕ) → Shows w fs → length zs < length xs
       → IsFedInParts w id zs ys)
       → IsFedInParts v id xs ys
   found_parts some same again =
-      let n : ℕ = front_of (size_here v es id) (rest_here v es id) xs in
-      let takes_some : 1 ≤ n = some_in_front (size_here v es id) (rest_here v es id) xs goes.unfinished some in
-      let within : n ≤ length xs = taken_within (size_here v es id) (rest_here v es id) xs goes.unfinished in
+      let n : ℕ = front_of size_now rest_now xs in
+      let takes_some : 1 ≤ n = some_in_front size_now rest_now xs goes.unfinished some in
+      let within : n ≤ length xs = taken_within size_now rest_now xs goes.unfinished in
       let whole_count : count_taken v id (xs ++ ys) ≡ n = goes.counts (xs ++ ys) ∙ same in
       let part_shows = took_shows xs n (goes.counts xs) in
       let server_same : whole_taken ≡ part_taken =
@@ -284,19 +279,19 @@ module _ (v : ServerValue) (es : List AcceptedCall) (id : ℕ) (xs ys : List ℕ
       record { server = rw (whole, parts.server, first); count = rw (whole, parts.count, first, add_assoc n) }
 
   -- Neither is found in the first part: all of it is accepted, and the next take continues after it.
-  later_parts : prefix_kind (size_here v es id) (rest_here v es id ++ xs) ≡ Unfinished → 0 < length xs
+  later_parts : prefix_kind size_now (rest_now ++ xs) ≡ Unfinished → 0 < length xs
       → 0 < length ys → IsFedInParts v id xs ys
   later_parts still some more =
       let M : ℕ = v.config.limits.max_message in
       let now : List AcceptedCall = es ++ Took id xs ∷ [] in
-      let n : ℕ = front_of (size_here v es id) (rest_here v es id ++ xs) ys in
-      let takes_some : 1 ≤ n = some_in_front (size_here v es id) (rest_here v es id ++ xs) ys still more in
-      let within : n ≤ length ys = taken_within (size_here v es id) (rest_here v es id ++ xs) ys still in
+      let n : ℕ = front_of size_now (rest_now ++ xs) ys in
+      let takes_some : 1 ≤ n = some_in_front size_now (rest_now ++ xs) ys still more in
+      let within : n ≤ length ys = taken_within size_now (rest_now ++ xs) ys still in
       let part_count : count_taken v id xs ≡ length xs =
-      goes.counts xs ∙ all_at (size_here v es id) (rest_here v es id) xs goes.unfinished still in
+      goes.counts xs ∙ all_at size_now rest_now xs goes.unfinished still in
       let part_shows : Shows part_taken now = rw take-length at (took_shows xs (length xs) part_count) in
-      let added : Adds M id es xs (record { messages = []; rest = rest_here v es id ++ xs; fault = None }) =
-      adds_nothing M id es xs goes.no_fault (finding_at (size_here v es id) (rest_here v es id) xs Unfinished still) in
+      let added : Adds M id es xs (record { messages = []; rest = rest_now ++ xs; fault = None }) =
+      adds_nothing M id es xs goes.no_fault (finding_at size_now rest_now xs Unfinished still) in
       let there : side_of id (world_after v.config now).sides ≡ Some goes.side =
       rw (world_same v.config es (Took id xs) added.steps) goes.there in
       let takes_next = takes_there v.config now id ys goes.side there in
@@ -310,7 +305,7 @@ module _ (v : ServerValue) (es : List AcceptedCall) (id : ℕ) (xs ys : List ℕ
         added.stream,
       ) in
       let whole_count =
-      goes.counts (xs ++ ys) ∙ later_front (size_here v es id) (rest_here v es id) xs ys goes.unfinished still in
+      goes.counts (xs ++ ys) ∙ later_front size_now rest_now xs ys goes.unfinished still in
       let next_taken : ServerValue = server_taken part_taken id ys in
       let next_there : side_of id (world_after part_taken.config now).sides ≡ Some goes.side =
       rw (config_stays v id xs) there in

@@ -1,28 +1,26 @@
 -- The results of events, of each one and of several in order.
 use Rattle.std.proofs.Common.{[], ◌≡◌, ◌≢◌, ℕ, zero, suc, ◌+◌, ◌-◌, ◌<◌, ◌≤◌, true, false, ◌==◌, List, ◌∷◌, ◌++◌}
-use Rattle.std.proofs.Common.{length, get_or, take, drop, map, Option, Some, None, Result, Ok, Err, is_none, refl, sym}
-use Rattle.std.proofs.Common.{ap, ◌∙◌, append_assoc, arith, lt-ltb, add-suc, add-zero, add-one}
+use Rattle.std.proofs.Common.{length, get_or, take, drop, map, Option, Some, None, Result, Ok, Err, is_none, refl, ◌∙◌}
+use Rattle.std.proofs.Common.{append_assoc, arith, lt-ltb, add-suc, add-zero, add-one}
 use Rattle.std.proofs.lemmas.Bool.{le-ltb, ne_eqb}
 use Rattle.std.proofs.lemmas.List.{append-nil, take-append-drop, length-drop, length-take-le, length-map}
 use Rattle.std.proofs.Math.Seq.{take-suc, drop-cons}
 use Rattle.std.proofs.Math.ListN.{get_or-map}
 use Rattle.std.proofs.Math.Bool.{and-false}
 use Rattle.coap_server_engine.specs.Prelude.{IsErr, AllocError, Path, StoreValue, remove_refusal, NoSuch}
-use Rattle.coap_server_engine.specs.Prelude.{ScriptEventValue}
-use Rattle.coap_server_engine.specs.Prelude.{event_value, EventResult, fed_turns, in_result, event_ran, replayed}
-use Rattle.coap_server_engine.specs.Prelude.{IsPartialIn, IsUnrun}
-use Rattle.coap_server_engine.specs.Prelude.{IsRefusedAt, IsCutAt, where_there, took_turns, took, events_ran, ShowsMore}
-use Rattle.coap_server_engine.specs.Prelude.{ShowsPartlyFed}
+use Rattle.coap_server_engine.specs.Prelude.{ScriptEventValue, event_value, EventResult, fed_turns, in_result}
+use Rattle.coap_server_engine.specs.Prelude.{event_ran, replayed, IsPartialIn, IsUnrun, IsRefusedAt, IsCutAt}
+use Rattle.coap_server_engine.specs.Prelude.{where_there, took_turns, took, events_ran, ShowsMore, ShowsPartlyFed}
 use Rattle.coap_server_engine.specs.Prelude.{ShowsPart, events_made, ShowsRefusedAt, AddsBytes, WritesPart}
-use Rattle.coap_server_engine.specs.Prelude.{SessionValue}
-use Rattle.coap_server_engine.specs.Prelude.{InResult, ServerValue, server_taken, count_taken, is_there, session_of}
-use Rattle.coap_server_engine.specs.Prelude.{IsNotTaken, IsRun}
-use Rattle.coap_server_engine.specs.Prelude.{IsDrainable, Took, Drained, OutputLine, Shows, AcceptedCall}
+use Rattle.coap_server_engine.specs.Prelude.{SessionValue, ServerValue, server_taken, count_taken, is_there, session_of}
+use Rattle.coap_server_engine.specs.Prelude.{IsNotTaken, IsRun, IsDrainable, Took, Drained, OutputLine, Shows}
+use Rattle.coap_server_engine.specs.Prelude.{AcceptedCall, request_lines, request_turns}
 use Rattle.coap_script.specs.declared.event.Event.{Event}
 use Rattle.coap_server_engine.specs.script.Replay.{result_after}
 use Rattle.coap_server_engine.specs.values.InResults.{goes_on}
 use Rattle.coap_io.proofs.streams.DeviceLemmas.{bytes_then}
-use Rattle.coap_server_engine.proofs.scripting.ShownLemmas.{shows_same, shows_then, shows_as, events_ran_on}
+use Rattle.coap_server_engine.proofs.scripting.ShownLemmas.{shows_same, shows_then, events_ran_on, absent_stuck}
+use Rattle.coap_server_engine.proofs.scripting.ShownLemmas.{none_taken_there, stuck_turns}
 use Rattle.coap_server_engine.proofs.world.ShowLaws.{refused_on}
 use Rattle.coap_server_session.proofs.values.TakenLemmas.{refused_within}
 use Rattle.coap_model.specs.world.Events as world
@@ -68,8 +66,7 @@ pub not_taken_within : (v : ServerValue) (id : ℕ) (piece : List ℕ) (count : 
     → IsNotTaken v id piece (taking.Memory count) after → (count ≤ length piece) × (length (take count piece) ≡ count)
 not_taken_within v id piece count after refused =
     let found = refused_on v piece count (session_of id v.sessions) refused.0 in
-    let within : count + 1 ≤ length piece = refused_within v.shared found.0 piece count found.2 in
-    let fewer : count ≤ length piece = omega (arith, within) in
+    let fewer : count ≤ length piece = omega (arith, refused_within v.shared found.0 piece count found.2) in
     (fewer, length-take-le count piece fewer)
 
 -- Some takes accepted bytes, and the server is `now`.
@@ -80,19 +77,24 @@ pub record Feeds (v : ServerValue) (id : ℕ) (bytes : List ℕ) (now : ServerVa
   pub so_far : fed_turns turns v id bytes ≡ record { server = now; count = taken; done = false }
   pub shows : ShowsMore v now (took_turns turns v id bytes)
 
--- Two numbers of iterations lead to the same value and make the same takes.
+-- Two numbers of iterations lead to the same value, make the same takes and list the same requests.
 abbrev pub AreTurnsOf : ServerValue → ℕ → List ℕ → ℕ → ℕ → Type 0
 AreTurnsOf v id bytes m n =
     (fed_turns m v id bytes ≡ fed_turns n v id bytes) × (took_turns m v id bytes ≡ took_turns n v id bytes)
+    × (request_turns m v id bytes ≡ request_turns n v id bytes)
 
 -- After the last take, further iterations do nothing.
 turns_stay : (v : ServerValue) (id : ℕ) (bytes : List ℕ) (n : ℕ) → goes_on bytes (fed_turns n v id bytes) ≡ false
     → (k : ℕ) → AreTurnsOf v id bytes (n + k) n
-unfolding fed_turns took_turns
-turns_stay v id bytes n is zero = rw add-zero (refl, refl)
+unfolding fed_turns took_turns request_turns
+turns_stay v id bytes n is zero = rw add-zero (refl, refl, refl)
 turns_stay v id bytes n is (suc k) =
     let before = turns_stay v id bytes n is k in
-    rw add-suc (rw (before.0, is) refl, rw (before.1, before.0, is) (append-nil (took_turns n v id bytes)))
+    rw add-suc (
+      rw (before.0, is) refl,
+      rw (before.1, before.0, is) (append-nil (took_turns n v id bytes)),
+      rw (before.2, before.0, is) (append-nil (request_turns n v id bytes)),
+    )
 
 pub all_turns_made : (v : ServerValue) (id : ℕ) (bytes : List ℕ) (n : ℕ)
     → goes_on bytes (fed_turns n v id bytes) ≡ false → (m : ℕ) → n ≤ m → AreTurnsOf v id bytes m n
@@ -105,7 +107,7 @@ abbrev pub ShowsTake : ServerValue → ℕ → List ℕ → ServerValue → Type
 ShowsTake now id left after =
     ShowsMore now after (where_there (session_of id now.sessions) (λ s. Took id (take (count_taken now id left) left)))
 
-module _ (v : ServerValue) (id : ℕ) (bytes : List ℕ) (now : ServerValue) (taken : ℕ)
+module _ {v : ServerValue} {id : ℕ} {bytes : List ℕ} {now : ServerValue} {taken : ℕ}
     (feeds : Feeds v id bytes now taken) (left : taken < length bytes) where
   pub turn_more_feeds : fed_turns (feeds.turns + 1) v id bytes ≡ record {
     server = server_taken now id (drop taken bytes);
@@ -123,7 +125,7 @@ module _ (v : ServerValue) (id : ℕ) (bytes : List ℕ) (now : ServerValue) (ta
       (shows_then v now after (took_turns feeds.turns v id bytes) _ feeds.shows more)
 
   -- A take accepted some bytes.
-  pub feeds_more : (k : ℕ) (after : ServerValue) → k ≤ length (drop taken bytes)
+  unfoldable pub feeds_more : (k : ℕ) (after : ServerValue) → k ≤ length (drop taken bytes)
       → k ≡ count_taken now id (drop taken bytes) → k ≢ 0 → after ≡ server_taken now id (drop taken bytes)
       → ShowsTake now id (drop taken bytes) after → Feeds v id bytes after (taken + k)
   feeds_more k after within counted some is more = record {
@@ -134,34 +136,23 @@ module _ (v : ServerValue) (id : ℕ) (bytes : List ℕ) (now : ServerValue) (ta
     shows = shows_more after more;
   }
 
-  pub turns_of_more : (k : ℕ) (after : ServerValue) (within : k ≤ length (drop taken bytes))
-      (counted : k ≡ count_taken now id (drop taken bytes)) (some : k ≢ 0)
-      (is : after ≡ server_taken now id (drop taken bytes)) (more : ShowsTake now id (drop taken bytes) after)
-      → (feeds_more k after within counted some is more).turns ≡ feeds.turns + 1
-  unfolding feeds_more
-  turns_of_more k after within counted some is more = refl
-
   -- A take accepted none.
-  stops_there : (after : ServerValue) → count_taken now id (drop taken bytes) ≡ 0
+  pub stops_there : (after : ServerValue) → count_taken now id (drop taken bytes) ≡ 0
       → after ≡ server_taken now id (drop taken bytes)
       → (in_result v id bytes ≡ record { server = after; count = taken; done = true })
       × (took v id bytes ≡ took_turns (feeds.turns + 1) v id bytes)
+      × (request_lines v id bytes ≡ request_turns (feeds.turns + 1) v id bytes)
   stops_there after none is =
       let turn : fed_turns (feeds.turns + 1) v id bytes ≡ record { server = after; count = taken; done = true } =
       cc (turn_more_feeds, add-zero taken) in
       let all = all_turns_made v id bytes (feeds.turns + 1) (rw (turn, and-false)) (length bytes)
       (omega (arith, feeds.few, left)) in
-      (all.0 ∙ turn, all.1)
-
-  pub fed_and_stopped : (after : ServerValue) → count_taken now id (drop taken bytes) ≡ 0
-      → after ≡ server_taken now id (drop taken bytes)
-      → in_result v id bytes ≡ record { server = after; count = taken; done = true }
-  fed_and_stopped after none is = (stops_there after none is).0
+      (all.0 ∙ turn, all.1, all.2)
 
   pub stopped_shows : (after : ServerValue) → count_taken now id (drop taken bytes) ≡ 0
       → after ≡ server_taken now id (drop taken bytes) → ShowsTake now id (drop taken bytes) after
       → ShowsMore v after (took v id bytes)
-  stopped_shows after none is more = shows_as v after _ _ (sym (stops_there after none is).1) (shows_more after more)
+  stopped_shows after none is more = rw (stops_there after none is).1 (shows_more after more)
 
   -- Allocation failed.
   pub short : (count : ℕ) (after : ServerValue) → IsNotTaken now id (drop taken bytes) (taking.Memory count) after
@@ -183,9 +174,9 @@ module _ (v : ServerValue) (id : ℕ) (bytes : List ℕ) (now : ServerValue) (ta
   }
 
 -- No byte is left.
-module _ (v : ServerValue) (id : ℕ) (bytes : List ℕ) (now : ServerValue) (taken : ℕ)
+module _ {v : ServerValue} {id : ℕ} {bytes : List ℕ} {now : ServerValue} {taken : ℕ}
     (feeds : Feeds v id bytes now taken) (none : length bytes ≤ taken) where
-  all_used : AreTurnsOf v id bytes (length bytes) feeds.turns
+  pub all_used : AreTurnsOf v id bytes (length bytes) feeds.turns
   all_used =
       all_turns_made v id bytes feeds.turns (rw (feeds.so_far, le-ltb taken (length bytes) none)) (length bytes)
       (omega (arith, feeds.few, feeds.within))
@@ -194,46 +185,23 @@ module _ (v : ServerValue) (id : ℕ) (bytes : List ℕ) (now : ServerValue) (ta
   used_up = all_used.0 ∙ feeds.so_far
 
   pub used_up_shows : ShowsMore v now (took v id bytes)
-  used_up_shows = shows_as v now _ _ (sym all_used.1) feeds.shows
+  used_up_shows = rw all_used.1 feeds.shows
+
+-- No take was made yet.
+unfoldable pub feeds_nothing : (v : ServerValue) (id : ℕ) (bytes : List ℕ) → Feeds v id bytes v 0
+unfolding fed_turns took_turns
+feeds_nothing v id bytes =
+    record { turns = 0; few = omega arith; within = omega arith; so_far = refl; shows = shows_same v v refl }
 
 -- No connection has this id.
-module _ (v : ServerValue) (id : ℕ) (none : session_of id v.sessions ≡ None) where
-  feeds_nothing : (bytes : List ℕ) → Feeds v id bytes v 0
-  unfolding fed_turns took_turns
-  feeds_nothing bytes =
-      record { turns = 0; few = omega arith; within = omega arith; so_far = refl; shows = shows_same v v refl }
-
-  takes_nothing : (bytes : List ℕ) → count_taken v id bytes ≡ 0
-  unfolding count_taken
-  takes_nothing bytes = rw none refl
-
-  stays_as_it_is : (bytes : List ℕ) → v ≡ server_taken v id bytes
-  unfolding server_taken
-  stays_as_it_is bytes = rw none refl
-
-  pub fed_nothing : (bytes : List ℕ)
-      → ((in_result v id bytes).count ≡ 0) × ((in_result v id bytes).server ≡ v) × ShowsMore v v (took v id bytes)
-  fed_nothing bytes = fed_cases (length bytes) refl
-    where
-      fed_cases : (n : ℕ) → length bytes ≡ n
-          → ((in_result v id bytes).count ≡ 0) × ((in_result v id bytes).server ≡ v) × ShowsMore v v (took v id bytes)
-      fed_cases zero is =
-          let none_left : length bytes ≤ 0 = omega (arith, is) in
-          let all = used_up v id bytes v 0 (feeds_nothing bytes) none_left in (
-            ap (λ (f : InResult). f.count) all,
-            ap (λ (f : InResult). f.server) all,
-            used_up_shows v id bytes v 0 (feeds_nothing bytes) none_left,
-          )
-      fed_cases (suc n) is =
-          let left : 0 < length bytes = omega (arith, is) in
-          let rest = drop 0 bytes in
-          let all =
-          fed_and_stopped v id bytes v 0 (feeds_nothing bytes) left v (takes_nothing rest) (stays_as_it_is rest) in (
-            ap (λ (f : InResult). f.count) all,
-            ap (λ (f : InResult). f.server) all,
-            stopped_shows v id bytes v 0 (feeds_nothing bytes) left v (takes_nothing rest) (stays_as_it_is rest)
-                (rw none (shows_same v v refl)),
-          )
+pub fed_nothing : (v : ServerValue) (id : ℕ) → session_of id v.sessions ≡ None → (bytes : List ℕ)
+    → ((in_result v id bytes).count ≡ 0) × ((in_result v id bytes).server ≡ v) × ShowsMore v v (took v id bytes)
+fed_nothing v id none bytes =
+    let stuck = stuck_turns v id (absent_stuck v id none) bytes (length bytes) in (
+      stuck.count,
+      stuck.server,
+      rw (none_taken_there v id (rw none refl) bytes (length bytes)) (shows_same v v refl),
+    )
 
 -- ---- several events
 
@@ -244,11 +212,12 @@ unfolding replayed
 replayed_on v [] fs = refl
 replayed_on v (e ∷ es) fs = rw (replayed_on (event_ran v e).server es fs, append_assoc)
 
--- The first events ran, and their lines were written.
+-- The first events ran, their lines were written, and the server shows their calls.
 pub record Replays (v : ServerValue) (all : List ScriptEventValue) (index : ℕ) (now : ServerValue)
     (x y : Option (List ℕ)) : Type 0 where
   pub server_is : now ≡ (replayed v (take index all)).server
   pub written : AddsBytes x y (replayed v (take index all)).text
+  pub shown : ShowsMore v now (events_ran v (take index all))
 
 -- One event at its index in a list.
 pub record IsEventAt (all : List ScriptEventValue) (index : ℕ) (e : ScriptEventValue) : Type 0 where
@@ -263,7 +232,7 @@ is_at events index x lt is =
     let all : List ScriptEventValue = map event_value events in
     let within : index < length all = omega (arith, lt, length-map events event_value) in
     let found : get_or all index (event_value x) ≡ event_value x =
-    get_or-map event_value events index x ∙ ap event_value (sym is) in
+    rw (get_or-map event_value events index x, ← is) refl in
     let next = add-one index in
     record {
       within = within;
@@ -272,8 +241,8 @@ is_at events index x lt is =
       counted = length-take-le index all (omega (arith, within));
     }
 
-module _ (v : ServerValue) (all : List ScriptEventValue) (index : ℕ) (now : ServerValue) (x y : Option (List ℕ))
-    (so_far : Replays v all index now x y) (e : ScriptEventValue) (is_at : IsEventAt all index e) where
+module _ {v : ServerValue} {all : List ScriptEventValue} {index : ℕ} {now : ServerValue} {x y : Option (List ℕ)}
+    (so_far : Replays v all index now x y) {e : ScriptEventValue} (is_at : IsEventAt all index e) where
   -- Allocation failed for the event.
   pub refused_at : (number : ℕ) (after : ServerValue) → number ≡ index + 1 → IsUnrun now e after
       → IsRefusedAt v all number after (AddsBytes x y)
@@ -287,61 +256,6 @@ module _ (v : ServerValue) (all : List ScriptEventValue) (index : ℕ) (now : Se
     unrun = rw so_far.server_is at unrun;
   }
 
-  -- The event ran, and its line is incomplete.
-  pub cut_at : (after : ServerValue) (line : List ℕ) (z : Option (List ℕ)) → IsWhat (event_ran now e) after line
-      → WritesPart y z line → ShowsMore v after (events_ran v (take index all ++ e ∷ []))
-      → IsCutAt v all after (AddsBytes x z)
-  cut_at after line z ran wrote shows = record {
-    before = take index all;
-    event = e;
-    others = drop (index + 1) all;
-    all = is_at.all_is;
-    ran = cc (ran.0, so_far.server_is);
-    part = wrote.0;
-    missing = wrote.1;
-    some = wrote.2;
-    cut = cc (ran.1, so_far.server_is, wrote.3);
-    written = bytes_then x y z (replayed v (take index all)).text wrote.0 so_far.written wrote.4;
-    shows = shows;
-  }
-
-  -- The event ran, and its line was written.
-  pub one_replayed : (after : ServerValue) (line : List ℕ) (z : Option (List ℕ)) → IsWhat (event_ran now e) after line
-      → AddsBytes y z line → Replays v all (index + 1) after x z
-  unfolding replayed
-  one_replayed after line z ran wrote =
-      let next : replayed v (take (index + 1) all) ≡ result_after (replayed v (take index all)).text (event_ran now e) =
-      rw (is_at.more, replayed_on v (take index all) (e ∷ []), append-nil, so_far.server_is) in
-      record {
-        server_is = cc (ran.0, next);
-        written = rw (next, ← ran.1) (bytes_then x y z (replayed v (take index all)).text line so_far.written wrote);
-      }
-
--- ---- the history that a server shows after the first events of a replay
-
--- After the first events, the server shows their calls.
-abbrev pub ShowsFirst : ServerValue → List ScriptEventValue → ℕ → ServerValue → Type 0
-ShowsFirst v all index now = ShowsMore v now (events_ran v (take index all))
-
-module _ (v : ServerValue) (all : List ScriptEventValue) (index : ℕ) (now : ServerValue) (x y : Option (List ℕ))
-    (so_far : Replays v all index now x y) (shown : ShowsFirst v all index now) (e : ScriptEventValue)
-    (is_at : IsEventAt all index e) where
-  next_ran : events_ran v (take index all) ++ events_made now e ≡ events_ran v (take (index + 1) all)
-  unfolding events_ran
-  next_ran = rw (is_at.more, events_ran_on v (take index all) (e ∷ []), append-nil, so_far.server_is)
-
-  -- The event ran.
-  pub one_shown : (after : ServerValue) → ShowsMore now after (events_made now e) → ShowsFirst v all (index + 1) after
-  one_shown after more =
-      shows_as v after _ _ next_ran
-      (shows_then v now after (events_ran v (take index all)) (events_made now e) shown more)
-
-  -- The event ran, and its line is incomplete.
-  pub cut_shown : (after : ServerValue) → ShowsMore now after (events_made now e)
-      → ShowsMore v after (events_ran v (take index all ++ e ∷ []))
-  cut_shown after more = shows_as v after _ _ (ap (events_ran v) is_at.more) (one_shown after more)
-
-  -- Allocation failed for the event.
   pub refused_shown : (before : List world.AcceptedCall) → Shows v before → (number : ℕ) (after : ServerValue)
       → number ≡ index + 1 → ShowsPart now e after → ShowsRefusedAt before v all number after
   refused_shown before shows number after counted refused = record {
@@ -352,5 +266,43 @@ module _ (v : ServerValue) (all : List ScriptEventValue) (index : ℕ) (now : Se
     counted = cc (counted, is_at.counted);
     more = refused.more;
     part = rw so_far.server_is at refused.part;
-    shows = refused.shows (before ++ events_ran v (take index all)) (shown before shows);
+    shows = refused.shows (before ++ events_ran v (take index all)) (so_far.shown before shows);
   }
+
+  -- The event ran.
+  ran_shown : (after : ServerValue) → ShowsMore now after (events_made now e)
+      → ShowsMore v after (events_ran v (take index all ++ e ∷ []))
+  unfolding events_ran
+  ran_shown after more =
+      rw (events_ran_on v (take index all) (e ∷ []), append-nil, ← so_far.server_is)
+      (shows_then v now after (events_ran v (take index all)) (events_made now e) so_far.shown more)
+
+  -- Its line is incomplete.
+  pub cut_at : (after : ServerValue) (line : List ℕ) (z : Option (List ℕ)) → IsWhat (event_ran now e) after line
+      → ShowsMore now after (events_made now e) → WritesPart y z line → IsCutAt v all after (AddsBytes x z)
+  cut_at after line z ran more wrote = record {
+    before = take index all;
+    event = e;
+    others = drop (index + 1) all;
+    all = is_at.all_is;
+    ran = cc (ran.0, so_far.server_is);
+    part = wrote.0;
+    missing = wrote.1;
+    some = wrote.2;
+    cut = cc (ran.1, so_far.server_is, wrote.3);
+    written = bytes_then x y z (replayed v (take index all)).text wrote.0 so_far.written wrote.4;
+    shows = ran_shown after more;
+  }
+
+  -- Its line was written.
+  pub one_replayed : (after : ServerValue) (line : List ℕ) (z : Option (List ℕ)) → IsWhat (event_ran now e) after line
+      → ShowsMore now after (events_made now e) → AddsBytes y z line → Replays v all (index + 1) after x z
+  unfolding replayed
+  one_replayed after line z ran more wrote =
+      let next : replayed v (take (index + 1) all) ≡ result_after (replayed v (take index all)).text (event_ran now e) =
+      rw (is_at.more, replayed_on v (take index all) (e ∷ []), append-nil, so_far.server_is) in
+      record {
+        server_is = cc (ran.0, next);
+        written = rw (next, ← ran.1) (bytes_then x y z (replayed v (take index all)).text line so_far.written wrote);
+        shown = rw is_at.more (ran_shown after more);
+      }

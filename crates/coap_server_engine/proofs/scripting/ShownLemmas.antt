@@ -1,14 +1,12 @@
 -- The history that a server shows after the calls of a script's events.
-use Rattle.std.proofs.Common.{[], ◌≡◌, ℕ, false, List, ◌∷◌, ◌++◌, Option, Some, None, Result, Ok, Err, refl, subst}
+use Rattle.std.proofs.Common.{[], ◌≡◌, ℕ, false, List, ◌∷◌, ◌++◌, Option, Some, None, Result, Ok, Err, refl}
 use Rattle.std.proofs.Common.{append_assoc, zero, suc, drop, arith}
 use Rattle.std.proofs.lemmas.List.{append-nil}
 use Rattle.std.proofs.lemmas.Bool.{cond_both}
 use Rattle.coap_server_engine.specs.Prelude.{IsErr, AllocError, ScriptEventValue, event_ran, replayed, InResult, unfed}
-use Rattle.coap_server_engine.specs.Prelude.{fed_more}
-use Rattle.coap_server_engine.specs.Prelude.{fed_turns, events_ran, ShowsMore, IsPartlyMade, ShowsPart, ShowsRun}
-use Rattle.coap_server_engine.specs.Prelude.{took_turns}
-use Rattle.coap_server_engine.specs.Prelude.{ServerValue, session_of, is_there, server_taken, server_taken_on}
-use Rattle.coap_server_engine.specs.Prelude.{count_taken, AcceptedCall, Shows}
+use Rattle.coap_server_engine.specs.Prelude.{fed_more, fed_turns, events_ran, ShowsMore, IsPartlyMade, ShowsPart}
+use Rattle.coap_server_engine.specs.Prelude.{ShowsRun, took_turns, ServerValue, session_of, is_there, server_taken}
+use Rattle.coap_server_engine.specs.Prelude.{server_taken_on, count_taken, AcceptedCall}
 use Rattle.coap_server_engine.specs.values.InResults.{goes_on}
 
 -- ---- servers
@@ -21,12 +19,7 @@ shows_same v after is before shows = rw (is, append-nil) shows
 pub shows_then : (u v w : ServerValue) (es fs : List AcceptedCall) → ShowsMore u v es → ShowsMore v w fs
     → ShowsMore u w (es ++ fs)
 shows_then u v w es fs first second before shows =
-    subst (Shows w) (append_assoc before es fs) (second (before ++ es) (first before shows))
-
--- Equal events.
-pub shows_as : (v after : ServerValue) (es fs : List AcceptedCall) → es ≡ fs
-    → ShowsMore v after es → ShowsMore v after fs
-shows_as v after es fs same more = rw same at more
+    rw (← append_assoc before es fs) (second (before ++ es) (first before shows))
 
 -- A take does not change the configuration.
 pub config_stays : (v : ServerValue) (id : ℕ) (piece : List ℕ) → (server_taken v id piece).config ≡ v.config

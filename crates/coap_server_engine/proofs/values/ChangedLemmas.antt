@@ -1,25 +1,23 @@
 -- The frame that a take completes, as it is lent: the request for the application, and the request that changes the
 -- store. The stores before and after differ at the path of the latter.
 use Rattle.std.proofs.Common.{◌≡◌, ℕ, ◌+◌, Bool, true, false, ◌&&◌, List, [], ◌∷◌, ◌++◌, take, Option, Some, None}
-use Rattle.std.proofs.Common.{Result, Ok, Err, refl, sym, ap, subst, ◌∙◌, arith, inl, inr, ◌⊎◌, is_none, is_some}
-use Rattle.std.proofs.Common.{IfSome, if◌then◌else◌}
+use Rattle.std.proofs.Common.{Result, Ok, Err, refl, sym, ◌∙◌, arith, inl, inr, ◌⊎◌, is_none, is_some, IfSome}
+use Rattle.std.proofs.Common.{if◌then◌else◌, subst, ap}
 use Rattle.std.specs.Prelude.{option_and_then}
-use Rattle.std.proofs.lemmas.Bool.{cases_Bool}
+use Rattle.std.proofs.lemmas.Bool.{cases_Bool, cond_both}
 use Rattle.coap_server_engine.specs.Prelude.{Message, message_of, FormatFault, Path, StoreValue, Change, changes}
-use Rattle.coap_server_engine.specs.Prelude.{changed, Reason}
-use Rattle.coap_server_engine.specs.Prelude.{ServerState, SessionValue, session_takes, taking, taking_found}
-use Rattle.coap_server_engine.specs.Prelude.{taking_read, FrameEventValue, AFrame, AFault, Framing, framing}
-use Rattle.coap_server_engine.specs.Prelude.{handed, handed_found, handed_read, is_handed_over, completed, found_frame}
-use Rattle.coap_server_engine.specs.Prelude.{handed_on}
-use Rattle.coap_server_engine.specs.Prelude.{ServerValue, session_of, server_taken, server_taken_on, changing_on}
-use Rattle.coap_server_engine.specs.Prelude.{changing_frame, frame_key, DifferBy, ChangesBy}
-use Rattle.coap_server_engine.specs.Prelude.{AcceptedCall, Took, world_after, Shows}
+use Rattle.coap_server_engine.specs.Prelude.{changed, Reason, ServerState, SessionValue, session_takes, taking}
+use Rattle.coap_server_engine.specs.Prelude.{taking_found, taking_read, FrameEventValue, AFrame, AFault, Framing}
+use Rattle.coap_server_engine.specs.Prelude.{framing, handed, handed_found, handed_read, completed, found_frame}
+use Rattle.coap_server_engine.specs.Prelude.{handed_on, ServerValue, session_of, server_taken, server_taken_on}
+use Rattle.coap_server_engine.specs.Prelude.{changing_on, changing_frame, frame_key, DifferBy, ChangesBy, AcceptedCall}
+use Rattle.coap_server_engine.specs.Prelude.{Took, world_after, Shows}
 use Rattle.coap_server_session.specs.Prelude.{session_max, asks_this, answer_on}
 use Rattle.coap_frame.specs.Framing.{Nothing}
 use Rattle.coap_store.specs.Answer as store_change
 use Rattle.coap_store.specs.Answer.{Answer}
 use Rattle.coap_store.specs.Prelude.{Representation, found_in, key_for, stored_at, target_of, path_of, stored_under}
-use Rattle.coap_store.specs.Prelude.{deletion, answer_at, removes_watch, answer_of, prompt_answer}
+use Rattle.coap_store.specs.Prelude.{deletion, answer_at, answer_of, prompt_answer, removes_watch}
 use Rattle.coap_store.proofs.AnswerLaws.{answer_cases, get_cases, store_cases, state_dynamic, change_finally}
 use Rattle.coap_store.proofs.ApplicationLaws.{prompt_cases}
 use Rattle.coap_store.proofs.HoldLaws.{same_change}
@@ -28,6 +26,7 @@ use Rattle.coap_store.proofs.ChangeLaws.{unchanged}
 use Rattle.coap_model.proofs.world.KnownLaws.{IsVersioned}
 use Rattle.coap_model.proofs.world.EndOfInputLaws.{world_known}
 use Rattle.coap_server_engine.proofs.world.ShowLaws.{shared_shown}
+use Rattle.coap_server_engine.proofs.scripting.ShownLemmas.{config_stays}
 
 -- ---- the change of an answer
 
@@ -47,7 +46,7 @@ deletion_own : (s : StoreValue) (path : Path) (key : Option Path) (state : Optio
     → state ≡ stored_at s key → IsOwn s path (deletion key state)
 deletion_own s path None state is there = tt
 deletion_own s path (Some q) None is there = tt
-deletion_own s path (Some q) (Some r) is there = (is, ap (λ (o : Option Representation). is_some o) (sym there))
+deletion_own s path (Some q) (Some r) is there = (is, rw (← there) refl)
 
 own_at : (s : StoreValue) (now : ℕ) (path : Path) (m : Message)
     → IsOwn s path (answer_at s (target_of s now path) m).change
@@ -63,13 +62,11 @@ own_at s now path m =
 own_answer : (s : StoreValue) (now : ℕ) (m : Message) → IsOwn s (path_of m) (answer_of s now m).change
 unfolding answer_of
 own_answer s now m =
-    subst (IsOwn s (path_of m)) (sym (change_finally (removes_watch m) (answer_at s (target_of s now (path_of m)) m)))
-    (own_at s now (path_of m) m)
+    rw (change_finally (removes_watch m) (answer_at s (target_of s now (path_of m)) m)) (own_at s now (path_of m) m)
 
 own : (s : StoreValue) (now : ℕ) (m : Message) → IsOwn s (path_of m) (prompt_answer s now m).change
 own s now m =
-    prompt_cases s now m (λ a. IsOwn s (path_of m) a.change) tt
-    (subst (IsOwn s (path_of m)) (sym (same_change s now m)) (own_answer s now m))
+    prompt_cases s now m (λ a. IsOwn s (path_of m) a.change) tt (rw (same_change s now m) (own_answer s now m))
 
 -- The stores before and after such a change differ at this path.
 own_differs : (s : StoreValue) (path : Path) (c : Change) → IsVersioned s → IsOwn s path c → changes c ≡ true
@@ -86,10 +83,7 @@ own_differs s path (store_change.Put q format bytes) is mine does =
     })
 own_differs s path (store_change.Delete q) is mine does =
     rw mine.0 (record {
-      here = λ same. (
-          let none : found_in s.resources q ≡ None = sym same ∙ deleted_is_gone s q is.distinct in
-          let bad : false ≡ true = sym (ap (λ (o : Option Representation). is_some o) none) ∙ mine.1 in
-          absurd cc);
+      here = λ same. (let bad : false ≡ true = rw (← same, deleted_is_gone s q is.distinct) at mine.1 in absurd cc);
       elsewhere = λ other apart. other_is_kept_on_delete s q other apart;
     })
 
@@ -110,11 +104,8 @@ MayCome shared frame c = (changes c ≡ false) ⊎ ComesFrom shared frame c
 read_change : (shared : ServerState) (v : SessionValue) (n : ℕ) (frame : List ℕ) (read : Result Message FormatFault)
     → message_of frame ≡ read → MayCome shared (Some frame) (taking_read shared v n read).change
 read_change shared v n frame (Ok m) reads =
-    elim (asks_this v.link m)
-    as (λ b. MayCome shared (Some frame) (if b then (answer_on shared m).change else store_change.Nothing)) [
-      | true ↦ inr (record { bytes = frame; completes = refl; message = m; reads = reads; change = refl })
-      | false ↦ inl refl
-    ]
+    cond_both (asks_this v.link m) _ _ (MayCome shared (Some frame))
+    (λ _. inr (record { bytes = frame; completes = refl; message = m; reads = reads; change = refl })) (λ _. inl refl)
 read_change shared v n frame (Err e) reads = inl refl
 
 found_change : (shared : ServerState) (v : SessionValue) (f : Framing) (found : FrameEventValue)
@@ -128,11 +119,9 @@ take_change : (shared : ServerState) (v : SessionValue) (piece : List ℕ)
 unfolding taking completed
 take_change shared v piece =
     let f : Framing = framing (session_max v) v.frame piece in
-    elim (session_takes v)
-    as (λ b. MayCome shared (if b then found_frame f.finding else None) (if b then taking_found shared v f f.finding
-    else record { count = 0; handled = false; session = v; change = store_change.Nothing }).change) [
-      | true ↦ found_change shared v f f.finding
-      | false ↦ inl refl
+    elim (cases_Bool (session_takes v)) [
+      | inl takes ↦ rw takes (found_change shared v f f.finding)
+      | inr stopped ↦ rw stopped (inl refl)
     ]
 
 -- ---- the stores before and after a take
@@ -143,21 +132,16 @@ module _ (shared : ServerState) (s : SessionValue) (piece : List ℕ) where
 
   -- The change has a frame.
   change_completes : changes change_here ≡ true → ComesFrom shared (completed s piece) change_here
-  change_completes does = elim (take_change shared s piece) [
-    | inl quiet ↦ absurd (let bad : true ≡ false = sym does ∙ quiet in cc)
-    | inr from ↦ from
-  ]
+  change_completes does = elim (take_change shared s piece) [ inl quiet ↦ absurd cc | inr from ↦ from ]
 
   stores_differ : IsVersioned shared.store → DifferBy shared.store (changed shared.store change_here)
       (option_and_then frame_key (if changes change_here then completed s piece else None))
   stores_differ is = elim (cases_Bool (changes change_here)) [
     | inl does ↦
         let from = change_completes does in
-        let own_here : IsOwn shared.store (path_of from.message) change_here =
-        subst (IsOwn shared.store (path_of from.message)) (sym from.change)
-        (own shared.store shared.now from.message) in
         rw (does, from.completes, from.reads)
-        (own_differs shared.store (path_of from.message) change_here is own_here does)
+        (own_differs shared.store (path_of from.message) change_here is
+        (rw from.change (own shared.store shared.now from.message)) does)
     | inr quiet ↦ rw quiet (unchanged shared.store change_here quiet)
   ]
 
@@ -172,13 +156,6 @@ taken_differs v id piece is =
       | Some s ↦ stores_differ v.shared s piece is
     ]
 
-taken_config : (v : ServerValue) (id : ℕ) (piece : List ℕ) → (server_taken v id piece).config ≡ v.config
-unfolding server_taken
-taken_config v id piece = elim (session_of id v.sessions) as (λ o. (server_taken_on v id piece o).config ≡ v.config) [
-  | None ↦ refl
-  | Some s ↦ refl
-]
-
 -- The worlds before and after the event of a take have stores that differ at the path of the request that is lent.
 pub take_alters : (v new : ServerValue) (id : ℕ) (piece : List ℕ) (n : ℕ) (frame : Option (List ℕ))
     → frame ≡ changing_frame v id piece → new ≡ server_taken v id piece
@@ -189,7 +166,7 @@ take_alters v new id piece n frame is new_is becomes es shows =
     let after : List AcceptedCall = es ++ Took id (take n piece) ∷ [] in
     let before : (world_after v.config es).store ≡ v.shared.store =
     sym (ap (λ (h : ServerState). h.store) (shared_shown v es shows)) in
-    let config : new.config ≡ v.config = ap (λ (u : ServerValue). u.config) new_is ∙ taken_config v id piece in
+    let config : new.config ≡ v.config = ap (λ (u : ServerValue). u.config) new_is ∙ config_stays v id piece in
     let later : (world_after v.config after).store ≡ (server_taken v id piece).shared.store =
     ap (λ c. (world_after c after).store) (sym config)
     ∙ sym (ap (λ (h : ServerState). h.store) (shared_shown new after (becomes es shows)))
@@ -202,11 +179,7 @@ take_alters v new id piece n frame is new_is becomes es shows =
 
 handed_in_read : (shared : ServerState) (v : SessionValue) (frame g : List ℕ) (read : Result Message FormatFault)
     → handed_read shared v g read ≡ Some frame → Some g ≡ Some frame
-handed_in_read shared v frame g (Ok m) e =
-    elim (is_handed_over shared v.link m) as (λ b. (if b then Some g else None) ≡ Some frame → Some g ≡ Some frame) [
-      | true ↦ λ is. is
-      | false ↦ λ is. absurd cc
-    ] e
+handed_in_read shared v frame g (Ok m) e = grind (arith, e)
 handed_in_read shared v frame g (Err f) e = absurd cc
 
 handed_in_found : (shared : ServerState) (v : SessionValue) (frame : List ℕ) (found : FrameEventValue)
@@ -219,13 +192,10 @@ handed_in_found shared v frame (AFrame g) e = handed_in_read shared v frame g (m
 handed_completes : (shared : ServerState) (v : SessionValue) (piece frame : List ℕ) → handed shared v piece ≡ Some frame
     → completed v piece ≡ Some frame
 unfolding handed completed
-handed_completes shared v piece frame =
-    let found : FrameEventValue = (framing (session_max v) v.frame piece).finding in
-    elim (session_takes v) as (λ b. (if b then handed_found shared v found else None) ≡ Some frame
-    → (if b then found_frame found else None) ≡ Some frame) [
-      | true ↦ handed_in_found shared v frame found
-      | false ↦ λ e. absurd cc
-    ]
+handed_completes shared v piece frame e = elim (cases_Bool (session_takes v)) [
+  | inl takes ↦ rw takes (handed_in_found shared v frame _ (rw takes at e))
+  | inr stopped ↦ absurd (let none : ◌≡◌ {A = Option (List ℕ)} None (Some frame) = rw stopped at e in cc)
+]
 
 module _ (v : ServerValue) (piece : List ℕ) (s : SessionValue) (given : List ℕ)
     (shown : IfSome (completed s piece) (λ frame. given ≡ frame)) where
@@ -234,24 +204,21 @@ module _ (v : ServerValue) (piece : List ℕ) (s : SessionValue) (given : List �
 
   given_so : (h : Option (List ℕ)) → handed v.shared s piece ≡ h → (if is_some h && true then Some given else None) ≡ h
   given_so None e = refl
-  given_so (Some frame) e = ap (λ (b : List ℕ). Some b) (given_is frame (handed_completes v.shared s piece frame e))
+  given_so (Some frame) e = rw (given_is frame (handed_completes v.shared s piece frame e)) refl
 
   -- It is lent if the request is handed over, and the connection has not stopped.
   pub handed_given : (flag : Bool) (stop : Option Reason) → flag ≡ is_some (handed v.shared s piece)
       → (if flag && is_none stop then Some given else None) ≡ handed_on v piece (Some s) stop
-  handed_given flag None counted =
-      ap (λ b. if b && true then Some given else None) counted ∙ given_so (handed v.shared s piece) refl
-  handed_given flag (Some why) counted =
-      elim flag as (λ b. (if b && false then Some given else None) ≡ None) [ true ↦ refl | false ↦ refl ]
+  handed_given flag None counted = rw counted (given_so (handed v.shared s piece) refl)
+  handed_given true (Some why) counted = refl
+  handed_given false (Some why) counted = refl
 
   -- It is lent if its message changes the store.
   pub changing_given : (flag : Bool) → flag ≡ changes (taking v.shared s piece).change
       → (if flag then Some given else None) ≡ changing_on v piece (Some s)
-  changing_given flag counted =
-      ap (λ b. if b then Some given else None) counted
-      ∙ elim (cases_Bool (changes (taking v.shared s piece).change)) [
-        | inl does ↦
-            let from = change_completes v.shared s piece does in
-            rw (does, from.completes) (ap (λ (b : List ℕ). Some b) (given_is from.bytes from.completes))
-        | inr quiet ↦ rw quiet refl
-      ]
+  changing_given flag counted = rw counted (elim (cases_Bool (changes (taking v.shared s piece).change)) [
+    | inl does ↦
+        let from = change_completes v.shared s piece does in
+        rw (does, from.completes, given_is from.bytes from.completes) refl
+    | inr quiet ↦ rw quiet refl
+  ])

@@ -4,10 +4,8 @@ use Rattle.std.proofs.Common.{replicate, Some, None, refl, sym, ap, subst, ◌�
 use Rattle.std.proofs.Common.{Result, Ok, Err, nat_eq, slice_get, slice_set, remove}
 use Rattle.std.proofs.lemmas.Bool.{cond_both, cases_eq, cases_lt}
 use Rattle.coap_server_engine.specs.Prelude.{values_of, set_value_at, insert_entry, ServerState, Cause, SessionValue}
-use Rattle.coap_server_engine.specs.Prelude.{LimitValues}
-use Rattle.coap_server_engine.specs.Prelude.{MarkedSession, new_session, session_settled, changed_at, settled_entry}
-use Rattle.coap_server_engine.specs.Prelude.{unmarked}
-use Rattle.coap_server_engine.specs.Prelude.{IsFlushedAt, session_written, AreUntouched}
+use Rattle.coap_server_engine.specs.Prelude.{LimitValues, MarkedSession, new_session, session_settled, changed_at}
+use Rattle.coap_server_engine.specs.Prelude.{settled_entry, unmarked, IsFlushedAt, session_written, AreUntouched}
 use Rattle.coap_server_engine.specs.Prelude.{IndexSet, Concerned, IsOutside, bit_of, Covers, AreCovered, AreCoveredBut}
 use Rattle.coap_server_engine.specs.Prelude.{may_concern, last_hash, Message, FormatFault, session_given_by}
 use Rattle.coap_server_session.specs.declared.cause.Cause.TheVariants as cause
@@ -69,8 +67,7 @@ written_cases (e ∷ es) (suc k) v (suc i) u at =
 
 same_value : (es : Entries) (i k : ℕ) (u v : SessionValue) → slice_get (values_of es) i ≡ Some u
     → slice_get (values_of es) k ≡ Some v → i ≡ k → u ≡ v
-same_value es i k u v at there same =
-    let both : Some u ≡ Some v = sym at ∙ ap (slice_get (values_of es)) same ∙ there in cc
+same_value es i k u v at there same = cc
 
 -- ---- calls that add no observer and no pending entry
 
@@ -174,9 +171,8 @@ covered_full c full all many each time es = record {
   many = many;
   paths =
       λ hash set there i s at outside.
-      let same : set ≡ full =
-      same_replicated 256 hash full set (sym (ap (λ (sets : List IndexSet). slice_get sets hash) each) ∙ there) in
-      absurd (omega (arith, outside.bit, ap (λ (x : IndexSet). bit_of x.words i) same, all i outside.within));
+      let same = same_replicated 256 hash full set (rw each at there) in
+      absurd (omega (arith, outside.bit, rw (← same) at (all i outside.within)));
   time = λ before i s at outside. absurd (omega (arith, outside.bit, time i outside.within));
 }
 
@@ -203,10 +199,8 @@ covered_taken c at es s t there adds old = record {
       λ hash set is i u here outside last.
       elim (written_cases es at t i u here) [
         | inl own ↦
-            let none = old.paths hash set is at s there (subst (IsOutside set.words) own.0 outside) in
-            let apart : last_hash t.observers ≢ Some hash =
-            subst (λ (v : SessionValue). last_hash v.observers ≢ Some hash) own.1 (last own.0) in
-            subst (λ (v : SessionValue). may_concern (cause.Path hash) v ≡ false) (sym own.1) (adds hash none apart)
+            rw own.1
+            (adds hash (old.paths hash set is at s there (rw own.0 at outside)) (rw own.1 at (last own.0)))
         | inr other ↦ old.paths hash set is i u other outside
       ];
   time =
@@ -222,9 +216,7 @@ covers_kept : (why : Cause) (words : List ℕ) (at : ℕ) (es : Entries) (s t : 
     → Covers why words (set_value_at es at t)
 covers_kept why words at es s t there adds old i u here outside =
     elim (written_cases es at t i u here) [
-      | inl own ↦
-          let none = old at s there (subst (IsOutside words) own.0 outside) in
-          subst (λ (v : SessionValue). may_concern why v ≡ false) (sym own.1) (still_unconcerned why s t adds none)
+      | inl own ↦ rw own.1 (still_unconcerned why s t adds (old at s there (rw own.0 at outside)))
       | inr other ↦ old i u other outside
     ]
 
@@ -238,8 +230,7 @@ pub outside_inserted : (before after : List ℕ) (at : ℕ) → (at < 256 → bi
     → ((i : ℕ) → i ≢ at → bit_of after i ≡ bit_of before i) → (i : ℕ) → IsOutside after i
     → (i ≢ at) × IsOutside before i
 outside_inserted before after at set others i outside =
-    let apart : i ≢ at = λ same.
-    absurd (omega (arith, outside.bit, ap (bit_of after) same, set (subst (λ (k : ℕ). k < 256) same outside.within))) in
+    let apart : i ≢ at = λ same. let own = rw same at outside in absurd (omega (arith, own.bit, set own.within)) in
     (apart, record { within = outside.within; bit = sym (others i apart) ∙ outside.bit })
 
 -- A set has all connections that it had before. It also has the one at an index if the path of its last observer
@@ -260,8 +251,7 @@ noted c d at v many time paths es there old = record {
       λ hash set is i u here outside.
       let note = paths hash set is in
       old.paths hash note.before note.there i u here (note.kept i outside)
-      (λ same. subst (λ (w : SessionValue). last_hash w.observers ≢ Some hash)
-      (sym (same_value es i at u v here there same)) (note.own (subst (IsOutside set.words) same outside)));
+      (λ same. rw (same_value es i at u v here there same) (note.own (rw same at outside)));
   time = λ before i u here outside. let set = time i outside in old.time before i u here set.1 set.0;
 }
 
@@ -274,15 +264,15 @@ noted_one c at v hash before after there last outside h set is =
     elim (set_cases c.paths.items hash h after set is) [
       | inl own ↦ record {
         before = before;
-        there = ap (slice_get c.paths.items) own.0 ∙ there;
-        kept = λ i out. (outside i (subst (λ (x : IndexSet). IsOutside x.words i) own.1 out)).1;
-        own = λ out. absurd ((outside at (subst (λ (x : IndexSet). IsOutside x.words at) own.1 out)).0 refl);
+        there = rw own.0 there;
+        kept = λ i out. (outside i (rw own.1 at out)).1;
+        own = λ out. absurd ((outside at (rw own.1 at out)).0 refl);
       }
       | inr other ↦ record {
         before = set;
         there = other.1;
         kept = λ i out. out;
-        own = λ out same. other.0 (let both : Some h ≡ Some hash = sym same ∙ last in cc);
+        own = λ out same. other.0 (cc);
       }
     ]
 
@@ -299,17 +289,13 @@ quiet_covered c at v none es there old = record {
   paths =
       λ hash set is i u here outside.
       elim (cases_eq i at) [
-        | inl same ↦
-            subst (λ (w : SessionValue). may_concern (cause.Path hash) w ≡ false)
-            (sym (same_value es i at u v here there same)) (quiet v none (cause.Path hash))
+        | inl same ↦ rw (same_value es i at u v here there same) (quiet (cause.Path hash))
         | inr apart ↦ old.paths hash set is i u here outside (λ same. absurd (apart same))
       ];
   time =
       λ before i u here outside.
       elim (cases_eq i at) [
-        | inl same ↦
-            subst (λ (w : SessionValue). may_concern (cause.Moment before) w ≡ false)
-            (sym (same_value es i at u v here there same)) (quiet v none (cause.Moment before))
+        | inl same ↦ rw (same_value es i at u v here there same) (quiet (cause.Moment before))
         | inr apart ↦ old.time before i u here outside apart
       ];
 }
@@ -318,37 +304,27 @@ quiet_covered c at v none es there old = record {
     empty [] few = refl
     empty (x ∷ xs) few = absurd (omega (arith, few))
 
-    quiet : (w : SessionValue) → length w.link.pending + length w.observers ≤ 0 → (why : Cause)
-        → may_concern why w ≡ false
-    quiet w few (cause.Path hash) = rw (empty w.observers (omega (arith, few))) refl
-    quiet w few (cause.Moment before) =
-        rw (empty w.observers (omega (arith, few)), empty w.link.pending (omega (arith, few))) refl
+    quiet : (why : Cause) → may_concern why v ≡ false
+    quiet (cause.Path hash) = rw (empty v.observers (omega arith)) refl
+    quiet (cause.Moment before) = rw (empty v.observers (omega arith), empty v.link.pending (omega arith)) refl
 
 -- ---- one set is replaced
 
 pub covered_time : (c d : Concerned) (es : Entries) → d.paths.items ≡ c.paths.items
     → ((before : ℕ) → Covers (cause.Moment before) d.time.words es) → AreCovered c es → AreCovered d es
-covered_time c d es same time old = record {
-  many = ap length same ∙ old.many;
-  paths = λ hash set there. old.paths hash set (sym (ap (λ (sets : List IndexSet). slice_get sets hash) same) ∙ there);
-  time = time;
-}
+covered_time c d es same time old =
+    record { many = rw same old.many; paths = λ hash set there. old.paths hash set (rw same at there); time = time }
 
 pub covered_path : (c d : Concerned) (hash : ℕ) (set : IndexSet) (es : Entries) → d.time ≡ c.time
     → d.paths.items ≡ slice_set c.paths.items hash set → length d.paths.items ≡ 256
     → Covers (cause.Path hash) set.words es → AreCovered c es → AreCovered d es
 covered_path c d hash set es time paths many own old = record {
   many = many;
-  paths =
-      λ h x there.
-      elim (set_cases c.paths.items hash h set x
-      (sym (ap (λ (sets : List IndexSet). slice_get sets h) paths) ∙ there)) [
-        | inl is ↦
-            subst (λ (k : ℕ). Covers (cause.Path k) x.words es) (sym is.0)
-            (subst (λ (y : IndexSet). Covers (cause.Path hash) y.words es) (sym is.1) own)
-        | inr other ↦ old.paths h x other.1
-      ];
-  time = λ before. subst (λ (y : IndexSet). Covers (cause.Moment before) y.words es) (sym time) (old.time before);
+  paths = λ h x there. elim (set_cases c.paths.items hash h set x (rw paths at there)) [
+    | inl is ↦ rw (is.0, is.1) own
+    | inr other ↦ old.paths h x other.1
+  ];
+  time = λ before. rw time (old.time before);
 }
 
 -- ---- the search for the next connection that a change may affect
@@ -369,11 +345,10 @@ pub covers_removed : (why : Cause) (before after : IndexSet) (at : ℕ) (es : En
     → ((i : ℕ) → i ≢ at → bit_of after.words i ≡ bit_of before.words i) → Covers why before.words es
     → Covers why after.words es
 covers_removed why before after at es s true there is same others covers i u here outside =
-    subst (λ (set : IndexSet). Covers why set.words es) (sym (same refl)) covers i u here outside
+    covers i u here (rw (same refl) at outside)
 covers_removed why before after at es s false there is same others covers i u here outside =
     elim (cases_eq i at) [
-      | inl own ↦
-          subst (λ (w : SessionValue). may_concern why w ≡ false) (sym (same_value es i at u s here there own)) (sym is)
+      | inl own ↦ rw (same_value es i at u s here there own) (sym is)
       | inr apart ↦ covers i u here (record { within = outside.within; bit = sym (others i apart) ∙ outside.bit })
     ]
 
@@ -382,9 +357,9 @@ pub covers_one_marked : (why : Cause) (words : List ℕ) (shared : ServerState) 
     (s t : MarkedSession) → slice_get (values_of es) at ≡ Some s → t.session ≡ session_settled shared s.session
     → Covers why words (unmarked es) → Covers why words (unmarked (set_value_at es at t))
 covers_one_marked why words shared at es s t there is covers =
-    subst (Covers why words) (sym (set_unmarked es at t t.session refl))
+    rw (set_unmarked es at t t.session refl)
     (covers_kept why words at (unmarked es) s.session t.session (unmarked_at es at s there)
-    (subst (AddsNone s.session) (sym is) (settled_adds shared s.session)) covers)
+    (rw is (settled_adds shared s.session)) covers)
 
 pub covered_one_marked : (c : Concerned) (shared : ServerState) (at : ℕ) (es : MarkedEntries) (s t : MarkedSession)
     → slice_get (values_of es) at ≡ Some s → t.session ≡ session_settled shared s.session → AreCovered c (unmarked es)

@@ -1,14 +1,15 @@
 -- The earliest of the deadlines of connections, by a search that skips those without a deadline.
-use Rattle.std.proofs.Common.{◌≡◌, ℕ, zero, suc, ◌+◌, ◌<◌, ◌≤◌, false, List, [], ◌∷◌, length, Option, Some, None}
-use Rattle.std.proofs.Common.{refl, sym, ap, subst, ◌∙◌, arith, slice_get, min, add-one}
-use Rattle.coap_server_engine.specs.Prelude.{values_of, AllByRecursion, IsBefore, due_on, may_concern, SessionValue}
-use Rattle.coap_server_engine.specs.Prelude.{Covers, IsOutside, IsStore, AreSettled, ServerValue, OnlyTimePasses}
-use Rattle.coap_server_engine.specs.Prelude.{next_deadline, earliest_deadline}
+use Rattle.std.proofs.Common.{◌≡◌, ℕ, zero, suc, ◌+◌, ◌<◌, ◌≤◌, List, [], ◌∷◌, length, Option, Some, None, refl, sym}
+use Rattle.std.proofs.Common.{ap, ◌∙◌, arith, slice_get, add-one, inl, inr, ◌^◌}
+use Rattle.coap_server_engine.specs.Prelude.{values_of, AllByRecursion, IsBefore, due_on, SessionValue, Covers}
+use Rattle.coap_server_engine.specs.Prelude.{IsOutside, IsStore, AreSettled, ServerValue, OnlyTimePasses, next_deadline}
+use Rattle.coap_server_engine.specs.Prelude.{earliest_deadline, ServerState, WaitsForDeadlines}
 use Rattle.coap_server_session.specs.Prelude.{sooner}
 use Rattle.coap_server_session.specs.declared.cause.Cause.TheVariants as cause
-use Rattle.coap_server_session.proofs.values.ConcernLemmas.{unconcerned}
-use Rattle.coap_server_engine.proofs.values.ServerLemmas.{Entries}
-use Rattle.coap_server_engine.proofs.values.ServerDueLemmas.{waits_for_what_is_due}
+use Rattle.coap_server_engine.proofs.values.ServerLemmas.{Entries, all_settled_stay}
+use Rattle.coap_server_session.proofs.values.DueLemmas.{at_moment, stays_settled}
+use Rattle.std.proofs.lemmas.Bool.{cases_lt}
+use Rattle.coap_server_engine.proofs.values.WorkLemmas.{never_due}
 
 -- ---- the earlier of two times
 
@@ -20,9 +21,7 @@ sooner_assoc : (d e f : Option ℕ) → sooner (sooner d e) f ≡ sooner d (soon
 sooner_assoc None e f = refl
 sooner_assoc (Some a) None f = refl
 sooner_assoc (Some a) (Some b) None = refl
-sooner_assoc (Some a) (Some b) (Some c) =
-    let least : min (min a b) c ≡ min a (min b c) = omega arith in
-    ap Some least
+sooner_assoc (Some a) (Some b) (Some c) = ap Some (omega arith)
 
 before_parts : (later : ℕ) (d e : Option ℕ) → IsBefore later (sooner d e) → IsBefore later d × IsBefore later e
 before_parts later None e before = (tt, before)
@@ -52,9 +51,7 @@ from_one : (now : ℕ) (es : Entries) (i : ℕ) (s : SessionValue) → slice_get
     → earliest_from now es i ≡ sooner (due_on now s) (earliest_from now es (suc i))
 unfolding earliest_from
 from_one now [] i s at = absurd cc
-from_one now (e ∷ es) zero s at =
-    let same : e.1 ≡ s = cc in
-    ap (λ (t : SessionValue). sooner (due_on now t) (earliest_from now es zero)) same
+from_one now (e ∷ es) zero s at = let same : e.1 ≡ s = cc in rw same refl
 from_one now (e ∷ es) (suc i) s at = from_one now es i s at
 
 -- The connections between two indices have no deadline.
@@ -75,14 +72,6 @@ from_later now (e ∷ es) (suc a) (suc b) less none =
 
 -- ---- the search
 
--- A connection that no change of the time concerns has no deadline.
-never_due : (now : ℕ) (s : SessionValue) → may_concern (cause.Moment now) s ≡ false → due_on now s ≡ None
-never_due now s none = never (due_on now s) (λ due. (unconcerned (cause.Moment now) due s none).0)
-  where
-    never : (o : Option ℕ) → ((due : ℕ) → IsBefore due o) → o ≡ None
-    never None each = refl
-    never (Some due) each = absurd (omega (arith, each due))
-
 -- The indices from one up to another do not belong to the set.
 gap_skipped : (now : ℕ) (es : Entries) (words : List ℕ) (a b : ℕ) → a ≤ b → Covers (cause.Moment now) words es
     → ((i : ℕ) → a ≤ i → i < b → IsOutside words i) → earliest_from now es a ≡ earliest_from now es b
@@ -100,18 +89,37 @@ pub search_continues : (now : ℕ) (es : Entries) (words : List ℕ) (at b : ℕ
     → sooner due (earliest_from now es at) ≡ earliest_deadline now es
     → sooner (sooner due (due_on now s)) (earliest_from now es b) ≡ earliest_deadline now es
 search_continues now es words at b s due there less covers gap so =
-    let next : earliest_from now es (suc at) ≡ earliest_from now es b =
-    subst (λ (k : ℕ). earliest_from now es k ≡ earliest_from now es b) (add-one at)
-    (gap_skipped now es words (at + 1) b less covers gap) in
-    sooner_assoc due (due_on now s) (earliest_from now es b)
-    ∙ ap (λ (o : Option ℕ). sooner due (sooner (due_on now s) o)) (sym next)
-    ∙ ap (sooner due) (sym (from_one now es at s there)) ∙ so
+    rw (
+      sooner_assoc,
+      ← gap_skipped now es words (at + 1) b less covers gap,
+      add-one at,
+      ← from_one now es at s there,
+    ) so
 
 pub search_ends : (now : ℕ) (es : Entries) (at : ℕ) (due : Option ℕ) → length es ≤ at
     → sooner due (earliest_from now es at) ≡ earliest_deadline now es → due ≡ earliest_deadline now es
-search_ends now es at due end so = sym (sooner_none due) ∙ ap (sooner due) (sym (from_end now es at end)) ∙ so
+search_ends now es at due end so = rw (from_end now es at end, sooner_none due) at so
 
 -- ---- a time before the earliest deadline
+
+stay_settled : (shared : ServerState) (later : ℕ) (es : Entries) → IsStore shared.store → AreSettled shared es
+    → shared.now < later → later < 2 ^ 64 → AllByRecursion (λ e. IsBefore later (due_on shared.now e.1)) es
+    → AreSettled (at_moment shared later) es
+stay_settled shared later [] store settled more fits before = tt
+stay_settled shared later (e ∷ es) store settled more fits before = (
+  stays_settled shared later e.1 store settled.0 more fits before.0,
+  stay_settled shared later es store settled.1 more fits before.1,
+)
+
+-- Time alone queues nothing before it is due.
+pub waits_for_what_is_due : (v : ServerValue) (later : ℕ) → IsStore v.shared.store → AreSettled v.shared v.sessions
+    → v.shared.now ≤ later → later < 2 ^ 64 → WaitsForDeadlines v later
+waits_for_what_is_due v later store settled on fits before =
+    let still : AreSettled (at_moment v.shared later) v.sessions = elim (cases_lt v.shared.now later) [
+      | inl more ↦ stay_settled v.shared later v.sessions store settled more fits before
+      | inr no_more ↦ let same : v.shared.now ≡ later = omega (arith, on, no_more) in rw (← same) settled
+    ] in
+    rw (all_settled_stay (at_moment v.shared later) v.sessions still) refl
 
 each_before : (later now : ℕ) (es : Entries) → IsBefore later (earliest_deadline now es)
     → AllByRecursion (λ e. IsBefore later (due_on now e.1)) es

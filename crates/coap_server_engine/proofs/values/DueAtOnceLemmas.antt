@@ -1,19 +1,18 @@
 -- A request whose deadline has come when it is handed over: the connection answers it by 5.04 when it settles.
-use Rattle.std.proofs.Common.{◌≡◌, ◌⊎◌, ℕ, zero, suc, ◌+◌, ◌≤◌, Bool, true, false, List, [], ◌∷◌, ◌++◌, length, Option}
-use Rattle.std.proofs.Common.{Some, None, Result, Ok, Err, refl, sym, ap, subst, ◌∙◌, inl, inr, arith, nat_le}
-use Rattle.std.proofs.Common.{if◌then◌else◌}
+use Rattle.std.proofs.Common.{◌≡◌, ◌⊎◌, ℕ, zero, suc, ◌+◌, ◌≤◌, true, false, List, [], ◌∷◌, ◌++◌, length, Option, Some}
+use Rattle.std.proofs.Common.{None, Result, Ok, Err, refl, sym, ap, ◌∙◌, inl, inr, arith, nat_le, if◌then◌else◌}
 use Rattle.std.proofs.lemmas.Bool.{cond_both, le-leb}
 use Rattle.std.proofs.lemmas.List.{length-append}
 use Rattle.coap_conn.specs.Fit.{fit, bare_response}
 use Rattle.coap_conn.specs.Phases.{answers}
-use Rattle.coap_conn.specs.Reaction.{ConnectionState, send, send_as, due_effect, pong_with}
-use Rattle.coap_conn.specs.LinkValue.{limit_in, state_in, link_with}
+use Rattle.coap_conn.specs.Reaction.{ConnectionState, send_as, due_effect}
+use Rattle.coap_conn.specs.LinkValue.{limit_in, state_in}
 use Rattle.coap_conn.specs.PendingEntries.{PendingEntryValue, Answer, Pong, due_moment, due_index, first_due}
 use Rattle.coap_conn.specs.PendingEntries.{without_at, without_due, has_request}
 use Rattle.coap_conn.specs.Calls.{link_after, state_due}
 use Rattle.coap_conn.specs.Calls as call
 use Rattle.coap_conn.specs.declared.pending.Responder.{Responder}
-use Rattle.coap_conn.specs.declared.pending.Responder.TheVariants.{Engine, Application}
+use Rattle.coap_conn.specs.declared.pending.Responder.TheVariants.{Application}
 use Rattle.coap_conn.specs.declared.phase.Reply.{Reply}
 use Rattle.coap_conn.specs.declared.phase.Reply.TheVariants.{Whole, Bare, Stopped}
 use Rattle.coap_conn.specs.declared.phase.RespondFault.TheVariants as fault
@@ -39,11 +38,11 @@ NoRequests pending = AllByRecursion (λ e. is_of_application e ≡ false) pendin
 none_requested_left : (now : ℕ) (pending : List PendingEntryValue) → NoRequests pending
     → NoRequests (without_due now pending)
 unfolding without_due
-none_requested_left now pending none = by (due_index now pending)
-  where
-    by : (at : Option ℕ) → NoRequests (without_at pending at)
-    by None = none
-    by (Some i) = all_remove (λ e. is_of_application e ≡ false) pending i none
+none_requested_left now pending none =
+    elim (due_index now pending) as (λ at. NoRequests (without_at pending at)) [
+      | None ↦ none
+      | Some i ↦ all_remove (λ e. is_of_application e ≡ false) pending i none
+    ]
 
 send_asks_none : (s : ConnectionState) (m less : Message) (r : Reply) → NoRequests s.pending
     → NoRequests (send_as s m less r).pending
@@ -54,7 +53,7 @@ send_asks_none s m less Stopped none = tt
 reply_asks_none : (l : LinkValue) (m : Message) → NoRequests l.pending
     → NoRequests (link_after l (call.Reply m)).pending
 reply_asks_none l m none =
-    cond_both (answers l.phase) (link_with l (send (state_in l) m (bare_response m))) l (λ k. NoRequests k.pending)
+    cond_both (answers l.phase) _ l (λ k. NoRequests k.pending)
     (λ _. send_asks_none (state_in l) m (bare_response m) (fit (limit_in l) m (bare_response m)) none) (λ _. none)
 
 due_asks_none : (l : LinkValue) (now : ℕ) → NoRequests (without_due now l.pending)
@@ -64,9 +63,7 @@ due_asks_none l now left = by (first_due now l.pending)
     by : (found : Option PendingEntryValue) → NoRequests (due_effect (state_due now (state_in l)) found).pending
     by None = left
     by (Some (Answer who token moment)) = left
-    by (Some (Pong token)) =
-        send_asks_none (state_due now (state_in l)) (pong_with true token) (pong_with false token)
-        (fit (limit_in l) (pong_with true token) (pong_with false token)) left
+    by (Some (Pong token)) = send_asks_none (state_due now (state_in l)) _ _ _ left
 
 sent_asks_none : (l : LinkValue) (now : ℕ) (e : PendingEntryValue) → NoRequests (without_due now l.pending)
     → NoRequests (link_sent l now e).pending
@@ -104,18 +101,17 @@ without_last P [] x (b ∷ before) y later same none passes =
     let rest : [] ≡ before ++ y ∷ later = cc in absurd (omega (arith, ap length rest, length-append before (y ∷ later)))
 without_last P (z ∷ xs) x [] y later same none passes =
     let one : z ≡ y = cc in
-    absurd (none.0 (subst P (sym one) passes))
+    absurd (rw one at none.0 passes)
 without_last P (z ∷ xs) x (b ∷ before) y later same none passes =
     let rest : xs ++ x ∷ [] ≡ before ++ y ∷ later = cc in
-    let left = without_last P xs x before y later rest none.1 passes in
-    let first : b ≡ z = cc in cc
+    cc (without_last P xs x before y later rest none.1 passes)
 
 all_last : {A : Type 0} (P : A → Type 0) (xs : List A) (x : A) → AllByRecursion P (xs ++ x ∷ []) → P x
 all_last P [] x all = all.0
 all_last P (y ∷ xs) x all = all_last P xs x all.1
 
 has_come : (now moment : ℕ) → moment ≤ now → (if nat_le moment now then Some moment else None) ≡ Some moment
-has_come now moment come = ap (λ (b : Bool). if b then Some moment else None) (le-leb moment now come)
+has_come now moment come = rw (le-leb moment now come) refl
 
 module _ (now : ℕ) (pending : List PendingEntryValue) (token : List ℕ) (moment : ℕ)
     (none : first_due now pending ≡ None) (come : moment ≤ now) where
@@ -124,10 +120,10 @@ module _ (now : ℕ) (pending : List PendingEntryValue) (token : List ℕ) (mome
 
   never : AllByRecursion (λ e. due_moment now e ≡ None) all → ⊥
   never silent =
-      let bad : None ≡ Some moment =
-      sym (all_last (λ e. due_moment now e ≡ None) pending (Answer Application token moment) silent)
-      ∙ has_come now moment come in
-      cc
+      cc (
+        all_last (λ e. due_moment now e ≡ None) pending (Answer Application token moment) silent,
+        has_come now moment come,
+      )
 
   -- The other entries are left.
   others_left : (who : Responder) (other : List ℕ) (due : ℕ) → first_due now all ≡ Some (Answer who other due)
@@ -146,8 +142,7 @@ module _ (shared : ServerState) (v : SessionValue) (pending : List PendingEntryV
     (none : first_due shared.now pending ≡ None) (come : moment ≤ shared.now) (requested : NoRequests pending) where
   first_settles : NoRequests (session_settled_once shared v).link.pending
   unfolding session_settled_once
-  first_settles = by (next_pending_in shared.now v) (sym (ap (first_due shared.now) is)
-      ∙ sym (found_ready shared v ready).0)
+  first_settles = by (next_pending_in shared.now v) (rw (← is) (sym (found_ready shared v ready).0))
     where
       by : (due : Option PendingEntryValue) → first_due shared.now (pending ++ Answer Application token moment ∷ [])
           ≡ due → NoRequests (session_settled_so shared v due).link.pending
@@ -155,9 +150,8 @@ module _ (shared : ServerState) (v : SessionValue) (pending : List PendingEntryV
       by (Some (Pong other)) found =
           absurd (never shared.now pending token moment none come (due_alone shared.now _ other found))
       by (Some (Answer who other due)) found =
-          let left : without_due shared.now v.link.pending ≡ pending =
-          ap (without_due shared.now) is ∙ others_left shared.now pending token moment none come who other due found in
-          sent_asks_none v.link shared.now (Answer who other due) (subst NoRequests (sym left) requested)
+          sent_asks_none v.link shared.now (Answer who other due)
+          (rw (is, others_left shared.now pending token moment none come who other due found) requested)
 
   -- No request of the application is pending after the connection settled.
   pub settles_request : NoRequests (session_settled shared v).link.pending
@@ -165,7 +159,7 @@ module _ (shared : ServerState) (v : SessionValue) (pending : List PendingEntryV
   settles_request =
       let count : length v.link.pending + length v.observers ≡ suc (length pending + length v.observers) =
       omega (arith, ap length is, length-append pending (Answer Application token moment ∷ [])) in
-      subst (λ (n : ℕ). NoRequests (session_settled_within n shared v).link.pending) (sym count)
+      rw count
       (within_asks_none (length pending + length v.observers) shared (session_settled_once shared v) first_settles)
 
 -- ---- errors without a pending request
@@ -173,14 +167,11 @@ module _ (shared : ServerState) (v : SessionValue) (pending : List PendingEntryV
 no_request : (token : List ℕ) (pending : List PendingEntryValue) → NoRequests pending
     → has_request token pending ≡ false
 no_request token [] none = refl
-no_request token (Answer Engine other moment ∷ pending) none = no_request token pending none.1
-no_request token (Answer Application other moment ∷ pending) none = absurd (let bad : true ≡ false = none.0 in cc)
-no_request token (Pong other ∷ pending) none = no_request token pending none.1
+no_request token (Answer Application other moment ∷ pending) none = absurd cc
+no_request token (e ∷ pending) none = no_request token pending none.1
 
 pub no_request_fault : (l : LinkValue) (read : Result Message FormatFault) (why : RespondFault) → NoRequests l.pending
     → frame_refusal l read ≡ Some why → (why ≡ fault.NotAResponse) ⊎ (why ≡ fault.NoSuchRequest)
 unfolding response_refusal
 no_request_fault l (Err e) why none is = inl (cc)
-no_request_fault l (Ok m) why none is =
-    let same : Some fault.NoSuchRequest ≡ Some why = rw (no_request m.token l.pending none) at is in
-    inr (cc)
+no_request_fault l (Ok m) why none is = inr (cc (rw (no_request m.token l.pending none) at is))

@@ -1,6 +1,6 @@
 -- Bits of a set of indices.
 use Rattle.std.proofs.Common.{◌≡◌, ◌≢◌, ℕ, zero, suc, ◌+◌, ◌-◌, ◌*◌, ◌/◌, ◌%◌, ◌^◌, ◌<◌, ◌≤◌, max, List, [], ◌∷◌}
-use Rattle.std.proofs.Common.{length, get_or, set, bit_and, bit_or, w64, sym, ap, ◌∙◌, refl, inl, inr, arith}
+use Rattle.std.proofs.Common.{length, get_or, set, bit_and, bit_or, w64, sym, ◌∙◌, refl, inl, inr, arith}
 use Rattle.std.proofs.Common.{get_or-set_same, get_or-set_other}
 use Rattle.std.specs.Int.{bit_at, bit_not, trailing_zeros}
 use Rattle.std.proofs.lemmas.Bool.{cases_eq, cases_lt}
@@ -11,7 +11,7 @@ use Rattle.coap_server_engine.specs.Prelude.{bit_of, IsOutside}
 
 module _ (words : List ℕ) (at word : ℕ) (within : at / 64 < length words) where
   set_same : bit_of (set words (at / 64) word) at ≡ bit_at word (at % 64)
-  set_same = ap (λ n. bit_at n (at % 64)) (get_or-set_same words (at / 64) word 0 within)
+  set_same = rw (get_or-set_same words (at / 64) word 0 within) refl
 
   -- A word that keeps its other bits keeps the bit of each other index.
   set_other : ((k : ℕ) → k < 64 → k ≢ at % 64 → bit_at word k ≡ bit_at (get_or words (at / 64) 0) k) → (i : ℕ) → i ≢ at
@@ -20,7 +20,7 @@ module _ (words : List ℕ) (at word : ℕ) (within : at / 64 < length words) wh
       elim (cases_eq (i / 64) (at / 64)) [
         | inl same ↦ rw (same, get_or-set_same words (at / 64) word 0 within) (kept (i % 64) (omega arith)
             (λ bit. differs (omega arith)))
-        | inr apart ↦ ap (λ n. bit_at n (i % 64)) (get_or-set_other words (at / 64) (i / 64) word 0 apart)
+        | inr apart ↦ rw (get_or-set_other words (at / 64) (i / 64) word 0 apart) refl
       ]
 
 module _ (words : List ℕ) (at : ℕ) (within : at / 64 < length words) where
@@ -49,7 +49,7 @@ module _ (words : List ℕ) (at : ℕ) (within : at / 64 < length words) where
 
 -- No bit of four words of zeros is set.
 pub none_set : (i : ℕ) → bit_of (0 ∷ 0 ∷ 0 ∷ 0 ∷ []) i ≡ 0
-none_set i = ap (λ n. bit_at n (i % 64)) (each (i / 64)) ∙ bit_at-zero (i % 64)
+none_set i = rw (each (i / 64)) (bit_at-zero (i % 64))
   where
     each : (k : ℕ) → let words : List ℕ = 0 ∷ 0 ∷ 0 ∷ 0 ∷ [] in get_or words k 0 ≡ 0
     each zero = refl
@@ -59,11 +59,13 @@ none_set i = ap (λ n. bit_at n (i % 64)) (each (i / 64)) ∙ bit_at-zero (i % 6
     each (suc (suc (suc (suc k)))) = refl
 
 module _ (xs ys : List ℕ) where
-  abbrev joined : List ℕ
-  joined = bit_or (get_or xs 0 0) (get_or ys 0 0) ∷ bit_or (get_or xs 1 0) (get_or ys 1 0) ∷ bit_or (get_or xs 2 0)
-      (get_or ys 2 0) ∷ bit_or (get_or xs 3 0) (get_or ys 3 0) ∷ []
+  abbrev joined_at : ℕ → ℕ
+  joined_at k = bit_or (get_or xs k 0) (get_or ys k 0)
 
-  word_joined : (k : ℕ) → k < 4 → get_or joined k 0 ≡ bit_or (get_or xs k 0) (get_or ys k 0)
+  abbrev joined : List ℕ
+  joined = joined_at 0 ∷ joined_at 1 ∷ joined_at 2 ∷ joined_at 3 ∷ []
+
+  word_joined : (k : ℕ) → k < 4 → get_or joined k 0 ≡ joined_at k
   word_joined zero small = refl
   word_joined (suc zero) small = refl
   word_joined (suc (suc zero)) small = refl
@@ -71,35 +73,24 @@ module _ (xs ys : List ℕ) where
   word_joined (suc (suc (suc (suc k)))) small = absurd (omega arith)
 
   bit_joined : (i : ℕ) → i < 256 → bit_of joined i ≡ max (bit_of xs i) (bit_of ys i)
-  bit_joined i small = ap (λ n. bit_at n (i % 64)) (word_joined (i / 64) (omega arith)) ∙ bit_at_or (get_or xs (i / 64)
-      0) (get_or ys (i / 64) 0) (i % 64)
+  bit_joined i small =
+      rw (word_joined (i / 64) (omega arith)) (bit_at_or (get_or xs (i / 64) 0) (get_or ys (i / 64) 0) (i % 64))
 
   pub joined_outside : (i : ℕ) → IsOutside joined i → IsOutside xs i × IsOutside ys i
   joined_outside i outside =
-      let most : max (bit_of xs i) (bit_of ys i) ≡ 0 = sym (bit_joined i outside.within) ∙ outside.bit in (
-        record { within = outside.within; bit = omega (arith, most) },
-        record {
-          within = outside.within;
-          bit = omega
-              (arith, most);
-        },
+      let most = bit_joined i outside.within in (
+        record { within = outside.within; bit = omega (arith, most, outside.bit) },
+        record { within = outside.within; bit = omega (arith, most, outside.bit) },
       )
 
   pub outside_joined : (i : ℕ) → IsOutside xs i → IsOutside ys i → IsOutside joined i
-  outside_joined i one other = record {
-    within = one.within;
-    bit = bit_joined i one.within ∙ rw (one.bit, other.bit)
-        refl;
-  }
+  outside_joined i one other =
+      record { within = one.within; bit = omega (arith, bit_joined i one.within, one.bit, other.bit) }
 
 -- Each bit of four words of ones is set.
 pub all_set : (i : ℕ) → i < 256 → bit_of (18446744073709551615 ∷ 18446744073709551615 ∷ 18446744073709551615 ∷
     18446744073709551615 ∷ []) i ≡ 1
-all_set i within =
-    let word = i / 64 in
-    let ones : bit_at (2 ^ 64 - 1) (i % 64) ≡ 1 = bit_at_ones 64 (i % 64) (omega arith) in
-    let small : word < 4 = omega arith in
-    ap (λ n. bit_at n (i % 64)) (each word small) ∙ ones
+all_set i within = rw (each (i / 64) (omega arith)) (bit_at_ones 64 (i % 64) (omega arith))
   where
     each : (k : ℕ) → k < 4 → get_or (18446744073709551615 ∷ 18446744073709551615 ∷ 18446744073709551615 ∷
         18446744073709551615 ∷ []) k 0 ≡ 2 ^ 64 - 1
@@ -113,7 +104,7 @@ all_set i within =
 
 -- The bits of a word without its lowest ones.
 shifted : (word low k : ℕ) → bit_at (word / 2 ^ low) k ≡ bit_at word (low + k)
-shifted word low k = ap (λ x. x % 2) (shr-shr word low k)
+shifted word low k = rw (shr-shr word low k) refl
 
 module _ (words : List ℕ) (from : ℕ) (small : from < 256) (fits : get_or words (from / 64) 0 < 2 ^ 64)
     (some : 0 < get_or words (from / 64) 0 / 2 ^ (from % 64)) where

@@ -1,18 +1,17 @@
 -- A response of the application: the server after it, its event, and the exchanges.
-use Rattle.std.proofs.Common.{◌≡◌, ◌≤◌, ◌-◌, ℕ, Bool, true, false, arith, lt-ltb, nat_lt, length, is_ok, List, [], ◌∷◌}
-use Rattle.std.proofs.Common.{◌++◌, Option, Some, None, Result, Ok, Err, refl, sym, ap, ◌∙◌, append_assoc, is_none}
-use Rattle.std.proofs.Common.{◌==◌, option_map, OnErr, if◌then◌else◌}
+use Rattle.std.proofs.Common.{◌≡◌, ◌≤◌, ℕ, true, false, arith, length, is_ok, List, [], ◌∷◌, ◌++◌, Option, Some, None}
+use Rattle.std.proofs.Common.{Result, Ok, Err, refl, append_assoc, is_none, option_map, OnErr}
 use Rattle.std.proofs.lemmas.List.{append-nil, length-append}
 use Rattle.coap_wire.specs.Forms.{token_form}
 use Rattle.coap_wire.specs.Reading as reading
-use Rattle.std.proofs.lemmas.Bool.{eqb-true}
-use Rattle.coap_server_engine.specs.Prelude.{Message, message_of, RefusedBy, ResponseFault}
-use Rattle.coap_server_engine.specs.Prelude.{ServerValue, LiesAt, session_of, server_given, session_given_by}
-use Rattle.coap_server_engine.specs.Prelude.{responded_refusal, responded_refusal_on, response_event}
-use Rattle.coap_server_engine.specs.Prelude.{spelling}
-use Rattle.coap_server_engine.specs.Prelude.{server_offered, offered_events, response_for, failure_with, Exchange}
-use Rattle.coap_server_engine.specs.Prelude.{Answering, AnswersMore, AreUnanswered}
+use Rattle.coap_server_engine.specs.Prelude.{Message, message_of, RefusedBy, ResponseFault, ServerValue, LiesAt}
+use Rattle.coap_server_engine.specs.Prelude.{session_of, server_given, session_given_by, responded_refusal}
+use Rattle.coap_server_engine.specs.Prelude.{responded_refusal_on, response_event, spelling, server_offered}
+use Rattle.coap_server_engine.specs.Prelude.{offered_events, response_for, failure_with, Exchange, Answering}
+use Rattle.coap_server_engine.specs.Prelude.{AnswersMore, AreUnanswered}
 use Rattle.coap_server_engine.proofs.values.ServerLemmas.{lies_where_taken}
+use Rattle.std.proofs.lemmas.Bool.Decides.{nat_tests}
+use Rattle.std.proofs.lemmas.Bool.{cond_both}
 
 -- ---- exchanges
 
@@ -56,22 +55,10 @@ pub token_made : (o : Option Message) (token : List ℕ) → Some token ≡ opti
 token_made None token is = absurd cc
 token_made (Some m) token is = (m, refl, cc)
 
-pub empty_of : (bytes : List ℕ) (b : Bool) → b ≡ (length bytes == 0) → b ≡ true → bytes ≡ []
-empty_of [] b is empty = refl
-empty_of (x ∷ bytes) b is empty =
-    absurd (let none : length (x ∷ bytes) ≡ 0 = eqb-true (length (x ∷ bytes)) 0 (sym is ∙ empty) in omega (arith, none))
-
 -- ---- 5.00
 
 short_extension : (n : ℕ) → n ≤ 64 → length (token_form n).1 ≤ 1
-short_extension n small =
-    rw (lt-ltb n 269 (omega (arith, small)))
-    (let low : ℕ × List ℕ = (n, []) in
-    let middle : ℕ × List ℕ = (13, (n - 13) ∷ []) in
-    elim (nat_lt n 13) as (λ b. let form : ℕ × List ℕ = if b then low else middle in length form.1 ≤ 1) [
-      | true ↦ omega arith
-      | false ↦ omega arith
-    ])
+short_extension n small = grind (arith, nat_tests, small)
 
 -- The message 5.00 with a token has at most 67 bytes.
 pub failure_short : (token : List ℕ) → length token ≤ 64 → length (spelling (failure_with token)) ≤ 67
@@ -91,25 +78,22 @@ failure_short token small =
 module _ (v : ServerValue) (id : ℕ) (bytes : List ℕ) where
   module _ (fault : ResponseFault) (some : responded_refusal v id bytes ≡ Some fault) where
     pub server_if_refused : server_offered v id bytes ≡ v
-    server_if_refused = ap (λ o. if is_none o then server_given v id bytes else v) some
+    server_if_refused = rw some refl
 
     pub refused_events : offered_events v id bytes ≡ []
-    refused_events = ap (λ o. if is_none o then response_event id (message_of bytes) else []) some
+    refused_events = rw some refl
 
   module _ (none : responded_refusal v id bytes ≡ None) where
     pub server_if_accepted : server_offered v id bytes ≡ server_given v id bytes
-    server_if_accepted = ap (λ o. if is_none o then server_given v id bytes else v) none
+    server_if_accepted = rw none refl
 
     pub accepted_events : offered_events v id bytes ≡ response_event id (message_of bytes)
-    accepted_events = ap (λ o. if is_none o then response_event id (message_of bytes) else []) none
+    accepted_events = rw none refl
 
   pub offered_lies : (i : ℕ) → LiesAt id i v.sessions → LiesAt id i (server_offered v id bytes).sessions
   offered_lies i lies =
-      elim (is_none (responded_refusal v id bytes))
-      as (λ b. LiesAt id i (if b then server_given v id bytes else v).sessions) [
-        | true ↦ lies_where_taken id i (session_given_by (message_of bytes)) v.shared v.sessions lies
-        | false ↦ lies
-      ]
+      cond_both (is_none (responded_refusal v id bytes)) (server_given v id bytes) v (λ w. LiesAt id i w.sessions)
+      (λ _. lies_where_taken id i (session_given_by (message_of bytes)) v.shared v.sessions lies) (λ _. lies)
 
 -- ---- a response at once
 
@@ -122,27 +106,18 @@ no_bytes v id = elim (session_of id v.sessions) as (λ o. is_none (responded_ref
 ]
 
 pub nothing_offered : (v : ServerValue) (id : ℕ) → server_offered v id [] ≡ v
-nothing_offered v id = ap (λ b. if b then server_given v id [] else v) (no_bytes v id)
+nothing_offered v id = rw (no_bytes v id) refl
 
 pub offers_nothing : (v : ServerValue) (id : ℕ) → offered_events v id [] ≡ []
-offers_nothing v id = ap (λ b. if b then response_event id (message_of []) else []) (no_bytes v id)
+offers_nothing v id = rw (no_bytes v id) refl
 
-module _ (v : ServerValue) (id : ℕ) (token bytes : List ℕ) where
-  pub empty_response : bytes ≡ [] → response_for v id token bytes ≡ []
-  empty_response none = ap (response_for v id token) none
+pub response_if_accepted : (v : ServerValue) (id : ℕ) (token bytes : List ℕ) → responded_refusal v id bytes ≡ None
+    → response_for v id token bytes ≡ bytes
+response_if_accepted v id token [] none = refl
+response_if_accepted v id token (b ∷ rest) none = rw none refl
 
-  pub response_if_accepted : responded_refusal v id bytes ≡ None → response_for v id token bytes ≡ bytes
-  response_if_accepted none = by bytes none
-    where
-      by : (written : List ℕ) → responded_refusal v id written ≡ None → response_for v id token written ≡ written
-      by [] free = refl
-      by (b ∷ rest) free = ap (λ o. if is_none o then b ∷ rest else spelling (failure_with token)) free
-
-  pub refused_response : (fault : ResponseFault) → responded_refusal v id bytes ≡ Some fault → (bytes ≡ [] → ⊥)
-      → response_for v id token bytes ≡ spelling (failure_with token)
-  refused_response fault some written = by bytes some written
-    where
-      by : (all : List ℕ) → responded_refusal v id all ≡ Some fault → (all ≡ [] → ⊥)
-          → response_for v id token all ≡ spelling (failure_with token)
-      by [] taken apart = absurd (apart refl)
-      by (b ∷ rest) taken apart = ap (λ o. if is_none o then b ∷ rest else spelling (failure_with token)) taken
+pub refused_response : (v : ServerValue) (id : ℕ) (token bytes : List ℕ) (fault : ResponseFault)
+    → responded_refusal v id bytes ≡ Some fault → (bytes ≡ [] → ⊥)
+    → response_for v id token bytes ≡ spelling (failure_with token)
+refused_response v id token [] fault some written = absurd (written refl)
+refused_response v id token (b ∷ rest) fault some written = rw some refl

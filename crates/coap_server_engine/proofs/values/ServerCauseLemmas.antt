@@ -1,30 +1,24 @@
 -- The connections of a server that a change of a path or of the time does not affect stay settled.
-use Rattle.std.proofs.Common.{◌≡◌, true, ℕ, zero, suc, ◌+◌, ◌-◌, add-zero, ◌<◌, ◌≤◌, ◌^◌, false, List, [], ◌∷◌, length}
-use Rattle.std.proofs.Common.{Option, Some, None, refl, sym, ap, subst, ◌∙◌, arith}
-use Rattle.coap_server_engine.specs.Prelude.{map, nat_lt, slice_get, AllByRecursion, values_of, set_value_at, Path}
-use Rattle.coap_server_engine.specs.Prelude.{StoreValue, put_in, removed_in, Change, Nothing, Put, Delete, IsStore}
-use Rattle.coap_server_engine.specs.Prelude.{ServerState}
-use Rattle.coap_server_engine.specs.Prelude.{Cause, SessionValue, shared_changed, session_settled, IsSettled}
-use Rattle.coap_server_engine.specs.Prelude.{AreSettled}
-use Rattle.coap_server_engine.specs.Prelude.{changed_at, settled_entry, path_hash, change_hash, IsUnaffected}
-use Rattle.coap_server_engine.specs.Prelude.{UnaffectedAreSettled, AreOthersSettled, AreUntouched, unmarked}
-use Rattle.coap_server_engine.specs.Prelude.{unmarked_entry}
-use Rattle.coap_server_engine.specs.Prelude.{MarkedSession, IsMarked, ConcernsNone, IsMarkedBut, AreMarkedBut}
-use Rattle.coap_server_engine.specs.Prelude.{AreAllMarked, AreMarkedAfter}
-use Rattle.std.proofs.lemmas.Bool.{ltb-true, ltb-false}
+use Rattle.std.proofs.Common.{◌≡◌, ℕ, zero, suc, ◌+◌, ◌-◌, add-zero, ◌<◌, ◌≤◌, ◌^◌, [], ◌∷◌, length, Option, Some, None}
+use Rattle.std.proofs.Common.{refl, sym, arith, add-one, inl, inr}
+use Rattle.coap_server_engine.specs.Prelude.{map, slice_get, AllByRecursion, values_of, set_value_at, Path, Change}
+use Rattle.coap_server_engine.specs.Prelude.{Nothing, Put, Delete, IsStore, ServerState, Cause, SessionValue}
+use Rattle.coap_server_engine.specs.Prelude.{shared_changed, session_settled, IsSettled, AreSettled, changed_at}
+use Rattle.coap_server_engine.specs.Prelude.{settled_entry, change_hash, IsUnaffected, UnaffectedAreSettled}
+use Rattle.coap_server_engine.specs.Prelude.{AreOthersSettled, AreUntouched, unmarked, unmarked_entry, MarkedSession}
+use Rattle.coap_server_engine.specs.Prelude.{IsMarked, ConcernsNone, IsMarkedBut, AreMarkedBut, AreAllMarked}
+use Rattle.coap_server_engine.specs.Prelude.{AreMarkedAfter}
 use Rattle.coap_model.proofs.world.EntryLemmas.{all_to}
 use Rattle.coap_server_session.specs.declared.cause.Cause.TheVariants as cause
 use Rattle.coap_server_session.proofs.values.SettleLemmas.{settled_is_settled, settled_stays}
-use Rattle.coap_model.proofs.OptionLemmas.{there_at, same_there}
+use Rattle.coap_model.proofs.OptionLemmas.{there_at}
 use Rattle.coap_server_engine.proofs.values.ServerLemmas.{Entries, MarkedEntries, all_written, one_of_all}
-use Rattle.coap_server_engine.proofs.values.ServerLemmas.{written_at_index, settled_up_to, none_settled}
-use Rattle.coap_server_engine.proofs.values.ServerLemmas.{unmarked_at, same_written, one_more_settled, set_unmarked}
-use Rattle.coap_server_engine.proofs.values.ServerLemmas.{as_many_settled, all_settled}
-use Rattle.std.proofs.lemmas.List.{length-map}
+use Rattle.coap_server_engine.proofs.values.ServerLemmas.{written_at_index, unmarked_at, written_back}
 use Rattle.std.proofs.lemmas.Map.Entries.{length-values_of}
 use Rattle.coap_server_session.proofs.values.DueLemmas.{at_moment, stays_settled}
 use Rattle.coap_server_session.proofs.values.CauseLemmas.{but_changed, but_later, but_none, marked_untouched}
 use Rattle.coap_server_session.proofs.values.CauseLemmas.{settled_elsewhere}
+use Rattle.std.proofs.lemmas.Bool.{cases_lt}
 
 -- ---- recomputed marks
 
@@ -42,52 +36,6 @@ all_but_later shared later before es store =
     (λ (e : ℕ × MarkedSession). IsMarkedBut (cause.Moment before) (at_moment shared later) e.1)
     (λ e. but_later shared later before e.1 store) es
 
-pub all_but_put : (shared : ServerState) (path : Path) (format : Option ℕ) (bytes : List ℕ) (hash : ℕ)
-    (es : MarkedEntries) (store : StoreValue) → store ≡ put_in shared.store path format bytes → hash ≡ path_hash path
-    → AreAllMarked shared es → AreMarkedBut (cause.Path hash) (record shared { store = store }) es
-all_but_put shared path format bytes hash es store is same marked =
-    rw is (all_but_changed shared (Put path format bytes) hash es (ap Some (sym same)) marked)
-
-pub all_but_removed : (shared : ServerState) (path : Path) (hash : ℕ) (es : MarkedEntries) (store : StoreValue)
-    → store ≡ removed_in shared.store path → hash ≡ path_hash path → AreAllMarked shared es
-    → AreMarkedBut (cause.Path hash) (record shared { store = store }) es
-all_but_removed shared path hash es store is same marked =
-    rw is (all_but_changed shared (Delete path) hash es (ap Some (sym same)) marked)
-
--- ---- the loop that recomputes marks
-
--- The changed marks of the connections before an index are current.
-abbrev pub AreMarkedUpTo : ℕ → Cause → ServerState → MarkedEntries → Type 0
-AreMarkedUpTo zero why shared es = AreMarkedBut why shared es
-AreMarkedUpTo (suc n) why shared [] = Unit {0}
-AreMarkedUpTo (suc n) why shared (e ∷ es) = IsMarked shared e.1 × AreMarkedUpTo n why shared es
-
-pub next_but : (n : ℕ) (why : Cause) (shared : ServerState) (es : MarkedEntries) (s : MarkedSession)
-    → AreMarkedUpTo n why shared es → slice_get (values_of es) n ≡ Some s → IsMarkedBut why shared s
-next_but zero why shared es s marked at = one_of_all (IsMarkedBut why shared) 0 es s marked at
-next_but (suc n) why shared [] s marked at = absurd cc
-next_but (suc n) why shared (e ∷ es) s marked at = next_but n why shared es s marked.1 at
-
-one_up : (n : ℕ) (why : Cause) (shared : ServerState) (es : MarkedEntries) (s : MarkedSession)
-    → AreMarkedUpTo n why shared es → IsMarked shared s → AreMarkedUpTo (suc n) why shared (set_value_at es n s)
-one_up zero why shared [] s marked one = tt
-one_up zero why shared (e ∷ es) s marked one = (one, marked.1)
-one_up (suc n) why shared [] s marked one = tt
-one_up (suc n) why shared (e ∷ es) s marked one = (marked.0, one_up n why shared es s marked.1 one)
-
-pub one_more_up : (n : ℕ) (why : Cause) (shared : ServerState) (es : MarkedEntries) (s : MarkedSession)
-    → AreMarkedUpTo n why shared es → IsMarked shared s → AreMarkedUpTo (n + 1) why shared (set_value_at es n s)
-one_more_up n why shared es s marked one =
-    let next : suc n ≡ n + 1 = omega arith in
-    subst (λ (k : ℕ). AreMarkedUpTo k why shared (set_value_at es n s)) next (one_up n why shared es s marked one)
-
-pub all_up : (n : ℕ) (why : Cause) (shared : ServerState) (es : MarkedEntries) → length es ≤ n
-    → AreMarkedUpTo n why shared es → AreAllMarked shared es
-all_up zero why shared [] many marked = tt
-all_up (suc n) why shared [] many marked = tt
-all_up zero why shared (e ∷ es) many marked = absurd (omega (arith, many))
-all_up (suc n) why shared (e ∷ es) many marked = (marked.0, all_up n why shared es (omega (arith, many)) marked.1)
-
 -- ---- the search for the next affected connection
 
 pub none_passed : (why : Cause) (now from : ℕ) (es : MarkedEntries) → AreUntouched why now from from es
@@ -96,14 +44,10 @@ none_passed why now from es i s first last at = absurd (omega (arith, first, las
 pub one_passed : (why : Cause) (now from n : ℕ) (es : MarkedEntries) (s : MarkedSession)
     → slice_get (values_of es) n ≡ Some s → IsUnaffected why now s.session × ConcernsNone why s.session.observers
     → AreUntouched why now from n es → AreUntouched why now from (n + 1) es
-one_passed why now from n es s here calm before i t first last at =
-    elim (nat_lt i n) as (λ b. nat_lt i n ≡ b → IsUnaffected why now t.session × ConcernsNone why t.session.observers) [
-      | true ↦ λ less. before i t first (ltb-true i n less) at
-      | false ↦ λ not_less.
-          let same : i ≡ n = omega (arith, ltb-false i n not_less, last) in
-          let one : s ≡ t = same_there s t (sym here ∙ ap (slice_get (values_of es)) (sym same) ∙ at) in
-          subst (λ (u : MarkedSession). IsUnaffected why now u.session × ConcernsNone why u.session.observers) one calm
-    ] refl
+one_passed why now from n es s here calm before i t first last at = elim (cases_lt i n) [
+  | inl less ↦ before i t first less at
+  | inr more ↦ let same : i ≡ n = omega (arith, more, last) in let one : t ≡ s = cc in rw one calm
+]
 
 -- ---- all connections
 
@@ -123,56 +67,78 @@ untouched_by_moment shared later (e ∷ es) store more fits settled = (
   untouched_by_moment shared later es store more fits settled.1,
 )
 
--- The same after a `put`, a `remove` and a `tick`.
-pub untouched_by_put : (shared : ServerState) (path : Path) (format : Option ℕ) (bytes : List ℕ) (hash : ℕ)
-    (es : Entries)
-    (store : StoreValue) → store ≡ put_in shared.store path format bytes → hash ≡ path_hash path → AreSettled shared es
-    → UnaffectedAreSettled (cause.Path hash) (record shared { store = store }) es
-untouched_by_put shared path format bytes hash es store is same settled =
-    rw is (untouched_by_change shared (Put path format bytes) hash es (ap Some (sym same)) settled)
-
-pub untouched_by_removal : (shared : ServerState) (path : Path) (hash : ℕ) (es : Entries) (store : StoreValue)
-    → store ≡ removed_in shared.store path → hash ≡ path_hash path → AreSettled shared es
-    → UnaffectedAreSettled (cause.Path hash) (record shared { store = store }) es
-untouched_by_removal shared path hash es store is same settled =
-    rw is (untouched_by_change shared (Delete path) hash es (ap Some (sym same)) settled)
+-- The same after a `put` or a `remove`, and the marks that are still current.
+pub calm_after : (shared after : ServerState) (c : Change) (hash : ℕ) (es : MarkedEntries)
+    → after ≡ shared_changed shared c → change_hash c ≡ Some hash → AreSettled shared (unmarked es)
+    → AreAllMarked shared es
+    → UnaffectedAreSettled (cause.Path hash) after (unmarked es) × AreMarkedBut (cause.Path hash) after es
+calm_after shared after c hash es is same settled marked =
+    rw is (untouched_by_change shared c hash (unmarked es) same settled, all_but_changed shared c hash es same marked)
 
 -- ---- the loop that settles
 
-not_yet_settled : (n : ℕ) (shared : ServerState) (es : Entries)
-    → slice_get (values_of (settled_up_to n shared es)) n ≡ slice_get (values_of es) n
-unfolding settled_up_to
-not_yet_settled zero shared es = refl
-not_yet_settled (suc n) shared [] = refl
-not_yet_settled (suc n) shared (e ∷ es) = not_yet_settled n shared es
-
--- The next connection is settled if the change does not affect it.
-pub next_untouched : (why : Cause) (n : ℕ) (shared : ServerState) (es now : Entries) (s : SessionValue)
-    → now ≡ settled_up_to n shared es → UnaffectedAreSettled why shared es → slice_get (values_of now) n ≡ Some s
-    → IsUnaffected why shared.now s → IsSettled shared s
-next_untouched why n shared es now s is all at untouched =
-    let before : slice_get (values_of es) n ≡ Some s =
-    sym (ap (λ (fs : Entries). slice_get (values_of fs) n) is ∙ not_yet_settled n shared es) ∙ at in
-    one_of_all (λ u. IsUnaffected why shared.now u → IsSettled shared u) n es s all before untouched
-
--- The connections before an index are settled, and their changed marks are current.
+-- The connections before an index are settled, and their changed marks are current. The others are as before.
 abbrev pub AreUpTo : ℕ → Cause → ServerState → MarkedEntries → MarkedEntries → Type 0
-AreUpTo n why shared es now = (unmarked now ≡ settled_up_to n shared (unmarked es)) × AreMarkedUpTo n why shared now
+AreUpTo zero why shared es now = (now ≡ es) × AreMarkedBut why shared es
+AreUpTo (suc n) why shared [] [] = Unit {0}
+AreUpTo (suc n) why shared (e ∷ es) (f ∷ fs) =
+    (unmarked_entry f ≡ settled_entry shared (unmarked_entry e)) × IsMarked shared f.1 × AreUpTo n why shared es fs
+AreUpTo (suc n) why shared es now = ⊥
+
+pub next_but : (n : ℕ) (why : Cause) (shared : ServerState) (es now : MarkedEntries) (s : MarkedSession)
+    → AreUpTo n why shared es now → slice_get (values_of now) n ≡ Some s
+    → (slice_get (values_of es) n ≡ Some s) × IsMarkedBut why shared s
+next_but zero why shared es now s up at =
+    let here = rw up.0 at at in (here, one_of_all (IsMarkedBut why shared) 0 es s up.1 here)
+next_but (suc n) why shared [] [] s up at = absurd cc
+next_but (suc n) why shared (e ∷ es) (f ∷ fs) s up at = next_but n why shared es fs s up.2 at
+next_but (suc n) why shared es now s up at = absurd up
+
+one_up : (n : ℕ) (why : Cause) (shared : ServerState) (es now : MarkedEntries) (s after : MarkedSession)
+    → AreUpTo n why shared es now → slice_get (values_of now) n ≡ Some s
+    → after.session ≡ session_settled shared s.session → IsMarked shared after
+    → AreUpTo (suc n) why shared es (set_value_at now n after)
+one_up zero why shared [] [] s after up at settles marked = tt
+one_up zero why shared (e ∷ es) (f ∷ fs) s after up at settles marked =
+    let heads : f ≡ e = cc in
+    let own : f.1 ≡ s = cc in
+    let tails : fs ≡ es = cc in
+    (rw (settles, ← own, heads) refl, marked, (tails, up.1.1))
+one_up zero why shared es now s after up at settles marked = absurd cc
+one_up (suc n) why shared [] [] s after up at settles marked = tt
+one_up (suc n) why shared (e ∷ es) (f ∷ fs) s after up at settles marked =
+    (up.0, up.1, one_up n why shared es fs s after up.2 at settles marked)
+one_up (suc n) why shared es now s after up at settles marked = absurd up
+
+-- One connection settles, and those before it are settled.
+pub one_more : (n : ℕ) (why : Cause) (shared : ServerState) (es now : MarkedEntries) (s after : MarkedSession)
+    → AreUpTo n why shared es now → slice_get (values_of now) n ≡ Some s
+    → after.session ≡ session_settled shared s.session → IsMarked shared after
+    → AreUpTo (n + 1) why shared es (set_value_at now n after)
+one_more n why shared es now s after up at settles marked =
+    rw add-one (one_up n why shared es now s after up at settles marked)
+
+-- All connections are settled.
+pub none_left : (n : ℕ) (why : Cause) (shared : ServerState) (es now : MarkedEntries) → length now ≤ n
+    → AreUpTo n why shared es now → (unmarked now ≡ map (settled_entry shared) (unmarked es)) × AreAllMarked shared now
+none_left zero why shared es [] many up = rw (← up.0) (refl, tt)
+none_left zero why shared es (f ∷ fs) many up = absurd (omega (arith, many))
+none_left (suc n) why shared [] [] many up = (refl, tt)
+none_left (suc n) why shared (e ∷ es) (f ∷ fs) many up =
+    let rest = none_left n why shared es fs (omega (arith, many)) up.2 in (cc (up.0, rest.0), (up.1, rest.1))
+none_left (suc n) why shared es now many up = absurd up
 
 -- The change does not affect the next connection.
 pass_one : (n : ℕ) (why : Cause) (shared : ServerState) (es now : MarkedEntries) (s : MarkedSession)
     → AreUpTo n why shared es now → UnaffectedAreSettled why shared (unmarked es) → slice_get (values_of now) n ≡ Some s
     → IsUnaffected why shared.now s.session × ConcernsNone why s.session.observers
     → AreUpTo (n + 1) why shared es now
-pass_one n why shared es now s before untouched at calm =
-    let here = unmarked_at now n s at in
-    let settled = next_untouched why n shared (unmarked es) (unmarked now) s.session before.0 untouched here calm.0 in
-    let marked = marked_untouched why shared s calm.1 (next_but n why shared now s before.1 at) in (
-      sym (same_written (unmarked now) n s.session here) ∙ one_more_settled n shared (unmarked es) (unmarked now)
-          s.session s.session before.0 here (sym (settled_stays shared s.session settled)),
-      subst (AreMarkedUpTo (n + 1) why shared) (same_written now n s at)
-          (one_more_up n why shared now s before.1 marked),
-    )
+pass_one n why shared es now s up untouched at calm =
+    let next = next_but n why shared es now s up at in
+    let settled = one_of_all (λ u. IsUnaffected why shared.now u → IsSettled shared u) n (unmarked es) s.session
+    untouched (unmarked_at es n s next.0) calm.0 in
+    rw (written_back now n s s at refl) at (one_more n why shared es now s s up at
+    (sym (settled_stays shared s.session settled)) (marked_untouched why shared s calm.1 next.1))
 
 -- The change does not affect the next connections.
 pass_some : (k n : ℕ) (why : Cause) (shared : ServerState) (es now : MarkedEntries) → n + k ≤ length now
@@ -184,38 +150,16 @@ pass_some (suc k) n why shared es now within before untouched calm =
     let up = pass_some k n why shared es now (omega (arith, within)) before untouched
     (λ i s from to at. calm i s from (omega (arith, to)) at) in
     let there = there_at (values_of now) (n + k) (omega (arith, within, length-values_of now)) in
-    let one = pass_one (n + k) why shared es now there.0 up untouched there.1
-    (calm (n + k) there.0 (omega arith) (omega arith) there.1) in
-    subst (λ (m : ℕ). AreUpTo m why shared es now) (let next : n + k + 1 ≡ n + suc k = omega arith in next) one
+    let next : n + k + 1 ≡ n + suc k = omega arith in
+    rw next at (pass_one (n + k) why shared es now there.0 up untouched there.1
+    (calm (n + k) there.0 (omega arith) (omega arith) there.1))
 
 pub passed : (n m : ℕ) (why : Cause) (shared : ServerState) (es now : MarkedEntries) → n ≤ m → m ≤ length now
     → AreUpTo n why shared es now → UnaffectedAreSettled why shared (unmarked es) → AreUntouched why shared.now n m now
     → AreUpTo m why shared es now
 passed n m why shared es now from within before untouched calm =
     let to : n + (m - n) ≡ m = omega (arith, from) in
-    subst (λ (k : ℕ). AreUpTo k why shared es now) to
-    (pass_some (m - n) n why shared es now (omega (arith, within, to)) before untouched
-    (subst (λ (k : ℕ). AreUntouched why shared.now n k now) (sym to) calm))
-
--- One connection settles, and those before it are settled.
-pub one_more : (n : ℕ) (why : Cause) (shared : ServerState) (es now : MarkedEntries) (s after : MarkedSession)
-    → AreUpTo n why shared es now → slice_get (values_of now) n ≡ Some s → after.session
-    ≡ session_settled shared s.session
-    → IsMarked shared after → AreUpTo (n + 1) why shared es (set_value_at now n after)
-one_more n why shared es now s after before at settles marked = (
-  set_unmarked now n after after.session refl ∙ one_more_settled n shared (unmarked es) (unmarked now) s.session
-      after.session before.0 (unmarked_at now n s at) settles,
-  one_more_up n why shared now after before.1 marked,
-)
-
--- All connections are settled.
-pub none_left : (n : ℕ) (why : Cause) (shared : ServerState) (es now : MarkedEntries) → length now ≡ n
-    → AreUpTo n why shared es now → (unmarked now ≡ map (settled_entry shared) (unmarked es)) × AreAllMarked shared now
-none_left n why shared es now all up =
-    let many = as_many_settled n shared es now up.0 in (
-      all_settled n shared (unmarked es) (unmarked now) up.0 (omega (arith, all, many, length-map es unmarked_entry)),
-      all_up n why shared now (omega (arith, all)) up.1,
-    )
+    rw to at (pass_some (m - n) n why shared es now (omega (arith, within, to)) before untouched (rw to calm))
 
 -- A change that affects no connection.
 pub none_touched : (why : Cause) (shared : ServerState) (es : MarkedEntries)
@@ -223,8 +167,8 @@ pub none_touched : (why : Cause) (shared : ServerState) (es : MarkedEntries)
     → AreMarkedBut why shared es → AreUntouched why shared.now 0 (length es) es
     → (unmarked es ≡ map (settled_entry shared) (unmarked es)) × AreAllMarked shared es
 none_touched why shared es untouched marked calm =
-    none_left (length es) why shared es es refl (passed 0 (length es) why shared es es (omega arith) (omega arith)
-    (none_settled shared (unmarked es), marked) untouched calm)
+    none_left (length es) why shared es es (omega arith)
+    (passed 0 (length es) why shared es es (omega arith) (omega arith) (refl, marked) untouched calm)
 
 -- ---- the connection that made the change
 
@@ -233,24 +177,21 @@ settled_first : (shared : ServerState) (i : ℕ) (es : Entries) (s : SessionValu
     → map (settled_entry shared) (changed_at i (λ _. session_settled shared s) es) ≡ map (settled_entry shared) es
 unfolding changed_at
 settled_first shared i [] s at = absurd cc
-settled_first shared zero (e ∷ es) s at = cc (settled_stays shared (session_settled shared s)
-    (settled_is_settled shared s))
-settled_first shared (suc i) (e ∷ es) s at =
-    ap (λ (rest : Entries). settled_entry shared e ∷ rest) (settled_first shared i es s at)
+settled_first shared zero (e ∷ es) s at =
+    cc (settled_stays shared (session_settled shared s) (settled_is_settled shared s))
+settled_first shared (suc i) (e ∷ es) s at = cc (settled_first shared i es s at)
 
 module _ (shared : ServerState) (i hash : ℕ) (es : Entries) (s after : SessionValue)
     (at : slice_get (values_of es) i ≡ Some s) (settles : after ≡ session_settled shared s) where
   settled_at_index : set_value_at es i after ≡ changed_at i (λ _. session_settled shared s) es
-  settled_at_index = ap (set_value_at es i) settles ∙ written_at_index (λ _. session_settled shared s) es i s at
+  settled_at_index = rw settles (written_at_index (λ _. session_settled shared s) es i s at)
 
   pub others_untouched : AreOthersSettled (Some hash) i shared es
       → UnaffectedAreSettled (cause.Path hash) shared (set_value_at es i after)
-  others_untouched others =
-      subst (UnaffectedAreSettled (cause.Path hash) shared) (sym settled_at_index)
-      (others (session_settled shared s) (settled_is_settled shared s))
+  others_untouched others = rw settled_at_index (others (session_settled shared s) (settled_is_settled shared s))
 
   pub all_settle : map (settled_entry shared) (set_value_at es i after) ≡ map (settled_entry shared) es
-  all_settle = ap (map (settled_entry shared)) settled_at_index ∙ settled_first shared i es s at
+  all_settle = rw settled_at_index (settled_first shared i es s at)
 
 one_in_place : (P : ℕ × SessionValue → Type 0) (i : ℕ) (es : Entries) (s u : SessionValue) → AllByRecursion P es
     → ((n : ℕ) → P (n, s)) → AllByRecursion P (changed_at i (λ _. s) (set_value_at es i u))

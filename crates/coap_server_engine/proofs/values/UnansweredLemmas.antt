@@ -1,16 +1,16 @@
 -- Takes for an application that writes no byte have the effect of takes without one.
 use Rattle.std.proofs.Common.{◌≡◌, ℕ, suc, ◌≤◌, Bool, true, false, not, ◌&&◌, List, [], ◌∷◌, ◌++◌, length, take, drop}
-use Rattle.std.proofs.Common.{Option, Some, None, refl, sym, ap, ◌∙◌, arith, nat_lt}
-use Rattle.std.proofs.lemmas.Bool.{and_parts, ltb-true, eqb-false}
+use Rattle.std.proofs.Common.{Option, Some, None, refl, sym, ap, ◌∙◌, arith, nat_lt, inl, inr}
+use Rattle.std.proofs.lemmas.Bool.{ltb-true, eqb-false, cases_Bool}
 use Rattle.coap_server_engine.specs.Prelude.{ServerValue, session_of, is_there, count_taken, server_taken}
-use Rattle.coap_server_engine.specs.Prelude.{server_taken_on, AcceptedCall, Took, taking, shared_changed}
-use Rattle.coap_server_engine.specs.Prelude.{InResult, in_result, fed_turns, took, took_turns, where_there, Exchange}
-use Rattle.coap_server_engine.specs.Prelude.{AreUnanswered, ask_result, asking, served, ServeResult, AreMade, IsServed}
-use Rattle.coap_server_engine.specs.Prelude.{Message, handed_by, message_limit, SessionValue}
+use Rattle.coap_server_engine.specs.Prelude.{server_taken_on, AcceptedCall, Took, taking, shared_changed, InResult}
+use Rattle.coap_server_engine.specs.Prelude.{in_result, fed_turns, took, took_turns, where_there, Exchange}
+use Rattle.coap_server_engine.specs.Prelude.{AreUnanswered, ask_result, asking, served, AreMade, IsServed, Message}
+use Rattle.coap_server_engine.specs.Prelude.{handed_by, message_limit, SessionValue, ServeResult}
 use Rattle.coap_server_engine.specs.values.InResults.{goes_on}
 use Rattle.coap_server_engine.proofs.values.ResponseLemmas.{nothing_offered, offers_nothing}
 use Rattle.coap_server_engine.proofs.world.AtOnceLaws.{becomes_settled}
-use Rattle.coap_server_engine.proofs.scripting.ReplayLemmas.{AreTurnsOf, all_turns_made, fed_nothing}
+use Rattle.coap_server_engine.proofs.scripting.ReplayLemmas.{all_turns_made, fed_nothing}
 use Rattle.coap_server_engine.proofs.scripting.ShownLemmas.{none_taken_there}
 
 pub unanswered_parts : (xs ys : List Exchange) → AreUnanswered (xs ++ ys) → AreUnanswered xs × AreUnanswered ys
@@ -18,14 +18,13 @@ unanswered_parts [] ys all = (tt, all)
 unanswered_parts (x ∷ xs) ys all = let more = unanswered_parts xs ys all.1 in ((all.0, more.0), more.1)
 
 -- A take whose request got no response at once.
-pub record IsTakenAlone (v : ServerValue) (id : ℕ) (left response : List ℕ) : Type 0 where
-  pub server : (ask_result v id left response).server ≡ server_taken v id left
-  pub events : (ask_result v id left response).events ≡ []
+abbrev pub IsTakenAlone : ServerValue → ℕ → List ℕ → List ℕ → Type 0
+IsTakenAlone v id left response =
+    ((ask_result v id left response).server ≡ server_taken v id left) × ((ask_result v id left response).events ≡ [])
 
 pub unanswered_take : (v : ServerValue) (id : ℕ) (left response : List ℕ)
     → AreUnanswered (ask_result v id left response).exchanges → IsTakenAlone v id left response
-unanswered_take v id left response none =
-    record { server = (by (handed_by v id left) none).0; events = (by (handed_by v id left) none).1 }
+unanswered_take v id left response = by (handed_by v id left)
   where
     u : ServerValue
     u = server_taken v id left
@@ -46,8 +45,8 @@ taken_there v id piece there = by (session_of id v.sessions) refl there
         → is_there (session_of id (server_taken_on v id piece o).sessions) ≡ true
     by None is there = absurd cc
     by (Some s) is there =
-        ap is_there (becomes_settled (shared_changed v.shared (taking v.shared s piece).change) id
-        (λ _. (taking v.shared s piece).session) v.sessions s is)
+        rw (becomes_settled (shared_changed v.shared (taking v.shared s piece).change) id
+        (λ _. (taking v.shared s piece).session) v.sessions s is) refl
 
 -- The same number of takes without an application.
 record HasTaken (v : ServerValue) (id : ℕ) (bytes : List ℕ) (responses : List (List ℕ)) : Type 0 where
@@ -59,8 +58,9 @@ record HasTaken (v : ServerValue) (id : ℕ) (bytes : List ℕ) (responses : Lis
   there : is_there (session_of id (fed_turns turns v id bytes).server.sessions) ≡ true
 
 not_done : (a b : Bool) → (a && not b) ≡ true → (a ≡ true) × (b ≡ false)
-not_done a true is = absurd (let wrong : false ≡ true = (and_parts a false is).1 in cc wrong)
-not_done a false is = ((and_parts a true is).0, refl)
+not_done true false is = (refl, refl)
+not_done true true is = absurd cc
+not_done false b is = absurd cc
 
 there_reported : (id : ℕ) (call : AcceptedCall) (o : Option SessionValue) → is_there o ≡ true
     → where_there o (λ s. call) ≡ call ∷ []
@@ -79,7 +79,7 @@ module _ (v : ServerValue) (id : ℕ) (bytes : List ℕ) (responses : List (List
   module _ (goes : goes_on bytes before ≡ true) (alone : IsTakenAlone before.server id left response) where
     more_fed : (served v id bytes (response ∷ responses)).fed ≡ fed_turns (suc so_far.turns) v id bytes
     unfolding served fed_turns
-    more_fed = rw (so_far.fed, goes, alone.server) refl
+    more_fed = rw (so_far.fed, goes, alone.0) refl
 
     more_events : (served v id bytes (response ∷ responses)).events ≡ took_turns (suc so_far.turns) v id bytes
     unfolding served took_turns
@@ -87,7 +87,7 @@ module _ (v : ServerValue) (id : ℕ) (bytes : List ℕ) (responses : List (List
       so_far.fed,
       so_far.events,
       goes,
-      alone.events,
+      alone.1,
       there_reported id (Took id (take (count_taken before.server id left) left))
           (session_of id before.server.sessions) so_far.there,
     ) refl
@@ -129,11 +129,8 @@ pub unanswered_is_alone : (v after : ServerValue) (id count : ℕ) (bytes : List
 unfolding served
 unanswered_is_alone v after id count bytes reported part = by (session_of id v.sessions) refl
   where
-    Claim : Type 0
-    Claim = (after ≡ (in_result v id bytes).server) × (count ≡ (in_result v id bytes).count)
-        × reported (took v id bytes)
-
-    by : (o : Option SessionValue) → session_of id v.sessions ≡ o → Claim
+    by : (o : Option SessionValue) → session_of id v.sessions ≡ o → (after ≡ (in_result v id bytes).server)
+        × (count ≡ (in_result v id bytes).count) × reported (took v id bytes)
     by None is =
         let none = part.nobody is in
         let nothing = fed_nothing v id is bytes in
@@ -144,21 +141,11 @@ unanswered_is_alone v after id count bytes reported part = by (session_of id v.s
         )
     by (Some s) is =
         let alone = has_taken v id bytes part.responses (ap is_there is) part.made part.exchanged in
-        let over : goes_on bytes (fed_turns alone.turns v id bytes) ≡ false =
-        stops (goes_on bytes (fed_turns alone.turns v id bytes)) refl in
-        let all : AreTurnsOf v id bytes (length bytes) alone.turns =
-        all_turns_made v id bytes alone.turns over (length bytes) alone.within in
-        let fed : (served v id bytes part.responses).fed ≡ in_result v id bytes = alone.fed ∙ sym all.0 in (
-          part.server ∙ ap (λ (f : InResult). f.server) fed,
-          part.counted ∙ ap (λ (f : InResult). f.count) fed,
-          rw (alone.events ∙ sym all.1) at part.reports,
-        )
-      where
-        stops : (b : Bool) → goes_on bytes
-            (fed_turns (has_taken v id bytes part.responses (ap is_there is) part.made part.exchanged).turns v id bytes)
-            ≡ b → b ≡ false
-        stops false goes = refl
-        stops true goes =
-            absurd (let gone : None ≡ Some s = sym
-            (part.over (rw (has_taken v id bytes part.responses (ap is_there is) part.made part.exchanged).fed goes))
-            ∙ is in cc gone)
+        let over : goes_on bytes (fed_turns alone.turns v id bytes) ≡ false = elim (cases_Bool (goes_on bytes
+        (fed_turns alone.turns v id bytes))) [
+          | inr over ↦ over
+          | inl goes ↦ absurd (let gone : None ≡ Some s = sym (part.over (rw alone.fed goes)) ∙ is in cc gone)
+        ] in
+        let all = all_turns_made v id bytes alone.turns over (length bytes) alone.within in
+        let fed : (served v id bytes part.responses).fed ≡ in_result v id bytes = alone.fed ∙ sym all.0 in
+        (rw fed at part.server, rw fed at part.counted, rw (alone.events ∙ sym all.1) at part.reports)

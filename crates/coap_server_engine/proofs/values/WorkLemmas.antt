@@ -1,24 +1,21 @@
 -- The connections on which a call leaves the same work.
-use Rattle.std.proofs.Common.{◌≡◌, ◌≢◌, ℕ, ◌+◌, ◌<◌, ◌≤◌, Bool, nat_eq, nat_lt, subst, List, [], ◌∷◌, ◌++◌}
-use Rattle.std.proofs.Common.{length, Option, Some, refl, sym, ap, ◌∙◌, arith, map, remove, option_map, is_none}
-use Rattle.std.proofs.Common.{is_some, IfSome, None, slice_get, true, false, if◌then◌else◌}
-use Rattle.std.proofs.lemmas.Bool.{or_parts, ltb-false}
+use Rattle.std.proofs.Common.{◌≡◌, ◌≢◌, ℕ, ◌+◌, ◌<◌, ◌≤◌, Bool, nat_lt, List, [], ◌∷◌, ◌++◌, length, Option, Some, refl}
+use Rattle.std.proofs.Common.{sym, ap, ◌∙◌, arith, map, remove, option_map, is_none, is_some, IfSome, None, slice_get}
+use Rattle.std.proofs.Common.{true, false, if◌then◌else◌}
+use Rattle.std.proofs.lemmas.Bool.{or_parts, ltb-false, cond_both}
 use Rattle.std.proofs.lemmas.Bool.Decides.{nat_tests}
 use Rattle.std.proofs.lemmas.Map.Entries.{length-values_of}
 use Rattle.std.proofs.lemmas.Map.Made.{keys_of-map_values}
 use Rattle.indexmap.proofs.SetLemmas.{map-remove}
 use Rattle.coap_server_engine.specs.Prelude.{keys_of, values_of, Path, Change, Put, Delete, IsStore, ServerState}
-use Rattle.coap_server_engine.specs.Prelude.{SessionValue, shared_changed, due_on, path_hash, change_hash}
-use Rattle.coap_server_engine.specs.Prelude.{new_session, session_settled, IsSettled, ServerValue, LiesAt, session_of}
-use Rattle.coap_server_engine.specs.Prelude.{session_becomes, settled_entry}
-use Rattle.coap_server_engine.specs.Prelude.{on_session, server_settled, server_opened, server_dropped, server_ticked}
-use Rattle.coap_server_engine.specs.Prelude.{server_put, server_removed}
-use Rattle.coap_server_engine.specs.Prelude.{server_given, server_offered, session_given_by, message_of}
-use Rattle.coap_server_engine.specs.Prelude.{responded_refusal, AreSettled}
-use Rattle.coap_server_engine.specs.Prelude.{Covers, IsOutside, bit_of, work_of, KeepsWork, KeepsOthers}
-use Rattle.coap_server_engine.specs.Prelude.{AddsAffected, AddsConcerned, TakeOutcome, taking}
-use Rattle.coap_server_engine.specs.Prelude.{server_taken, server_taken_on, server_taken_so, set_value_at}
-use Rattle.coap_server_engine.specs.Prelude.{position_or_len}
+use Rattle.coap_server_engine.specs.Prelude.{SessionValue, shared_changed, due_on, path_hash, change_hash, new_session}
+use Rattle.coap_server_engine.specs.Prelude.{session_settled, IsSettled, ServerValue, LiesAt, session_of}
+use Rattle.coap_server_engine.specs.Prelude.{session_becomes, settled_entry, on_session, server_settled, server_opened}
+use Rattle.coap_server_engine.specs.Prelude.{server_dropped, server_ticked, server_put, server_removed, server_given}
+use Rattle.coap_server_engine.specs.Prelude.{server_offered, session_given_by, message_of, responded_refusal}
+use Rattle.coap_server_engine.specs.Prelude.{AreSettled, Covers, IsOutside, bit_of, work_of, KeepsWork, KeepsOthers}
+use Rattle.coap_server_engine.specs.Prelude.{AddsAffected, AddsConcerned, TakeOutcome, taking, server_taken}
+use Rattle.coap_server_engine.specs.Prelude.{server_taken_so, set_value_at}
 use Rattle.coap_server_engine.specs.values.ServerDeadlines.{session_work}
 use Rattle.coap_server_session.specs.Prelude.{AllByRecursion, find, list_any, ObserverValue, is_stale, is_time_observer}
 use Rattle.coap_server_session.specs.Prelude.{changed_mark, may_concern, IsBefore}
@@ -70,25 +67,22 @@ keeps_all id v = record { keys = refl; same = λ other apart. refl; work = λ ot
 pub keeps_others : (v : ServerValue) (id : ℕ) (f : SessionValue → SessionValue) → AreSettled v.shared v.sessions
     → KeepsOthers id v (server_settled (on_session id f v))
 keeps_others v id f settled =
-    let settles = sym (one_settles v.shared id f v.sessions settled) in
     let stays : (other : ℕ) → other ≢ id
     → session_of other (server_settled (on_session id f v)).sessions ≡ session_of other v.sessions =
-    λ other apart. ap (session_of other) settles ∙ other_stays other id (settling v.shared f) v.sessions apart in
+    λ other apart. rw (← one_settles v.shared id f v.sessions settled)
+    (other_stays other id (settling v.shared f) v.sessions apart) in
     record {
       keys = keys_where_settled id f v.shared v.sessions;
       same = stays;
-      work = λ other apart. ap (option_map (session_work v.shared.now)) (stays other apart);
+      work = λ other apart. rw (stays other apart) refl;
     }
 
 -- A response is given, if the server accepts it.
 pub offered_keeps : (v : ServerValue) (id : ℕ) (bytes : List ℕ) → AreSettled v.shared v.sessions → KeepsOthers id v
     (server_offered v id bytes)
 offered_keeps v id bytes settled =
-    elim (is_none (responded_refusal v id bytes))
-    as (λ b. KeepsOthers id v (if b then server_given v id bytes else v)) [
-      | true ↦ keeps_others v id (session_given_by (message_of bytes)) settled
-      | false ↦ keeps_all id v
-    ]
+    cond_both (is_none (responded_refusal v id bytes)) (server_given v id bytes) v (KeepsOthers id v)
+    (λ _. keeps_others v id (session_given_by (message_of bytes)) settled) (λ _. keeps_all id v)
 
 module _ (v : ServerValue) (settled : AreSettled v.shared v.sessions) where
   pub opened_keys : keys_of (server_opened v).sessions ≡ keys_of v.sessions ++ (v.ids + 1) ∷ []
@@ -110,27 +104,38 @@ module _ (v : ServerValue) (settled : AreSettled v.shared v.sessions) where
 
 -- ---- changes that concern several connections
 
+-- The connection with this id, and the work left on it, are the same.
+abbrev IsSame : ServerValue → ServerValue → ℕ → Type 0
+IsSame v after id = (session_of id after.sessions ≡ session_of id v.sessions) × (work_of after id ≡ work_of v id)
+
 -- A connection that is settled already.
 stays_there : (v : ServerValue) (shared : ServerState) (es : Entries) (id : ℕ) (s : SessionValue)
     → session_of id v.sessions ≡ Some s → session_of id es ≡ Some s → IsSettled shared s
-    → session_of id (map (settled_entry shared) es) ≡ session_of id v.sessions
-stays_there v shared es id s before now settled =
-    each_settles id shared es ∙ ap (option_map (session_settled shared)) now ∙ ap Some (settled_stays shared s settled)
-    ∙ sym before
-
-same_work : (v : ServerValue) (shared : ServerState) (es : Entries) (id : ℕ) (s : SessionValue)
-    → session_of id v.sessions
-    ≡ Some s → session_of id es ≡ Some s → IsSettled shared s → due_on shared.now s ≡ due_on v.shared.now s
-    → work_of (record v { shared = shared; sessions = map (settled_entry shared) es }) id ≡ work_of v id
-same_work v shared es id s before now settled due =
-    ap (option_map (session_work shared.now)) (each_settles id shared es ∙ ap (option_map (session_settled shared)) now
-    ∙
-    ap Some (settled_stays shared s settled))
-    ∙ ap (λ (d : Option ℕ). Some (record (session_work shared.now s) { due = d })) due
-    ∙ sym (ap (option_map (session_work v.shared.now)) before)
+    → due_on shared.now s ≡ due_on v.shared.now s
+    → IsSame v (record v { shared = shared; sessions = map (settled_entry shared) es }) id
+stays_there v shared es id s before now settled due =
+    rw (each_settles id shared es, now, before, settled_stays shared s settled, due) (refl, refl)
 
 one_at : (id i : ℕ) (es : Entries) → LiesAt id i es → (s : SessionValue) × (slice_get (values_of es) i ≡ Some s)
 one_at id i es lies = there_at (values_of es) i (rw (length-values_of es) lies.within)
+
+-- If each connection outside the set is settled already, and its deadline stays, nothing changes when all settle.
+keeps_settled : (v : ServerValue) (words : List ℕ) (shared : ServerState)
+    → ((i : ℕ) (s : SessionValue) → slice_get (values_of v.sessions) i ≡ Some s → IsOutside words i
+    → IsSettled shared s × (due_on shared.now s ≡ due_on v.shared.now s))
+    → KeepsWork words v (server_settled (record v { shared = shared }))
+keeps_settled v words shared calm = record {
+  keys = keys_of-map_values (session_settled shared) v.sessions;
+  same = λ i id lies outside. (one i id lies outside).0;
+  work = λ i id lies outside. (one i id lies outside).1;
+}
+  where
+    one : (i id : ℕ) → LiesAt id i v.sessions → IsOutside words i
+        → IsSame v (server_settled (record v { shared = shared })) id
+    one i id lies outside =
+        let s = one_at id i v.sessions lies in
+        let is = calm i s.0 s.1 outside in
+        stays_there v shared v.sessions id s.0 (lies.found ∙ s.1) (lies.found ∙ s.1) is.0 is.1
 
 -- An observer that does not observe the time is not stale later.
 fresh_later : (shared : ServerState) (later : ℕ) (os : List ObserverValue) → IsStore shared.store
@@ -149,47 +154,32 @@ fresh_later shared later (o ∷ os) store none fresh =
     not_marked true mark none = absurd cc
     not_marked false mark none = refl
 
--- A connection that no change of the time concerns has no deadline, and stays settled.
-timeless : (shared : ServerState) (before later : ℕ) (s : SessionValue) → IsStore shared.store → may_concern
-    (cause.Moment before) s ≡ false → IsSettled shared s → IsSettled (at_moment shared later) s
-    × ((now : ℕ) → due_on now s ≡ None)
-timeless shared before later s store none settled =
-    let parts = or_parts (nat_lt 0 (length s.link.pending)) (list_any is_time_observer s.observers) none in
-    let few : length s.link.pending ≤ 0 = omega (arith, ltb-false 0 (length s.link.pending) parts.0) in (
-      settled_still shared (at_moment shared later) s (λ _. none_is_pending later s.link.pending few)
-          (λ fresh. fresh_later shared later s.observers store parts.1 (none_due (is_stale shared) s.observers fresh))
-          settled,
-      λ now. never (due_on now s) (λ due. (unconcerned (cause.Moment now) due s none).0),
-    )
+-- A connection that no change of the time concerns has no deadline.
+pub never_due : (now : ℕ) (s : SessionValue) → may_concern (cause.Moment now) s ≡ false → due_on now s ≡ None
+never_due now s none = never (due_on now s) (λ due. (unconcerned (cause.Moment now) due s none).0)
   where
     never : (o : Option ℕ) → ((due : ℕ) → IsBefore due o) → o ≡ None
     never None each = refl
     never (Some due) each = absurd (omega (arith, each due))
 
+-- It stays settled.
+timeless : (shared : ServerState) (later : ℕ) (s : SessionValue) → IsStore shared.store
+    → may_concern (cause.Moment later) s ≡ false → IsSettled shared s → IsSettled (at_moment shared later) s
+timeless shared later s store none settled =
+    let parts = or_parts (nat_lt 0 (length s.link.pending)) (list_any is_time_observer s.observers) none in
+    let few : length s.link.pending ≤ 0 = omega (arith, ltb-false 0 (length s.link.pending) parts.0) in
+    settled_still shared (at_moment shared later) s (λ _. none_is_pending later s.link.pending few)
+    (λ fresh. fresh_later shared later s.observers store parts.1 (none_due (is_stale shared) s.observers fresh)) settled
+
 -- The time changes.
 pub moment_keeps : (v : ServerValue) (words : List ℕ) (later : ℕ) → IsStore v.shared.store
     → AreSettled v.shared v.sessions
     → Covers (cause.Moment later) words v.sessions → KeepsWork words v (server_ticked v later)
-moment_keeps v words later store settled covers = record {
-  keys = keys_of-map_values (session_settled (at_moment v.shared later)) v.sessions;
-  same =
-      λ i id lies outside.
-      let one = one_at id i v.sessions lies in
-      let found = lies.found ∙ one.1 in
-      let calm = timeless v.shared later later one.0 store (covers i one.0 one.1 outside)
-      (one_of_all (IsSettled v.shared) i
-      v.sessions one.0 settled one.1) in
-      stays_there v (at_moment v.shared later) v.sessions id one.0 found found calm.0;
-  work =
-      λ i id lies outside.
-      let one = one_at id i v.sessions lies in
-      let found = lies.found ∙ one.1 in
-      let calm = timeless v.shared later later one.0 store (covers i one.0 one.1 outside)
-      (one_of_all (IsSettled v.shared) i
-      v.sessions one.0 settled one.1) in
-      same_work v (at_moment v.shared later) v.sessions id one.0 found found calm.0 (calm.1 later ∙
-      sym (calm.1 v.shared.now));
-}
+moment_keeps v words later store settled covers = keeps_settled v words (at_moment v.shared later) (λ i s at outside.
+    let none = covers i s at outside in (
+      timeless v.shared later s store none (one_of_all (IsSettled v.shared) i v.sessions s settled at),
+      never_due later s none ∙ sym (never_due v.shared.now s none),
+    ))
 
 -- A change of the store leaves the connections settled that it does not concern.
 calm_after : (shared : ServerState) (c : Change) (found : Option ℕ) (words : List ℕ) (es : Entries) (i : ℕ)
@@ -203,26 +193,14 @@ calm_after shared c (Some hash) words es i s is covers at outside settled =
     settled
 
 -- The resource at a path changes.
-change_keeps : (v : ServerValue) (words : List ℕ) (c : Change) (hash : ℕ) → Some hash ≡ change_hash c → AreSettled
-    v.shared v.sessions → Covers (cause.Path hash) words v.sessions → KeepsWork words v (server_settled
-    (record v { shared = shared_changed v.shared c }))
-change_keeps v words c hash is settled covers = record {
-  keys = keys_of-map_values (session_settled (shared_changed v.shared c)) v.sessions;
-  same =
-      λ i id lies outside.
-      let one = one_at id i v.sessions lies in
-      let found = lies.found ∙ one.1 in
-      stays_there v (shared_changed v.shared c) v.sessions id one.0 found found
-      (calm_after v.shared c (Some hash) words v.sessions i one.0 is covers one.1 outside
-      (one_of_all (IsSettled v.shared) i v.sessions one.0 settled one.1));
-  work =
-      λ i id lies outside.
-      let one = one_at id i v.sessions lies in
-      let found = lies.found ∙ one.1 in
-      let calm = calm_after v.shared c (Some hash) words v.sessions i one.0 is covers one.1 outside
-      (one_of_all (IsSettled v.shared) i v.sessions one.0 settled one.1) in
-      same_work v (shared_changed v.shared c) v.sessions id one.0 found found calm refl;
-}
+change_keeps : (v : ServerValue) (words : List ℕ) (c : Change) (hash : ℕ) → Some hash ≡ change_hash c
+    → AreSettled v.shared v.sessions → Covers (cause.Path hash) words v.sessions
+    → KeepsWork words v (server_settled (record v { shared = shared_changed v.shared c }))
+change_keeps v words c hash is settled covers = keeps_settled v words (shared_changed v.shared c) (λ i s at outside. (
+  calm_after v.shared c (Some hash) words v.sessions i s is covers at outside
+      (one_of_all (IsSettled v.shared) i v.sessions s settled at),
+  refl,
+))
 
 module _ (v : ServerValue) (words : List ℕ) (path : Path) (hash : ℕ) (is : hash ≡ path_hash path) (settled : AreSettled
     v.shared v.sessions) (covers : Covers (cause.Path hash) words v.sessions) where
@@ -242,50 +220,43 @@ module _ (v : ServerValue) (id i : ℕ) (s : SessionValue) (piece : List ℕ) (s
   abbrev with_it : Entries
   with_it = map (session_becomes id (λ _. took.session)) v.sessions
 
-  taken_is : server_taken v id piece ≡ server_taken_so v id took
-  unfolding server_taken
-  taken_is = ap (server_taken_on v id piece) (lies.found ∙ here)
+  -- Another connection.
+  other_same : (found : Option ℕ) (words : List ℕ) → found ≡ change_hash took.change
+      → IfSome found (λ hash. Covers (cause.Path hash) words with_it) → (k other : ℕ) → other ≢ id
+      → LiesAt other k v.sessions → IsOutside words k → IsSame v (server_taken_so v id took) other
+  other_same found words is covers k other apart there outside =
+      let one = one_at other k v.sessions there in
+      let was = there.found ∙ one.1 in
+      let now = other_stays other id (λ _. took.session) v.sessions apart ∙ was in
+      let keys = keys_where_one_changed id (λ _. took.session) v.sessions in
+      let at = sym (lies_still other k v.sessions with_it keys there).found ∙ now in
+      stays_there v (shared_changed v.shared took.change) with_it other one.0 was now
+      (calm_after v.shared took.change found words with_it k one.0 is covers at outside
+      (one_of_all (IsSettled v.shared) k v.sessions one.0 settled one.1)) refl
 
-  pub taken_adds : (after : SessionValue) (found : Option ℕ) (before words : List ℕ) → after ≡ took.session → found ≡
-      change_hash took.change → AddsConcerned found before words (set_value_at v.sessions i after) → AddsAffected id
-      before words v (server_taken v id piece)
+  pub taken_adds : (after : SessionValue) (found : Option ℕ) (before words : List ℕ) → after ≡ took.session
+      → found ≡ change_hash took.change → AddsConcerned found before words (set_value_at v.sessions i after)
+      → AddsAffected id before words v (server_taken v id piece)
+  unfolding server_taken
   taken_adds after found before words after_is is adds =
-      let written = ap (set_value_at v.sessions i) after_is ∙ written_at_index (λ _. took.session) v.sessions i s here ∙
-      changed_one id (λ _. took.session) v.sessions i lies.distinct lies.index lies.within in
-      let covers = subst (λ (es : Entries). IfSome found (λ hash. Covers (cause.Path hash) words es)) written
-      adds.covers in
-      rw taken_is (record {
+      let written : set_value_at v.sessions i after ≡ with_it =
+      cc (
+        after_is,
+        written_at_index (λ _. took.session) v.sessions i s here,
+        changed_one id (λ _. took.session) v.sessions i lies.distinct lies.index lies.within,
+      ) in
+      let same = other_same found words is (rw written at adds.covers) in
+      rw (lies.found ∙ here) (record {
         keys = keys_where_settled id (λ _. took.session) (shared_changed v.shared took.change) v.sessions;
         kept = adds.kept;
-        same =
-            λ k other apart there outside.
-            let one = one_at other k v.sessions there in
-            let was = there.found ∙ one.1 in
-            let now = other_stays other id (λ _. took.session) v.sessions apart ∙ was in
-            let at = sym (lies_still other k v.sessions with_it (keys_where_one_changed id (λ _. took.session)
-            v.sessions) there).found ∙ now in
-            stays_there v (shared_changed v.shared took.change) with_it other one.0 was now
-            (calm_after v.shared took.change found words with_it k one.0 is covers at outside
-            (one_of_all (IsSettled v.shared) k v.sessions one.0 settled one.1));
-        work =
-            λ k other apart there outside.
-            let one = one_at other k v.sessions there in
-            let was = there.found ∙ one.1 in
-            let now = other_stays other id (λ _. took.session) v.sessions apart ∙ was in
-            let at = sym (lies_still other k v.sessions with_it (keys_where_one_changed id (λ _. took.session)
-            v.sessions) there).found ∙ now in
-            same_work v (shared_changed v.shared took.change) with_it other one.0 was now
-            (calm_after v.shared took.change found words with_it k one.0 is covers at outside
-            (one_of_all (IsSettled v.shared) k v.sessions one.0 settled one.1)) refl;
+        same = λ k other apart there outside. (same k other apart there outside).0;
+        work = λ k other apart there outside. (same k other apart there outside).1;
       })
 
-taken_settled : (v : ServerValue) (id i : ℕ) (piece : List ℕ) → LiesAt id i v.sessions → AreSettled (server_taken v id
-    piece).shared (server_taken v id piece).sessions
+taken_settled : (v : ServerValue) (id i : ℕ) (piece : List ℕ) → LiesAt id i v.sessions
+    → AreSettled (server_taken v id piece).shared (server_taken v id piece).sessions
 unfolding server_taken
-taken_settled v id i piece lies =
-    let one = one_at id i v.sessions lies in
-    subst (λ (o : Option SessionValue). AreSettled (server_taken_on v id piece o).shared (server_taken_on v id piece
-    o).sessions) (sym (lies.found ∙ one.1)) (all_are_settled _ _)
+taken_settled v id i piece lies = rw (lies.found ∙ (one_at id i v.sessions lies).1) (all_are_settled _ _)
 
 -- The response of the application may be given after it.
 pub adds_offered : (v : ServerValue) (id i : ℕ) (piece bytes before words : List ℕ) → LiesAt id i v.sessions
@@ -318,16 +289,15 @@ none_reported at words v now same own = rw same (record {
   keeps = keeps_all_work words v;
 })
 
-pub one_reported : (id at : ℕ) (before words : List ℕ) (v now after : ServerValue) → LiesAt id at now.sessions
+pub one_reported : {id at : ℕ} {before words : List ℕ} {v now after : ServerValue} → LiesAt id at now.sessions
     → AddsAffected id before words now after → IsReported at before v now → IsReported at words v after
-one_reported id at before words v now after here adds so =
+one_reported {id = id} {at = at} {before = before} {words = words} {v = v} {now = now} here adds so =
     let still : (i other : ℕ) → LiesAt other i v.sessions → LiesAt other i now.sessions =
     λ i other there. lies_still other i v.sessions now.sessions so.keeps.keys there in
     let apart : (i other : ℕ) → LiesAt other i v.sessions → IsOutside words i → other ≢ id =
     λ i other there outside is.
-    let place : i ≡ at = sym (still i other there).index
-    ∙ ap (λ (k : ℕ). position_or_len (nat_eq k) (keys_of now.sessions)) is ∙ here.index in
-    so.own (subst (IsOutside before) place (adds.kept i outside)) in
+    let place : i ≡ at = rw is at (sym (still i other there).index) ∙ here.index in
+    so.own (rw place at (adds.kept i outside)) in
     record {
       own = λ outside. so.own (adds.kept at outside);
       keeps = record {

@@ -1,36 +1,26 @@
 -- A connection has processed each message of its accepted bytes once and in order, and the error after them is the
 -- reason of its stop.
-use Rattle.std.proofs.Common.{◌≡◌, ℕ, ◌+◌, Bool, true, List, [], ◌∷◌, ◌++◌, length, take, Option, Some, None, Result}
-use Rattle.std.proofs.Common.{Ok, Err, refl, sym, ap, subst, ◌∙◌, ◌⊎◌, inl, inr, arith, option_map, IfOk, ◌≢◌}
-use Rattle.std.proofs.lemmas.Bool.{lt-ltb, le-ltb, cases_eq, cases_Bool}
+use Rattle.std.proofs.Common.{◌≡◌, ℕ, ◌+◌, Bool, List, [], ◌∷◌, ◌++◌, length, take, Option, Some, None, Result, Ok, Err}
+use Rattle.std.proofs.Common.{refl, sym, subst, ◌∙◌, ◌⊎◌, inl, inr, arith, option_map, IfOk, ◌≢◌, ap}
+use Rattle.std.proofs.lemmas.Bool.{lt-ltb, le-ltb, cases_eq}
 use Rattle.std.proofs.lemmas.List.{append-nil, length-append, take_all}
-use Rattle.coap_server_engine.specs.Prelude.{Message, message_of, FormatFault, OfFrame, Format, Stream, FrameEventValue}
-use Rattle.coap_server_engine.specs.Prelude.{AFrame}
-use Rattle.coap_server_engine.specs.Prelude.{AFault, framing, Reason, stop_of, after, ConfigValues, ServerState, Taken}
-use Rattle.coap_server_engine.specs.Prelude.{TakeFault}
-use Rattle.coap_server_engine.specs.Prelude.{SessionValue, taking, taking_read, taking_found, ServerValue, session_of}
-use Rattle.coap_server_engine.specs.Prelude.{count_taken, server_taken_on, server_taken, stop_on, handled_so}
-use Rattle.coap_server_engine.specs.Prelude.{handled_on}
-use Rattle.coap_server_engine.specs.Prelude.{handled_by, Connection, handles, new_side, World, Step, side_of}
-use Rattle.coap_server_engine.specs.Prelude.{AcceptedCall, Took}
-use Rattle.coap_server_engine.specs.Prelude.{stream_on, beyond, steps_by, world_after, takes, IfSide, IsAccepted}
-use Rattle.coap_server_engine.specs.Prelude.{AreAccepted}
-use Rattle.coap_server_engine.specs.Prelude.{size_on, taken_in, session_shown, Shows, handled_between, handled_in}
-use Rattle.coap_server_engine.specs.Prelude.{count_of}
-use Rattle.coap_frame.specs.Framing.{Nothing}
-use Rattle.coap_model.specs.world.Events.{front_of}
+use Rattle.coap_server_engine.specs.Prelude.{Stream, Reason, stop_of, after, ConfigValues, ServerState, Taken}
+use Rattle.coap_server_engine.specs.Prelude.{TakeFault, SessionValue, taking, ServerValue, session_of, count_taken}
+use Rattle.coap_server_engine.specs.Prelude.{server_taken, stop_on, handled_so, handled_on, handled_by, Connection}
+use Rattle.coap_server_engine.specs.Prelude.{handles, new_side, Step, side_of, AcceptedCall, Took, stream_on, beyond}
+use Rattle.coap_server_engine.specs.Prelude.{steps_by, world_after, takes, IfSide, IsAccepted, AreAccepted, taken_in}
+use Rattle.coap_server_engine.specs.Prelude.{session_shown, Shows, handled_between, handled_in, count_of, TakeOutcome}
+use Rattle.coap_server_engine.specs.Prelude.{server_taken_on}
 use Rattle.coap_model.proofs.world.StepLaws.{world_same, world_step, by_events, stream_same, stream_elsewhere}
 use Rattle.coap_model.proofs.world.StepLaws.{taken_elsewhere}
-use Rattle.coap_model.proofs.world.TookLaws.{no_bytes_stream, no_bytes_steps, piece_adds_nothing, piece_adds_message}
-use Rattle.coap_model.proofs.world.TookLaws.{piece_adds_bad, piece_adds_fault}
+use Rattle.coap_model.proofs.world.TookLaws.{no_bytes_stream, no_bytes_steps}
 use Rattle.coap_model.proofs.world.ReachedLaws.{accepted_is, handling_goes_on, takes_there, piece_accepted, IsReached}
 use Rattle.coap_model.proofs.world.ReachedLaws.{OpensNext}
 use Rattle.coap_server_engine.proofs.world.ShowLaws.{sessions_shown, side_there, no_session, takes_shown, shows_taken}
-use Rattle.coap_server_engine.proofs.world.ShowLaws.{taking_stopped, taking_front}
+use Rattle.coap_server_engine.proofs.world.ShowLaws.{Accepts, accepts, session_after, NoByte, NoFrame, Completes, Fails}
 use Rattle.coap_model.proofs.world.WalkLaws.{Between}
 use Rattle.coap_model.proofs.world.AcrossLaws.{HoldsFrom, step_across}
 use Rattle.coap_model.proofs.OptionLemmas.{same_there}
-use Rattle.coap_model.specs.world.World as world
 use Rattle.coap_model.specs.world.Events as event
 use Rattle.coap_model.proofs.world.BecameLaws.{NoStep, OneMessage, OneFault, became, HandlesNone, no_message_reason}
 use Rattle.coap_model.proofs.world.BecameLaws.{TakesSo, Became, IsElsewhere, rests_of, Agrees, rests_agrees}
@@ -38,62 +28,28 @@ use Rattle.coap_model.proofs.world.BecameLaws.{silent_agrees, became_agrees, Agr
 
 module _ (c : ConfigValues) (es : List AcceptedCall) (id : ℕ) (piece : List ℕ) (s : Connection) (is : IsReached c es)
     (there : side_of id (world_after c es).sides ≡ Some s) where
-  abbrev pub rest_before : List ℕ
-  rest_before = (stream_on c.limits.max_message id es).rest
-
-  abbrev pub handling_size : ℕ
-  handling_size = size_on c.limits.max_message id es
-
   -- The accepted bytes of the slice.
   abbrev pub bytes_taken : List ℕ
   bytes_taken = take (takes c es id piece) piece
 
-  abbrev pub session_before : SessionValue
-  session_before = session_shown rest_before s
-
-  module _ (shared : ServerState) (does : handles s ≡ true) where
-    abbrev TakesFront : Bool → Type 0
-    TakesFront message =
-        TakesSo c.limits.max_message id es (take (front_of handling_size rest_before piece) piece) s message
-
-    pub no_fault_before : (stream_on c.limits.max_message id es).fault ≡ None
-    no_fault_before = handling_goes_on c es id s is there does
-
-    frame_so : (frame : List ℕ) (read : Result Message FormatFault)
-        → (framing handling_size rest_before piece).finding ≡ AFrame frame → message_of frame ≡ read
-        → TakesFront (taking_read shared session_before (framing handling_size rest_before piece).taken read).handled
-    frame_so frame (Ok m) e reads =
-        OneMessage refl does m (piece_adds_message c.limits.max_message id es piece no_fault_before frame m e reads)
-    frame_so frame (Err f) e reads =
-        OneFault refl does Format frame
-        (piece_adds_bad c.limits.max_message id es piece no_fault_before frame f e reads)
-
-    found_so : (found : FrameEventValue) → (framing handling_size rest_before piece).finding ≡ found
-        → TakesFront (taking_found shared session_before (framing handling_size rest_before piece) found).handled
-    found_so Nothing e =
-        let adds = piece_adds_nothing c.limits.max_message id es piece no_fault_before e in
-        NoStep refl adds.steps (rw (adds.stream, append-nil) refl) (rw adds.stream (sym no_fault_before))
-    found_so (AFrame frame) e = frame_so frame (message_of frame) e refl
-    found_so (AFault fault) e =
-        OneFault refl does (OfFrame fault) _ (piece_adds_fault c.limits.max_message id es piece no_fault_before fault e)
+  takes_so : (shared : ServerState) (k : TakeOutcome) (lent : Option (List ℕ))
+      → Accepts c.limits.max_message id es piece s shared k lent
+      → TakesSo c.limits.max_message id es bytes_taken s k.handled
+  takes_so shared k lent (NoByte stopped) =
+      rw (takes_there c es id piece s there, stopped) (NoStep refl (no_bytes_steps c.limits.max_message id es)
+      (rw (no_bytes_stream c.limits.max_message id es) refl) (rw (no_bytes_stream c.limits.max_message id es) refl))
+  takes_so shared k lent (NoFrame does e adds) =
+      rw (takes_there c es id piece s there, does) (NoStep refl adds.steps (rw (adds.stream, append-nil) refl)
+      (rw adds.stream (sym (handling_goes_on c es id s is there does))))
+  takes_so shared k lent (Completes does frame m reads adds) =
+      rw (takes_there c es id piece s there, does) (OneMessage refl does m adds)
+  takes_so shared k lent (Fails does fault rest adds) =
+      rw (takes_there c es id piece s there, does) (OneFault refl does fault rest adds)
 
   -- The accepted bytes of any slice.
-  pub took_so : (shared : ServerState)
-      → TakesSo c.limits.max_message id es bytes_taken s (taking shared session_before piece).handled
-  took_so shared =
-      elim (cases_Bool (handles s)) [
-        | inl does ↦ rw (
-          takes_there c es id piece s there,
-          does,
-          taking_front shared handling_size rest_before piece s (is.sizes id s there) does,
-        )
-            (found_so shared does (framing handling_size rest_before piece).finding refl)
-        | inr stopped ↦
-            rw (takes_there c es id piece s there, stopped, taking_stopped shared session_before piece stopped)
-            (NoStep refl (no_bytes_steps c.limits.max_message id es)
-            (rw (no_bytes_stream c.limits.max_message id es) refl)
-            (rw (no_bytes_stream c.limits.max_message id es) refl))
-      ]
+  pub took_so : (shared : ServerState) → TakesSo c.limits.max_message id es bytes_taken s
+      (taking shared (session_after c.limits.max_message id es s) piece).handled
+  took_so shared = takes_so shared _ _ (accepts c es id piece s is there shared)
 
 -- The same for all bytes of an accepted take.
 accepted_so : (c : ConfigValues) (es : List AcceptedCall) (id : ℕ) (bytes : List ℕ) (s : Connection) → IsReached c es
@@ -101,14 +57,7 @@ accepted_so : (c : ConfigValues) (es : List AcceptedCall) (id : ℕ) (bytes : Li
     → (message : Bool) × TakesSo c.limits.max_message id es bytes s message
 accepted_so c es id bytes s is there all =
     let shared : ServerState = record { store = (world_after c es).store; now = (world_after c es).now } in
-    let whole : bytes_taken c es id bytes s is there ≡ bytes =
-    take_all (takes c es id bytes) bytes (omega (arith, all)) in
-    let message : Bool = (taking shared (session_shown (stream_on c.limits.max_message id es).rest s) bytes).handled
-    in (
-      message,
-      subst (λ (b : List ℕ). TakesSo c.limits.max_message id es b s message) whole
-          (took_so c es id bytes s is there shared),
-    )
+    (_, rw (take_all (takes c es id bytes) bytes (omega (arith, all))) at (took_so c es id bytes s is there shared))
 
 pub took_became : (c : ConfigValues) (es : List AcceptedCall) (id : ℕ) (bytes : List ℕ) (s t : Connection)
     → IsReached c es → takes c es id bytes ≡ length bytes → side_of id (world_after c es).sides ≡ Some s
@@ -158,25 +107,17 @@ module _ (v : ServerValue) (es : List AcceptedCall) (id : ℕ) (piece : List ℕ
       → handled_on v piece (session_of id v.sessions) stop_then ≡ handled_in v.config es event_then id
   reports_handled None none = rw (no_session v es id shows none, none) refl
   reports_handled (Some s) there =
-      let c : ConfigValues = v.config in
-      let rest : List ℕ = (stream_on c.limits.max_message id es).rest in
-      let at : session_of id v.sessions ≡ Some (session_shown rest s) = side_there v es id s shows there in
-      let message : Bool = (taking v.shared (session_shown rest s) piece).handled in
-      let so : TakesSo c.limits.max_message id es (take (count_taken v id piece) piece) s message =
-      subst (λ (n : ℕ). TakesSo c.limits.max_message id es (take n piece) s message)
-      (sym (takes_shown v es id piece shows))
-      (took_so c es id piece s (accepted_is c es shows.accepted) there v.shared) in
-      let after = became c es id (take (count_taken v id piece) piece) s message there so in
-      rw (at, stop_shown (session_shown rest s) at, after.1, there) (reports_what_became _ _ s after.0 message after.2)
+      let at = side_there v es id s shows there in
+      let so = took_so v.config es id piece s (accepted_is v.config es shows.accepted) there v.shared in
+      let after = became v.config es id _ s _ there (rw (← takes_shown v es id piece shows) at so) in
+      rw (at, stop_shown _ at, after.1, there) (reports_what_became _ _ s after.0 _ after.2)
 
 pub take_says : (r : Result Taken TakeFault) (v : ServerValue) (id : ℕ) (piece : List ℕ)
     → IfOk r (λ t. t.bytes ≡ count_taken v id piece) → IfOk r (λ t. t.handled ≡ handled_by v id piece)
     → IfOk r
     (λ t. (es : List AcceptedCall) → Shows v es → t.handled ≡ handled_in v.config es (Took id (take t.bytes piece)) id)
 unfolding handled_by
-take_says (Ok t) v id piece count says = λ es shows.
-    says ∙ reports_handled v es id piece shows (side_of id (world_after v.config es).sides) refl
-    ∙ ap (λ (n : ℕ). handled_in v.config es (Took id (take n piece)) id) (sym count)
+take_says (Ok t) v id piece count says = λ es shows. rw (says, count) (reports_handled v es id piece shows _ refl)
 take_says (Err e) v id piece count says = tt
 
 -- ---- the number of processed messages
@@ -228,23 +169,19 @@ module _ (c : ConfigValues) (es : List AcceptedCall) (id : ℕ) (is : IsReached 
   step_agrees : (e : AcceptedCall) (st : Step) → steps_by c.limits.max_message es e ≡ st ∷ []
       → OpensNext c (world_after c es) st → IsElsewhere st id → taken_in id e ≡ [] → AgreesOn c (es ++ e ∷ []) id
   step_agrees e st one next away none t there =
-      let at : side_of id (world.step c.limits (world_after c es) st).sides ≡ Some t =
-      ap (λ (w : World). side_of id w.sides) (sym (world_step c es e st one)) ∙ there in
-      subst (λ (u : Stream). Agrees u t) (sym (stream_same c.limits.max_message id es e none))
+      rw (stream_same c.limits.max_message id es e none)
       (from_agrees st t next (step_across (Between HandlesNone) c.limits (world_after c es) st id
-      (rests_of (world_after c es) st id away) t at))
+      (rests_of (world_after c es) st id away) t (rw (world_step c es e st one) at there)))
 
   other_agrees : (other : ℕ) (bytes : List ℕ) (s : Connection) (message : Bool) → other ≢ id
       → TakesSo c.limits.max_message other es bytes s message → AgreesOn c (es ++ event.Took other bytes ∷ []) id
   other_agrees other bytes s message apart (NoStep e steps messages fault) t then =
-      subst (λ (u : Stream). Agrees u t) (sym (stream_elsewhere c.limits.max_message id other es bytes apart))
-      (before t (ap (λ (w : World). side_of id w.sides) (sym (world_same c es (event.Took other bytes) steps)) ∙ then))
+      rw (stream_elsewhere c.limits.max_message id other es bytes apart)
+      (before t (rw (world_same c es (event.Took other bytes) steps) at then))
   other_agrees other bytes s message apart (OneMessage e does m adds) t then =
-      step_agrees (event.Took other bytes) (world.Handled other m) adds.steps tt apart
-      (taken_elsewhere id other bytes apart) t then
+      step_agrees _ _ adds.steps tt apart (taken_elsewhere id other bytes apart) t then
   other_agrees other bytes s message apart (OneFault e does fault rest adds) t then =
-      step_agrees (event.Took other bytes) (world.Faulted other fault) adds.steps tt apart
-      (taken_elsewhere id other bytes apart) t then
+      step_agrees _ _ adds.steps tt apart (taken_elsewhere id other bytes apart) t then
 
   took_agrees : (other : ℕ) (bytes : List ℕ) (there : Option Connection)
       → side_of other (world_after c es).sides ≡ there → IfSide there (λ s. takes c es other bytes ≡ length bytes)
@@ -262,19 +199,9 @@ module _ (c : ConfigValues) (es : List AcceptedCall) (id : ℕ) (is : IsReached 
 
   event_agrees : (e : AcceptedCall) → IsAccepted c es e → AgreesOn c (es ++ e ∷ []) id
   unfolding IsAccepted steps_by
-  event_agrees (event.Opened n) all = step_agrees (event.Opened n) (world.Opened n) refl (all.0, all.2) tt refl
+  event_agrees (event.Opened n) all = step_agrees _ _ refl (all.0, all.2) tt refl
   event_agrees (event.Took other bytes) all = took_agrees other bytes (side_of other (world_after c es).sides) refl all
-  event_agrees (event.Wrote n k) all = step_agrees (event.Wrote n k) (world.Written n k) refl tt tt refl
-  event_agrees (event.Ticked now) all = step_agrees (event.Ticked now) (world.Ticked now) refl tt tt refl
-  event_agrees (event.Stored path format bytes) all =
-      step_agrees (event.Stored path format bytes) (world.Stored path format bytes) refl tt tt refl
-  event_agrees (event.Removed path) all = step_agrees (event.Removed path) (world.Removed path) refl tt tt refl
-  event_agrees (event.Ended n) all = step_agrees (event.Ended n) _ refl tt tt refl
-  event_agrees (event.Released n) all = step_agrees (event.Released n) (world.Released n) refl tt tt refl
-  event_agrees (event.Announced n size) all =
-      step_agrees (event.Announced n size) (world.Announced n size) refl tt tt refl
-  event_agrees (event.Responded n m) all = step_agrees (event.Responded n m) (world.Responded n m) refl tt tt refl
-  event_agrees (event.Dropped n) all = step_agrees (event.Dropped n) (world.Dropped n) refl tt tt refl
+  event_agrees e all = step_agrees e _ refl tt tt refl
 
 pub handled_agrees : (c : ConfigValues) (es : List AcceptedCall) (id : ℕ) (s : Connection) → AreAccepted c es
     → side_of id (world_after c es).sides ≡ Some s → Agrees (stream_on c.limits.max_message id es) s

@@ -1,32 +1,24 @@
 -- A failed allocation in a take: the bytes before the last one of the message make no step. This byte completes the
 -- message, which stores a representation.
-use Rattle.std.proofs.Common.{◌≡◌, ℕ, suc, ◌+◌, ◌<◌, List, [], ◌∷◌, ◌++◌, length, take, drop, get_or, Some, None}
-use Rattle.std.proofs.Common.{Result, refl, sym, ap, subst, ◌∙◌, append_assoc, arith, IfErr}
-use Rattle.coap_server_engine.specs.Prelude.{AllByRecursion, Message, Stream, split, split_on, Framing, IsPut}
-use Rattle.coap_server_engine.specs.Prelude.{ConfigValues}
-use Rattle.coap_server_engine.specs.Prelude.{ServerState, SessionValue, change_by, RefusesPiece, ServerValue}
-use Rattle.coap_server_engine.specs.Prelude.{session_of, count_on}
-use Rattle.coap_server_engine.specs.Prelude.{count_taken, Connection, World, side_of, Handled, AcceptedCall, stream_on}
-use Rattle.coap_server_engine.specs.Prelude.{beyond}
-use Rattle.coap_server_engine.specs.Prelude.{world_after, size_on, Took, steps_by, takes, change_made, session_shown}
-use Rattle.coap_server_engine.specs.Prelude.{Shows}
-use Rattle.coap_server_engine.specs.Prelude.{IsNotTaken, Taken, TakeFault, IsRefusedStored}
-use Rattle.coap_server_engine.specs.Prelude.{IsRefusedFor, StoresNothing}
+use Rattle.std.proofs.Common.{◌≡◌, ℕ, suc, ◌+◌, ◌<◌, List, [], ◌∷◌, ◌++◌, length, take, drop, get_or, Some, None, refl}
+use Rattle.std.proofs.Common.{sym, ◌∙◌, append_assoc, arith, subst}
+use Rattle.coap_server_engine.specs.Prelude.{Message, Stream, split, split_on, IsPut, ConfigValues, SessionValue}
+use Rattle.coap_server_engine.specs.Prelude.{RefusesPiece, ServerValue, session_of, count_taken, Connection, World}
+use Rattle.coap_server_engine.specs.Prelude.{side_of, Handled, AcceptedCall, stream_on, beyond, world_after, size_on}
+use Rattle.coap_server_engine.specs.Prelude.{steps_by, takes, change_made, session_shown, Shows, IsNotTaken, TakeFault}
+use Rattle.coap_server_engine.specs.Prelude.{IsRefusedStored, IsRefusedFor, StoresNothing, ServerState, change_by}
 use Rattle.std.proofs.lemmas.Grind.{take_at_read}
 use Rattle.std.proofs.lemmas.List.{take-append-drop}
-use Rattle.std.proofs.lemmas.Result.{IfErr-weaker}
 use Rattle.std.proofs.Math.Seq.{drop-cons}
 use Rattle.coap_frame.proofs.FrontLaws.{added_front}
 use Rattle.coap_model.proofs.world.TookLaws.{Adds, adds_nothing, piece_adds_message, front_within, but_last_unfinished}
 use Rattle.coap_server_session.proofs.world.SideShown.{change_shown}
 use Rattle.coap_server_engine.proofs.world.ShowLaws.{session_there, shared_shown, sessions_shown, takes_shown}
-use Rattle.coap_server_engine.proofs.world.ShowLaws.{refused_on}
-use Rattle.coap_server_engine.proofs.world.ShowLaws.{refused_unfinished, refused_message, refused_front}
+use Rattle.coap_server_engine.proofs.world.ShowLaws.{refused_on, refused_unfinished, refused_message, refused_front}
 use Rattle.coap_model.proofs.world.StepLaws.{stream_more}
 use Rattle.coap_model.proofs.OptionLemmas.{none_made}
 use Rattle.coap_model.specs.world.World as world
 use Rattle.coap_model.specs.declared.answers.TakeFault.TheVariants as fault
-use Rattle.coap_model.specs.world.View as view
 
 -- The stream of a connection, continued with more bytes.
 abbrev gone_on_with : ConfigValues → List AcceptedCall → ℕ → List ℕ → Stream
@@ -65,7 +57,6 @@ refuses_last v es id piece n s shows e refused =
     let t : Connection = at.side in
     let refuses : RefusesPiece v.shared (session_shown so_far.rest t) piece n = rw at.shown at refused in
     let front : List ℕ = take n piece in
-    let last : List ℕ = get_or piece n 0 ∷ [] in
     let clean = refused_unfinished v es id piece n t shows at.there refuses in
     let stored = refused_message v es id piece n t shows at.there refuses in
     let all = refused_front v es id piece n t shows at.there refuses in
@@ -73,7 +64,7 @@ refuses_last v es id piece n s shows e refused =
     omega (arith, front_within N so_far.rest piece stored.frame n clean.1 stored.is all) in
     let nothing : Adds M id es front (record { messages = []; rest = so_far.rest ++ front; fault = None }) =
     adds_nothing M id es front clean.0
-    (ap (λ (f : Framing). f.finding) (but_last_unfinished N so_far.rest piece stored.frame n clean.1 stored.is all)) in
+    (rw (but_last_unfinished N so_far.rest piece stored.frame n clean.1 stored.is all) refl) in
     let message : Stream = record { messages = stored.message ∷ []; rest = []; fault = None } in
     let one : Adds M id es (take (n + 1) piece) message =
     rw all at (piece_adds_message M id es piece clean.0 stored.frame stored.message stored.is stored.reads) in
@@ -82,13 +73,13 @@ refuses_last v es id piece n s shows e refused =
     record {
       last = get_or piece n 0;
       later = drop (suc n) piece;
-      all = sym (take-append-drop n piece) ∙ ap (λ (b : List ℕ). front ++ b) (drop-cons piece n 0 within);
+      all = rw (← drop-cons piece n 0 within) (sym (take-append-drop n piece));
       quiet = rw (stream_more M id es front) at nothing.steps;
       message = stored.message;
       ends = rw (stream_more M id es (take (n + 1) piece)) at one.steps;
       one_more = rw (
         sym (stream_more M id es front) ∙ nothing.stream,
-        append_assoc so_far.rest front last,
+        append_assoc so_far.rest front (get_or piece n 0 ∷ []),
         ← (take_at_read piece n 0 within).1,
         spelled,
       ) refl;
@@ -108,7 +99,7 @@ refused_is_stored v after es id piece n shows not =
     let refused = refused_on v piece n (session_of id v.sessions) not.0 in
     let last = refuses_last v es id piece n refused.0 shows refused.1 refused.2 in
     record {
-      last = sym (ap (count_on v piece) refused.1 ∙ refused.2.last) ∙ takes_shown v es id piece shows;
+      last = rw (← takes_shown v es id piece shows, refused.1) (sym refused.2.last);
       quiet = rw (stream_more M id es (take n piece)) last.quiet;
       message = last.message;
       ends = rw (stream_more M id es (take (n + 1) piece)) last.ends;
@@ -119,24 +110,13 @@ refused_is_stored v after es id piece n shows not =
 pub other_not_refused : (v after : ServerValue) (es : List AcceptedCall) (id : ℕ) (piece : List ℕ) (n : ℕ) → Shows v es
     → StoresNothing v.config es id piece → IsNotTaken v id piece (fault.Memory n) after → ⊥
 other_not_refused v after es id piece n shows nothing not =
-    let c : ConfigValues = v.config in
     let refused = refused_is_stored v after es id piece n shows not in
-    let all : steps_by c.limits.max_message es (Took id (take (takes c es id piece) piece))
-    ≡ Handled id refused.message ∷ [] =
-    rw (← refused.last) refused.ends in
-    (subst (AllByRecursion (λ s. IsPut (view.change_by (world_after c es) s) → ⊥)) all nothing).0 refused.stores
+    (rw (← refused.last, refused.ends) at nothing).0 refused.stores
 
 -- ---- the clause of a take
 
-not_taken_for : (why : TakeFault) (v new : ServerValue) (id : ℕ) (piece : List ℕ) → IsNotTaken v id piece why new
+pub refused_for : (why : TakeFault) (v new : ServerValue) (id : ℕ) (piece : List ℕ) → IsNotTaken v id piece why new
     → (es : List AcceptedCall) → Shows v es → IsRefusedFor v.config es id piece why
-not_taken_for fault.NoSuch v new id piece not es shows =
-    let shown : Connection → SessionValue = session_shown (stream_on v.config.limits.max_message id es).rest in
-    none_made shown (side_of id (world_after v.config es).sides) (sym (sessions_shown v es id shows) ∙ not.0)
-not_taken_for (fault.Memory n) v new id piece not es shows = refused_is_stored v new es id piece n shows not
-
-pub take_refused_for : (r : Result Taken TakeFault) (v new : ServerValue) (id : ℕ) (piece : List ℕ)
-    → IfErr r (λ why. IsNotTaken v id piece why new)
-    → IfErr r (λ why. (es : List AcceptedCall) → Shows v es → IsRefusedFor v.config es id piece why)
-take_refused_for r v new id piece not =
-    IfErr-weaker r (λ why. IsNotTaken v id piece why new) _ (λ why no. not_taken_for why v new id piece no) not
+refused_for fault.NoSuch v new id piece not es shows =
+    none_made _ (side_of id (world_after v.config es).sides) (sym (sessions_shown v es id shows) ∙ not.0)
+refused_for (fault.Memory n) v new id piece not es shows = refused_is_stored v new es id piece n shows not

@@ -1,8 +1,7 @@
 -- The request that a take lends is the one that was handed to the application.
-use Rattle.std.proofs.Common.{◌≡◌, ℕ, Bool, true, cond, ◌&&◌, List, [], ◌∷◌, ◌++◌, length, drop, Option, Some, None}
-use Rattle.std.proofs.Common.{refl, sym, ap, ◌∙◌, inl, inr, option_and_then}
+use Rattle.std.proofs.Common.{◌≡◌, ℕ, Bool, true, ◌&&◌, List, [], ◌∷◌, ◌++◌, length, Option, Some, None, refl, ◌∙◌, inl}
+use Rattle.std.proofs.Common.{inr, option_and_then}
 use Rattle.std.specs.Option.{option_to_list}
-use Rattle.std.specs.List.{flat_map}
 use Rattle.std.proofs.lemmas.Bool.{cases_Bool}
 use Rattle.std.proofs.lemmas.List.{append-nil}
 use Rattle.std.proofs.Math.Seq.{drop-length, drop-append_seam}
@@ -12,7 +11,7 @@ use Rattle.coap_conn.specs.declared.pending.Responder.{Responder}
 use Rattle.coap_conn.specs.declared.pending.Responder.TheVariants.{Engine, Application}
 use Rattle.coap_server_engine.specs.Prelude.{Message, Stream, takes_messages, ConfigValues, Connection, World, side_of}
 use Rattle.coap_server_engine.specs.Prelude.{AcceptedCall, Took, IsAccepted, AreAccepted, takes, world_after, is_handed}
-use Rattle.coap_server_engine.specs.Prelude.{request_in, request_between, request_to, message_between}
+use Rattle.coap_server_engine.specs.Prelude.{request_in, request_to, message_between}
 use Rattle.coap_server_session.specs.values.HandedRequests.{is_application}
 use Rattle.coap_model.specs.world.Connections.{asks_answer, delay_for, delay_of, Delay}
 use Rattle.coap_model.specs.world.Fates.{requests_on, handed_requests, handed_in, handed_between, is_by_application}
@@ -40,26 +39,20 @@ module _ (w : World) (s t : Connection) where
   message_lent : (m : Message) → handed_in w.store w.now s m ≡ option_to_list (request_to w.store w.now s m)
   message_lent m =
       let delay : Option Delay = delay_for (after s.history (call.Handle m)) (delay_of w.store w.now m) in
-      ap (λ (b : Bool). cond (asks_answer s m && b) (m ∷ []) []) (same_delay delay)
-      ∙ elim (cases_Bool (asks_answer s m && is_handed delay)) [ inl is ↦ rw is refl | inr other ↦ rw other refl ]
+      rw (same_delay delay)
+      (elim (cases_Bool (asks_answer s m && is_handed delay)) [ inl is ↦ rw is refl | inr other ↦ rw other refl ])
 
   none_lent : t.history.handled ≡ s.history.handled → handed_between w s t ≡ lent
-  none_lent same =
-      ap (λ ms. flat_map (handed_in w.store w.now s) (drop (length s.history.handled) ms)) same
-      ∙ ap (flat_map (handed_in w.store w.now s)) (drop-length s.history.handled)
-      ∙ ap (λ o. option_to_list (option_and_then (request_to w.store w.now s) o)) (sym (none_between s t same))
+  none_lent same = rw (none_between s t same, same, drop-length s.history.handled) refl
 
   one_lent : (m : Message) → t.history.handled ≡ s.history.handled ++ m ∷ [] → handed_between w s t ≡ lent
   one_lent m one =
-      ap (λ ms. flat_map (handed_in w.store w.now s) (drop (length s.history.handled) ms)) one
-      ∙ ap (flat_map (handed_in w.store w.now s)) (drop-append_seam s.history.handled (m ∷ []))
-      ∙ append-nil (handed_in w.store w.now s m) ∙ message_lent m
-      ∙ ap (λ o. option_to_list (option_and_then (request_to w.store w.now s) o)) (sym (one_between s t m one))
+      rw (one_between s t m one, one, drop-append_seam s.history.handled (m ∷ []))
+      (append-nil (handed_in w.store w.now s m) ∙ message_lent m)
 
   became_lent : (earlier later : Stream) (message : Bool) → Became earlier later s t message
       → handed_between w s t ≡ lent
-  became_lent earlier later message (Stayed e same messages fault) =
-      none_lent (ap (λ (u : Connection). u.history.handled) same)
+  became_lent earlier later message (Stayed e same messages fault) = none_lent (rw same refl)
   became_lent earlier later message (Reacted e does m one stops messages fault) = one_lent m one
   became_lent earlier later message (Rejected e does fault rejects messages is) = none_lent rejects.handled
 
@@ -77,10 +70,6 @@ lent_is_handed c es id bytes s t accepted own there then takes_more =
     (on_one (λ u. takes c es id bytes ≡ length bytes) (side_of id w.sides) own).2 in
     let became = took_became c es id bytes s t (accepted_is c es accepted) all there then in
     let request : request_in c es (Took id bytes) id
-    ≡ option_and_then (request_to w.store w.now s) (message_between s t) =
-    ap (λ o. request_between w o (side_of id (world_after c (es ++ Took id bytes ∷ [])).sides)) there
-    ∙ ap (request_between w (Some s)) then
-    ∙ ap (λ b. cond b (option_and_then (request_to w.store w.now s) (message_between s t)) None) takes_more in
-    event_hands c es id s accepted there (Took id bytes) own t then
-    ∙ ap (λ ms. handed_requests (requests_on c id es) ++ ms)
-    (became_lent w s t _ _ became.0 became.1 ∙ ap option_to_list (sym request))
+    ≡ option_and_then (request_to w.store w.now s) (message_between s t) = rw (there, then, takes_more) refl in
+    rw (request, ← became_lent w s t _ _ became.0 became.1) (event_hands c es id s accepted there (Took id bytes) own t
+    then)

@@ -6,51 +6,45 @@ use Rattle.std.proofs.lemmas.Bool.Decides.{nat_tests}
 use Rattle.std.proofs.lemmas.Bool.{cases_Bool}
 use Rattle.std.proofs.lemmas.List.{length-take-le, length-map, map-append}
 use Rattle.coap_server_engine.specs.Prelude.{Message, message_of, Unfinished, prefix_kind, StreamFault, OfFrame, Format}
-use Rattle.coap_server_engine.specs.Prelude.{Stream, frame_then, FormatFault, Framing, FrameEventValue, AFrame, AFault}
-use Rattle.coap_server_engine.specs.Prelude.{framing}
-use Rattle.coap_server_engine.specs.Prelude.{reject_of, StoreValue, put_in, removed_in, changed, IsPut}
-use Rattle.coap_server_engine.specs.Prelude.{ConfigValues, ServerState, SessionValue, session_takes, session_handled}
+use Rattle.coap_server_engine.specs.Prelude.{Stream, FormatFault, Framing, FrameEventValue, AFrame, AFault, framing}
+use Rattle.coap_server_engine.specs.Prelude.{reject_of, StoreValue, put_in, removed_in, changed, IsPut, ConfigValues}
+use Rattle.coap_server_engine.specs.Prelude.{ServerState, SessionValue, session_takes, session_handled}
 use Rattle.coap_server_engine.specs.Prelude.{session_rejected, change_by, TakeOutcome, taking_read, taking_found}
-use Rattle.coap_server_engine.specs.Prelude.{taking}
-use Rattle.coap_server_engine.specs.Prelude.{RefusesPiece, new_session, session_written, session_ended}
-use Rattle.coap_server_engine.specs.Prelude.{session_released}
-use Rattle.coap_server_engine.specs.Prelude.{session_announced, session_raises, session_of, session_becomes, on_session}
-use Rattle.coap_server_engine.specs.Prelude.{settled_entry, server_settled, server_taken_so, ServerValue, server_opened}
-use Rattle.coap_server_engine.specs.Prelude.{server_taken_on, server_taken, count_on, count_taken, server_written}
-use Rattle.coap_server_engine.specs.Prelude.{server_ticked, server_put, server_removed, server_ended, server_released}
-use Rattle.coap_server_engine.specs.Prelude.{server_announced, server_dropped, RefusesPieceOn, Connection}
-use Rattle.coap_server_engine.specs.Prelude.{handles, side_after, side_faulted, IsUpToDate, is_cut}
-use Rattle.coap_server_engine.specs.Prelude.{new_side, side_written, side_ended, side_released, side_announced}
-use Rattle.coap_server_engine.specs.Prelude.{ConnectionEntry, World}
-use Rattle.coap_server_engine.specs.Prelude.{Step, side_of, on_side, stored_after, acted, settled_place, all_settled}
-use Rattle.coap_server_engine.specs.Prelude.{ticks}
+use Rattle.coap_server_engine.specs.Prelude.{taking, RefusesPiece, new_session, session_written, session_ended}
+use Rattle.coap_server_engine.specs.Prelude.{session_released, session_announced, session_raises, session_of}
+use Rattle.coap_server_engine.specs.Prelude.{session_becomes, on_session, settled_entry, server_settled}
+use Rattle.coap_server_engine.specs.Prelude.{server_taken_so, ServerValue, server_opened, server_taken_on, server_taken}
+use Rattle.coap_server_engine.specs.Prelude.{count_on, count_taken, server_written, server_ticked, server_put}
+use Rattle.coap_server_engine.specs.Prelude.{server_removed, server_ended, server_released, server_announced}
+use Rattle.coap_server_engine.specs.Prelude.{server_dropped, RefusesPieceOn, Connection, handles, side_after}
+use Rattle.coap_server_engine.specs.Prelude.{side_faulted, IsUpToDate, is_cut, new_side, side_written, side_ended}
+use Rattle.coap_server_engine.specs.Prelude.{side_released, side_announced, ConnectionEntry, World, Step, side_of}
+use Rattle.coap_server_engine.specs.Prelude.{on_side, stored_after, acted, settled_place, all_settled, ticks}
 use Rattle.coap_server_engine.specs.Prelude.{AcceptedCall, Took, taken_in, stream_on, steps_by, world_after, size_on}
-use Rattle.coap_server_engine.specs.Prelude.{Opened, Wrote}
-use Rattle.coap_server_engine.specs.Prelude.{Ticked, Stored, Removed, Ended, Released, Dropped, takes_of, takes, OnSide}
-use Rattle.coap_server_engine.specs.Prelude.{Responded, Message, response_refusal, side_responded, session_given}
-use Rattle.coap_server_engine.specs.Prelude.{server_responded}
-use Rattle.coap_server_engine.specs.Prelude.{IsAccepted, Announced, session_shown, place_shown, server_shown, server_of}
-use Rattle.coap_server_engine.specs.Prelude.{Shows, Server, LinkValue, new_link, IsHistory, release_refusal, Path}
-use Rattle.coap_server_engine.specs.Prelude.{put_refusal, remove_refusal}
+use Rattle.coap_server_engine.specs.Prelude.{Opened, Wrote, Ticked, Stored, Removed, Ended, Released, Dropped, takes_of}
+use Rattle.coap_server_engine.specs.Prelude.{takes, OnSide, Responded, response_refusal, side_responded, session_given}
+use Rattle.coap_server_engine.specs.Prelude.{server_responded, IsAccepted, Announced, session_shown, place_shown}
+use Rattle.coap_server_engine.specs.Prelude.{server_shown, server_of, Shows, Server, LinkValue, new_link, IsHistory}
+use Rattle.coap_server_engine.specs.Prelude.{release_refusal, Path, put_refusal, remove_refusal, handed, handed_found}
+use Rattle.coap_server_engine.specs.Prelude.{handed_read, kept_on, normalised_steps, kept_at}
 use Rattle.coap_frame.specs.Framing.{Nothing}
-use Rattle.coap_frame.proofs.FrontLaws.{added_by, front_kept}
+use Rattle.coap_frame.proofs.FrontLaws.{front_kept}
 use Rattle.coap_model.specs.world.World.{changed_at}
 use Rattle.coap_model.specs.world.Events.{front_of}
 use Rattle.coap_model.proofs.world.StepLaws.{world_same, world_step, streams_same, stream_elsewhere, rest_unfinished}
 use Rattle.coap_model.proofs.world.StepLaws.{accepted_more}
-use Rattle.coap_model.proofs.world.TookLaws.{Adds, no_bytes_stream, no_bytes_steps, piece_adds, but_last_unfinished}
-use Rattle.coap_model.proofs.world.TookLaws.{front_within}
+use Rattle.coap_model.proofs.world.TookLaws.{Adds, no_bytes_stream, no_bytes_steps, but_last_unfinished, front_within}
+use Rattle.coap_model.proofs.world.TookLaws.{piece_adds_message, piece_adds_bad, piece_adds_nothing, piece_adds_fault}
 use Rattle.coap_model.proofs.world.PlaceLaws.{AreDistinct, of_number, of_each, places_unchanged}
 use Rattle.coap_model.proofs.world.EntryLemmas.{all_to, maps_alike, mapped_filter}
 use Rattle.coap_model.proofs.world.ReachedLaws.{IsReached, handling_goes_on, accepted_is, takes_there, piece_accepted}
 use Rattle.coap_model.proofs.world.ReachedLaws.{events_distinct, opens}
 use Rattle.coap_model.proofs.world.SideLaws.{IsKnownSide, handles_parts}
 use Rattle.coap_server_session.proofs.world.SideShown.{shared_of, faulted_shown, handled_shown, change_shown}
-use Rattle.coap_server_session.proofs.world.SideShown.{written_shown}
-use Rattle.coap_server_session.proofs.world.SideShown.{ended_side_shown, released_shown, given_shown, announced_shown}
-use Rattle.coap_server_session.proofs.world.SideShown.{settled_shown}
+use Rattle.coap_server_session.proofs.world.SideShown.{written_shown, ended_side_shown, released_shown, given_shown}
+use Rattle.coap_server_session.proofs.world.SideShown.{announced_shown, settled_shown}
 use Rattle.coap_model.proofs.world.EndOfInputLaws.{world_stays, IsKnownPlace, IsKnownWorld, acted_known, world_known}
-use Rattle.coap_model.proofs.world.EndOfInputLaws.{world_hears}
+use Rattle.coap_model.proofs.world.EndOfInputLaws.{world_hears, each_same, same_received}
 use Rattle.coap_model.proofs.OptionLemmas.{one_made}
 use Rattle.coap_conn.proofs.LinkLemmas.{new_shown}
 use Rattle.coap_store.specs.Answer as store_change
@@ -75,11 +69,9 @@ one_becomes : (M id : ℕ) (es fs : List AcceptedCall) (f : Connection → Conne
     → session_shown (stream_on M id fs).rest (f t) ≡ g (session_shown (stream_on M id es).rest t)
     → map (place_shown M fs) (map (changed_at id f) ps) ≡ map (session_becomes id g) (map (place_shown M es) ps)
 one_becomes M id es fs f g t ps distinct there same becomes =
-    let place : ℕ → Connection → ConnectionEntry = λ (n : ℕ) (s : Connection). record { id = n; side = s } in
     maps_alike (changed_at id f) (place_shown M fs) (place_shown M es) (session_becomes id g) ps
-    (of_each
-    (λ n s. place_shown M fs (changed_at id f (place n s)) ≡ session_becomes id g (place_shown M es (place n s)))
-    ps distinct
+    (of_each (λ n s. let p : ConnectionEntry = record { id = n; side = s } in
+    place_shown M fs (changed_at id f p) ≡ session_becomes id g (place_shown M es p)) ps distinct
     (λ n s at. grind (arith, nat_tests, there, at, becomes, same n)))
 
 -- ---- settling
@@ -88,12 +80,11 @@ one_becomes M id es fs f g t ps distinct there same becomes =
 pub server_after_settling : (c : ConfigValues) (es : List AcceptedCall) (w : World) → IsKnownWorld w
     → server_shown c es (all_settled w) ≡ server_settled (server_shown c es w)
 server_after_settling c es w known =
-    let shown : ConnectionEntry → ℕ × SessionValue = place_shown c.limits.max_message es in
-    let settles : ConnectionEntry → ConnectionEntry = settled_place w.store w.now in
-    let shared : ServerState = shared_of w.store w.now in
+    let shown = place_shown c.limits.max_message es in
+    let shared = shared_of w.store w.now in
     ap (λ (os : List (ℕ × SessionValue)). record (server_shown c es w) { sessions = os })
-    (maps_alike settles shown shown (settled_entry shared) w.sides
-    (all_to (IsKnownPlace w.store) (λ p. shown (settles p) ≡ settled_entry shared (shown p))
+    (maps_alike (settled_place w.store w.now) shown shown (settled_entry shared) w.sides
+    (all_to (IsKnownPlace w.store) (λ p. shown (settled_place w.store w.now p) ≡ settled_entry shared (shown p))
     (λ p is. ap (λ (v : SessionValue). (p.id, v))
     (settled_shown w.store w.now known.moment known.versioned (stream_on c.limits.max_message p.id es).rest p.side is))
     w.sides known.places))
@@ -107,10 +98,19 @@ history_there c es id t small there =
 
 -- ---- the bytes that a session accepts
 
+-- No byte is accepted.
+abbrev pub taking_nothing : SessionValue → TakeOutcome
+taking_nothing s = record { count = 0; handled = false; session = s; change = store_change.Nothing }
+
 pub taking_stopped : (shared : ServerState) (s : SessionValue) (piece : List ℕ) → session_takes s ≡ false
-    → taking shared s piece ≡ record { count = 0; handled = false; session = s; change = store_change.Nothing }
+    → taking shared s piece ≡ taking_nothing s
 unfolding taking
 taking_stopped shared s piece stopped = rw stopped refl
+
+handed_stopped : (shared : ServerState) (s : SessionValue) (piece : List ℕ) → session_takes s ≡ false
+    → handed shared s piece ≡ None
+unfolding handed
+handed_stopped shared s piece stopped = rw stopped refl
 
 -- A connection that accepts bytes finds in the kept bytes and the slice the frame or error that `framing` finds.
 pub taking_front : (shared : ServerState) (M : ℕ) (rest piece : List ℕ) (t : Connection)
@@ -120,11 +120,100 @@ pub taking_front : (shared : ServerState) (M : ℕ) (rest piece : List ℕ) (t :
 unfolding taking
 taking_front shared M rest piece t most does = rw ((handles_parts t does).0, (handles_parts t does).1, most) refl
 
+handed_front : (shared : ServerState) (M : ℕ) (rest piece : List ℕ) (t : Connection)
+    → t.history.own_max ≡ M → handles t ≡ true → handed shared (session_shown rest t) piece
+    ≡ handed_found shared (session_shown rest t) (framing M rest piece).finding
+unfolding handed
+handed_front shared M rest piece t most does = rw ((handles_parts t does).0, (handles_parts t does).1, most) refl
+
+-- What is found in the bytes of the unfinished frame and the slice.
+abbrev pub front_found : ℕ → ℕ → List AcceptedCall → List ℕ → Framing
+front_found M id es piece = framing (size_on M id es) (stream_on M id es).rest piece
+
+-- The value of a connection of the model.
+abbrev pub session_after : ℕ → ℕ → List AcceptedCall → Connection → SessionValue
+session_after M id es t = session_shown (stream_on M id es).rest t
+
+abbrev AddsFront : ℕ → ℕ → List AcceptedCall → List ℕ → Stream → Type 0
+AddsFront M id es piece = Adds M id es (take (front_found M id es piece).taken piece)
+
+-- The effect of a slice on a connection, and the frame that it hands to the application: no byte is accepted, or the
+-- accepted bytes complete nothing, a message, or an error.
+pub data Accepts (M id : ℕ) (es : List AcceptedCall) (piece : List ℕ) (t : Connection) (shared : ServerState)
+    : TakeOutcome → Option (List ℕ) → Type 0 where
+  NoByte : handles t ≡ false
+      → Accepts M id es piece t shared (taking_nothing (session_after M id es t)) None
+  NoFrame : handles t ≡ true → (front_found M id es piece).finding ≡ Nothing
+      → AddsFront M id es piece (record {
+        messages = [];
+        rest = (stream_on M id es).rest ++ take (front_found M id es piece).taken piece;
+        fault = None;
+      })
+      → Accepts M id es piece t shared
+      (taking_found shared (session_after M id es t) (front_found M id es piece) Nothing) None
+  Completes : handles t ≡ true → (frame : List ℕ) (m : Message) → message_of frame ≡ Ok m
+      → AddsFront M id es piece (record { messages = m ∷ []; rest = []; fault = None })
+      → Accepts M id es piece t shared
+      (taking_read shared (session_after M id es t) (front_found M id es piece).taken (Ok m))
+      (handed_read shared (session_after M id es t) frame (Ok m))
+  Fails : handles t ≡ true → (fault : StreamFault) (rest : List ℕ)
+      → AddsFront M id es piece (record { messages = []; rest = rest; fault = Some fault })
+      → Accepts M id es piece t shared (record {
+        count = (front_found M id es piece).taken;
+        handled = false;
+        session = session_rejected (session_after M id es t) (reject_of fault);
+        change = store_change.Nothing;
+      }) None
+
+module _ (c : ConfigValues) (es : List AcceptedCall) (id : ℕ) (piece : List ℕ) (t : Connection) (is : IsReached c es)
+    (there : side_of id (world_after c es).sides ≡ Some t) (shared : ServerState) where
+  abbrev limit : ℕ
+  limit = c.limits.max_message
+
+  abbrev AcceptsSo : TakeOutcome → Option (List ℕ) → Type 0
+  AcceptsSo = Accepts limit id es piece t shared
+
+  frame_accepted : handles t ≡ true → (frame : List ℕ) (read : Result Message FormatFault)
+      → (front_found limit id es piece).finding ≡ AFrame frame → message_of frame ≡ read
+      → AcceptsSo (taking_read shared (session_after limit id es t) (front_found limit id es piece).taken read)
+      (handed_read shared (session_after limit id es t) frame read)
+  frame_accepted does frame (Ok m) e reads =
+      Completes does frame m reads
+      (piece_adds_message limit id es piece (handling_goes_on c es id t is there does) frame m e reads)
+  frame_accepted does frame (Err f) e reads =
+      Fails does Format frame
+      (piece_adds_bad limit id es piece (handling_goes_on c es id t is there does) frame f e reads)
+
+  found_accepted : handles t ≡ true → (found : FrameEventValue) → (front_found limit id es piece).finding ≡ found
+      → AcceptsSo (taking_found shared (session_after limit id es t) (front_found limit id es piece) found)
+      (handed_found shared (session_after limit id es t) found)
+  found_accepted does Nothing e =
+      NoFrame does e (piece_adds_nothing limit id es piece (handling_goes_on c es id t is there does) e)
+  found_accepted does (AFrame frame) e = frame_accepted does frame (message_of frame) e refl
+  found_accepted does (AFault fault) e =
+      Fails does (OfFrame fault) _
+      (piece_adds_fault limit id es piece (handling_goes_on c es id t is there does) fault e)
+
+  pub accepts : AcceptsSo (taking shared (session_after limit id es t) piece)
+      (handed shared (session_after limit id es t) piece)
+  accepts = elim (cases_Bool (handles t)) [
+    | inl does ↦
+        rw (
+          taking_front shared (size_on limit id es) (stream_on limit id es).rest piece t (is.sizes id t there) does,
+          handed_front shared (size_on limit id es) (stream_on limit id es).rest piece t (is.sizes id t there) does,
+        ) (found_accepted does (front_found limit id es piece).finding refl)
+    | inr stopped ↦
+        rw (
+          taking_stopped shared (session_after limit id es t) piece stopped,
+          handed_stopped shared (session_after limit id es t) piece stopped,
+        ) (NoByte stopped)
+  ]
+
+-- The number of bytes that it accepts.
 count_found : (shared : ServerState) (s : SessionValue) (f : Framing) (found : FrameEventValue)
     → (taking_found shared s f found).count ≡ f.taken
 count_found shared s f found = grind arith
 
--- The number of bytes that it accepts.
 pub taking_count : (shared : ServerState) (M : ℕ) (rest piece : List ℕ) (t : Connection) → t.history.own_max ≡ M
     → (taking shared (session_shown rest t) piece).count ≡ (if handles t then front_of M rest piece else 0)
 taking_count shared M rest piece t most =
@@ -167,27 +256,17 @@ module _ (c : ConfigValues) (es : List AcceptedCall) (id : ℕ) (piece : List �
   abbrev so_far : List ℕ
   so_far = (stream_on c.limits.max_message id es).rest
 
-  abbrev pub session_then : SessionValue
+  abbrev session_then : SessionValue
   session_then = session_shown so_far t
 
   abbrev world_then : World
   world_then = world_after c es
 
-  abbrev pub shared_then : ServerState
+  abbrev shared_then : ServerState
   shared_then = shared_of world_then.store world_then.now
 
-  -- The current message size.
-  abbrev in_force : ℕ
-  in_force = size_on c.limits.max_message id es
-
-  abbrev framing_then : Framing
-  framing_then = framing in_force so_far piece
-
-  abbrev front_taken_then : List ℕ
-  front_taken_then = take (front_of in_force so_far piece) piece
-
   -- The server after this effect is that after the accepted bytes.
-  abbrev pub TakesAs : TakeOutcome → Type 0
+  abbrev TakesAs : TakeOutcome → Type 0
   TakesAs k = server_taken_so (server_of c es) id k ≡ server_of c (es ++ Took id (take k.count piece) ∷ [])
 
   -- Bytes that change the connection by `f`, whose value is `v` then.
@@ -200,11 +279,10 @@ module _ (c : ConfigValues) (es : List AcceptedCall) (id : ℕ) (piece : List �
   unfolding server_of
   took bytes f v store known settles shown =
       let fs : List AcceptedCall = es ++ Took id bytes ∷ [] in
-      let shared : ServerState = shared_of store world_then.now in
       sym (ap (server_shown c fs) settles
       ∙ server_after_settling c fs (record (on_side id f world_then) { store = store }) known
       ∙ ap (λ (os : List (ℕ × SessionValue)).
-      server_settled (record (server_shown c es world_then) { shared = shared; sessions = os }))
+      server_settled (record (server_shown c es world_then) { shared = shared_of store world_then.now; sessions = os }))
       (one_becomes most id es fs f (λ s. v) t world_then.sides (events_distinct c es) there
       (λ k apart. stream_elsewhere most k id es bytes apart) shown))
 
@@ -220,77 +298,38 @@ module _ (c : ConfigValues) (es : List AcceptedCall) (id : ℕ) (piece : List �
       (world_same c es (Took id bytes) none ∙ sym (world_stays world_then (world_hears c es))
       ∙ ap all_settled (sym still)) shown
 
-  stopped_takes : TakesAs (record { count = 0; handled = false; session = session_then; change = store_change.Nothing })
-  stopped_takes =
+  -- The effect on the server.
+  takes_as : (k : TakeOutcome) (lent : Option (List ℕ)) → Accepts most id es piece t shared_then k lent → TakesAs k
+  unfolding server_of acted world.step
+  takes_as k lent (NoByte stopped) =
       took_quietly [] session_then (no_bytes_steps most id es)
       (ap (λ (u : Stream). session_shown u.rest t) (no_bytes_stream most id es))
+  takes_as k lent (NoFrame does e adds) =
+      took_quietly _ (record session_then { frame = (front_found most id es piece).kept }) adds.steps
+      (ap (λ (u : Stream). session_shown u.rest t) adds.stream
+      ∙ rw ((handles_parts t does).0, front_kept (size_on most id es) so_far piece e) refl)
+  takes_as k lent (Completes does frame m reads adds) =
+      let w : World = world_then in
+      let st : Step = world.Handled id m in
+      let known : IsKnownWorld w = world_known c es small in
+      let store : StoreValue = changed w.store (change_by shared_then session_then.link m) in
+      let acts : acted c.limits w st ≡ record (on_side id (λ u. side_after w.store w.now u m) w) { store = store } =
+      ap (λ (s : StoreValue). record (on_side id (λ u. side_after w.store w.now u m) w) { store = s })
+      (ap (stored_after w m) there ∙ ap (changed w.store) (change_shown w.store w.now t m does)) in
+      took _ (λ u. side_after w.store w.now u m) (session_handled shared_then session_then m) store
+      (subst IsKnownWorld acts (acted_known c.limits w st known))
+      (world_step c es _ st adds.steps ∙ ap all_settled acts)
+      (ap (λ (u : Stream). session_shown u.rest (side_after w.store w.now t m)) adds.stream
+      ∙ handled_shown w.store w.now known.moment known.versioned so_far t m (history_there c es id t small there) does)
+  takes_as k lent (Fails does fault rest adds) =
+      let st : Step = world.Faulted id fault in
+      took _ (λ u. side_faulted u fault) (session_rejected session_then (reject_of fault)) world_then.store
+      (acted_known c.limits world_then st (world_known c es small)) (world_step c es _ st adds.steps)
+      (ap (λ (u : Stream). session_shown u.rest (side_faulted t fault)) adds.stream
+      ∙ faulted_shown so_far rest t fault (history_there c es id t small there) does)
 
-  module _ (does : handles t ≡ true) where
-    fault_takes : (fault : StreamFault) (rest : List ℕ)
-        → Adds most id es front_taken_then (record { messages = []; rest = rest; fault = Some fault })
-        → TakesAs (record {
-          count = framing_then.taken;
-          handled = false;
-          session = session_rejected session_then (reject_of fault);
-          change = store_change.Nothing;
-        })
-    unfolding server_of acted world.step
-    fault_takes fault rest adds =
-        let st : Step = world.Faulted id fault in
-        took front_taken_then (λ u. side_faulted u fault)
-        (session_rejected session_then (reject_of fault)) world_then.store
-        (acted_known c.limits world_then st (world_known c es small))
-        (world_step c es (Took id front_taken_then) st adds.steps)
-        (ap (λ (u : Stream). session_shown u.rest (side_faulted t fault)) adds.stream
-        ∙ faulted_shown so_far rest t fault (history_there c es id t small there) does)
-
-    -- The bytes of a frame, from the result of the parser.
-    frame_takes : (frame : List ℕ) (read : Result Message FormatFault)
-        → Adds most id es front_taken_then (frame_then frame read (record { messages = []; rest = []; fault = None }))
-        → TakesAs (taking_read shared_then session_then framing_then.taken read)
-    unfolding server_of acted world.step
-    frame_takes frame (Ok m) adds =
-        let w : World = world_then in
-        let st : Step = world.Handled id m in
-        let known : IsKnownWorld w = world_known c es small in
-        let store : StoreValue = changed w.store (change_by shared_then session_then.link m) in
-        let acts : acted c.limits w st ≡ record (on_side id (λ u. side_after w.store w.now u m) w) { store = store } =
-        ap (λ (s : StoreValue). record (on_side id (λ u. side_after w.store w.now u m) w) { store = s })
-        (ap (stored_after w m) there ∙ ap (changed w.store) (change_shown w.store w.now t m does)) in
-        took front_taken_then (λ u. side_after w.store w.now u m) (session_handled shared_then session_then m) store
-        (subst IsKnownWorld acts (acted_known c.limits w st known))
-        (world_step c es (Took id front_taken_then) st adds.steps ∙ ap all_settled acts)
-        (ap (λ (u : Stream). session_shown u.rest (side_after w.store w.now t m)) adds.stream
-        ∙ handled_shown w.store w.now known.moment known.versioned so_far t m
-        (history_there c es id t small there) does)
-    frame_takes frame (Err f) adds = fault_takes Format frame adds
-
-    found_takes : (found : FrameEventValue) → framing_then.finding ≡ found
-        → Adds most id es front_taken_then (added_by so_far front_taken_then found)
-        → TakesAs (taking_found shared_then session_then framing_then found)
-    found_takes Nothing e adds =
-        took_quietly front_taken_then (record session_then { frame = framing_then.kept }) adds.steps
-        (ap (λ (u : Stream). session_shown u.rest t) adds.stream
-        ∙ rw ((handles_parts t does).0, front_kept in_force so_far piece e) refl)
-    found_takes (AFrame frame) e adds = frame_takes frame (message_of frame) adds
-    found_takes (AFault fault) e adds = fault_takes (OfFrame fault) _ adds
-
-  -- The accepted bytes of any slice.
   server_takes : TakesAs (taking shared_then session_then piece)
-  server_takes =
-      elim (cases_Bool (handles t)) [
-        | inl does ↦
-            rw (taking_front shared_then in_force so_far piece t (is.sizes id t there) does)
-            (found_takes does framing_then.finding refl
-            (piece_adds most id es piece (handling_goes_on c es id t is there does)))
-        | inr stopped ↦ rw (taking_stopped shared_then session_then piece stopped) stopped_takes
-      ]
-
--- ---- the connections of a server are those of its model
-
--- The bytes kept of a connection's unfinished frame.
-abbrev rest_on : ServerValue → List AcceptedCall → ℕ → List ℕ
-rest_on v es id = (stream_on v.config.limits.max_message id es).rest
+  server_takes = takes_as _ _ (accepts c es id piece t is there shared_then)
 
 -- The connection of the model that a session represents.
 pub record SessionThere (v : ServerValue) (events : List AcceptedCall) (id : ℕ) (s : SessionValue) : Type 0 where
@@ -298,266 +337,255 @@ pub record SessionThere (v : ServerValue) (events : List AcceptedCall) (id : ℕ
   pub there : side_of id (world_after v.config events).sides ≡ Some side
   pub shown : s ≡ session_shown (stream_on v.config.limits.max_message id events).rest side
 
--- A server has a connection with an id if and only if its model has, and their values correspond.
-pub sessions_shown : (v : ServerValue) (es : List AcceptedCall) (id : ℕ) → Shows v es
-    → session_of id v.sessions ≡ option_map (session_shown (stream_on v.config.limits.max_message id es).rest)
-    (side_of id (world_after v.config es).sides)
-unfolding server_of
-sessions_shown v es id shows =
-    ap (λ (u : ServerValue). session_of id u.sessions) shows.same
-    ∙ session_found v.config.limits.max_message id es (world_after v.config es).sides
+module _ (v : ServerValue) (es : List AcceptedCall) where
+  abbrev config : ConfigValues
+  config = v.config
 
-pub session_there : (v : ServerValue) (es : List AcceptedCall) (id : ℕ) (s : SessionValue) → Shows v es
-    → session_of id v.sessions ≡ Some s → SessionThere v es id s
-session_there v es id s shows e =
-    let made = one_made (session_shown (rest_on v es id)) (side_of id (world_after v.config es).sides) s
-    (sym (sessions_shown v es id shows) ∙ e) in
-    record { side = made.0; there = made.1; shown = sym made.2 }
+  abbrev largest : ℕ
+  largest = config.limits.max_message
 
--- The session of a connection of the model.
-pub side_there : (v : ServerValue) (es : List AcceptedCall) (id : ℕ) (t : Connection) → Shows v es
-    → side_of id (world_after v.config es).sides ≡ Some t
-    → session_of id v.sessions ≡ Some (session_shown (stream_on v.config.limits.max_message id es).rest t)
-side_there v es id t shows e = sessions_shown v es id shows ∙ rw e refl
+  abbrev model : World
+  model = world_after v.config es
 
--- A server has no connection with an id if its model has none.
-pub no_session : (v : ServerValue) (es : List AcceptedCall) (id : ℕ) → Shows v es
-    → side_of id (world_after v.config es).sides ≡ None → session_of id v.sessions ≡ None
-no_session v es id shows e = sessions_shown v es id shows ∙ rw e refl
+  -- The bytes kept of a connection's unfinished frame.
+  abbrev rest_on : ℕ → List ℕ
+  rest_on id = (stream_on largest id es).rest
 
--- The resources and the time.
-pub shared_shown : (v : ServerValue) (es : List AcceptedCall) → Shows v es
-    → v.shared ≡ shared_of (world_after v.config es).store (world_after v.config es).now
-unfolding server_of
-shared_shown v es shows = ap (λ (u : ServerValue). u.shared) shows.same
+  -- ---- the connections of a server are those of its model
 
--- ---- no change is lost
+  -- A server has a connection with an id if and only if its model has, and their values correspond.
+  pub sessions_shown : (id : ℕ) → Shows v es
+      → session_of id v.sessions ≡ option_map (session_shown (rest_on id)) (side_of id model.sides)
+  unfolding server_of
+  sessions_shown id shows =
+      ap (λ (u : ServerValue). session_of id u.sessions) shows.same
+      ∙ session_found largest id es model.sides
 
--- A connection is up to date if its queue has room, since the one of the model is.
-pub no_change_is_lost : (v : ServerValue) (es : List AcceptedCall) (id : ℕ) (s : SessionValue) (t : Connection)
-    → Shows v es → session_of id v.sessions ≡ Some s → side_of id (world_after v.config es).sides ≡ Some t
-    → IsUpToDate v.shared.store v.shared.now t
-no_change_is_lost v es id s t shows e there =
-    let w : World = world_after v.config es in
-    rw (shared_shown v es shows)
-    (of_number (λ n u. IsUpToDate w.store w.now u) id t w.sides (world_hears v.config es) there)
+  pub session_there : (id : ℕ) (s : SessionValue) → Shows v es → session_of id v.sessions ≡ Some s
+      → SessionThere v es id s
+  session_there id s shows e =
+      let made =
+      one_made (session_shown (rest_on id)) (side_of id model.sides) s (sym (sessions_shown id shows) ∙ e) in
+      record { side = made.0; there = made.1; shown = sym made.2 }
 
--- ---- calls that accept no byte
+  -- The session of a connection of the model.
+  pub side_there : (id : ℕ) (t : Connection) → Shows v es → side_of id model.sides ≡ Some t
+      → session_of id v.sessions ≡ Some (session_shown (rest_on id) t)
+  side_there id t shows e = sessions_shown id shows ∙ rw e refl
 
--- A server with the value after one more accepted event shows that event too.
-shows_event : (v new : ServerValue) (es : List AcceptedCall) (e : AcceptedCall) → Shows v es → IsAccepted v.config es e
-    → new ≡ server_of v.config (es ++ e ∷ []) → Shows new (es ++ e ∷ [])
-unfolding server_of
-shows_event v new es e shows accepted same =
-    rw same (record {
-      accepted = accepted_more v.config es e shows.accepted accepted;
-      same = refl;
-      moment = shows.moment;
-      deadline = shows.deadline;
-    })
+  -- A server has no connection with an id if its model has none.
+  pub no_session : (id : ℕ) → Shows v es → side_of id model.sides ≡ None → session_of id v.sessions ≡ None
+  no_session id shows e = sessions_shown id shows ∙ rw e refl
 
--- An event without bytes that makes one step, where `g` changes the server as the step changes its model.
-shows_step : (v : ServerValue) (es : List AcceptedCall) (e : AcceptedCall) (st : Step) (g : ServerValue → ServerValue)
-    → Shows v es → IsAccepted v.config es e → steps_by v.config.limits.max_message es e ≡ st ∷ []
-    → ((id : ℕ) → taken_in id e ≡ [])
-    → server_shown v.config es (acted v.config.limits (world_after v.config es) st) ≡ g (server_of v.config es)
-    → Shows (server_settled (g v)) (es ++ e ∷ [])
-unfolding server_of world.step
-shows_step v es e st g shows accepted one none becomes =
-    let c : ConfigValues = v.config in
-    let did : World = acted c.limits (world_after c es) st in
-    let fs : List AcceptedCall = es ++ e ∷ [] in
-    let streams : server_shown c fs did ≡ server_shown c es did =
-    ap (λ (streams : ℕ → Stream). record (server_shown c es did) {
-      sessions = map (λ p. (p.id, session_shown (streams p.id).rest p.side)) did.sides;
-    })
-    (streams_same c.limits.max_message es e none) in
-    shows_event v (server_settled (g v)) es e shows accepted
-    (ap (λ (u : ServerValue). server_settled (g u)) shows.same
-    ∙ sym (ap (server_shown c fs) (world_step c es e st one)
-    ∙ server_after_settling c fs did (acted_known c.limits (world_after c es) st (world_known c es shows.moment))
-    ∙ ap server_settled (streams ∙ becomes)))
+  -- The resources and the time.
+  pub shared_shown : Shows v es → v.shared ≡ shared_of model.store model.now
+  unfolding server_of
+  shared_shown shows = ap (λ (u : ServerValue). u.shared) shows.same
 
--- The same for a step that changes only one connection, which has the property `P`.
-shows_on : (v : ServerValue) (es : List AcceptedCall) (id : ℕ) (s : SessionValue) (e : AcceptedCall) (st : Step)
-    (f : Connection → Connection) (g : SessionValue → SessionValue) (P : SessionValue → Type 0)
-    → Shows v es → session_of id v.sessions ≡ Some s → P s → steps_by v.config.limits.max_message es e ≡ st ∷ []
-    → ((k : ℕ) → taken_in k e ≡ [])
-    → acted v.config.limits (world_after v.config es) st ≡ on_side id f (world_after v.config es)
-    → (OnSide id (world_after v.config es) (λ t. P (session_shown (rest_on v es id) t)) → IsAccepted v.config es e)
-    → ((t : Connection) → IsHistory t.history → P (session_shown (rest_on v es id) t)
-    → session_shown (rest_on v es id) (f t) ≡ g (session_shown (rest_on v es id) t))
-    → Shows (server_settled (on_session id g v)) (es ++ e ∷ [])
-unfolding server_of
-shows_on v es id s e st f g P shows there holds one none acts accepts becomes =
-    let c : ConfigValues = v.config in
-    let w : World = world_after c es in
-    let at = session_there v es id s shows there in
-    let here : P (session_shown (rest_on v es id) at.side) = rw at.shown at holds in
-    shows_step v es e st (on_session id g) shows (accepts (rw at.there here)) one none
-    (ap (server_shown c es) acts ∙ ap (λ (os : List (ℕ × SessionValue)). record (server_shown c es w) { sessions = os })
-    (one_becomes c.limits.max_message id es es f g at.side w.sides (events_distinct c es) at.there (λ n apart. refl)
-    (becomes at.side (history_there c es id at.side shows.moment at.there) here)))
+  -- A connection is up to date if its queue has room, since the one of the model is.
+  pub no_change_is_lost : (id : ℕ) (s : SessionValue) (t : Connection) → Shows v es → session_of id v.sessions ≡ Some s
+      → side_of id model.sides ≡ Some t → IsUpToDate v.shared.store v.shared.now t
+  no_change_is_lost id s t shows e there =
+      rw (shared_shown shows)
+      (of_number (λ n u. IsUpToDate model.store model.now u) id t model.sides (world_hears config es) there)
 
--- `written`.
-pub shows_written : (v : ServerValue) (es : List AcceptedCall) (id n : ℕ) (s : SessionValue) → Shows v es
-    → session_of id v.sessions ≡ Some s → n ≤ length s.link.waiting
-    → Shows (server_written v id n) (es ++ Wrote id n ∷ [])
-unfolding IsAccepted acted steps_by
-shows_written v es id n s shows there within =
-    shows_on v es id s (Wrote id n) _ (λ t. side_written t n) (λ u. session_written u n)
-    (λ u. n ≤ length u.link.waiting) shows there within
-    refl (λ k. refl) refl (λ ok. ok) (λ t history few. written_shown (rest_on v es id) t n history few)
+  -- ---- calls that accept no byte
 
--- `ended`.
-pub shows_ended : (v : ServerValue) (es : List AcceptedCall) (id : ℕ) (s : SessionValue) → Shows v es
-    → session_of id v.sessions ≡ Some s → Shows (server_ended v id) (es ++ Ended id ∷ [])
-unfolding IsAccepted acted steps_by
-shows_ended v es id s shows there =
-    shows_on v es id s (Ended id) _ (λ t. side_ended t (is_cut (rest_on v es id))) session_ended
-    (λ u. Unit {0}) shows there tt
-    refl (λ k. refl) refl (λ ok. ok) (λ t history any. ended_side_shown (rest_on v es id) t history)
+  -- A server with the value after one more accepted event shows that event too.
+  shows_event : (new : ServerValue) (e : AcceptedCall) → Shows v es → IsAccepted config es e
+      → new ≡ server_of config (es ++ e ∷ []) → Shows new (es ++ e ∷ [])
+  unfolding server_of
+  shows_event new e shows accepted same =
+      rw same (record {
+        accepted = accepted_more config es e shows.accepted accepted;
+        same = refl;
+        moment = shows.moment;
+        deadline = shows.deadline;
+      })
 
--- `release`.
-pub shows_released : (v : ServerValue) (es : List AcceptedCall) (id : ℕ) (s : SessionValue) → Shows v es
-    → session_of id v.sessions ≡ Some s → release_refusal s.link ≡ None
-    → Shows (server_released v id) (es ++ Released id ∷ [])
-unfolding IsAccepted acted steps_by
-shows_released v es id s shows there none =
-    shows_on v es id s (Released id) _ side_released session_released
-    (λ u. release_refusal u.link ≡ None) shows there none
-    refl (λ k. refl) refl (λ ok. ok) (released_shown (rest_on v es id))
+  -- An event without bytes that makes one step, where `g` changes the server as the step changes its model.
+  shows_step : (e : AcceptedCall) (st : Step) (g : ServerValue → ServerValue) → Shows v es → IsAccepted config es e
+      → steps_by largest es e ≡ st ∷ [] → ((id : ℕ) → taken_in id e ≡ [])
+      → server_shown config es (acted config.limits model st) ≡ g (server_of config es)
+      → Shows (server_settled (g v)) (es ++ e ∷ [])
+  unfolding server_of world.step
+  shows_step e st g shows accepted one none becomes =
+      let did : World = acted config.limits model st in
+      let fs : List AcceptedCall = es ++ e ∷ [] in
+      let streams : server_shown config fs did ≡ server_shown config es did =
+      ap (λ (streams : ℕ → Stream). record (server_shown config es did) {
+        sessions = map (λ p. (p.id, session_shown (streams p.id).rest p.side)) did.sides;
+      })
+      (streams_same largest es e none) in
+      shows_event (server_settled (g v)) e shows accepted
+      (ap (λ (u : ServerValue). server_settled (g u)) shows.same
+      ∙ sym (ap (server_shown config fs) (world_step config es e st one)
+      ∙ server_after_settling config fs did (acted_known config.limits model st (world_known config es shows.moment))
+      ∙ ap server_settled (streams ∙ becomes)))
 
--- `respond`.
-pub shows_responded : (v : ServerValue) (es : List AcceptedCall) (id : ℕ) (m : Message) (s : SessionValue) → Shows v es
-    → session_of id v.sessions ≡ Some s → response_refusal s.link m ≡ None
-    → Shows (server_responded v id m) (es ++ Responded id m ∷ [])
-unfolding IsAccepted acted steps_by
-shows_responded v es id m s shows there none =
-    shows_on v es id s (Responded id m) _ (λ t. side_responded t m) (λ u. session_given u m)
-    (λ u. response_refusal u.link m ≡ None) shows there none
-    refl (λ k. refl) refl (λ ok. ok) (λ t history may. given_shown (rest_on v es id) t m history)
+  -- The same for a step that changes only one connection, which has the property `P`.
+  shows_on : (id : ℕ) (s : SessionValue) (e : AcceptedCall) (st : Step) (f : Connection → Connection)
+      (g : SessionValue → SessionValue) (P : SessionValue → Type 0)
+      → Shows v es → session_of id v.sessions ≡ Some s → P s → steps_by largest es e ≡ st ∷ []
+      → ((k : ℕ) → taken_in k e ≡ []) → acted config.limits model st ≡ on_side id f model
+      → (OnSide id model (λ t. P (session_shown (rest_on id) t)) → IsAccepted config es e)
+      → ((t : Connection) → IsHistory t.history → P (session_shown (rest_on id) t)
+      → session_shown (rest_on id) (f t) ≡ g (session_shown (rest_on id) t))
+      → Shows (server_settled (on_session id g v)) (es ++ e ∷ [])
+  unfolding server_of
+  shows_on id s e st f g P shows there holds one none acts allows becomes =
+      let at = session_there id s shows there in
+      let here : P (session_shown (rest_on id) at.side) = rw at.shown at holds in
+      shows_step e st (on_session id g) shows (allows (rw at.there here)) one none
+      (ap (server_shown config es) acts
+      ∙ ap (λ (os : List (ℕ × SessionValue)). record (server_shown config es model) { sessions = os })
+      (one_becomes largest id es es f g at.side model.sides (events_distinct config es) at.there
+      (λ n apart. refl)
+      (becomes at.side (history_there config es id at.side shows.moment at.there) here)))
 
--- `announce`.
-pub shows_announced : (v : ServerValue) (es : List AcceptedCall) (id size : ℕ) (s : SessionValue) → Shows v es
-    → session_of id v.sessions ≡ Some s → session_raises s size ≡ true
-    → Shows (server_announced v id size) (es ++ Announced id size ∷ [])
-unfolding IsAccepted acted steps_by
-shows_announced v es id size s shows there raises =
-    shows_on v es id s (Announced id size) _ (λ t. side_announced t size) (λ u. session_announced u size)
-    (λ u. session_raises u size ≡ true) shows there raises
-    refl (λ k. refl) refl (λ ok. ok) (λ t history may. announced_shown (rest_on v es id) t size history may)
+  -- `written`.
+  pub shows_written : (id n : ℕ) (s : SessionValue) → Shows v es → session_of id v.sessions ≡ Some s
+      → n ≤ length s.link.waiting → Shows (server_written v id n) (es ++ Wrote id n ∷ [])
+  unfolding IsAccepted acted steps_by
+  shows_written id n s shows there within =
+      shows_on id s (Wrote id n) _ (λ t. side_written t n) (λ u. session_written u n)
+      (λ u. n ≤ length u.link.waiting) shows there within refl (λ k. refl) refl (λ ok. ok)
+      (λ t. written_shown (rest_on id) t n)
 
--- `drop_conn`.
-pub shows_dropped : (v : ServerValue) (es : List AcceptedCall) (id : ℕ) (s : SessionValue) → Shows v es
-    → session_of id v.sessions ≡ Some s → Shows (server_dropped v id) (es ++ Dropped id ∷ [])
-unfolding IsAccepted server_of acted steps_by
-shows_dropped v es id s shows there =
-    let c : ConfigValues = v.config in
-    let others : (ℕ × SessionValue) → Bool = λ (o : ℕ × SessionValue). not (o.0 == id) in
-    let accepted = (session_there v es id s shows there).there in
-    shows_step v es (Dropped id) _ (λ u. record u { sessions = filter others u.sessions }) shows
-    (rw accepted tt) refl (λ k. refl)
-    (ap (λ (os : List (ℕ × SessionValue)). record (server_of c es) { sessions = os })
-    (mapped_filter (place_shown c.limits.max_message es) others (world_after c es).sides))
+  -- `ended`.
+  pub shows_ended : (id : ℕ) (s : SessionValue) → Shows v es → session_of id v.sessions ≡ Some s
+      → Shows (server_ended v id) (es ++ Ended id ∷ [])
+  unfolding IsAccepted acted steps_by
+  shows_ended id s shows there =
+      shows_on id s (Ended id) _ (λ t. side_ended t (is_cut (rest_on id))) session_ended (λ u. Unit {0}) shows there tt
+      refl (λ k. refl) refl (λ ok. ok) (λ t history any. ended_side_shown (rest_on id) t history)
 
--- `tick`.
-pub shows_ticked : (v : ServerValue) (es : List AcceptedCall) (now : ℕ) → Shows v es → v.shared.now ≤ now
-    → now ≤ 18446744073709551615 → Shows (server_ticked v now) (es ++ Ticked now ∷ [])
-unfolding IsAccepted server_of acted steps_by
-shows_ticked v es now shows later small =
-    let ticks_there : ticks (world_after v.config es).now now ≡ true =
-    grind (arith, nat_tests, shared_shown v es shows) in
-    shows_step v es (Ticked now) _ (λ u. record u { shared = record u.shared { now = now } }) shows ticks_there refl
-    (λ k. refl) (rw ticks_there refl)
+  -- `release`.
+  pub shows_released : (id : ℕ) (s : SessionValue) → Shows v es → session_of id v.sessions ≡ Some s
+      → release_refusal s.link ≡ None → Shows (server_released v id) (es ++ Released id ∷ [])
+  unfolding IsAccepted acted steps_by
+  shows_released id s shows there none =
+      shows_on id s (Released id) _ side_released session_released (λ u. release_refusal u.link ≡ None)
+      shows there none refl (λ k. refl) refl (λ ok. ok) (released_shown (rest_on id))
 
--- `put`.
-pub shows_put : (v : ServerValue) (es : List AcceptedCall) (path : Path) (format : Option ℕ) (bytes : List ℕ)
-    → Shows v es → put_refusal v.shared.store path bytes ≡ None
-    → Shows (server_put v path format bytes) (es ++ Stored path format bytes ∷ [])
-unfolding IsAccepted server_of acted steps_by
-shows_put v es path format bytes shows none =
-    let free : put_refusal (world_after v.config es).store path bytes ≡ None = rw (shared_shown v es shows) at none in
-    shows_step v es (Stored path format bytes) _
-    (λ u. record u { shared = record u.shared { store = put_in u.shared.store path format bytes } }) shows free
-    refl (λ k. refl) (rw free refl)
+  -- `respond`.
+  pub shows_responded : (id : ℕ) (m : Message) (s : SessionValue) → Shows v es → session_of id v.sessions ≡ Some s
+      → response_refusal s.link m ≡ None → Shows (server_responded v id m) (es ++ Responded id m ∷ [])
+  unfolding IsAccepted acted steps_by
+  shows_responded id m s shows there none =
+      shows_on id s (Responded id m) _ (λ t. side_responded t m) (λ u. session_given u m)
+      (λ u. response_refusal u.link m ≡ None) shows there none refl (λ k. refl) refl (λ ok. ok)
+      (λ t history may. given_shown (rest_on id) t m history)
 
--- `remove`.
-pub shows_removed : (v : ServerValue) (es : List AcceptedCall) (path : Path) → Shows v es
-    → remove_refusal v.shared.store path ≡ None → Shows (server_removed v path) (es ++ Removed path ∷ [])
-unfolding IsAccepted server_of acted steps_by
-shows_removed v es path shows none =
-    shows_step v es (Removed path) _
-    (λ u. record u { shared = record u.shared { store = removed_in u.shared.store path } }) shows
-    (rw (shared_shown v es shows) at none) refl (λ k. refl) refl
+  -- `announce`.
+  pub shows_announced : (id size : ℕ) (s : SessionValue) → Shows v es → session_of id v.sessions ≡ Some s
+      → session_raises s size ≡ true → Shows (server_announced v id size) (es ++ Announced id size ∷ [])
+  unfolding IsAccepted acted steps_by
+  shows_announced id size s shows there raises =
+      shows_on id s (Announced id size) _ (λ t. side_announced t size) (λ u. session_announced u size)
+      (λ u. session_raises u size ≡ true) shows there raises refl (λ k. refl) refl (λ ok. ok)
+      (λ t. announced_shown (rest_on id) t size)
 
--- `open`.
-pub shows_opened : (v : ServerValue) (es : List AcceptedCall) → Shows v es → v.ids + 1 ≤ 18446744073709551615
-    → length v.sessions < v.config.connections → Shows (server_opened v) (es ++ Opened (v.ids + 1) ∷ [])
-unfolding IsAccepted server_of steps_by
-shows_opened v es shows left room =
-    let c : ConfigValues = v.config in
-    let w : World = world_after c es in
-    let id : ℕ = v.ids + 1 in
-    let shown : ConnectionEntry → ℕ × SessionValue = place_shown c.limits.max_message es in
-    let new : SessionValue = new_session c.limits in
-    let is : IsReached c es = accepted_is c es shows.accepted in
-    let next : id ≡ w.ids + 1 = ap (λ (u : ServerValue). u.ids + 1) shows.same in
-    let new_shown_then : session_shown (stream_on c.limits.max_message id es).rest (new_side c.limits) ≡ new =
-    ap (λ (s : Stream × ℕ). session_shown s.0.rest (new_side c.limits)) (is.silent id (omega (arith, next)))
-    ∙ ap (λ (l : LinkValue). record { frame = []; link = l; observers = [] })
-    (sym (new_shown Server c.limits 0 (new_link Server c.limits 0) refl).same) in
-    let few : length w.sides < c.connections =
-    omega (arith, room, ap (λ (u : ServerValue). length u.sessions) shows.same, length-map w.sides shown) in
-    shows_step v es (Opened id) _ (λ u. record u { ids = id; sessions = u.sessions ++ (id, new) ∷ [] }) shows
-    (next, left, few) refl (λ k. refl)
-    (ap (server_shown c es) (opens c w id is.numbered next)
-    ∙ ap (λ (os : List (ℕ × SessionValue)). record (server_shown c es w) { ids = id; sessions = os })
-    (map-append shown w.sides (record { id = id; side = new_side c.limits } ∷ [])
-    ∙ ap (λ (s : SessionValue). map shown w.sides ++ (id, s) ∷ []) new_shown_then))
+  -- `drop_conn`.
+  pub shows_dropped : (id : ℕ) (s : SessionValue) → Shows v es → session_of id v.sessions ≡ Some s
+      → Shows (server_dropped v id) (es ++ Dropped id ∷ [])
+  unfolding IsAccepted server_of acted steps_by
+  shows_dropped id s shows there =
+      let others : (ℕ × SessionValue) → Bool = λ (o : ℕ × SessionValue). not (o.0 == id) in
+      shows_step (Dropped id) _ (λ u. record u { sessions = filter others u.sessions }) shows
+      (rw (session_there id s shows there).there tt) refl (λ k. refl)
+      (ap (λ (os : List (ℕ × SessionValue)). record (server_of config es) { sessions = os })
+      (mapped_filter (place_shown largest es) others model.sides))
 
--- ---- accepted bytes
+  -- `tick`.
+  pub shows_ticked : (now : ℕ) → Shows v es → v.shared.now ≤ now → now ≤ 18446744073709551615
+      → Shows (server_ticked v now) (es ++ Ticked now ∷ [])
+  unfolding IsAccepted server_of acted steps_by
+  shows_ticked now shows later small =
+      let ticks_there : ticks model.now now ≡ true = grind (arith, nat_tests, shared_shown shows) in
+      shows_step (Ticked now) _ (λ u. record u { shared = record u.shared { now = now } }) shows ticks_there refl
+      (λ k. refl) (rw ticks_there refl)
 
-takes_by : (v : ServerValue) (es : List AcceptedCall) (id : ℕ) (piece : List ℕ) (side : Option Connection)
-    → IsReached v.config es → side_of id (world_after v.config es).sides ≡ side
-    → count_on v piece (option_map (session_shown (rest_on v es id)) side)
-    ≡ takes_of (size_on v.config.limits.max_message id es) (rest_on v es id) piece side
-takes_by v es id piece None is e = refl
-takes_by v es id piece (Some t) is e =
-    taking_count v.shared (size_on v.config.limits.max_message id es) (rest_on v es id) piece t (is.sizes id t e)
+  -- `put`.
+  pub shows_put : (path : Path) (format : Option ℕ) (bytes : List ℕ) → Shows v es
+      → put_refusal v.shared.store path bytes ≡ None
+      → Shows (server_put v path format bytes) (es ++ Stored path format bytes ∷ [])
+  unfolding IsAccepted server_of acted steps_by
+  shows_put path format bytes shows none =
+      let free : put_refusal model.store path bytes ≡ None = rw (shared_shown shows) at none in
+      shows_step (Stored path format bytes) _
+      (λ u. record u { shared = record u.shared { store = put_in u.shared.store path format bytes } }) shows free
+      refl (λ k. refl) (rw free refl)
 
--- The number of bytes that a server accepts is a function of its events.
-pub takes_shown : (v : ServerValue) (es : List AcceptedCall) (id : ℕ) (piece : List ℕ) → Shows v es
-    → count_taken v id piece ≡ takes v.config es id piece
-unfolding count_taken takes
-takes_shown v es id piece shows =
-    ap (count_on v piece) (sessions_shown v es id shows)
-    ∙ takes_by v es id piece (side_of id (world_after v.config es).sides) (accepted_is v.config es shows.accepted) refl
+  -- `remove`.
+  pub shows_removed : (path : Path) → Shows v es → remove_refusal v.shared.store path ≡ None
+      → Shows (server_removed v path) (es ++ Removed path ∷ [])
+  unfolding IsAccepted server_of acted steps_by
+  shows_removed path shows none =
+      shows_step (Removed path) _
+      (λ u. record u { shared = record u.shared { store = removed_in u.shared.store path } }) shows
+      (rw (shared_shown shows) at none) refl (λ k. refl) refl
 
-pub shows_taken : (v : ServerValue) (es : List AcceptedCall) (id : ℕ) (piece : List ℕ) (s : SessionValue) → Shows v es
-    → session_of id v.sessions ≡ Some s
-    → Shows (server_taken v id piece) (es ++ Took id (take (count_taken v id piece) piece) ∷ [])
-unfolding server_taken
-shows_taken v es id piece s shows e =
-    let c : ConfigValues = v.config in
-    let shared : ServerState = shared_of (world_after c es).store (world_after c es).now in
-    let at = session_there v es id s shows e in
-    let is : IsReached c es = accepted_is c es shows.accepted in
-    let taken : TakeOutcome = taking shared (session_shown (rest_on v es id) at.side) piece in
-    let same : taking v.shared s piece ≡ taken =
-    ap (λ (h : ServerState). taking h s piece) (shared_shown v es shows)
-    ∙ ap (λ (u : SessionValue). taking shared u piece) at.shown in
-    let count : taken.count ≡ takes c es id piece =
-    taking_count shared (size_on c.limits.max_message id es) (rest_on v es id) piece at.side
-    (is.sizes id at.side at.there)
-    ∙ sym (takes_there c es id piece at.side at.there) in
-    rw (takes_shown v es id piece shows)
-    (shows_event v _ es (Took id (take (takes c es id piece) piece)) shows
-    (piece_accepted c es id piece at.side is at.there)
-    (ap (server_taken_on v id piece) e ∙ ap (server_taken_so v id) same
-    ∙ ap (λ (u : ServerValue). server_taken_so u id taken) shows.same
-    ∙ server_takes c es id piece at.side shows.moment is at.there
-    ∙ ap (λ (n : ℕ). server_of c (es ++ Took id (take n piece) ∷ [])) count))
+  -- `open`.
+  pub shows_opened : Shows v es → v.ids + 1 ≤ 18446744073709551615
+      → length v.sessions < v.config.connections → Shows (server_opened v) (es ++ Opened (v.ids + 1) ∷ [])
+  unfolding IsAccepted server_of steps_by
+  shows_opened shows left room =
+      let id : ℕ = v.ids + 1 in
+      let shown = place_shown largest es in
+      let new : SessionValue = new_session config.limits in
+      let is = accepted_is config es shows.accepted in
+      let next : id ≡ model.ids + 1 = ap (λ (u : ServerValue). u.ids + 1) shows.same in
+      let new_shown_then : session_shown (rest_on id) (new_side config.limits) ≡ new =
+      ap (λ (s : Stream × ℕ). session_shown s.0.rest (new_side config.limits)) (is.silent id (omega (arith, next)))
+      ∙ ap (λ (l : LinkValue). record { frame = []; link = l; observers = [] })
+      (sym (new_shown Server config.limits 0 (new_link Server config.limits 0) refl).same) in
+      let few : length model.sides < config.connections =
+      omega (arith, room, ap (λ (u : ServerValue). length u.sessions) shows.same, length-map model.sides shown) in
+      shows_step (Opened id) _ (λ u. record u { ids = id; sessions = u.sessions ++ (id, new) ∷ [] }) shows
+      (next, left, few) refl (λ k. refl)
+      (ap (server_shown config es) (opens config model id is.numbered next)
+      ∙ ap (λ (os : List (ℕ × SessionValue)). record (server_shown config es model) { ids = id; sessions = os })
+      (map-append shown model.sides (record { id = id; side = new_side config.limits } ∷ [])
+      ∙ ap (λ (s : SessionValue). map shown model.sides ++ (id, s) ∷ []) new_shown_then))
+
+  -- ---- accepted bytes
+
+  takes_by : (id : ℕ) (piece : List ℕ) (side : Option Connection) → IsReached config es
+      → side_of id model.sides ≡ side → count_on v piece (option_map (session_shown (rest_on id)) side)
+      ≡ takes_of (size_on largest id es) (rest_on id) piece side
+  takes_by id piece None is e = refl
+  takes_by id piece (Some t) is e =
+      taking_count v.shared (size_on largest id es) (rest_on id) piece t (is.sizes id t e)
+
+  -- The number of bytes that a server accepts is a function of its events.
+  pub takes_shown : (id : ℕ) (piece : List ℕ) → Shows v es → count_taken v id piece ≡ takes config es id piece
+  unfolding count_taken takes
+  takes_shown id piece shows =
+      ap (count_on v piece) (sessions_shown id shows)
+      ∙ takes_by id piece (side_of id model.sides) (accepted_is config es shows.accepted) refl
+
+  pub shows_taken : (id : ℕ) (piece : List ℕ) (s : SessionValue) → Shows v es → session_of id v.sessions ≡ Some s
+      → Shows (server_taken v id piece) (es ++ Took id (take (count_taken v id piece) piece) ∷ [])
+  unfolding server_taken
+  shows_taken id piece s shows e =
+      let shared : ServerState = shared_of model.store model.now in
+      let at = session_there id s shows e in
+      let is = accepted_is config es shows.accepted in
+      let taken : TakeOutcome = taking shared (session_shown (rest_on id) at.side) piece in
+      let same = ap (λ (h : ServerState). taking h s piece) (shared_shown shows)
+      ∙ ap (λ (u : SessionValue). taking shared u piece) at.shown in
+      let count : taken.count ≡ takes config es id piece =
+      taking_count shared (size_on largest id es) (rest_on id) piece at.side
+      (is.sizes id at.side at.there)
+      ∙ sym (takes_there config es id piece at.side at.there) in
+      rw (takes_shown id piece shows)
+      (shows_event _ (Took id (take (takes config es id piece) piece)) shows
+      (piece_accepted config es id piece at.side is at.there)
+      (ap (server_taken_on v id piece) e ∙ ap (server_taken_so v id) same
+      ∙ ap (λ (u : ServerValue). server_taken_so u id taken) shows.same
+      ∙ server_takes config es id piece at.side shows.moment is at.there
+      ∙ ap (λ (n : ℕ). server_of config (es ++ Took id (take n piece) ∷ [])) count))
 
 -- ---- allocation failed
 
@@ -577,28 +605,26 @@ module _ (v : ServerValue) (es : List AcceptedCall) (id : ℕ) (piece : List ℕ
   abbrev size_so_far : ℕ
   size_so_far = size_on v.config.limits.max_message id es
 
-  refusing_handles : handles t ≡ true
-  refusing_handles = refuses.takes
+  abbrev framing_so_far : Framing
+  framing_so_far = framing size_so_far stream_then.rest piece
 
   size_there : t.history.own_max ≡ size_so_far
   size_there = (accepted_is v.config es shows.accepted).sizes id t there
 
   pub refused_unfinished : (stream_then.fault ≡ None) × (prefix_kind size_so_far stream_then.rest ≡ Unfinished)
   refused_unfinished =
-      let none = handling_goes_on v.config es id t (accepted_is v.config es shows.accepted) there refusing_handles in
+      let none = handling_goes_on v.config es id t (accepted_is v.config es shows.accepted) there refuses.takes in
       (none, rest_unfinished v.config.limits.max_message id es none)
 
   -- The slice begins with a frame whose message stores a representation, and that ends after `n` more bytes.
-  pub refused_message : StoresBy v.shared (session_shown stream_then.rest t)
-      (framing size_so_far stream_then.rest piece).finding
+  pub refused_message : StoresBy v.shared (session_shown stream_then.rest t) framing_so_far.finding
   refused_message =
-      stores_by v.shared (session_shown stream_then.rest t) (framing size_so_far stream_then.rest piece) _
-      (rw (taking_front v.shared size_so_far stream_then.rest piece t size_there refusing_handles) at refuses.stores)
+      stores_by v.shared (session_shown stream_then.rest t) framing_so_far _
+      (rw (taking_front v.shared size_so_far stream_then.rest piece t size_there refuses.takes) at refuses.stores)
 
   pub refused_front : front_of size_so_far stream_then.rest piece ≡ n + 1
   refused_front =
-      sym (rw refusing_handles at (taking_count v.shared size_so_far stream_then.rest piece t size_there))
-      ∙ refuses.last
+      sym (rw refuses.takes at (taking_count v.shared size_so_far stream_then.rest piece t size_there)) ∙ refuses.last
 
   refused_count : count_taken v id (take n piece) ≡ n
   refused_count =
@@ -608,7 +634,7 @@ module _ (v : ServerValue) (es : List AcceptedCall) (id : ℕ) (piece : List ℕ
       let within =
       front_within size_so_far stream_then.rest piece stored.frame n refused_unfinished.1 stored.is refused_front in
       takes_shown v es id (take n piece) shows ∙ takes_there v.config es id (take n piece) t there
-      ∙ rw refusing_handles (ap (λ (f : Framing). f.taken) nothing ∙ length-take-le n piece (omega (arith, within)))
+      ∙ rw refuses.takes (ap (λ (f : Framing). f.taken) nothing ∙ length-take-le n piece (omega (arith, within)))
 
 -- All bytes but the last of a message that stores a representation are accepted, and the server shows this.
 pub shows_refused_take : (v : ServerValue) (es : List AcceptedCall) (id : ℕ) (piece : List ℕ) (n : ℕ) (s : SessionValue)
@@ -617,7 +643,24 @@ pub shows_refused_take : (v : ServerValue) (es : List AcceptedCall) (id : ℕ) (
 shows_refused_take v es id piece n s shows e refuses =
     let at = session_there v es id s shows e in
     let count : take (count_taken v id (take n piece)) (take n piece) ≡ take n piece =
-    ap (λ (k : ℕ). take k (take n piece))
-    (refused_count v es id piece n at.side shows at.there (rw at.shown at refuses))
-    ∙ take-take n n piece (omega arith) in
+    rw (refused_count v es id piece n at.side shows at.there (rw at.shown at refuses))
+    (take-take n n piece (omega arith)) in
     rw count at (shows_taken v es id (take n piece) s shows e)
+
+-- ---- equal steps
+
+-- Equal normalised steps and equal bytes kept of unfinished messages determine equal servers.
+pub same_servers : (c : ConfigValues) (es fs : List AcceptedCall) → normalised_steps c es ≡ normalised_steps c fs
+    → ((id : ℕ) → kept_at c es id ≡ kept_at c fs id) → server_of c es ≡ server_of c fs
+unfolding server_of
+same_servers c es fs alike kept =
+    let M : ℕ = c.limits.max_message in
+    let w : World = world_after c es in
+    let worlds : w ≡ world_after c fs = same_received c es fs alike in
+    let same : (id : ℕ) (s : Connection) → side_of id w.sides ≡ Some s
+    → kept_on s (stream_on M id es).rest ≡ kept_on s (stream_on M id fs).rest = λ id s there. cc (kept id) in
+    let sessions : map (place_shown M es) w.sides ≡ map (place_shown M fs) w.sides =
+    each_same (place_shown M es) (place_shown M fs) w.sides (events_distinct c es)
+    (λ id s there. ap (λ (frame : List ℕ). (id, record (session_shown (stream_on M id es).rest s) { frame = frame }))
+    (same id s there)) in
+    cc

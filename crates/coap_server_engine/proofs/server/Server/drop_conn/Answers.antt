@@ -1,4 +1,4 @@
-use Rattle.std.proofs.Common.{Ok, ap, sym, ◌∙◌}
+use Rattle.std.proofs.Common.{ap, sym, ◌∙◌}
 use Rattle.std.proofs.lemmas.List.{length-map}
 use Rattle.indexmap.proofs.SetLemmas.{map-remove}
 use Rattle.coap_server_engine.specs.Prelude.{IsMarked, unmarked, unmarked_entry}
@@ -30,5 +30,4 @@ returns c =
     let there = is_there_at c.args.id _ _ c.in-Some.ensures.some in
     let ok = dropped_value _ _ _ _ c.self.invariant.server c.in-Some.ensures.some
     (ap unmarked c.shift_remove_index.ensures.entries ∙ map-remove unmarked_entry es c.in-Some.at) in
-    rw (← c.self.view_is)
-    (assumption (there, ok, drop_shows {T = Unit {0}} {F = Unit {0}} (Ok tt) _ _ c.args.id there ok))
+    rw (← c.self.view_is) (assumption (there, ok, drop_shows _ _ c.args.id there ok))

@@ -1,40 +1,25 @@
 use Rattle.std.proofs.Common.{◌≡◌, [], refl, sym, ◌∙◌, arith}
-use Rattle.coap_server_engine.proofs.values.ResponseLemmas.{empty_of, ok_none, err_some, empty_response}
-use Rattle.coap_server_engine.proofs.values.ResponseLemmas.{nothing_offered, offers_nothing, response_if_accepted}
-use Rattle.coap_server_engine.proofs.values.ResponseLemmas.{refused_response, server_if_refused, refused_events}
-use Rattle.coap_server_engine.proofs.values.ResponseLemmas.{offered_lies}
+use Rattle.std.proofs.lemmas.Bool.{eqb-true}
+use Rattle.std.proofs.lemmas.List.{nil_from_length}
+use Rattle.coap_server_engine.proofs.values.ResponseLemmas.{ok_none, err_some, nothing_offered, offers_nothing}
+use Rattle.coap_server_engine.proofs.values.ResponseLemmas.{response_if_accepted, refused_response, server_if_refused}
+use Rattle.coap_server_engine.proofs.values.ResponseLemmas.{refused_events, offered_lies}
 use Rattle.coap_server_engine.proofs.values.ServerLemmas.{is_there_at}
 use Rattle.coap_server_engine.proofs.scripting.ShownLemmas.{shows_same}
 use Rattle.coap_server_engine.proofs.scripting.FollowLemmas.{followed_none, followed_then}
 use Rattle.coap_server_engine.proofs.server.Server.give_at_once.Goals as goal
 
 -- The application wrote no byte.
-pub returns-then-is_empty-clause-after : goal.returns-then-is_empty-clause-after
-returns-then-is_empty-clause-after g c =
+pub returns-then-is_empty : goal.returns-then-is_empty
+returns-then-is_empty g c =
     let none : c.args.response.now ≡ [] =
-    empty_of c.args.response.now c.is_empty.result c.is_empty.ensures c.if-is_empty.true in
-    rw (
-      empty_response c.args.self.now c.args.id c.args.token.now.items c.args.response.now none,
-      nothing_offered c.args.self.now c.args.id,
-    ) refl
-
-pub returns-then-is_empty-clause-shows : goal.returns-then-is_empty-clause-shows
-returns-then-is_empty-clause-shows g c =
-    let none : c.args.response.now ≡ [] =
-    empty_of c.args.response.now c.is_empty.result c.is_empty.ensures c.if-is_empty.true in
-    rw (
-      empty_response c.args.self.now c.args.id c.args.token.now.items c.args.response.now none,
-      offers_nothing c.args.self.now c.args.id,
-    ) (shows_same c.args.self.now c.args.self.now refl)
-
-pub returns-then-is_empty-clause-reported : goal.returns-then-is_empty-clause-reported
-returns-then-is_empty-clause-reported g c =
-    let none : c.args.response.now ≡ [] =
-    empty_of c.args.response.now c.is_empty.result c.is_empty.ensures c.if-is_empty.true in
-    rw (
-      empty_response c.args.self.now c.args.id c.args.token.now.items c.args.response.now none,
-      offers_nothing c.args.self.now c.args.id,
-    ) (followed_none (g.M.Monitor.follows c.args.monitor.now))
+    nil_from_length c.args.response.now (eqb-true _ 0 (sym c.is_empty.ensures ∙ c.if-is_empty.true)) in
+    rw (none, nothing_offered c.args.self.now c.args.id, offers_nothing c.args.self.now c.args.id) (record {
+      after = refl;
+      shows = shows_same c.args.self.now _ refl;
+      reported = followed_none (g.M.Monitor.follows c.args.monitor.now);
+      lies = c.requires;
+    })
 
 pub offer-given-requires : goal.offer-given-requires
 offer-given-requires g c = record {
@@ -60,41 +45,26 @@ offer-requires g c =
     let v = c.args.self.now in
     let e = c.offer-given.ensures in
     let some = err_some c.offer-given.result _ e.answer (sym c.is_ok.ensures.value ∙ c.if-is_ok.false) in
-    let same = e.after ∙ server_if_refused v c.args.id c.args.response.now some.0 some.1 in
-    rw same (record { there = is_there_at c.args.id c.args.at v.sessions c.requires; lies = c.requires })
+    rw (e.after, server_if_refused v c.args.id c.args.response.now some.0 some.1)
+    (record { there = is_there_at c.args.id c.args.at v.sessions c.requires; lies = c.requires })
 
-pub returns-clause-shows : goal.returns-clause-shows
-returns-clause-shows g c =
+pub returns : goal.returns
+returns g c =
     let v = c.args.self.now in
     let bytes = c.args.response.now in
     let e = c.offer-given.ensures in
     let some = err_some c.offer-given.result _ e.answer (sym c.is_ok.ensures.value ∙ c.if-is_ok.false) in
     let same = e.after ∙ server_if_refused v c.args.id bytes some.0 some.1 in
     let written : bytes ≡ [] → ⊥ = grind (arith, c.is_empty.ensures, c.if-is_empty.false) in
-    let failure = c.as_slice.ensures.value ∙ c.failure_frame-failure.ensures in
-    rw (refused_response v c.args.id c.args.token.now.items bytes some.0 some.1 written)
-    (rw (same, failure) at c.offer.ensures.shows)
-
-pub returns-clause-reported : goal.returns-clause-reported
-returns-clause-reported g c =
-    let v = c.args.self.now in
-    let bytes = c.args.response.now in
-    let e = c.offer-given.ensures in
-    let some = err_some c.offer-given.result _ e.answer (sym c.is_ok.ensures.value ∙ c.if-is_ok.false) in
-    let same = e.after ∙ server_if_refused v c.args.id bytes some.0 some.1 in
-    let written : bytes ≡ [] → ⊥ = grind (arith, c.is_empty.ensures, c.if-is_empty.false) in
-    let failure = c.as_slice.ensures.value ∙ c.failure_frame-failure.ensures in
-    let first = rw (refused_events v c.args.id bytes some.0 some.1) at e.reported in
-    rw (refused_response v c.args.id c.args.token.now.items bytes some.0 some.1 written)
-    (followed_then (g.M.Monitor.follows c.args.monitor.now) (g.M.Monitor.follows c.offer-given.new.monitor)
-    (g.M.Monitor.follows c.offer.new.monitor) [] _ first (rw (same, failure) at c.offer.ensures.reported))
-
-pub returns-clause-lies : goal.returns-clause-lies
-returns-clause-lies g c =
-    let v = c.args.self.now in
-    let bytes = c.args.response.now in
-    let e = c.offer-given.ensures in
-    let some = err_some c.offer-given.result _ e.answer (sym c.is_ok.ensures.value ∙ c.if-is_ok.false) in
-    let same = e.after ∙ server_if_refused v c.args.id bytes some.0 some.1 in
-    rw c.offer.ensures.after
-    (offered_lies c.offer-given.new.self c.args.id c.as_slice.result.now c.args.at (rw same c.requires))
+    let sent = rw (same, c.as_slice.ensures.value, c.failure_frame-failure.ensures) at c.offer.ensures in
+    rw (refused_response v c.args.id c.args.token.now.items bytes some.0 some.1 written) (record {
+      after = sent.after;
+      shows = sent.shows;
+      reported =
+          followed_then (g.M.Monitor.follows c.args.monitor.now) (g.M.Monitor.follows c.offer-given.new.monitor)
+          (g.M.Monitor.follows c.offer.new.monitor) [] _
+          (rw (refused_events v c.args.id bytes some.0 some.1) at e.reported) sent.reported;
+      lies =
+          rw c.offer.ensures.after (offered_lies c.offer-given.new.self c.args.id c.as_slice.result.now c.args.at
+          (rw same c.requires));
+    })

@@ -1,19 +1,16 @@
-use Rattle.std.proofs.Common.{Ok, rules}
+use Rattle.std.proofs.Common.{rules, Some, ap, refl, sym}
 use Rattle.coap_server_engine.proofs.values.ServerLemmas.{settled_server}
-use Rattle.coap_server_engine.proofs.values.ServerCauseLemmas.{untouched_by_put, all_but_put}
 use Rattle.coap_server_engine.proofs.world.CallLaws.{put_shows}
+use Rattle.coap_store.specs.Answer as store_change
 use Rattle.coap_server_engine.proofs.server.Server.put.Goals as goal
+use Rattle.coap_server_engine.proofs.values.ServerCauseLemmas.{calm_after}
 
 pub settle_observers-requires : goal.settle_observers-requires
-settle_observers-requires c = record {
-  covered = c.self.invariant.covered;
-  settled =
-      untouched_by_put c.self.inside.shared _ _ _ _ _ _ c.in_ok-version.ensures.ok c.hash_of-hash.ensures
-      c.self.invariant.server.settled;
-  marked =
-      all_but_put c.self.inside.shared _ _ _ _ _ _ c.in_ok-version.ensures.ok
-      c.hash_of-hash.ensures c.self.invariant.marked;
-}
+settle_observers-requires c =
+    let calm = calm_after c.self.inside.shared _ (store_change.Put c.args.path.now c.args.format c.args.bytes.now)
+    c.hash_of-hash.result c.self.inside.sessions.entries (rw c.in_ok-version.ensures.ok refl)
+    (ap Some (sym c.hash_of-hash.ensures)) c.self.invariant.server.settled c.self.invariant.marked in
+    record { covered = c.self.invariant.covered; settled = calm.0; marked = calm.1 }
 
 pub invariant_of-self-2 : goal.invariant_of-self-2
 invariant_of-self-2 c =
@@ -26,5 +23,4 @@ invariant_of-self-2 c =
 
 pub returns-clause-shows : goal.returns-clause-shows
 returns-clause-shows c =
-    put_shows (Ok c.in_ok-version.version) c.args.self.now _ c.args.path.now c.args.format c.args.bytes.now
-    (search rules) (search rules)
+    put_shows c.args.self.now _ c.args.path.now c.args.format c.args.bytes.now (search rules) (search rules)

@@ -1,19 +1,16 @@
-use Rattle.std.proofs.Common.{Ok, rules}
+use Rattle.std.proofs.Common.{rules, Some, ap, refl, sym}
 use Rattle.coap_server_engine.proofs.values.ServerLemmas.{settled_server}
-use Rattle.coap_server_engine.proofs.values.ServerCauseLemmas.{untouched_by_removal, all_but_removed}
 use Rattle.coap_server_engine.proofs.world.CallLaws.{remove_shows}
+use Rattle.coap_store.specs.Answer as store_change
 use Rattle.coap_server_engine.proofs.server.Server.remove.Goals as goal
+use Rattle.coap_server_engine.proofs.values.ServerCauseLemmas.{calm_after}
 
 pub settle_observers-requires : goal.settle_observers-requires
-settle_observers-requires c = record {
-  covered = c.self.invariant.covered;
-  settled =
-      untouched_by_removal c.self.inside.shared _ _ _ _ c.in_ok-remove.ensures.ok c.hash_of-hash.ensures
-      c.self.invariant.server.settled;
-  marked =
-      all_but_removed c.self.inside.shared _ _ _ _ c.in_ok-remove.ensures.ok
-      c.hash_of-hash.ensures c.self.invariant.marked;
-}
+settle_observers-requires c =
+    let calm = calm_after c.self.inside.shared _ (store_change.Delete c.args.path.now) c.hash_of-hash.result
+    c.self.inside.sessions.entries (rw c.in_ok-remove.ensures.ok refl) (ap Some (sym c.hash_of-hash.ensures))
+    c.self.invariant.server.settled c.self.invariant.marked in
+    record { covered = c.self.invariant.covered; settled = calm.0; marked = calm.1 }
 
 pub invariant_of-self-2 : goal.invariant_of-self-2
 invariant_of-self-2 c =
@@ -25,5 +22,4 @@ invariant_of-self-2 c =
     }
 
 pub returns-clause-shows : goal.returns-clause-shows
-returns-clause-shows c =
-    remove_shows {T = Unit {0}} (Ok tt) c.args.self.now _ c.args.path.now (search rules) (search rules)
+returns-clause-shows c = remove_shows c.args.self.now _ c.args.path.now (search rules) (search rules)

@@ -1,6 +1,6 @@
 use Rattle.std.proofs.Common.{◌≡◌, false, map}
 use Rattle.coap_server_engine.specs.Prelude.{event_value}
-use Rattle.coap_server_engine.proofs.scripting.ReplayLemmas.{Replays, ShowsFirst}
+use Rattle.coap_server_engine.proofs.scripting.ReplayLemmas.{Replays}
 use Rattle.coap_server_engine.proofs.server.Server.replay.Given as goal
 
 abbrev pub invariant-loop-index : goal.invariant-loop-index
@@ -8,6 +8,5 @@ invariant-loop-index g l =
     record {
       replays : Replays l.fn.self (map event_value l.events) l.index l.self (g.W.Outlet.written l.fn.out)
           (g.W.Outlet.written l.out);
-      shows : ShowsFirst l.fn.self (map event_value l.events) l.index l.self;
       works : g.W.Outlet.is_failed l.out ≡ false;
     }

@@ -1,8 +1,8 @@
-use Rattle.std.proofs.Common.{Err, rules}
-use Rattle.coap_server_engine.proofs.world.RefusedLaws.{take_refused_for}
+use Rattle.std.proofs.Common.{rules}
+use Rattle.coap_server_engine.proofs.world.RefusedLaws.{refused_for}
 use Rattle.coap_model.specs.declared.answers.TakeFault.TheVariants as taking
 use Rattle.coap_server_engine.proofs.server.Server.take.Goals as goal
 
 pub returns-in_default-clause-refused_for : goal.returns-in_default-clause-refused_for
 returns-in_default-clause-refused_for c =
-    take_refused_for (Err taking.NoSuch) c.args.self.now c.args.self.now c.args.id c.args.piece.now (search rules)
+    refused_for taking.NoSuch c.args.self.now c.args.self.now c.args.id c.args.piece.now (search rules)

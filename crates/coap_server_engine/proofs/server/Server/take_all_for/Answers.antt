@@ -1,4 +1,4 @@
-use Rattle.std.proofs.Common.{◌≤◌, length, arith, refl}
+use Rattle.std.proofs.Common.{arith, refl}
 use Rattle.coap_io.proofs.streams.WriteLemmas.{rest_of}
 use Rattle.coap_server_engine.proofs.values.ResponseLemmas.{on_err}
 use Rattle.coap_server_engine.proofs.values.ServerLemmas.{is_there_at}
@@ -31,39 +31,27 @@ loop-taken-init g c =
 pub returns-in_err-count-clause-partly : goal.returns-in_err-count-clause-partly
 returns-in_err-count-clause-partly g c =
     let e = rw (rest_of c.loop-taken.taken c.args.bytes.now) at c.in_err-count.ensures in
-    on_err c.from_residual.result _ (rw e.silent
-    (serves_partly _ _ _ _ _ (g.M.Monitor.follows c.args.monitor.now) (g.M.Monitor.follows c.loop-taken.monitor)
-    (g.M.Monitor.follows c.take_for.new.monitor) (g.A.Application.follows c.args.application.now)
-    (g.A.Application.follows c.loop-taken.application) (g.A.Application.follows c.loop-taken.application)
-    c.loop-taken.invariant.0 c.loop-taken-test.true _ e.err))
+    on_err c.from_residual.result _ (rw e.silent (serves_partly c.loop-taken.invariant.0 c.loop-taken-test.true
+    (g.M.Monitor.follows c.take_for.new.monitor) _ e.err))
 
 -- A take accepted no byte.
 pub returns-then-count-eq0-clause-served : goal.returns-then-count-eq0-clause-served
 returns-then-count-eq0-clause-served g c =
     let e = rw (rest_of c.loop-taken.taken c.args.bytes.now) at c.in_ok-count.ensures in
-    serves_stopped _ _ _ _ _ (g.M.Monitor.follows c.args.monitor.now) (g.M.Monitor.follows c.loop-taken.monitor)
-    (g.M.Monitor.follows c.take_for.new.monitor) (g.A.Application.follows c.args.application.now)
-    (g.A.Application.follows c.loop-taken.application) (g.A.Application.follows c.take_for.new.application)
-    c.loop-taken.invariant.0 c.loop-taken-test.true _ _ _ e.count e.ok c.if-count-eq0.true
+    serves_stopped c.loop-taken.invariant.0 c.loop-taken-test.true (g.M.Monitor.follows c.take_for.new.monitor)
+    (g.A.Application.follows c.take_for.new.application) e.count e.ok c.if-count-eq0.true
 
 pub loop-taken-preserved : goal.loop-taken-preserved
 loop-taken-preserved g c =
     let e = rw (rest_of c.loop-taken.taken c.args.bytes.now) at c.in_ok-count.ensures in (
-      serves_more _ _ _ _ _ (g.M.Monitor.follows c.args.monitor.now) (g.M.Monitor.follows c.loop-taken.monitor)
-          (g.M.Monitor.follows c.take_for.new.monitor) (g.A.Application.follows c.args.application.now)
-          (g.A.Application.follows c.loop-taken.application) (g.A.Application.follows c.take_for.new.application)
-          c.loop-taken.invariant.0 c.loop-taken-test.true _ _ _ e.count e.ok e.within c.if-count-eq0.false,
-      (e.lies, one_reported _ _ _ _ _ _ _ c.loop-taken.invariant.1.0 e.affected c.loop-taken.invariant.1.1),
+      serves_more c.loop-taken.invariant.0 c.loop-taken-test.true (g.M.Monitor.follows c.take_for.new.monitor)
+          (g.A.Application.follows c.take_for.new.application) e.count e.ok e.within c.if-count-eq0.false,
+      (e.lies, one_reported c.loop-taken.invariant.1.0 e.affected c.loop-taken.invariant.1.1),
     )
 
 -- No byte is left.
 pub returns-clause-served : goal.returns-clause-served
-returns-clause-served g c =
-    let none : length c.args.bytes.now ≤ c.loop-taken.taken = omega (arith, c.loop-taken-test.false) in
-    serves_all _ _ _ _ _ (g.M.Monitor.follows c.args.monitor.now) (g.M.Monitor.follows c.loop-taken.monitor)
-    (g.M.Monitor.follows c.loop-taken.monitor) (g.A.Application.follows c.args.application.now)
-    (g.A.Application.follows c.loop-taken.application) (g.A.Application.follows c.loop-taken.application)
-    c.loop-taken.invariant.0 none
+returns-clause-served g c = serves_all c.loop-taken.invariant.0 (omega (arith, c.loop-taken-test.false))
 
 pub returns-in_default-clause-affected : goal.returns-in_default-clause-affected
 returns-in_default-clause-affected g c =
@@ -71,7 +59,7 @@ returns-in_default-clause-affected g c =
 
 pub returns-then-count-eq0-clause-affected : goal.returns-then-count-eq0-clause-affected
 returns-then-count-eq0-clause-affected g c =
-    (one_reported _ _ _ _ _ _ _ c.loop-taken.invariant.1.0 c.in_ok-count.ensures.affected
+    (one_reported c.loop-taken.invariant.1.0 c.in_ok-count.ensures.affected
     c.loop-taken.invariant.1.1).keeps
 
 pub returns-clause-affected : goal.returns-clause-affected

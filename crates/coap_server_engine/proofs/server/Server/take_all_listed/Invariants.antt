@@ -1,11 +1,11 @@
-use Rattle.std.proofs.Common.{◌≡◌, ◌++◌, length, ◌-◌}
-use Rattle.coap_server_engine.specs.Prelude.{LiesAt, request_turns}
-use Rattle.coap_server_engine.proofs.scripting.ReplayLemmas.{Feeds}
+use Rattle.std.proofs.Common.{◌-◌, length}
+use Rattle.coap_server_engine.specs.Prelude.{LiesAt}
+use Rattle.coap_server_engine.proofs.scripting.ListedLemmas.{Lists}
 use Rattle.coap_server_engine.proofs.server.Server.take_all_listed.Given as goal
 
 abbrev pub invariant-loop-taken : goal.invariant-loop-taken
-invariant-loop-taken l = (feeds : Feeds l.fn.self l.id l.bytes l.self l.taken) × LiesAt l.id l.at l.self.sessions
-    × (l.requests.items ≡ l.fn.requests.items ++ request_turns feeds.turns l.fn.self l.id l.bytes)
+invariant-loop-taken l =
+    Lists l.fn.self l.id l.bytes l.self l.taken l.fn.requests.items l.requests.items × LiesAt l.id l.at l.self.sessions
 
 abbrev pub decreases-loop-taken : goal.decreases-loop-taken
 decreases-loop-taken l = length l.bytes - l.taken

@@ -31,24 +31,19 @@ returns-in-Some-clause-ok g c =
     let e = c.in-Ok.ensures in
     let made = token_made _ _ (sym (rw c.in-Some.is at e.token)) in
     let given = rw c.deref.ensures.value at c.give_at_once.ensures in
-    taken_requested c.args.self.now c.take_and_ask.new.self c.give_at_once.new.self c.args.received.index.id
-    c.args.received.bytes.now c.take_and_ask.new.response.items c.in-Ok.taken.bytes
-    (g.M.Monitor.follows c.args.monitor.now) (g.M.Monitor.follows c.accepted.new.self)
-    (g.M.Monitor.follows c.give_at_once.new.monitor)
-    (g.A.Application.follows c.args.application.now) (g.A.Application.follows c.take_and_ask.new.application)
-    e.ok e.shows c.accepted.ensures e.requested made.0 c.in-Some.token.items made.1 made.2 given.after given.shows
-    given.reported
+    taken_requested (g.M.Monitor.follows c.args.monitor.now) (g.M.Monitor.follows c.accepted.new.self)
+    (g.M.Monitor.follows c.give_at_once.new.monitor) (g.A.Application.follows c.args.application.now)
+    (g.A.Application.follows c.take_and_ask.new.application) e.ok e.shows c.accepted.ensures e.requested made.0
+    c.in-Some.token.items made.1 made.2 given.after given.shows given.reported
 
 -- The application was not asked, or there is no request.
 pub returns-in_default-clause-ok : goal.returns-in_default-clause-ok
 returns-in_default-clause-ok g c =
     let e = c.in-Ok.ensures in
-    taken_silent c.args.self.now c.take_and_ask.new.self c.take_and_ask.new.self c.args.received.index.id
-    c.args.received.bytes.now c.take_and_ask.new.response.items c.in-Ok.taken.bytes
-    (g.M.Monitor.follows c.args.monitor.now) (g.M.Monitor.follows c.accepted.new.self)
-    (g.M.Monitor.follows c.accepted.new.self)
-    (g.A.Application.follows c.args.application.now) (g.A.Application.follows c.take_and_ask.new.application)
-    e.ok e.shows c.accepted.ensures e.requested (rw c.in_default.is at e.unrequested)
+    taken_silent (g.M.Monitor.follows c.args.monitor.now) (g.M.Monitor.follows c.accepted.new.self)
+    (g.M.Monitor.follows c.accepted.new.self) (g.A.Application.follows c.args.application.now)
+    (g.A.Application.follows c.take_and_ask.new.application) e.ok e.shows c.accepted.ensures e.requested
+    (rw c.in_default.is at e.unrequested)
 
 pub give_at_once-requires : goal.give_at_once-requires
 give_at_once-requires g c = rw c.in-Ok.ensures.ok (taken_stays c.args.self.now _ _ _ c.requires)

@@ -1,8 +1,8 @@
-use Rattle.std.proofs.Common.{◌≡◌, None, Err, refl}
+use Rattle.std.proofs.Common.{◌≡◌, None, refl}
 use Rattle.coap_server_engine.specs.Prelude.{session_of}
-use Rattle.coap_server_engine.proofs.world.RefusedLaws.{take_refused_for}
 use Rattle.coap_model.specs.declared.answers.TakeFault.TheVariants as taking
 use Rattle.coap_server_engine.proofs.server.Server.take_request.Goals as goal
+use Rattle.coap_server_engine.proofs.world.RefusedLaws.{refused_for}
 
 -- No connection has this id.
 pub returns-in_default : goal.returns-in_default
@@ -22,9 +22,6 @@ returns-in_default c =
         request = tt;
         changed = tt;
         alters = tt;
-        refused_for = take_refused_for (Err taking.NoSuch) c.args.self.now c.args.self.now c.args.id c.args.piece.now (
-          none,
-          refl,
-        );
+        refused_for = refused_for taking.NoSuch c.args.self.now c.args.self.now c.args.id c.args.piece.now (none, refl);
       },
     )

@@ -1,11 +1,10 @@
-use Rattle.std.proofs.Common.{◌≡◌, ℕ, Option, IfNone, Ok, refl, sym, ap, subst, ◌∙◌, arith, rules, length, map}
-use Rattle.coap_server_engine.specs.Prelude.{ServerValue, server_ticked, server_value, settled_entry, unmarked}
-use Rattle.coap_server_engine.specs.Prelude.{AreAllMarked}
-use Rattle.coap_server_engine.specs.Prelude.{AreUntouched}
+use Rattle.std.proofs.Common.{◌≡◌, refl, sym, ◌∙◌, arith, rules, map, ap}
+use Rattle.coap_server_engine.specs.Prelude.{server_ticked, server_value, settled_entry, unmarked, AreAllMarked}
+use Rattle.coap_server_engine.specs.Prelude.{ServerValue}
 use Rattle.coap_server_session.specs.declared.cause.Cause.TheVariants as cause
 use Rattle.coap_model.proofs.OptionLemmas.{there_is_none}
 use Rattle.coap_server_session.proofs.values.DueLemmas.{at_moment}
-use Rattle.coap_server_engine.proofs.values.ServerLemmas.{Entries, settled_server, same_moment}
+use Rattle.coap_server_engine.proofs.values.ServerLemmas.{settled_server, same_moment, Entries}
 use Rattle.coap_server_engine.proofs.values.ServerCauseLemmas.{untouched_by_moment, all_but_later, none_touched}
 use Rattle.coap_server_engine.proofs.world.CallLaws.{tick_shows}
 use Rattle.coap_server_engine.proofs.values.ConcernedLemmas.{covered_settled, covered_time}
@@ -23,11 +22,8 @@ settle_touched-requires c =
     rw (c.keep_moment.ensures, c.move_to.ensures) (record {
       covered = c.next_touched.ensures.covered;
       settled =
-          rw before (untouched_by_moment c.self.inside.shared c.args.now _ store (omega (
-            arith,
-            before,
-          )) c.ranges.now.fits
-          c.self.invariant.server.settled);
+          rw before (untouched_by_moment c.self.inside.shared c.args.now _ store (omega (arith, before))
+          c.ranges.now.fits c.self.invariant.server.settled);
       marked = all_but_later c.self.inside.shared c.args.now _ _ store c.self.invariant.marked;
     })
 
@@ -44,8 +40,7 @@ invariant_of-self c =
 
 pub returns-then-is_some-clause-shows : goal.returns-then-is_some-clause-shows
 returns-then-is_some-clause-shows c =
-    tick_shows {T = Unit {0}} {F = Unit {0}} (Ok tt) c.args.self.now _ c.args.now c.ranges.now.fits
-    (search rules) (search rules)
+    tick_shows c.args.self.now _ c.args.now c.ranges.now.fits (search rules) (search rules)
 
 -- The change affects no connection, so all are settled as they are.
 all_stay : (c : Else-is_some) → let es = c.self.inside.sessions.entries in
@@ -53,16 +48,14 @@ all_stay : (c : Else-is_some) → let es = c.self.inside.sessions.entries in
 all_stay c =
     let shared = c.self.inside.shared in
     let es = c.self.inside.sessions.entries in
-    let why = cause.Moment c.moment-before.result in
     let store = rw (← c.self.view_is) at c.moment-before.ensures.store in
     let before : c.moment-before.result ≡ shared.now = rw (c.moment-before.ensures.moment, ← c.self.view_is) in
     let none = there_is_none c.next_touched.result (sym c.is_some.ensures ∙ c.if-is_some.false) in
-    let calm = subst (λ (o : Option ℕ). IfNone o (AreUntouched why c.args.now 0 (length es) es)) none
-    c.next_touched.ensures.none in
     let settled = untouched_by_moment shared c.args.now _ store (omega (arith, before)) c.ranges.now.fits
     c.self.invariant.server.settled in
-    rw c.move_to.ensures (none_touched why (at_moment shared c.args.now) es (rw before settled)
-    (all_but_later shared c.args.now _ es store c.self.invariant.marked) calm)
+    rw c.move_to.ensures (none_touched (cause.Moment c.moment-before.result) (at_moment shared c.args.now) es
+    (rw before settled) (all_but_later shared c.args.now _ es store c.self.invariant.marked)
+    (rw none at c.next_touched.ensures.none))
 
 pub invariant_of-self-else-is_some : goal.invariant_of-self-else-is_some
 invariant_of-self-else-is_some c =
@@ -80,11 +73,7 @@ returns-else-is_some c =
     λ es. record (server_value c.self.inside) { shared = c.move_to.new.self; sessions = es } in
     let ok : moved (unmarked c.self.inside.sessions.entries) ≡ server_ticked c.args.self.now c.args.now =
     rw (← c.self.view_is) (ap moved (all_stay c).0 ∙ rw c.move_to.ensures refl) in
-    search (
-      rules,
-      ok,
-      tick_shows {T = Unit {0}} {F = Unit {0}} (Ok tt) c.args.self.now _ c.args.now c.ranges.now.fits (search rules) ok,
-    )
+    search (rules, ok, tick_shows c.args.self.now _ c.args.now c.ranges.now.fits (search rules) ok)
 
 pub returns-then-now-before : goal.returns-then-now-before
 returns-then-now-before c =
@@ -92,8 +81,4 @@ returns-then-now-before c =
     rw (c.moment-before.ensures.moment, ← c.self.view_is) in
     let ok : c.args.self.now ≡ server_ticked c.args.self.now c.args.now =
     rw (← c.self.view_is) (same_moment _ c.args.now c.self.invariant.server (omega (arith, before))) in
-    search (
-      rules,
-      ok,
-      tick_shows {T = Unit {0}} {F = Unit {0}} (Ok tt) c.args.self.now _ c.args.now c.ranges.now.fits (search rules) ok,
-    )
+    search (rules, ok, tick_shows c.args.self.now _ c.args.now c.ranges.now.fits (search rules) ok)

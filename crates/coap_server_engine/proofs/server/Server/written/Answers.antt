@@ -1,5 +1,5 @@
-use Rattle.std.proofs.Common.{Ok, arith}
-use Rattle.coap_server_engine.proofs.values.ServerLemmas.{changed_server, changed_value, enough_waits, unmarked_at}
+use Rattle.std.proofs.Common.{arith}
+use Rattle.coap_server_engine.proofs.values.ServerLemmas.{enough_waits, unmarked_at, is_changed}
 use Rattle.coap_server_engine.proofs.world.CallLaws.{written_shows}
 use Rattle.coap_server_session.proofs.values.ConcernLemmas.{written_adds}
 use Rattle.coap_server_engine.proofs.values.ConcernedLemmas.{covered_changed}
@@ -7,7 +7,7 @@ use Rattle.coap_server_engine.proofs.server.Server.written.Goals as goal
 
 pub invariant_of-self : goal.invariant_of-self
 invariant_of-self c = record {
-  server = changed_server _ _ _ _ _ c.self.invariant.server c.in-Some.ensures.some c.written_at.ensures.after;
+  server = (is_changed _ c.self.invariant.server c.in-Some.ensures.some c.written_at.ensures.after).server;
   marked = c.written_at.ensures.marked;
   covered = covered_changed _ _ _ _ _ _ (written_adds c.args.count) c.written_at.ensures.after c.self.invariant.covered;
 }
@@ -15,10 +15,10 @@ invariant_of-self c = record {
 pub returns-clause-ok : goal.returns-clause-ok
 returns-clause-ok c =
     rw (← c.self.view_is)
-    (changed_value _ _ _ _ _ c.self.invariant.server c.in-Some.ensures.some c.written_at.ensures.after)
+    (is_changed _ c.self.invariant.server c.in-Some.ensures.some c.written_at.ensures.after).value
 
 pub returns-clause-shows : goal.returns-clause-shows
-returns-clause-shows c = written_shows {T = Unit {0}} (Ok tt) c.args.self.now _ c.args.id c.args.count
+returns-clause-shows c = written_shows c.args.self.now _ c.args.id c.args.count
     (rw (
       ← c.self.view_is,
       c.in-Some.ensures.some.found,

@@ -1,4 +1,4 @@
-use Rattle.std.proofs.Common.{ℕ, List, length, ◌≤◌, subst, arith}
+use Rattle.std.proofs.Common.{arith}
 use Rattle.coap_server_engine.proofs.values.ResponseLemmas.{failure_short}
 use Rattle.coap_server_engine.proofs.server.requests.failure_frame.Goals as goal
 
@@ -6,5 +6,5 @@ pub write-requires : goal.write-requires
 write-requires c = (
   omega arith,
   rw (c.new-failure.ensures, c.new-frame.ensures) (failure_short c.args.token.now.items
-      (subst (λ (s : List ℕ). length s ≤ 64) c.as_slice.ensures.value c.as_slice.ensures.fits)),
+      (rw c.as_slice.ensures.value at c.as_slice.ensures.fits)),
 )

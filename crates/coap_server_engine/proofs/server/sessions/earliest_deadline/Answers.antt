@@ -1,11 +1,10 @@
-use Rattle.std.proofs.Common.{◌≡◌, ℕ, Option, ap, ◌∙◌, arith}
+use Rattle.std.proofs.Common.{arith}
 use Rattle.std.proofs.lemmas.List.{length-map}
-use Rattle.coap_server_engine.specs.Prelude.{unmarked, unmarked_entry, due_on}
-use Rattle.coap_server_session.specs.Prelude.{sooner}
+use Rattle.coap_server_engine.specs.Prelude.{unmarked, unmarked_entry}
 use Rattle.coap_server_session.specs.declared.cause.Cause.TheVariants as cause
 use Rattle.coap_server_engine.proofs.values.ServerLemmas.{unmarked_at}
 use Rattle.coap_server_engine.proofs.values.ConcernedLemmas.{covers_removed}
-use Rattle.coap_server_engine.proofs.values.DeadlineLemmas.{search_begins, search_continues, search_ends, earliest_from}
+use Rattle.coap_server_engine.proofs.values.DeadlineLemmas.{search_begins, search_continues, search_ends}
 use Rattle.coap_server_engine.proofs.server.sessions.earliest_deadline.Goals as goal
 
 pub loop-at-init : goal.loop-at-init
@@ -26,14 +25,11 @@ loop-at-preserved c =
     let removed = c.remove_unless.ensures in
     let covers = covers_removed (cause.Moment now) _ _ at (unmarked es) _ _ there c.may_be_touched.ensures removed.kept
     removed.others c.loop-at.invariant.1 in
-    let next = c.next-at-in-loop-at.ensures in
-    let due : c.sooner-due.result ≡ sooner c.loop-at.due (due_on now c.index-session.result.now.session) =
-    c.sooner-due.ensures ∙ ap (sooner c.loop-at.due) c.due.ensures in (
+    let next = c.next-at-in-loop-at.ensures in (
       omega (arith, next.within, c.len-end.ensures),
       covers,
-      ap (λ (o : Option ℕ). sooner o (earliest_from now (unmarked es) c.next-at-in-loop-at.result)) due
-          ∙ search_continues now (unmarked es) _ at _ _ c.loop-at.due there next.from covers next.between
-          c.loop-at.invariant.2,
+      rw (c.sooner-due.ensures, c.due.ensures) (search_continues now (unmarked es) _ at _ _ c.loop-at.due there
+          next.from covers next.between c.loop-at.invariant.2),
     )
 
 pub loop-at-smaller : goal.loop-at-smaller

@@ -1,11 +1,10 @@
-use Rattle.std.proofs.Common.{◌≡◌, length, refl, sym, ap, ◌∙◌}
+use Rattle.std.proofs.Common.{◌≡◌, length, refl, sym, ◌∙◌}
 use Rattle.std.proofs.lemmas.List.{nil_from_length}
-use Rattle.coap_server_engine.specs.Prelude.{SessionValue, IsMarked, unmarked, session_settled, session_written}
+use Rattle.coap_server_engine.specs.Prelude.{IsMarked, session_settled, session_written}
 use Rattle.coap_io.proofs.streams.DeviceLemmas.{bytes_none}
 use Rattle.coap_io.proofs.streams.WriteLemmas.{on_any_fault}
 use Rattle.coap_server_engine.proofs.values.ServerLemmas.{written_back, written_unmarked, unmarked_at, all_written}
-use Rattle.coap_server_engine.proofs.values.ServerLemmas.{one_of_all}
-use Rattle.coap_server_engine.proofs.values.TurnLemmas.{same_session, for_one_on_fault}
+use Rattle.coap_server_engine.proofs.values.ServerLemmas.{one_of_all, same_session, for_one_on_fault}
 use Rattle.coap_server_engine.proofs.server.sessions.flush_at.Goals as goal
 
 pub returns-then-count-eq0-clause-ok : goal.returns-then-count-eq0-clause-ok
@@ -15,7 +14,7 @@ returns-then-count-eq0-clause-ok g c s here =
     here in
     let none = nil_from_length c.index_mut-session.result.now.session.link.waiting
     (sym c.waiting-count.ensures ∙ c.if-count-eq0.true) in
-    (rw (← same) none, ap unmarked (written_back _ _ _ _ c.index_mut-session.ensures.value refl), bytes_none _)
+    (rw (← same) none, rw (written_back _ _ _ _ c.index_mut-session.ensures.value refl) refl, bytes_none _)
 
 pub returns-then-count-eq0-clause-marked : goal.returns-then-count-eq0-clause-marked
 returns-then-count-eq0-clause-marked g c =
@@ -44,16 +43,14 @@ settle-requires g c =
 
 pub returns-clause-ok : goal.returns-clause-ok
 returns-clause-ok g c s here =
-    let shared = c.args.shared.now in
     let old = c.index_mut-session.result.now in
     let same = same_session _ _ s
-    (unmarked_at c.args.sessions.now.entries c.args.at c.index_mut-session.result.now c.index_mut-session.ensures.value)
-    here in
-    let waits = ap (λ (u : SessionValue). u.link.waiting) same in
+    (unmarked_at c.args.sessions.now.entries c.args.at old c.index_mut-session.ensures.value) here in
+    let waits : old.session.link.waiting ≡ s.link.waiting = rw same refl in
     let settles : c.settle.new.self.session
-    ≡ session_settled shared (session_written old.session (length s.link.waiting)) =
+    ≡ session_settled c.args.shared.now (session_written old.session (length s.link.waiting)) =
     rw (c.settle.ensures.after, c.written.ensures, c.waiting-count.ensures, ← waits) refl in (
-      written_unmarked (λ u. session_settled shared (session_written u (length s.link.waiting)))
+      written_unmarked (λ u. session_settled c.args.shared.now (session_written u (length s.link.waiting)))
           c.args.sessions.now.entries c.args.at old _ c.index_mut-session.ensures.value settles,
       rw (c.parts.ensures, waits) at c.in_ok-write_parts.ensures.ok,
     )

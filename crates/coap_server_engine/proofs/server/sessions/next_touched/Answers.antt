@@ -1,5 +1,5 @@
-use Rattle.std.proofs.Common.{◌≡◌, ℕ, ◌+◌, length, subst, arith}
-use Rattle.coap_server_engine.specs.Prelude.{unmarked, AreUntouched}
+use Rattle.std.proofs.Common.{◌≡◌, ◌+◌, length, arith}
+use Rattle.coap_server_engine.specs.Prelude.{unmarked}
 use Rattle.coap_server_engine.proofs.values.ServerLemmas.{unmarked_at}
 use Rattle.coap_server_engine.proofs.values.ServerCauseLemmas.{none_passed, one_passed}
 use Rattle.coap_server_engine.proofs.values.ConcernedLemmas.{gap_untouched, covers_removed}
@@ -41,7 +41,6 @@ loop-at-smaller c = omega (arith, c.next-at-in-loop-at.ensures.from, c.loop-at-t
 
 pub returns-clause-none : goal.returns-clause-none
 returns-clause-none c =
-    let es = c.args.sessions.now.entries in
-    let end : c.loop-at.at ≡ length es =
+    let end : c.loop-at.at ≡ length c.args.sessions.now.entries =
     omega (arith, c.loop-at-test.false, c.len-end.ensures, c.loop-at.invariant.1) in
-    subst (λ (n : ℕ). AreUntouched c.args.cause c.args.now c.args.from n es) end c.loop-at.invariant.2.0
+    rw end at c.loop-at.invariant.2.0

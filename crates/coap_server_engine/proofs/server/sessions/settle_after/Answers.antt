@@ -1,6 +1,5 @@
-use Rattle.std.proofs.Common.{IfSome, Option, Some, refl, sym, ap, subst, ◌∙◌, map}
-use Rattle.coap_server_engine.specs.Prelude.{MarkedSession, IsMarked, IsMarkedBut, UnaffectedAreSettled, settled_entry}
-use Rattle.coap_server_engine.specs.Prelude.{settled_pending, unmarked, AddsConcerned}
+use Rattle.std.proofs.Common.{refl, ◌∙◌}
+use Rattle.coap_server_engine.specs.Prelude.{IsMarked, IsMarkedBut, settled_pending}
 use Rattle.coap_server_session.specs.declared.cause.Cause.TheVariants as cause
 use Rattle.coap_server_engine.proofs.values.ServerLemmas.{splits_written, written_unmarked, set_unmarked, unmarked_at}
 use Rattle.coap_server_engine.proofs.values.ServerLemmas.{all_written}
@@ -14,29 +13,26 @@ pub note-requires : goal.note-requires
 note-requires c = c.requires.covered.many
 
 pub settle_if_pending-requires : goal.settle_if_pending-requires
-settle_if_pending-requires c =
-    subst (λ (o : Option MarkedSession). IfSome o (IsMarked c.args.shared.now)) c.index_mut.ensures.value c.requires.own
+settle_if_pending-requires c = rw c.index_mut.ensures.value at c.requires.own
 
 pub returns-in-None : goal.returns-in-None
 returns-in-None c =
     let shared = c.args.shared.now in
     let es = c.args.sessions.now.entries in
     let e = c.settle_if_pending.ensures in
+    let after = written_unmarked (settled_pending shared) es c.args.at _ _ c.index_mut.ensures.value e.after in
     rw c.in-None.is (record {
       splits = splits_written es c.args.at c.index_mut.result.now _ c.index_mut.ensures.value e.split;
-      after = written_unmarked (settled_pending shared) es c.args.at _ _ c.index_mut.ensures.value e.after;
+      after = after;
       marked = all_written (IsMarked shared) es c.args.at _ (rw c.in-None.is at c.requires.marked) e.marked;
       affected = record { kept = λ i outside. outside; covers = tt };
       covered =
-          covered_changed_by _ c.args.at (settled_pending shared) _ _ (pending_adds shared)
-          (written_unmarked (settled_pending shared) es c.args.at _ _ c.index_mut.ensures.value e.after)
+          covered_changed_by _ c.args.at (settled_pending shared) _ _ (pending_adds shared) after
           (c.note.ensures _ (unmarked_at es c.args.at _ c.index.ensures) c.requires.covered);
     })
 
 pub settle-requires : goal.settle-requires
-settle-requires c =
-    subst (λ (o : Option MarkedSession). IfSome o (IsMarked c.args.shared.now))
-    c.index_mut-in-Some.ensures.value c.requires.own
+settle-requires c = rw c.index_mut-in-Some.ensures.value at c.requires.own
 
 pub settle_observers-requires : goal.settle_observers-requires
 settle_observers-requires c =
@@ -51,7 +47,7 @@ settle_observers-requires c =
       covered =
           covered_one_marked _ shared c.args.at es _ now c.index_mut-in-Some.ensures.value e.after
           (c.note.ensures _ (unmarked_at es c.args.at _ c.index.ensures) c.requires.covered);
-      settled = subst (UnaffectedAreSettled why shared) (sym (set_unmarked es c.args.at now now.session refl)) others;
+      settled = rw (set_unmarked es c.args.at now now.session refl) others;
       marked =
           all_written (IsMarkedBut why shared) es c.args.at now (rw c.in-Some.is at c.requires.marked)
           (but_none why shared now e.marked);
@@ -59,25 +55,22 @@ settle_observers-requires c =
 
 pub returns-in-Some : goal.returns-in-Some
 returns-in-Some c =
-    let shared = c.args.shared.now in
     let es = c.args.sessions.now.entries in
     let now = c.settle.new.self in
     let e = c.settle_observers.ensures in
     let covered = c.note.ensures _ (unmarked_at es c.args.at _ c.index.ensures) c.requires.covered in
-    let affected : AddsConcerned (Some c.in-Some.hash) c.args.affected.now.words c.join.new.self.words (unmarked es) =
-    record {
-      kept = λ i outside. (c.join.ensures.outside i outside).0;
-      covers = λ i s at outside. covered.paths c.in-Some.hash c.of_path.result.now c.of_path.ensures i s at
-          (c.join.ensures.outside i outside).1;
-    } in
-    let all = all_settle shared c.args.at c.in-Some.hash _ _ _
+    let all = all_settle c.args.shared.now c.args.at c.in-Some.hash _ _ _
     (unmarked_at es c.args.at _ c.index_mut-in-Some.ensures.value) c.settle.ensures.after in
     rw c.in-Some.is (record {
-      affected = affected;
+      affected = record {
+        kept = λ i outside. (c.join.ensures.outside i outside).0;
+        covers = λ i s at outside. covered.paths c.in-Some.hash c.of_path.result.now c.of_path.ensures i s at
+            (c.join.ensures.outside i outside).1;
+      };
       splits =
           e.splits ∙ splits_written es c.args.at c.index_mut-in-Some.result.now now c.index_mut-in-Some.ensures.value
           c.settle.ensures.split;
-      after = e.after ∙ ap (map (settled_entry shared)) (set_unmarked es c.args.at now now.session refl) ∙ all;
+      after = rw (e.after, set_unmarked es c.args.at now now.session refl) all;
       marked = e.marked;
       covered = e.covered;
     })

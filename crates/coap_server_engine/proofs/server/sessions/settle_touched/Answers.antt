@@ -1,19 +1,12 @@
 use Rattle.std.proofs.Common.{refl, arith, length, ◌∙◌}
-use Rattle.coap_server_engine.specs.Prelude.{unmarked}
-use Rattle.coap_server_engine.proofs.values.ServerLemmas.{none_settled, length-written, splits_written}
+use Rattle.coap_server_engine.proofs.values.ServerLemmas.{splits_written, length-written}
 use Rattle.coap_server_engine.proofs.values.ServerCauseLemmas.{AreUpTo, next_but, passed, one_more, none_left}
 use Rattle.coap_server_engine.proofs.values.ConcernedLemmas.{covers_one_marked}
 use Rattle.coap_server_engine.proofs.server.sessions.settle_touched.Goals.{After-index_mut}
 use Rattle.coap_server_engine.proofs.server.sessions.settle_touched.Goals as goal
 
 pub loop-at-init : goal.loop-at-init
-loop-at-init c = (
-  omega arith,
-  (
-    (none_settled c.args.shared.now (unmarked c.args.sessions.now.entries), c.requires.marked),
-    (refl, c.requires.covered),
-  ),
-)
+loop-at-init c = (omega arith, ((refl, c.requires.marked), (refl, c.requires.covered)))
 
 pub next_touched-requires : goal.next_touched-requires
 next_touched-requires c = record { from = c.loop-at.invariant.0; covered = c.loop-at.invariant.1.1.1 }
@@ -28,8 +21,8 @@ up_to_found c =
 
 pub mark_and_settle-requires : goal.mark_and_settle-requires
 mark_and_settle-requires c =
-    next_but c.in-Some.at c.args.cause c.args.shared.now c.loop-at.sessions.entries _
-    (up_to_found c).1 c.index_mut.ensures.value
+    (next_but c.in-Some.at c.args.cause c.args.shared.now _ c.loop-at.sessions.entries _ (up_to_found c)
+    c.index_mut.ensures.value).1
 
 pub loop-at-preserved : goal.loop-at-preserved
 loop-at-preserved c =
@@ -50,12 +43,11 @@ loop-at-preserved c =
 
 pub loop-at-smaller : goal.loop-at-smaller
 loop-at-smaller c =
-    let es = c.loop-at.sessions.entries in
     omega (
       arith,
       c.in-Some.ensures.within,
       c.in-Some.ensures.from,
-      length-written es c.in-Some.at c.mark_and_settle.new.self,
+      length-written c.loop-at.sessions.entries c.in-Some.at c.mark_and_settle.new.self,
     )
 
 pub returns : goal.returns
@@ -63,5 +55,5 @@ returns c =
     let es = c.loop-at.sessions.entries in
     let up = passed c.loop-at.from (length es) c.args.cause c.args.shared.now c.args.sessions.now.entries es
     c.loop-at.invariant.0 (omega arith) c.loop-at.invariant.1.0 c.requires.settled c.in_default.ensures.none in
-    let all = none_left (length es) c.args.cause c.args.shared.now c.args.sessions.now.entries es refl up in
+    let all = none_left (length es) c.args.cause c.args.shared.now c.args.sessions.now.entries es (omega arith) up in
     record { after = all.0; marked = all.1; splits = c.loop-at.invariant.1.1.0; covered = c.in_default.ensures.covered }

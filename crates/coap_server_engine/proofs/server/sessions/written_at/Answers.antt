@@ -1,5 +1,4 @@
-use Rattle.std.proofs.Common.{IfSome, Option, length, ◌≤◌, subst}
-use Rattle.coap_server_engine.specs.Prelude.{SessionValue, IsSettled, IsMarked, session_settled, session_written}
+use Rattle.coap_server_engine.specs.Prelude.{IsSettled, IsMarked, session_settled, session_written}
 use Rattle.coap_server_engine.proofs.values.ServerLemmas.{written_unmarked, unmarked_at, all_written, one_of_all}
 use Rattle.coap_server_engine.proofs.server.sessions.written_at.Goals as goal
 
@@ -9,9 +8,7 @@ written_and_settled-requires c =
     let es = c.args.sessions.now.entries in
     let here = c.index_mut.ensures.value in
     record {
-      within =
-          subst (λ (o : Option SessionValue). IfSome o (λ s. c.args.count ≤ length s.link.waiting))
-          (unmarked_at es c.args.at _ here) c.requires.waiting;
+      within = rw (unmarked_at es c.args.at _ here) at c.requires.waiting;
       settled = one_of_all (IsSettled shared) c.args.at _ _ c.requires.settled (unmarked_at es c.args.at _ here);
       marked = one_of_all (IsMarked shared) c.args.at es _ c.requires.marked here;
     }

@@ -1,4 +1,4 @@
-use Rattle.std.proofs.Common.{◌<◌, ◌≡◌, Some, refl, subst, arith, length, slice_get}
+use Rattle.std.proofs.Common.{◌<◌, refl, arith, length}
 use Rattle.std.proofs.lemmas.Option.{slice_get_read}
 use Rattle.coap_server_engine.proofs.server.concerned.Concerned.of_path.Goals as goal
 
@@ -6,5 +6,4 @@ pub returns : goal.returns
 returns c =
     let sets = c.args.self.now.paths.items in
     let within : c.from.result < length sets = omega (arith, c.requires, c.from.ensures) in
-    subst (λ k. slice_get sets k ≡ Some c.index.result.now) c.from.ensures
-    (slice_get_read sets _ c.from.result c.index.result.now refl within c.index.ensures)
+    rw c.from.ensures at (slice_get_read sets _ c.from.result c.index.result.now refl within c.index.ensures)
