@@ -11,10 +11,9 @@ use Rattle.coap_server_engine.specs.Prelude.{IsErr, AllocError, Path, StoreValue
 use Rattle.coap_server_engine.specs.Prelude.{ScriptEventValue, event_value, EventResult, fed_turns, in_result}
 use Rattle.coap_server_engine.specs.Prelude.{event_ran, replayed, IsPartialIn, IsUnrun, IsRefusedAt, IsCutAt}
 use Rattle.coap_server_engine.specs.Prelude.{where_there, took_turns, took, events_ran, ShowsMore, ShowsPartlyFed}
-use Rattle.coap_server_engine.specs.Prelude.{ShowsPart, events_made, ShowsRefusedAt, AddsBytes, WritesPart}
-use Rattle.coap_server_engine.specs.Prelude.{SessionValue, ServerValue, server_taken, count_taken, is_there, session_of}
-use Rattle.coap_server_engine.specs.Prelude.{IsNotTaken, IsRun, IsDrainable, Took, Drained, OutputLine, Shows}
-use Rattle.coap_server_engine.specs.Prelude.{AcceptedCall, request_lines, request_turns}
+use Rattle.coap_server_engine.specs.Prelude.{ShowsPart, events_made, ShowsRefusedAt, AddsBytes, WritesPart, ServerValue}
+use Rattle.coap_server_engine.specs.Prelude.{server_taken, count_taken, session_of, IsNotTaken, IsRun, Took, OutputLine}
+use Rattle.coap_server_engine.specs.Prelude.{Shows, AcceptedCall, request_lines, request_turns}
 use Rattle.coap_script.specs.declared.event.Event.{Event}
 use Rattle.coap_server_engine.specs.script.Replay.{result_after}
 use Rattle.coap_server_engine.specs.values.InResults.{goes_on}
@@ -45,19 +44,6 @@ pub no_such_path : (s : StoreValue) (path : Path) → is_none (remove_refusal s 
     → remove_refusal s path ≡ Some NoSuch
 unfolding remove_refusal
 no_such_path s path refused = grind arith
-
--- ---- `drain`
-
--- The queue has at least as many bytes as are drained.
-pub enough : (id : ℕ) (most : Option ℕ) (d : Drained) (o : Option SessionValue) → IsDrainable id most (Some d) o
-    → (s : SessionValue) × (o ≡ Some s) × IsDrainable id most (Some d) (Some s)
-enough id most d None is = absurd is
-enough id most d (Some s) is = (s, refl, is)
-
-pub none_drainable : (id : ℕ) (most : Option ℕ) (o : Option SessionValue)
-    → IsDrainable id most None o → is_there o ≡ false
-none_drainable id most None is = refl
-none_drainable id most (Some s) is = absurd is
 
 -- ---- takes
 
