@@ -8,7 +8,7 @@ pub use Rattle.std.specs.List.{AllByRecursion, concat}
 pub use Rattle.std.specs.List.{position, position_or_len}
 unfoldable pub use Rattle.std.specs.List.{IsDistinct}
 pub use Rattle.std.specs.Map.{keys_of, lookup, values_of}
-pub use Rattle.std.specs.Prelude.{map, nat_lt, slice_get}
+pub use Rattle.std.specs.Prelude.{map, slice_get}
 pub use Rattle.std.specs.Result.{IsErr}
 pub use Rattle.std.specs.declared.alloc.AllocError.{AllocError}
 pub use mathlib.Core.Option.{none}
@@ -19,7 +19,7 @@ unfoldable pub use Rattle.coap_wire.specs.Spelling.{spelling}
 pub use Rattle.coap_wire.specs.Message.{Message}
 unfoldable pub use Rattle.coap_wire.specs.Reading.{message_of}
 pub use Rattle.coap_wire.specs.Refusal.{RefusedBy}
-pub use Rattle.coap_wire.specs.Stream.{StreamFault, Format, OfFrame, Stream, frame_then, split_on}
+pub use Rattle.coap_wire.specs.Stream.{StreamFault, Format, OfFrame, Stream, split_on}
 unfoldable pub use Rattle.coap_wire.specs.Stream.{split}
 pub use Rattle.coap_wire.specs.declared.fault.FormatFault.{FormatFault}
 -- ---- coap_frame
@@ -39,11 +39,9 @@ pub use Rattle.coap_conn.specs.Responses.{frame_refusal, OnMessage}
 pub use Rattle.coap_conn.specs.declared.phase.RespondFault.{RespondFault}
 unfoldable pub use Rattle.coap_conn.specs.Responses.{response_refusal}
 pub use Rattle.coap_conn.specs.declared.phase.Role.TheVariants.{Server}
-pub use Rattle.coap_conn.specs.declared.phase.SendFault.{SendFault}
 pub use Rattle.coap_conn.specs.declared.reason.Reason.{Reason}
 -- ---- coap_io
 pub use Rattle.coap_io.specs.streams.Device.{AddsBytes, WritesPart}
-pub use Rattle.coap_io.specs.streams.DeviceTraces.{AddsCalls}
 -- ---- coap_path
 pub use Rattle.coap_path.specs.Paths.{Path}
 -- ---- coap_store
@@ -55,7 +53,6 @@ unfoldable pub use Rattle.coap_store.specs.Refusals.{put_refusal, remove_refusal
 pub use Rattle.coap_store.specs.State.{state_of}
 pub use Rattle.coap_store.specs.StateViews.{state_value}
 pub use Rattle.coap_store.specs.Store.{StoreValue, put_in, removed_in}
-pub use Rattle.coap_store.specs.declared.fault.StoreFault.{StoreFault}
 pub use Rattle.coap_store.specs.declared.fault.StoreFault.TheVariants.{NoSuch}
 -- ---- coap_script
 pub use Rattle.coap_script.specs.script.EventViews.{event_value}
@@ -66,7 +63,6 @@ pub use Rattle.coap_script.specs.script.Lines.{open_line, put_line, remove_line,
 pub use Rattle.coap_model.specs.Answers.{release_fault, response_fault}
 pub use Rattle.coap_model.specs.Configs.{ConfigValues}
 pub use Rattle.coap_model.specs.declared.answers.AnnounceFault.{AnnounceFault}
-pub use Rattle.coap_model.specs.declared.answers.OpenFault.{OpenFault}
 pub use Rattle.coap_model.specs.declared.answers.ReleaseFault.{ReleaseFault}
 pub use Rattle.coap_model.specs.declared.answers.ResponseFault.{ResponseFault}
 pub use Rattle.coap_model.specs.declared.answers.TakeFault.{TakeFault}
@@ -95,7 +91,6 @@ unfoldable pub use Rattle.coap_model.specs.world.World.{side_of, after_steps, ac
 -- ---- this crate: declared types
 pub use Rattle.coap_server_session.specs.declared.cause.Cause.{Cause}
 pub use Rattle.coap_server_session.specs.declared.server_state.ServerState.{ServerState}
-pub use Rattle.coap_server_engine.specs.declared.replay.Drained.{Drained}
 pub use Rattle.coap_server_engine.specs.declared.replay.OutputLine.{OutputLine}
 -- ---- this crate: script
 pub use Rattle.coap_server_engine.specs.script.Cuts.{DifferInCuts, AreInTime, other_lines, IsInTime}
@@ -103,20 +98,19 @@ unfoldable pub use Rattle.coap_server_engine.specs.script.Cuts.{lines_of, in_bef
 pub use Rattle.coap_server_engine.specs.script.Replay.{stop_number, drained, EventResult, comes_to, drain_ran}
 pub use Rattle.coap_server_engine.specs.script.Replay.{in_ran, on_connection, open_number, release_number}
 pub use Rattle.coap_server_engine.specs.script.Replay.{response_number}
-pub use Rattle.coap_server_engine.specs.script.Replay.{status_ran, store_number, tick_refusal, unless_refused}
+pub use Rattle.coap_server_engine.specs.script.Replay.{status_ran, store_number, unless_refused}
 unfoldable pub use Rattle.coap_server_engine.specs.script.Replay.{replayed, event_ran}
 pub use Rattle.coap_server_engine.specs.script.Replayed.{replay_number, IsReplayed, fails_write, IsCutAt, IsRefusedAt}
 pub use Rattle.coap_server_engine.specs.script.Replayed.{IsUnrun}
-pub use Rattle.coap_server_engine.specs.script.Shown.{unless_any, ShowsRun, IsShownReplay, ShowsPart, IsPartlyMade}
+pub use Rattle.coap_server_engine.specs.script.Shown.{ShowsRun, IsShownReplay, ShowsPart, IsPartlyMade}
 pub use Rattle.coap_server_engine.specs.script.Shown.{ShowsRefusedAt}
 unfoldable pub use Rattle.coap_server_engine.specs.script.Shown.{events_made, events_ran}
 pub use Rattle.coap_server_engine.specs.script.RequestLines.{request_text, request_lines, IsTakeRefused, IsLineRefused}
-pub use Rattle.coap_server_engine.specs.script.RequestLines.{IsUnlisted, IsUnfinishedIn, IsUnlistedAfter}
-pub use Rattle.coap_server_engine.specs.script.RequestLines.{IsUnfinishedAfter}
+pub use Rattle.coap_server_engine.specs.script.RequestLines.{IsUnlisted, IsUnfinishedIn}
 unfoldable pub use Rattle.coap_server_engine.specs.script.RequestLines.{request_turns}
 -- ---- this crate: values
 pub use Rattle.coap_server_engine.specs.values.Calls.{call_value, follows_if, has_passed_if, Following}
-pub use Rattle.coap_server_engine.specs.values.CallDetails.{IsTakeResult, WasTaken, WasRefused, IsReasonFor, IsTrueCall}
+pub use Rattle.coap_server_engine.specs.values.CallDetails.{WasTaken, WasRefused, IsReasonFor, IsTrueCall}
 unfoldable pub use Rattle.coap_server_engine.specs.values.Calls.{FollowsMore}
 pub use Rattle.coap_server_session.specs.values.Causes.{change_hash, path_hash}
 pub use Rattle.coap_server_session.specs.values.Causes.{IsUnaffected}
@@ -127,9 +121,8 @@ pub use Rattle.coap_server_engine.specs.values.InResults.{InResult, IsPartialIn,
 pub use Rattle.coap_server_engine.specs.values.InResults.{fed_more, fed_once}
 pub use Rattle.coap_server_engine.specs.values.InResults.{took, unfed, where_there}
 unfoldable pub use Rattle.coap_server_engine.specs.values.InResults.{fed_turns, took_turns}
-pub use Rattle.coap_server_engine.specs.values.Flushes.{IsFlushed, waiting_at, more_at, IsFlushedOnce}
-pub use Rattle.coap_server_engine.specs.values.Flushes.{IsFlushedAt, flush_once}
-unfoldable pub use Rattle.coap_server_engine.specs.values.Flushes.{flush_turns}
+pub use Rattle.coap_server_engine.specs.values.Flushes.{waiting_at, more_at, IsFlushedOnce}
+pub use Rattle.coap_server_engine.specs.values.Flushes.{IsFlushedAt}
 pub use Rattle.coap_server_engine.specs.values.ServerAnswers.{stop_on, open_refusal, IsNotTaken, open_refusal_in}
 pub use Rattle.coap_server_engine.specs.values.ServerAnswers.{can_take_on, written_refusal, front_of}
 pub use Rattle.coap_server_engine.specs.values.ServerAnswers.{OpenedOrMemory, released_refusal, status_of}
@@ -139,7 +132,7 @@ pub use Rattle.coap_server_engine.specs.values.ServerAnswers.{response_event}
 pub use Rattle.coap_server_engine.specs.values.ServerAnswers.{handled_on}
 pub use Rattle.coap_server_engine.specs.values.ServerAnswers.{session_status, written_refusal_on}
 unfoldable pub use Rattle.coap_server_engine.specs.values.ServerAnswers.{handled_by}
-pub use Rattle.coap_server_session.specs.values.SessionAnswers.{IsAnnounced, announced_refusal_on, session_refusal}
+pub use Rattle.coap_server_session.specs.values.SessionAnswers.{IsAnnounced, announced_refusal_on}
 pub use Rattle.coap_server_engine.specs.values.ServerCauses.{UnaffectedAreSettled, AreOthersSettled, AreUntouched}
 pub use Rattle.coap_server_engine.specs.values.ServerCauses.{AreMarkedBut, AreMarkedAfter}
 pub use Rattle.coap_server_engine.specs.values.IndexSets.{IsOutside, bit_of}
@@ -178,21 +171,21 @@ pub use Rattle.coap_server_session.specs.values.Sessions.{taking_found, taking_r
 unfoldable pub use Rattle.coap_server_session.specs.values.Sessions.{changed_mark}
 unfoldable pub use Rattle.coap_server_session.specs.values.Sessions.{session_settled, session_handled}
 unfoldable pub use Rattle.coap_server_session.specs.values.Sessions.{taking}
-pub use Rattle.coap_server_engine.specs.values.HandedRequests.{handed_on, handed_by, frame_message, message_in}
+pub use Rattle.coap_server_engine.specs.values.HandedRequests.{handed_on, handed_by, frame_message}
 pub use Rattle.coap_server_engine.specs.values.HandedRequests.{IsTakenRequest}
 unfoldable pub use Rattle.coap_server_engine.specs.values.HandedRequests.{handed_frame}
-pub use Rattle.coap_server_engine.specs.values.ChangedRequests.{changing_on, request_key, frame_key, DifferAt, DifferBy}
+pub use Rattle.coap_server_engine.specs.values.ChangedRequests.{changing_on, frame_key, DifferBy}
 pub use Rattle.coap_server_engine.specs.values.ChangedRequests.{ChangesBy}
 unfoldable pub use Rattle.coap_server_engine.specs.values.ChangedRequests.{changing_frame}
 pub use Rattle.coap_server_engine.specs.values.Exchanges.{Exchange, Requested, Offered, Given, Gone, Answering}
 pub use Rattle.coap_server_engine.specs.values.Exchanges.{AreUnanswered, offers}
 unfoldable pub use Rattle.coap_server_engine.specs.values.Exchanges.{AnswersMore}
 pub use Rattle.coap_server_engine.specs.values.ApplicationCalls.{server_offered, offered_events, failure_with}
-pub use Rattle.coap_server_engine.specs.values.ApplicationCalls.{response_for, AskResult, asking, ServeResult}
-pub use Rattle.coap_server_engine.specs.values.ApplicationCalls.{asks_for, ask_result, limit_of, IsTakenFor}
-pub use Rattle.coap_server_engine.specs.values.ApplicationCalls.{IsNotTakenFor, unserved, served_more, AreMade}
+pub use Rattle.coap_server_engine.specs.values.ApplicationCalls.{response_for, asking, ServeResult}
+pub use Rattle.coap_server_engine.specs.values.ApplicationCalls.{asks_for, ask_result, IsTakenFor}
+pub use Rattle.coap_server_engine.specs.values.ApplicationCalls.{IsNotTakenFor, AreMade}
 pub use Rattle.coap_server_engine.specs.values.ApplicationCalls.{IsServed, IsPartlyServed}
-pub use Rattle.coap_server_engine.specs.values.ApplicationCalls.{IsGivenLater, IsRequestedLater, AreGivenLater}
+pub use Rattle.coap_server_engine.specs.values.ApplicationCalls.{IsRequestedLater, AreGivenLater}
 pub use Rattle.coap_server_engine.specs.values.ApplicationCalls.{NothingGiven, OneMoreGiven, AreRequestedLater}
 unfoldable pub use Rattle.coap_server_engine.specs.values.ApplicationCalls.{message_limit, served}
 -- ---- this crate: views
@@ -200,6 +193,6 @@ pub use Rattle.coap_server_engine.specs.views.LineViews.{line_bytes, IsRun, IsDr
 pub use Rattle.coap_server_engine.specs.views.ServerViews.{IsServer, server_value}
 pub use Rattle.coap_server_session.specs.views.SessionShows.{session_shown}
 -- ---- this crate: world
-pub use Rattle.coap_server_engine.specs.world.RequestsShown.{request_in, request_between, request_to, message_between}
+pub use Rattle.coap_server_engine.specs.world.RequestsShown.{request_in, request_to, message_between}
 pub use Rattle.coap_server_engine.specs.world.Shows.{Shows, ShowsRefused, place_shown, server_shown}
 unfoldable pub use Rattle.coap_server_engine.specs.world.Shows.{server_of}
