@@ -17,7 +17,8 @@ use c_handle::{Span, span_within};
 use coap_store::request_path;
 use coap_wire::{
     Code, FormatFault, FrameLayout, LARGEST_MESSAGE, MAX_EXTENDED_LENGTH, MAX_TOKEN, MessageRef,
-    Outline, PAYLOAD_MARKER, outline, parse, payload_of, read_option, write_head, write_option_head,
+    Outline, PAYLOAD_MARKER, outline, parse, payload_of, read_option, write_head,
+    write_option_head,
 };
 
 /// Largest length of the head of a message.

@@ -203,7 +203,7 @@ Acts h s = (call_effect (link_of h) (step_call s)).so ≡ true
 abbrev pub stepped : History → ClientStep → History
 stepped h s = with_deed h (call_effect (link_of h) (step_call s)).deed
 
--- What holds of a history and of the effect of a step holds after the step.
+-- A property of a history and of the effect of a step holds after the step.
 pub step_so : (h : History) (s : ClientStep) (P : History → Type 0) → P h → (Acts h s → P (stepped h s))
     → P (client.step h s)
 unfolding client.step

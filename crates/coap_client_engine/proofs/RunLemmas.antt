@@ -253,7 +253,7 @@ pub answers_on : {plan : ClientPlan} {start now : RunDevices} {r : Run} {P : Run
 answers_on next (Ok n) is reported leads = rw is (leads reported)
 answers_on next (Err e) is reported leads = tt
 
--- What follows from a trace and the status after it.
+-- A property of a trace follows from another one and the status after it.
 pub leads : {plan : ClientPlan} {start now : RunDevices} {r : Run} {P Q : RunTrace → Type 0} {next : Option ℕ}
     (after : Option ℕ) → ExtendsTraceOn plan start now r P next → next ≡ after
     → ((c : RunTrace) → IsAtTrace plan start now r c → status_in c ≡ after → P c → Q c)

@@ -18,7 +18,7 @@ token_in (verdict.Pong token custody) = Some token
 token_in other = None
 
 module _ (s : ConnectionState) (m : Message) where
-  -- What holds of each reaction to a message that is accepted.
+  -- A property of each reaction to a message that is accepted.
   live_so : (P : Reaction → Type 0)
       → ((does : Bool) (one other : Reaction) → P one → P other → P (cond does one other))
       → P (reports s verdict.Done) → ((why : Reason) → P (aborts s why)) → P (csm_reaction s (bad_csm_option m))

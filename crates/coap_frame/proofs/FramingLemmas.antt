@@ -236,5 +236,5 @@ unread_is_framer v piece is may =
       | inr none ↦ back_is_framer v piece piece is (back_piece v piece may none)
     ]
 
--- What `Framer::unread` needs.
+-- Lemmas for `Framer::unread`.
 pub ruleset frames_back = (back_spent, back_piece, frame_is_small, spent_lies, front_framer)

@@ -78,7 +78,7 @@ map_removed [] i within = absurd (omega arith)
 map_removed (e ∷ es) zero within = refl
 map_removed (e ∷ es) (suc i) within = rw (map_removed es i (omega arith))
 
--- What holds of the lengths and the bytes of all entries holds of these ones.
+-- A property of the lengths and the bytes of all entries holds of these ones.
 by_entries : (P : List ℕ → List ℕ → List (List ℕ) → Type 0)
     → ((es : List (List ℕ)) → P (map length es) (joined es) es)
     → (ns bs : List ℕ) → sum ns ≡ length bs → P ns bs (split_by ns bs)

@@ -26,7 +26,7 @@ result_cases (Err e) = inr (e, refl)
 
 -- ---- an option
 
--- What decoding an option returns: the delta or the length has nibble 15, or the extensions are incomplete, or the
+-- The results of decoding an option. The delta or the length has nibble 15, the extensions are incomplete, or the
 -- delta y.0 and the length z.0 are decoded, with z.1 left.
 pub data OptionKind (base b : ℕ) (s : List ℕ) : Type 0 where
   BadDelta : b / 16 ≡ 15 → option_at base b s ≡ Err OptionDelta → OptionKind base b s
@@ -149,7 +149,7 @@ body_fault base b s e other is = rw (body_is, ne_eqb b 255 other, is) refl
 
 -- ---- induction
 
--- What decoding a body returns.
+-- The results of decoding a body.
 pub data ReadsBody : ℕ → List ℕ → Body → Type 0 where
   AtEnd : (base : ℕ) → ReadsBody base [] (Ok ([], []))
   NoPayload : (base : ℕ) → ReadsBody base (255 ∷ []) (Err EmptyPayload)

@@ -237,7 +237,7 @@ stated_read head more t n h =
       );
     }
 
--- ---- what bytes declare
+-- ---- the sizes that bytes declare
 
 -- A size that the first bytes state is declared.
 pub size_declared : (s : List ℕ) (n : ℕ) → IsDeclaredSize s n → declared_of s ≡ Size n
@@ -517,7 +517,7 @@ reads_more b s t y z r =
     let k = token_more (b % 16) y.1 t z r.token in
     (k.0, reads b (s ++ t) (y.0, y.1 ++ t) (z.0, k.0) r.nibble (length_more (b / 16) s t y r.body) k.1)
 
--- What bytes declare stays the same when more bytes follow, unless it is unknown.
+-- The declaration stays the same when more bytes follow, unless it is unknown.
 pub known_more : (s t : List ℕ) → (declared_of s ≡ Unknown → ⊥)
     → (declared_of (s ++ t) ≡ declared_of s) × (outline_of (s ++ t) ≡ outline_of s)
 unfolding declared_of outline_of

@@ -1,5 +1,5 @@
--- The requests that the application answers are accounted for: the unanswered ones are pending, and the answer to each
--- other one is queued at its own place. Each effect adds a request, answers one, or passes them all.
+-- The requests for the application are accounted for: the unanswered ones are pending. The answer to each other one is
+-- queued at its own place. Each effect adds a request, answers one, or passes them all.
 use Rattle.std.proofs.lemmas.Grind.{common_steps}
 use Rattle.std.proofs.Common.{Bool, List, Option, Some, [], ap, arith, drop, false, filter, inl, inr, length, map, not}
 use Rattle.std.proofs.Common.{refl, rules, slice_get, suc, sym, true, ℕ, ◌&&◌, ◌++◌, ◌<◌, ◌∙◌, ◌∷◌, ◌≡◌, ◌≤◌}

@@ -126,7 +126,7 @@ handed_front : (shared : ServerState) (M : ℕ) (rest piece : List ℕ) (t : Con
 unfolding handed
 handed_front shared M rest piece t most does = rw ((handles_parts t does).0, (handles_parts t does).1, most) refl
 
--- What is found in the bytes of the unfinished frame and the slice.
+-- The framing of the unfinished frame and the slice.
 abbrev pub front_found : ℕ → ℕ → List AcceptedCall → List ℕ → Framing
 front_found M id es piece = framing (size_on M id es) (stream_on M id es).rest piece
 
@@ -137,7 +137,7 @@ session_after M id es t = session_shown (stream_on M id es).rest t
 abbrev AddsFront : ℕ → ℕ → List AcceptedCall → List ℕ → Stream → Type 0
 AddsFront M id es piece = Adds M id es (take (front_found M id es piece).taken piece)
 
--- The effect of a slice on a connection, and the frame that it hands to the application: no byte is accepted, or the
+-- The effect of a slice on a connection, and the frame that it hands to the application. No byte is accepted, or the
 -- accepted bytes complete nothing, a message, or an error.
 pub data Accepts (M id : ℕ) (es : List AcceptedCall) (piece : List ℕ) (t : Connection) (shared : ServerState)
     : TakeOutcome → Option (List ℕ) → Type 0 where

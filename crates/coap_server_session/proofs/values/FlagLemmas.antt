@@ -18,7 +18,7 @@ pub put_flagged : (flags : List Bool) (marks : List (Option ℕ)) (i : ℕ) (mar
     → i < length marks → AreFlagged flags marks → AreFlagged (set flags i (is_some mark)) (set marks i mark)
 put_flagged flags marks i mark here there flagged = λ k. let f = flagged k in grind (arith, common_steps, gets)
 
--- What holds of observers after one of them is written.
+-- Lemmas on observers of which one is written.
 pub ruleset writes = (map-set_same, map-set, length-map, put_flagged)
 
 pub entered_flagged : (flags : List Bool) (marks : List (Option ℕ)) → AreFlagged flags marks
