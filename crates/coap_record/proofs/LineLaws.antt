@@ -1,25 +1,22 @@
 -- The script reader reads the line of a call back as the event of the call.
-use Rattle.std.proofs.Common.{◌≡◌, ℕ, ◌≤◌, Bool, true, false, ◌&&◌, ◌==◌, List, [], ◌∷◌, ◌++◌, length, Option, Some, Ok}
-use Rattle.std.proofs.Common.{refl, sym, ap, ◌∙◌, arith, nat_le, nat_lt, decimal, codes, All, append_assoc, append-nil}
+use Rattle.std.proofs.Common.{◌≡◌, ℕ, Bool, true, false, ◌&&◌, ◌==◌, List, [], ◌∷◌, ◌++◌, Some, Ok, refl, ap, ◌∙◌}
+use Rattle.std.proofs.Common.{arith, nat_le, nat_lt, decimal, codes, All, append_assoc, append-nil, ◌⊎◌, inl, inr}
+use Rattle.std.proofs.Common.{option_map, if◌then◌else◌}
 use Rattle.std.proofs.lemmas.Bool.{and_parts}
 use Rattle.std.proofs.lemmas.Bool.Decides.{nat_tests}
 use Rattle.std.proofs.lemmas.List.Elements.{All-head, All-tail}
 use Rattle.std.proofs.lemmas.List.Splits.{slice_split_none, slice_split_at}
 use Rattle.coap_script.proofs.scripting.ScriptLemmas.{line_and_rest}
-use Rattle.coap_script.specs.script.Events as event
 use Rattle.coap_model.specs.world.Events as call
 use Rattle.coap_record.specs.Prelude.{list_all, encode_lower, ScriptEventValue, event_of, event_alone, event_with_one}
 use Rattle.coap_record.specs.Prelude.{event_with_two, in_event, drain_event, number_event, put_event, remove_event}
-use Rattle.coap_record.specs.Prelude.{bytes_text, word_line, script_of, said_by_line, said_by_parts, event_in}
-use Rattle.coap_record.specs.Prelude.{events_in}
-use Rattle.coap_record.specs.Prelude.{says_nothing, newline, space, words_of, AcceptedCall, Path}
-use Rattle.coap_record.specs.Prelude.{path_word, format_word, took_line, drain_line, stored_line, removed_line}
-use Rattle.coap_record.specs.Prelude.{announced_line}
-use Rattle.coap_record.specs.Prelude.{line_of, lines_of, events_said, all_events_said, IsInRange, IsNumber, AreBytes}
-use Rattle.coap_record.specs.Prelude.{IsPathOfBytes, IsFormat, is_printable, respond_line, respond_event, spelling}
+use Rattle.coap_record.specs.Prelude.{bytes_text, script_of, said_by_parts, event_in, events_in, says_nothing, newline}
+use Rattle.coap_record.specs.Prelude.{space, words_of, AcceptedCall, path_word, format_word, took_line, line_of}
+use Rattle.coap_record.specs.Prelude.{lines_of, events_said, all_events_said, IsInRange, is_printable, respond_event}
+use Rattle.coap_record.specs.Prelude.{spelling}
 use Rattle.coap_record.proofs.WordLaws.{word_byte, IsWord, all_fail, all_pass, both_words, number_word, number_back}
 use Rattle.coap_record.proofs.WordLaws.{format_is_word, format_back, bytes_word, bytes_back, payload_word, payload_back}
-use Rattle.coap_record.proofs.WordLaws.{path_is_word, path_back}
+use Rattle.coap_record.proofs.WordLaws.{path_is_word, path_back, some_bytes_back}
 
 -- ---- lines of words
 
@@ -66,153 +63,85 @@ bytes_of_line word (next ∷ others) is are =
     both_words line_byte word (space ∷ spaced next others) (all_pass word_byte line_byte of_word word is)
     (bytes_of_line next others are.0 are.1)
 
-event_of_line : (word : List ℕ) (others : List (List ℕ)) (e : ScriptEventValue) → IsWord word → AreWords others
-    → event_of (word ∷ others) ≡ Some e → event_in (spaced word others) ≡ Some e
-unfolding event_in
-event_of_line word others e is are names =
+-- A line that says these events: it is empty, or has bytes of a line and a newline.
+abbrev pub IsLine : List ℕ → List ScriptEventValue → Type 0
+IsLine text es =
+    ((text ≡ []) × (es ≡ []))
+    ⊎ ((body : List ℕ) × (text ≡ body ++ newline ∷ []) × (list_all line_byte body ≡ true) × (events_in body ≡ Some es))
+
+-- A line of words. It is a comment, or names an event.
+of_words : (text word : List ℕ) (others : List (List ℕ)) (es : List ScriptEventValue)
+    → text ≡ spaced word others ++ newline ∷ [] → IsWord word → AreWords others
+    → (if says_nothing (spaced word others) then Some [] else option_map (λ e. e ∷ []) (event_of (word ∷ others)))
+    ≡ Some es
+    → IsLine text es
+unfolding events_in event_in
+of_words text word others es same is are says =
+    let bytes = bytes_of_line word others is are in (
+      inr (
+        spaced word others,
+        same,
+        bytes,
+        rw (
+          all_pass line_byte (λ b. nat_lt b 128) is_ascii (spaced word others) bytes,
+          words_of_line word others is are,
+        ) says,
+      )
+    )
+
+-- A line, and the text after it.
+line_said : (text : List ℕ) (said : List ScriptEventValue) → IsLine text said
+    → (more : List ℕ) (es : List ScriptEventValue) → script_of more ≡ Ok es → script_of (text ++ more) ≡ Ok (said ++ es)
+line_said text said (inl none) more es read = rw (none.0, none.1) read
+line_said text said (inr line) more es read =
+    let alone = all_fail line_byte (λ b. b == newline) no_newline line.0 line.2 in
     rw (
-      all_pass line_byte (λ b. nat_lt b 128) is_ascii (spaced word others) (bytes_of_line word others is are),
-      words_of_line word others is are,
-    ) names
+      line.1,
+      append_assoc line.0 (newline ∷ []) more,
+      slice_split_at (λ b. b == newline) line.0 newline more alone refl,
+      line_and_rest line.0 more,
+      line.3,
+      read,
+    )
 
--- A line that names an event, and the text after it.
-line_said : (word : List ℕ) (others : List (List ℕ)) (e : ScriptEventValue) → IsWord word → AreWords others
-    → says_nothing (spaced word others) ≡ false → event_of (word ∷ others) ≡ Some e
-    → (more : List ℕ) (es : List ScriptEventValue) → script_of more ≡ Ok es
-    → script_of (spaced word others ++ newline ∷ more) ≡ Ok (e ∷ es)
-unfolding events_in
-line_said word others e is are says names more es read =
-    let line = spaced word others in
-    let alone = all_fail line_byte (λ b. b == newline) no_newline line (bytes_of_line word others is are) in
-    let named : events_in line ≡ Some (e ∷ []) = rw (says, event_of_line word others e is are names) refl in
-    ap said_by_parts (slice_split_at (λ b. b == newline) line newline more alone refl)
-    ∙ line_and_rest line more
-    ∙ ap (λ found. said_by_line found (script_of more)) named
-    ∙ ap (said_by_line (Some (e ∷ []))) read
-
--- A comment, and the text after it.
-comment_said : (body : List ℕ) → list_all line_byte body ≡ true
-    → (more : List ℕ) (es : List ScriptEventValue) → script_of more ≡ Ok es
-    → script_of (35 ∷ (body ++ newline ∷ more)) ≡ Ok es
-unfolding events_in says_nothing
-comment_said body are more es read =
-    let line = 35 ∷ body in
-    let alone = all_fail line_byte (λ b. b == newline) no_newline line are in
-    ap said_by_parts (slice_split_at (λ b. b == newline) line newline more alone refl)
-    ∙ line_and_rest line more
-    ∙ ap (said_by_line (Some [])) read
-
--- ---- lines of calls
-
--- A word and a number.
-numbered : (word : List ℕ) (n : ℕ) (e : ScriptEventValue) → IsWord word
-    → says_nothing (spaced word (decimal n ∷ [])) ≡ false → IsNumber n → event_of (word ∷ decimal n ∷ []) ≡ Some e
-    → (more : List ℕ) (es : List ScriptEventValue) → script_of more ≡ Ok es
-    → script_of (word_line word n ++ more) ≡ Ok (e ∷ es)
-unfolding spaced
-numbered word n e is says small names more es read =
-    let text : word_line word n ++ more ≡ spaced word (decimal n ∷ []) ++ newline ∷ more = simp append_assoc in
-    ap script_of text ∙ line_said word (decimal n ∷ []) e is (number_word n small, tt) says names more es read
-
-took_said : (id : ℕ) (bytes : List ℕ) → IsNumber id → AreBytes bytes
-    → (more : List ℕ) (es : List ScriptEventValue) → script_of more ≡ Ok es
-    → script_of (took_line id bytes ++ more) ≡ Ok (events_said (call.Took id bytes) ++ es)
-unfolding took_line events_said spaced says_nothing event_of event_with_two in_event
-took_said id [] small are more es read = read
-took_said id (b ∷ bytes) small are more es read =
-    let hex = encode_lower (b ∷ bytes) in
-    let text : took_line id (b ∷ bytes) ++ more ≡ spaced (codes "in") (decimal id ∷ hex ∷ []) ++ newline ∷ more =
-    simp append_assoc in
-    let names : event_of (codes "in" ∷ decimal id ∷ hex ∷ []) ≡ Some (event.In id (b ∷ bytes)) =
-    rw (number_back id small, bytes_back b bytes are) refl in
-    ap script_of text ∙ line_said (codes "in") (decimal id ∷ hex ∷ []) (event.In id (b ∷ bytes)) refl
-    (number_word id small, (bytes_word (b ∷ bytes) are, tt)) refl names more es read
-
-drain_said : (id count : ℕ) → IsNumber id → IsNumber count
-    → (more : List ℕ) (es : List ScriptEventValue) → script_of more ≡ Ok es
-    → script_of (drain_line id count ++ more) ≡ Ok (event.Drain id (Some count) ∷ es)
-unfolding spaced says_nothing event_of event_with_two drain_event
-drain_said id count small few more es read =
-    let text : drain_line id count ++ more
-    ≡ spaced (codes "drain") (decimal id ∷ decimal count ∷ []) ++ newline ∷ more = simp append_assoc in
-    let names : event_of (codes "drain" ∷ decimal id ∷ decimal count ∷ []) ≡ Some (event.Drain id (Some count)) =
-    rw (number_back id small, number_back count few) refl in
-    ap script_of text ∙ line_said (codes "drain") (decimal id ∷ decimal count ∷ []) (event.Drain id (Some count)) refl
-    (number_word id small, (number_word count few, tt)) refl names more es read
-
-stored_said : (path : Path) (format : Option ℕ) (bytes : List ℕ) → IsPathOfBytes path → IsFormat format → AreBytes bytes
-    → (more : List ℕ) (es : List ScriptEventValue) → script_of more ≡ Ok es
-    → script_of (stored_line path format bytes ++ more) ≡ Ok (event.Put path format bytes ∷ es)
-unfolding spaced says_nothing event_of put_event
-stored_said path format bytes is small are more es read =
-    let words = path_word path ∷ format_word format ∷ bytes_text bytes ∷ [] in
-    let text : stored_line path format bytes ++ more ≡ spaced (codes "put") words ++ newline ∷ more =
-    simp append_assoc in
-    let names : event_of (codes "put" ∷ words) ≡ Some (event.Put path format bytes) =
-    rw (path_back path is.0 is.1, format_back format small, payload_back bytes are) refl in
-    ap script_of text ∙ line_said (codes "put") words (event.Put path format bytes) refl
-    (path_is_word path is.1, (format_is_word format small, (payload_word bytes are, tt))) refl names more es read
-
-removed_said : (path : Path) → IsPathOfBytes path
-    → (more : List ℕ) (es : List ScriptEventValue) → script_of more ≡ Ok es
-    → script_of (removed_line path ++ more) ≡ Ok (event.Remove path (path_word path) ∷ es)
-unfolding spaced says_nothing event_of event_with_one remove_event
-removed_said path is more es read =
-    let text : removed_line path ++ more ≡ spaced (codes "remove") (path_word path ∷ []) ++ newline ∷ more =
-    simp append_assoc in
-    let names : event_of (codes "remove" ∷ path_word path ∷ []) ≡ Some (event.Remove path (path_word path)) =
-    rw (path_back path is.0 is.1) refl in
-    ap script_of text ∙ line_said (codes "remove") (path_word path ∷ []) (event.Remove path (path_word path)) refl
-    (path_is_word path is.1, tt) refl names more es read
-
-responded_said : (id : ℕ) (bytes : List ℕ) → IsNumber id → AreBytes bytes → 1 ≤ length bytes
-    → (more : List ℕ) (es : List ScriptEventValue) → script_of more ≡ Ok es
-    → script_of (respond_line id bytes ++ more) ≡ Ok (event.Respond id bytes ∷ es)
-unfolding spaced says_nothing event_of event_with_two respond_event
-responded_said id [] small are some more es read = absurd (omega (arith, some))
-responded_said id (b ∷ bytes) small are some more es read =
-    let hex = encode_lower (b ∷ bytes) in
-    let text : respond_line id (b ∷ bytes) ++ more
-    ≡ spaced (codes "respond") (decimal id ∷ hex ∷ []) ++ newline ∷ more = simp append_assoc in
-    let names : event_of (codes "respond" ∷ decimal id ∷ hex ∷ []) ≡ Some (event.Respond id (b ∷ bytes)) =
-    rw (number_back id small, bytes_back b bytes are) refl in
-    ap script_of text ∙ line_said (codes "respond") (decimal id ∷ hex ∷ []) (event.Respond id (b ∷ bytes)) refl
-    (number_word id small, (bytes_word (b ∷ bytes) are, tt)) refl names more es read
-
-announced_said : (id size : ℕ) → IsNumber id → IsNumber size
-    → (more : List ℕ) (es : List ScriptEventValue) → script_of more ≡ Ok es
-    → script_of (announced_line id size ++ more) ≡ Ok es
-announced_said id size small few more es read =
-    let body = codes " announced " ++ decimal id ++ space ∷ decimal size in
-    let text : announced_line id size ++ more ≡ 35 ∷ (body ++ newline ∷ more) = simp append_assoc in
-    let number : (n : ℕ) → IsNumber n → list_all line_byte (decimal n) ≡ true =
-    λ n fits. all_pass word_byte line_byte of_word (decimal n) (number_word n fits) in
-    let bytes = both_words line_byte (codes " announced ") (decimal id ++ space ∷ decimal size) refl
-    (both_words line_byte (decimal id) (space ∷ decimal size) (number id small) (number size few)) in
-    ap script_of text ∙ comment_said body bytes more es read
-
--- ---- all calls
-
--- The line of a call, and the text after it.
-pub call_said : (c : AcceptedCall) → IsInRange c → (more : List ℕ) (es : List ScriptEventValue) → script_of more ≡ Ok es
-    → script_of (line_of c ++ more) ≡ Ok (events_said c ++ es)
-unfolding line_of events_said IsInRange spaced says_nothing event_of event_alone event_with_one number_event
-call_said (call.Opened id) is more es read = line_said (codes "open") [] event.Open refl tt refl refl more es read
-call_said (call.Took id bytes) is more es read = took_said id bytes is.0 is.1 more es read
-call_said (call.Wrote id count) is more es read = drain_said id count is.0 is.1 more es read
-call_said (call.Ticked now) is more es read =
-    numbered (codes "tick") now (event.Tick now) refl refl is (rw (number_back now is) refl) more es read
-call_said (call.Stored path format bytes) is more es read =
-    stored_said path format bytes is.0 is.1.0 is.1.1 more es read
-call_said (call.Removed path) is more es read = removed_said path is more es read
-call_said (call.Ended id) is more es read =
-    numbered (codes "end") id (event.End id) refl refl is (rw (number_back id is) refl) more es read
-call_said (call.Released id) is more es read =
-    numbered (codes "release") id (event.Release id) refl refl is (rw (number_back id is) refl) more es read
-call_said (call.Announced id size) is more es read = announced_said id size is.0 is.1 more es read
-call_said (call.Responded id m) is more es read = responded_said id (spelling m) is.0 is.1.0 is.1.1 more es read
-call_said (call.Dropped id) is more es read =
-    numbered (codes "drop") id (event.Drop id) refl refl is (rw (number_back id is) refl) more es read
+-- The line of a call.
+pub call_line : (c : AcceptedCall) → IsInRange c → IsLine (line_of c) (events_said c)
+unfolding line_of took_line events_said IsInRange spaced says_nothing event_of event_alone event_with_one
+    event_with_two number_event in_event drain_event put_event remove_event respond_event
+call_line (call.Opened id) is = of_words _ (codes "open") [] _ refl refl tt refl
+call_line (call.Took id []) is = inl (refl, refl)
+call_line (call.Took id (b ∷ bytes)) is =
+    of_words _ (codes "in") (decimal id ∷ encode_lower (b ∷ bytes) ∷ []) _ (simp append_assoc) refl
+    (number_word id is.0, (bytes_word (b ∷ bytes) is.1, tt)) (rw (number_back id is.0, bytes_back b bytes is.1))
+call_line (call.Wrote id count) is =
+    of_words _ (codes "drain") (decimal id ∷ decimal count ∷ []) _ (simp append_assoc) refl
+    (number_word id is.0, (number_word count is.1, tt)) (rw (number_back id is.0, number_back count is.1))
+call_line (call.Ticked now) is =
+    of_words _ (codes "tick") (decimal now ∷ []) _ (simp append_assoc) refl (number_word now is, tt)
+    (rw (number_back now is))
+call_line (call.Stored path format bytes) is =
+    of_words _ (codes "put") (path_word path ∷ format_word format ∷ bytes_text bytes ∷ []) _ (simp append_assoc) refl
+    (path_is_word path is.0.1, (format_is_word format is.1.0, (payload_word bytes is.1.1, tt)))
+    (rw (path_back path is.0.0 is.0.1, format_back format is.1.0, payload_back bytes is.1.1))
+call_line (call.Removed path) is =
+    of_words _ (codes "remove") (path_word path ∷ []) _ (simp append_assoc) refl (path_is_word path is.1, tt)
+    (rw (path_back path is.0 is.1))
+call_line (call.Ended id) is =
+    of_words _ (codes "end") (decimal id ∷ []) _ (simp append_assoc) refl (number_word id is, tt)
+    (rw (number_back id is))
+call_line (call.Released id) is =
+    of_words _ (codes "release") (decimal id ∷ []) _ (simp append_assoc) refl (number_word id is, tt)
+    (rw (number_back id is))
+call_line (call.Announced id size) is =
+    of_words _ (codes "#") (codes "announced" ∷ decimal id ∷ decimal size ∷ []) _ (simp append_assoc) refl
+    (refl, (number_word id is.0, (number_word size is.1, tt))) refl
+call_line (call.Responded id m) is =
+    of_words _ (codes "respond") (decimal id ∷ encode_lower (spelling m) ∷ []) _ (simp append_assoc) refl
+    (number_word id is.0, (bytes_word (spelling m) is.1.0, tt))
+    (rw (number_back id is.0, some_bytes_back (spelling m) is.1.0 is.1.1))
+call_line (call.Dropped id) is =
+    of_words _ (codes "drop") (decimal id ∷ []) _ (simp append_assoc) refl (number_word id is, tt)
+    (rw (number_back id is))
 
 -- The lines of calls, and the text after them.
 pub calls_said : (cs : List AcceptedCall) → All IsInRange cs → (more : List ℕ) (es : List ScriptEventValue)
@@ -220,30 +149,27 @@ pub calls_said : (cs : List AcceptedCall) → All IsInRange cs → (more : List 
 unfolding lines_of all_events_said
 calls_said [] are more es read = read
 calls_said (c ∷ cs) are more es read =
-    let others = calls_said cs (All-tail IsInRange c cs are) more es read in
-    ap script_of (append_assoc (line_of c) (lines_of cs) more)
-    ∙ call_said c (All-head IsInRange c cs are) (lines_of cs ++ more) (all_events_said cs ++ es) others
-    ∙ ap (λ all. Ok all) (sym (append_assoc (events_said c) (all_events_said cs) es))
+    simp append_assoc (line_said (line_of c) (events_said c) (call_line c (All-head IsInRange c cs are))
+    (lines_of cs ++ more) (all_events_said cs ++ es) (calls_said cs (All-tail IsInRange c cs are) more es read))
 
 -- The line of a call alone.
 pub line_read_back : (c : AcceptedCall) → IsInRange c → script_of (line_of c) ≡ Ok (events_said c)
 unfolding said_by_parts
-line_read_back c is =
-    ap script_of (sym (append-nil (line_of c))) ∙ call_said c is [] [] refl
-    ∙ ap (λ all. Ok all) (append-nil (events_said c))
+line_read_back c is = simp append-nil at (line_said (line_of c) (events_said c) (call_line c is) [] [] refl)
 
 -- The lines of calls alone.
 pub lines_read_back : (cs : List AcceptedCall) → All IsInRange cs → script_of (lines_of cs) ≡ Ok (all_events_said cs)
 unfolding said_by_parts
-lines_read_back cs are =
-    ap script_of (sym (append-nil (lines_of cs))) ∙ calls_said cs are [] [] refl
-    ∙ ap (λ all. Ok all) (append-nil (all_events_said cs))
+lines_read_back cs are = simp append-nil at (calls_said cs are [] [] refl)
+
+of_printable : (b : ℕ) → is_printable b ≡ true → line_byte b ≡ true
+of_printable b passes = grind (arith, nat_tests)
 
 -- A comment of printable text, and the text after it.
 pub comment_read_back : (text more : List ℕ) (es : List ScriptEventValue) → list_all is_printable text ≡ true
     → script_of more ≡ Ok es → script_of (35 ∷ (text ++ newline ∷ more)) ≡ Ok es
+unfolding events_in says_nothing
 comment_read_back text more es printable read =
-    comment_said text (all_pass is_printable line_byte of_printable text printable) more es read
-  where
-    of_printable : (b : ℕ) → is_printable b ≡ true → line_byte b ≡ true
-    of_printable b passes = grind (arith, nat_tests)
+    let bytes = all_pass is_printable line_byte of_printable text printable in
+    rw (← append_assoc text (newline ∷ []) more)
+    (line_said (35 ∷ (text ++ newline ∷ [])) [] (inr (35 ∷ text, refl, bytes, refl)) more es read)

@@ -137,6 +137,11 @@ bytes_back byte bytes are =
     hex_of_some (encode_lower all) (λ none. omega (arith, length-encode_with lower_digits all))
     ∙ rw (decode_of-encode_lower all (bytes_small all are)) refl
 
+pub some_bytes_back : (bytes : List ℕ) → AreBytes bytes → 1 ≤ length bytes
+    → hex_value (encode_lower bytes) ≡ Some bytes
+some_bytes_back [] are some = absurd (omega arith)
+some_bytes_back (b ∷ bytes) are some = bytes_back b bytes are
+
 digits_are_no_hyphen : (byte : ℕ) (bytes : List ℕ) → is_hyphen (encode_lower (byte ∷ bytes)) ≡ false
 unfolding encode_with
 digits_are_no_hyphen byte bytes = grind arith
