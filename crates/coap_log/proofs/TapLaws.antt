@@ -1,21 +1,21 @@
 -- A tap shows the frames of its stream.
 use Rattle.std.proofs.Common.{◌≡◌, ℕ, ◌+◌, ◌-◌, ◌≤◌, ◌<◌, min, Bool, true, false, List, [], ◌∷◌, ◌++◌, length, take}
-use Rattle.std.proofs.Common.{drop, map, sym, ap, subst, ◌∙◌, append_assoc, arith, ◌⊎◌, inl, inr, refl, if◌then◌else◌}
+use Rattle.std.proofs.Common.{drop, map, sym, ap, ◌∙◌, append_assoc, arith, ◌⊎◌, inl, inr, refl, if◌then◌else◌, subst}
 use Rattle.std.proofs.lemmas.Bool.{cases_lt, lt-ltb, le-ltb, eq-eqb, ne_eqb, cond-true, cond-false}
 use Rattle.std.proofs.lemmas.List.{append-nil, take-append-drop, take_all, take_at, take-append-le, length-append}
 use Rattle.std.proofs.lemmas.List.{length-take}
 use Rattle.coap_wire.specs.Reading.{declared_of}
 use Rattle.coap_wire.specs.StreamPrefix.{StreamPrefix, Unfinished, Whole, Faulty, prefix_kind}
-use Rattle.coap_wire.specs.Frames.{Frames, constant_size, sized_frames}
+use Rattle.coap_wire.specs.Frames.{constant_size, sized_frames}
 use Rattle.coap_wire.specs.declared.sizes.TheConstants.{LARGEST_MESSAGE}
 use Rattle.coap_wire.specs.declared.declaration.Declared.{Declared}
 use Rattle.coap_wire.specs.declared.declaration.Declared.TheVariants.{Unknown, Size, BadToken}
 use Rattle.coap_wire.proofs.StreamSteps.{begin_unknown, begin_bad_token, begin_too_large, begin_short, begin_whole}
 use Rattle.coap_wire.proofs.StreamSteps.{whole_itself, whole_more, whole_parts, faulty_more, unfinished_empty}
 use Rattle.coap_wire.proofs.StreamSteps.{frames_unfinished, frames_faulty, frames_whole}
-use Rattle.coap_log.specs.Taps.{TapValue, new_tap, begun, with_bytes, ended_at, silenced, taken_at, followed_at}
-use Rattle.coap_log.specs.Taps.{declared_after, taken_by, followed_by, taken, tap_after, Glimpse, glimpse, TapOutput}
-use Rattle.coap_log.specs.Taps.{output_then, output_of, counted, after_pieces}
+use Rattle.coap_log.specs.Taps.{TapValue, new_tap, begun, with_bytes, silenced, taken_at, followed_at, declared_after}
+use Rattle.coap_log.specs.Taps.{taken_by, followed_by, taken, tap_after, Glimpse, glimpse, TapOutput, output_then}
+use Rattle.coap_log.specs.Taps.{output_of, counted, after_pieces}
 use Rattle.coap_log.proofs.TapLemmas.{filled, cut_twice, declared_kept}
 
 abbrev M : ℕ
@@ -49,6 +49,18 @@ IsStep v r piece t after Unfinished = (take t piece ≡ piece) × Follows after 
 IsStep v r piece t after (Whole frame rest) = (r ++ take t piece ≡ frame) × Shows v.room after frame
 IsStep v r piece t after (Faulty fault) = (take t piece ≡ piece) × IsDead after
 
+-- A tap that has no byte of the next frame follows it.
+begins : (v : TapValue) → 8 ≤ v.room → v.is_whole ≡ false → v.is_silent ≡ false → v.kept ≡ [] → v.passed ≡ 0
+    → Follows v []
+begins v room whole live kept passed = record {
+  room = room;
+  whole = whole;
+  live = live;
+  kept = kept ∙ sym (take_all v.room [] (omega arith));
+  passed = passed;
+  unfinished = unfinished_empty M;
+}
+
 -- ---- the bytes of a frame
 
 -- If the present bytes are unfinished, a frame contains all of them.
@@ -60,9 +72,9 @@ within_frame r piece frame rest u e =
       | inl small ↦ (
           let front : take n r ≡ frame = sym (take-append-le n r piece (omega arith))
           ∙ ap (take n) (whole_parts M (r ++ piece) frame rest e).bytes ∙ take_at frame rest n refl in
-          let cut : r ≡ frame ++ drop n r = sym (take-append-drop n r) ∙ ap (λ (s : List ℕ). s ++ drop n r) front in
-          let bad : ◌≡◌ {A = StreamPrefix} Unfinished (Whole frame (drop n r)) = sym u ∙ ap (prefix_kind M) cut
-          ∙ whole_more M frame (drop n r) frame [] (whole_itself M (r ++ piece) frame rest e) in
+          let whole = whole_more M frame (drop n r) frame [] (whole_itself M (r ++ piece) frame rest e) in
+          let bad : ◌≡◌ {A = StreamPrefix} Unfinished (Whole frame (drop n r)) =
+          sym u ∙ ap (prefix_kind M) (sym (take-append-drop n r) ∙ ap (λ s. s ++ drop n r) front) ∙ whole in
           absurd cc)
       | inr fits ↦ fits
     ]
@@ -74,9 +86,6 @@ module _ (v : TapValue) (r piece : List ℕ) (f : Follows v r) where
   kept_after : (bytes : List ℕ) → take v.room (v.kept ++ bytes) ≡ take v.room (r ++ bytes)
   kept_after bytes = ap (λ (k : List ℕ). take v.room (k ++ bytes)) f.kept ∙ cut_twice v.room r bytes
 
-  all_of : (t : ℕ) → length piece ≤ t → take t piece ≡ piece
-  all_of t long = take_all t piece long
-
   -- All bytes of the piece belong to an unfinished frame.
   goes_on : (bytes : List ℕ) → bytes ≡ piece → prefix_kind M (r ++ piece) ≡ Unfinished
       → Follows (with_bytes v bytes) (r ++ piece)
@@ -84,50 +93,46 @@ module _ (v : TapValue) (r piece : List ℕ) (f : Follows v r) where
     room = f.room;
     whole = f.whole;
     live = f.live;
-    kept = kept_after bytes ∙ ap (λ (b : List ℕ). take v.room (r ++ b)) all;
-    passed = omega (arith, f.passed, ap (λ (b : List ℕ). length b) all, length-append r piece);
+    kept = kept_after bytes ∙ rw all;
+    passed = omega (arith, f.passed, ap length all, length-append r piece);
     unfinished = u;
   }
 
   dies : IsDead (silenced v)
   dies = record { whole = f.whole; silent = refl }
 
+  -- The effect of the piece at this declaration.
+  abbrev IsStepAt : Declared → Type 0
+  IsStepAt d = IsStep v r piece (taken_at v piece d) (followed_at v (take (taken_at v piece d) piece) d)
+      (prefix_kind M (r ++ piece))
+
   -- A frame that goes on past the piece.
-  short : (n : ℕ) → declared_of (r ++ piece) ≡ Size n → n ≤ M → length (r ++ piece) < n
-      → IsStep v r piece (min (n - v.passed) (length piece))
-      (ended_at n (with_bytes v (take (min (n - v.passed) (length piece)) piece))) (prefix_kind M (r ++ piece))
+  short : (n : ℕ) → declared_of (r ++ piece) ≡ Size n → n ≤ M → length (r ++ piece) < n → IsStepAt (Size n)
   short n e small less =
       let t = min (n - v.passed) (length piece) in
-      let all : take t piece ≡ piece = all_of t (omega (arith, less, f.passed, length-append r piece)) in
+      let all : take t piece ≡ piece = take_all t piece (omega (arith, f.passed, length-append r piece)) in
       let u = begin_short M (r ++ piece) n e small less in
       let next = goes_on (take t piece) all u in
-      let passed : v.passed + length (take t piece) < n = omega (arith, less, next.passed) in
-      let not_yet : ended_at n (with_bytes v (take t piece)) ≡ with_bytes v (take t piece) =
-      cond-false _ _ _ (ne_eqb (v.passed + length (take t piece)) n (λ same. absurd (omega (arith, same, passed)))) in
-      subst (IsStep v r piece t (ended_at n (with_bytes v (take t piece)))) (sym u)
-      (subst (λ (a : TapValue). IsStep v r piece t a Unfinished) (sym not_yet) (all, next, refl))
+      let passed : v.passed + length (take t piece) < n = omega (arith, next.passed) in
+      rw (
+        le-ltb M n small,
+        u,
+        ne_eqb (v.passed + length (take t piece)) n (λ same. absurd (omega (arith, same, passed))),
+      ) (all, next, refl)
 
   -- A frame that ends within the piece.
-  long : (n : ℕ) → declared_of (r ++ piece) ≡ Size n → n ≤ M → n ≤ length (r ++ piece)
-      → IsStep v r piece (min (n - v.passed) (length piece))
-      (ended_at n (with_bytes v (take (min (n - v.passed) (length piece)) piece))) (prefix_kind M (r ++ piece))
+  long : (n : ℕ) → declared_of (r ++ piece) ≡ Size n → n ≤ M → n ≤ length (r ++ piece) → IsStepAt (Size n)
   long n e small enough =
       let t = min (n - v.passed) (length piece) in
       let w = begin_whole M (r ++ piece) n e small enough in
-      let size : length (take n (r ++ piece)) ≡ n = omega (arith, enough, length-take n (r ++ piece)) in
+      let size : length (take n (r ++ piece)) ≡ n = omega (arith, length-take n (r ++ piece)) in
       let some : length r ≤ n =
       omega (arith, size, within_frame r piece (take n (r ++ piece)) (drop n (r ++ piece)) f.unfinished w) in
-      let count : t ≡ n - length r = omega (arith, f.passed, enough, length-append r piece) in
-      let frame : r ++ take t piece ≡ take n (r ++ piece) =
-      ap (λ (k : ℕ). r ++ take k piece) count ∙ sym (filled n r piece some) in
-      let taken : length (take t piece) ≡ n - length r =
-      omega (arith, count, enough, length-append r piece, length-take t piece) in
-      let passed : v.passed + length (take t piece) ≡ n = omega (arith, f.passed, taken, some) in
-      let ended : ended_at n (with_bytes v (take t piece))
-      ≡ record (with_bytes v (take t piece)) { is_whole = true; messages = counted v.messages 1 } =
-      cond-true _ _ _ (eq-eqb (v.passed + length (take t piece)) n passed) in
-      subst (IsStep v r piece t (ended_at n (with_bytes v (take t piece)))) (sym w)
-      (subst (λ (a : TapValue). IsStep v r piece t a (Whole (take n (r ++ piece)) (drop n (r ++ piece)))) (sym ended) (
+      let count : t ≡ n - length r = omega (arith, f.passed, length-append r piece) in
+      let frame : r ++ take t piece ≡ take n (r ++ piece) = rw (count, filled n r piece some) in
+      let passed : v.passed + length (take t piece) ≡ n =
+      omega (arith, f.passed, count, length-append r piece, length-take t piece) in
+      rw (le-ltb M n small, w, eq-eqb (v.passed + length (take t piece)) n passed) (
         frame,
         record {
           room = refl;
@@ -136,57 +141,40 @@ module _ (v : TapValue) (r piece : List ℕ) (f : Follows v r) where
           kept = kept_after (take t piece) ∙ ap (take v.room) frame;
           passed = passed ∙ sym size;
         },
-      ))
+      )
 
-  of_size : (n : ℕ) → declared_of (r ++ piece) ≡ Size n → IsStep v r piece (taken_at v piece (Size n))
-      (followed_at v (take (taken_at v piece (Size n)) piece) (Size n)) (prefix_kind M (r ++ piece))
+  of_size : (n : ℕ) → declared_of (r ++ piece) ≡ Size n → IsStepAt (Size n)
   of_size n e =
       elim (cases_lt M n) [
         | inl large ↦
-            let t : taken_at v piece (Size n) ≡ length piece = cond-true _ _ _ (lt-ltb M n large) in
-            let after : followed_at v (take (taken_at v piece (Size n)) piece) (Size n) ≡ silenced v =
-            cond-true _ _ _ (lt-ltb M n large) in
-            subst (IsStep v r piece _ _) (sym (begin_too_large M (r ++ piece) n e large))
-            (all_of (taken_at v piece (Size n)) (omega (arith, t)), subst IsDead (sym after) dies)
-        | inr small ↦
-            let t : taken_at v piece (Size n) ≡ min (n - v.passed) (length piece) = cond-false _ _ _ (le-ltb M n small)
-            in
-            let after : (k : ℕ) → followed_at v (take k piece) (Size n) ≡ ended_at n (with_bytes v (take k piece)) =
-            λ k. cond-false _ _ _ (le-ltb M n small) in
-            let at : IsStep v r piece (min (n - v.passed) (length piece))
-            (ended_at n (with_bytes v (take (min (n - v.passed) (length piece)) piece))) (prefix_kind M (r ++ piece)) =
-            elim (cases_lt (length (r ++ piece)) n) [
-              | inl less ↦ short n e small less
-              | inr enough ↦ long n e small enough
-            ] in
-            subst (λ (k : ℕ). IsStep v r piece k (followed_at v (take k piece) (Size n)) (prefix_kind M (r ++ piece)))
-            (sym t)
-            (subst (λ (a : TapValue). IsStep v r piece (min (n - v.passed) (length piece)) a
-            (prefix_kind M (r ++ piece))) (sym (after (min (n - v.passed) (length piece)))) at)
+            rw (lt-ltb M n large, begin_too_large M (r ++ piece) n e large)
+            (take_all (length piece) piece (omega arith), dies)
+        | inr small ↦ (elim (cases_lt (length (r ++ piece)) n) [
+            | inl less ↦ short n e small less
+            | inr enough ↦ long n e small enough
+          ])
       ]
 
-  step_at : (d : Declared) → declared_of (r ++ piece) ≡ d → IsStep v r piece (taken_at v piece d)
-      (followed_at v (take (taken_at v piece d) piece) d) (prefix_kind M (r ++ piece))
+  step_at : (d : Declared) → declared_of (r ++ piece) ≡ d → IsStepAt d
   step_at Unknown e =
-      let all = all_of (length piece) (omega arith) in
+      let all = take_all (length piece) piece (omega arith) in
       let u = begin_unknown M (r ++ piece) e in
-      subst (IsStep v r piece (length piece) (with_bytes v (take (length piece) piece))) (sym u)
-      (all, goes_on (take (length piece) piece) all u, refl)
+      rw u (all, goes_on (take (length piece) piece) all u, refl)
   step_at BadToken e =
-      subst (IsStep v r piece (length piece) (silenced v)) (sym (begin_bad_token M (r ++ piece) e))
-      (all_of (length piece) (omega arith), dies)
+      rw (begin_bad_token M (r ++ piece) e) (take_all (length piece) piece (omega arith), dies)
   step_at (Size n) e = of_size n e
 
   -- The effect of a piece on a tap that follows a frame.
   step : IsStep v r piece (taken_by v piece) (followed_by v piece) (prefix_kind M (r ++ piece))
   unfolding taken_by followed_by
   step =
-      let t : taken_by v piece ≡ taken_at v piece (declared_after v piece) = cond-false v.is_silent _ _ f.live in
-      let after : followed_by v piece ≡ followed_at v (take (taken_by v piece) piece) (declared_after v piece) =
+      let d = declared_after v piece in
+      let t : taken_by v piece ≡ taken_at v piece d = cond-false v.is_silent _ _ f.live in
+      let after : followed_by v piece ≡ followed_at v (take (taken_by v piece) piece) d =
       cond-false v.is_silent _ _ f.live in
       subst (λ (a : TapValue). IsStep v r piece (taken_by v piece) a (prefix_kind M (r ++ piece))) (sym after)
-      (subst (λ (k : ℕ). IsStep v r piece k (followed_at v (take k piece) (declared_after v piece))
-      (prefix_kind M (r ++ piece))) (sym t) (step_at (declared_after v piece) (sym declares)))
+      (subst (λ k. IsStep v r piece k (followed_at v (take k piece) d) (prefix_kind M (r ++ piece))) (sym t)
+      (step_at d (sym declares)))
 
 -- ---- lists of pieces
 
@@ -199,19 +187,10 @@ glimpses_of room s = map (glimpse room) (sized_frames sizes s).frames
 
 -- A tap without a whole frame has nothing to discard.
 clean : (v : TapValue) → v.is_whole ≡ false → begun v ≡ v
-clean v none = cond-false v.is_whole _ _ none
+clean v none = rw none
 
 counted_follows : (v : TapValue) (r : List ℕ) (n : ℕ) → Follows v r → Follows (begun (record v { bytes = n })) r
-counted_follows v r n f =
-    subst (λ (w : TapValue). Follows w r) (sym (clean (record v { bytes = n }) f.whole))
-    (record {
-      room = f.room;
-      whole = f.whole;
-      live = f.live;
-      kept = f.kept;
-      passed = f.passed;
-      unfinished = f.unfinished;
-    })
+counted_follows v r n f = rw (clean (record v { bytes = n }) f.whole) (assumption f)
 
 -- After a whole frame, the next one begins.
 next_follows : (room : ℕ) (v : TapValue) (frame : List ℕ) (n : ℕ) → 8 ≤ room → Shows room v frame
@@ -219,15 +198,7 @@ next_follows : (room : ℕ) (v : TapValue) (frame : List ℕ) (n : ℕ) → 8 �
 next_follows room v frame n long s =
     let is : begun (record v { bytes = n }) ≡ record v { kept = []; passed = 0; is_whole = false; bytes = n } =
     cond-true v.is_whole _ _ s.whole in
-    subst (λ (w : TapValue). Follows w []) (sym is)
-    (record {
-      room = omega (arith, long, s.room);
-      whole = refl;
-      live = s.live;
-      kept = sym (take_all v.room [] (omega arith));
-      passed = refl;
-      unfinished = unfinished_empty M;
-    })
+    rw is (begins _ (omega (arith, s.room)) refl s.live refl refl)
 
 room_at : (whole : Bool) (v : TapValue)
     → (if whole then record v { kept = []; passed = 0; is_whole = false } else v).room ≡ v.room
@@ -242,18 +213,14 @@ unfolding followed_by
 dead_step v piece d =
     let same : followed_by (begun v) piece ≡ v =
     ap (λ (w : TapValue). followed_by w piece) (clean v d.whole) ∙ cond-true v.is_silent _ _ d.silent in
-    record {
-      whole = ap (λ (w : TapValue). w.is_whole) same ∙ d.whole;
-      silent = ap (λ (w : TapValue). w.is_silent) same ∙ d.silent;
-    }
+    record { whole = ap (λ w. w.is_whole) same ∙ d.whole; silent = ap (λ w. w.is_silent) same ∙ d.silent }
 
 -- A tap that is dead shows no frame.
 dead_output : (v : TapValue) (pieces : List (List ℕ)) → IsDead v → (output_of v pieces).frames ≡ []
 unfolding output_of
 dead_output v [] d = refl
 dead_output v (p ∷ ps) d =
-    let next = dead_step v p d in
-    cond-false (tap_after v p).is_whole _ _ next.whole ∙ dead_output (tap_after v p) ps next
+    let next = dead_step v p d in rw next.whole (dead_output (tap_after v p) ps next)
 
 -- One piece, and the output for the other pieces.
 module _ (room : ℕ) (v : TapValue) (r p : List ℕ) (n : ℕ) (others : TapOutput) (t : ℕ) (a : TapValue)
@@ -267,41 +234,33 @@ module _ (room : ℕ) (v : TapValue) (r p : List ℕ) (n : ℕ) (others : TapOut
   by_step : (b : StreamPrefix) → prefix_kind M (r ++ p) ≡ b → IsStep v r p t a b
       → (output_then (take t p) now others).frames ≡ glimpses_of room (r ++ (take t p ++ others.taken))
   by_step Unfinished e s =
-      let next = counted_follows a (r ++ p) n s.1 in
-      let bytes : r ++ (take t p ++ others.taken) ≡ (r ++ p) ++ others.taken =
-      ap (λ (l : List ℕ). r ++ (l ++ others.taken)) s.0 ∙ sym (append_assoc r p others.taken) in
-      cond-false a.is_whole _ _ s.1.whole ∙ again (r ++ p) (room_begun now ∙ s.2 ∙ fits) next
-      ∙ ap (glimpses_of room) (sym bytes)
+      rw (s.1.whole, s.0, ← append_assoc r p others.taken)
+      (again (r ++ p) (room_begun now ∙ s.2 ∙ fits) (counted_follows a (r ++ p) n s.1))
   by_step (Whole frame rest) e s =
-      let is : Shows room a frame = subst (λ (k : ℕ). Shows k a frame) fits s.1 in
-      let next = next_follows room a frame n long is in
-      let bytes : r ++ (take t p ++ others.taken) ≡ frame ++ others.taken =
-      sym (append_assoc r (take t p) others.taken) ∙ ap (λ (l : List ℕ). l ++ others.taken) s.0 in
-      let whole : prefix_kind M (frame ++ others.taken) ≡ Whole frame others.taken =
-      whole_more M frame others.taken frame [] (whole_itself M (r ++ p) frame rest e) in
-      let found : glimpses_of room (frame ++ others.taken) ≡ glimpse room frame ∷ glimpses_of room others.taken =
-      ap (λ (f : Frames). map (glimpse room) f.frames)
-      (frames_whole sizes (frame ++ others.taken) frame others.taken whole) in
-      let shown : record { head = a.kept; size = a.passed } ≡ glimpse room frame =
-      ap (λ (k : List ℕ). record { head = k; size = a.passed }) is.kept
-      ∙ ap (λ (k : ℕ). record { head = take room frame; size = k }) is.passed in
-      cond-true a.is_whole _ _ is.whole
-      ∙ ap (λ (g : Glimpse). g ∷ others.frames) shown
-      ∙ ap (λ (l : List Glimpse). glimpse room frame ∷ l) (again [] (room_begun now ∙ is.room) next)
-      ∙ sym found ∙ ap (glimpses_of room) (sym bytes)
+      let is : Shows room a frame = rw fits at s.1 in
+      let whole = whole_more M frame others.taken frame [] (whole_itself M (r ++ p) frame rest e) in
+      rw (
+        is.whole,
+        is.kept,
+        is.passed,
+        again [] (room_begun now ∙ is.room) (next_follows room a frame n long is),
+        ← append_assoc r (take t p) others.taken,
+        s.0,
+        frames_whole sizes (frame ++ others.taken) frame others.taken whole,
+      )
   by_step (Faulty fault) e s =
-      let bytes : r ++ (take t p ++ others.taken) ≡ (r ++ p) ++ others.taken =
-      ap (λ (l : List ℕ). r ++ (l ++ others.taken)) s.0 ∙ sym (append_assoc r p others.taken) in
-      let ends : glimpses_of room ((r ++ p) ++ others.taken) ≡ [] = ap (λ (f : Frames). map (glimpse room) f.frames)
-      (frames_faulty sizes ((r ++ p) ++ others.taken) fault (faulty_more M (r ++ p) others.taken fault e)) in
-      cond-false a.is_whole _ _ s.1.whole ∙ none s.1 ∙ sym ends ∙ ap (glimpses_of room) (sym bytes)
+      rw (
+        s.1.whole,
+        none s.1,
+        s.0,
+        ← append_assoc r p others.taken,
+        frames_faulty sizes ((r ++ p) ++ others.taken) fault (faulty_more M (r ++ p) others.taken fault e),
+      )
 
 shown : (room : ℕ) (v : TapValue) (pieces : List (List ℕ)) (r : List ℕ) → 8 ≤ room → (begun v).room ≡ room
     → Follows (begun v) r → (output_of v pieces).frames ≡ glimpses_of room (r ++ (output_of v pieces).taken)
 unfolding output_of
-shown room v [] r long fits f =
-    sym (ap (λ (f : Frames). map (glimpse room) f.frames)
-    (ap (sized_frames sizes) (append-nil r) ∙ frames_unfinished sizes r f.unfinished))
+shown room v [] r long fits f = rw (append-nil, frames_unfinished sizes r f.unfinished)
 shown room v (p ∷ ps) r long fits f =
     let a = followed_by (begun v) p in
     let n = counted a.bytes (taken v p) in
@@ -314,15 +273,7 @@ shown room v (p ∷ ps) r long fits f =
 pub new_tap_shows : (room : ℕ) (pieces : List (List ℕ)) → 8 ≤ room → (output_of (new_tap room) pieces).frames
     ≡ map (glimpse room) (sized_frames (constant_size LARGEST_MESSAGE) (output_of (new_tap room) pieces).taken).frames
 new_tap_shows room pieces long =
-    shown room (new_tap room) pieces [] long refl
-    (record {
-      room = long;
-      whole = refl;
-      live = refl;
-      kept = sym (take_all room [] (omega arith));
-      passed = refl;
-      unfinished = unfinished_empty M;
-    })
+    shown room (new_tap room) pieces [] long refl (begins (new_tap room) long refl refl refl refl)
 
 -- ---- each call takes a byte
 
@@ -335,7 +286,7 @@ reached_by : (room : ℕ) (v : TapValue) (r p : List ℕ) (n t : ℕ) (a : TapVa
 reached_by room v r p n t a Unfinished long fits s =
     inl (r ++ p, counted_follows a (r ++ p) n s.1, room_begun (record a { bytes = n }) ∙ s.2 ∙ fits)
 reached_by room v r p n t a (Whole frame rest) long fits s =
-    let is : Shows room a frame = subst (λ (k : ℕ). Shows k a frame) fits s.1 in
+    let is : Shows room a frame = rw fits at s.1 in
     inl ([], next_follows room a frame n long is, room_begun (record a { bytes = n }) ∙ is.room)
 reached_by room v r p n t a (Faulty fault) long fits s = inr (record { whole = s.1.whole; silent = s.1.silent })
 
@@ -365,10 +316,9 @@ missing r piece n u e small =
           elim (cases_lt (length r) n) [
             | inl less ↦ less
             | inr all ↦ (
-                let same : take n (r ++ piece) ≡ r = take_at r piece n (omega (arith, some, all, size)) in
-                let bad : ◌≡◌ {A = StreamPrefix} Unfinished (Whole r []) = sym u ∙ ap (prefix_kind M) (sym same)
-                ∙ whole_itself M (r ++ piece) (take n (r ++ piece)) (drop n (r ++ piece)) w
-                ∙ ap (λ (l : List ℕ). Whole l []) same in
+                let same : take n (r ++ piece) ≡ r = take_at r piece n (omega (arith, some, size)) in
+                let bad : ◌≡◌ {A = StreamPrefix} Unfinished (Whole r []) =
+                sym u ∙ (rw same at (whole_itself M (r ++ piece) (take n (r ++ piece)) (drop n (r ++ piece)) w)) in
                 absurd cc)
           ])
     ]
@@ -379,43 +329,21 @@ takes_at v r piece Unknown f e some = some
 takes_at v r piece BadToken f e some = some
 takes_at v r piece (Size n) f e some =
     elim (cases_lt M n) [
-      | inl large ↦
-          let t : taken_at v piece (Size n) ≡ length piece = cond-true _ _ _ (lt-ltb M n large) in
-          omega (arith, t, some)
-      | inr small ↦
-          let t : taken_at v piece (Size n) ≡ min (n - v.passed) (length piece) = cond-false _ _ _ (le-ltb M n small) in
-          omega (arith, t, some, missing r piece n f.unfinished e small, f.passed)
+      | inl large ↦ rw (lt-ltb M n large) some
+      | inr small ↦ rw (le-ltb M n small) (omega (arith, missing r piece n f.unfinished e small, f.passed))
     ]
 
 takes : (room : ℕ) (v : TapValue) (piece : List ℕ) → IsReached room v → 1 ≤ length piece → 1 ≤ taken v piece
 unfolding taken_by
 takes room v piece (inl f) some =
-    let t : taken v piece ≡ taken_at (begun v) piece (declared_after (begun v) piece) =
-    cond-false (begun v).is_silent _ _ f.1.live in
-    omega (
-      arith,
-      t,
-      takes_at (begun v) f.0 piece (declared_after (begun v) piece) f.1 (sym (declares (begun v) f.0 piece f.1)) some,
-    )
-takes room v piece (inr d) some =
-    let is : (begun v).is_silent ≡ true = ap (λ (w : TapValue). w.is_silent) (clean v d.whole) ∙ d.silent in
-    let t : taken v piece ≡ length piece = cond-true (begun v).is_silent _ _ is in
-    omega (arith, t, some)
+    rw f.1.live
+    (takes_at (begun v) f.0 piece (declared_after (begun v) piece) f.1 (sym (declares (begun v) f.0 piece f.1)) some)
+takes room v piece (inr d) some = rw (d.whole, d.silent) some
 
 pub takes_a_byte : (room : ℕ) (pieces : List (List ℕ)) (piece : List ℕ) → 8 ≤ room → 1 ≤ length piece
     → 1 ≤ taken (after_pieces (new_tap room) pieces) piece
 takes_a_byte room pieces piece long some =
     takes room (after_pieces (new_tap room) pieces) piece
-    (reached room (new_tap room) pieces long (inl (
-      [],
-      record {
-        room = long;
-        whole = refl;
-        live = refl;
-        kept = sym (take_all room [] (omega arith));
-        passed = refl;
-        unfinished = unfinished_empty M;
-      },
-      refl,
-    )))
+    (reached room (new_tap room) pieces long
+    (inl ([], begins (new_tap room) long refl refl refl refl, refl)))
     some

@@ -1,24 +1,20 @@
 -- The text of a record, call by call.
-use Rattle.std.proofs.Common.{◌≡◌, ℕ, Bool, true, false, List, [], ◌∷◌, ◌++◌, length, Option, Some, None, Result, Ok}
-use Rattle.std.proofs.Common.{Err, refl, sym, ap, ◌∙◌, not, append_assoc, append-nil, arith, is_err, true≢false, ◌||◌}
-use Rattle.std.proofs.Common.{OnOk, OnErr}
+use Rattle.std.proofs.Common.{◌≡◌, ℕ, Bool, true, false, List, [], ◌∷◌, ◌++◌, Option, Some, None, Result, Ok, Err, refl}
+use Rattle.std.proofs.Common.{sym, ap, ◌∙◌, not, append_assoc, append-nil, is_err, true≢false, ◌||◌, OnOk, OnErr}
 use Rattle.std.proofs.lemmas.List.Elements.{All-nil, All-push}
 use Rattle.coap_record.specs.Prelude.{append_known, AcceptedCall, line_of, lines_of, HasLines, HasPart, IsRecordOf}
-use Rattle.coap_record.specs.Prelude.{IsInRange, WritesText, WritesUpTo, AddsBytes, WritesPart}
+use Rattle.coap_record.specs.Prelude.{IsInRange, WritesText, WritesUpTo, AddsBytes, WritesPart, HasFirstLines}
 use Rattle.coap_record.proofs.WriteLemmas.{buffer_goes_on}
 
 -- The lines of calls and of one more call.
 lines_and_one : (cs : List AcceptedCall) (c : AcceptedCall) → lines_of (cs ++ c ∷ []) ≡ lines_of cs ++ line_of c
 unfolding lines_of
 lines_and_one [] c = append-nil (line_of c)
-lines_and_one (d ∷ ds) c =
-    ap (λ t. line_of d ++ t) (lines_and_one ds c) ∙ sym (append_assoc (line_of d) (lines_of ds) (line_of c))
+lines_and_one (d ∷ ds) c = rw (lines_and_one ds c, append_assoc)
 
 text_and_one : (header : List ℕ) (cs : List AcceptedCall) (c : AcceptedCall) (text : List ℕ)
     → text ≡ header ++ lines_of cs → header ++ lines_of (cs ++ c ∷ []) ≡ text ++ line_of c
-text_and_one header cs c text is =
-    ap (λ t. header ++ t) (lines_and_one cs c) ∙ sym (append_assoc header (lines_of cs) (line_of c))
-    ∙ ap (λ t. t ++ line_of c) (sym is)
+text_and_one header cs c text is = rw (lines_and_one cs c, is, append_assoc)
 
 -- ---- the text of a record
 
@@ -34,32 +30,22 @@ torn : (header text : List ℕ) (cs : List AcceptedCall) (full : Bool) → HasPa
 torn header text cs false has = has
 torn header text cs true has = has
 
--- The text of a record in which no write has failed is also such a prefix.
-part_of : (header text : List ℕ) (cs : List AcceptedCall) (full : Bool) → IsRecordOf header false full (Some text) cs
-    → HasPart header text cs
-part_of header text cs false is =
-    record {
-      front = cs;
-      later = [];
-      all = sym (append-nil cs);
-      missing = [];
-      lines = sym is.0 ∙ sym (append-nil text);
-      ranges = is.1;
-    }
-part_of header text cs true is =
-    record {
-      front = is.front;
-      later = is.later;
-      all = is.all;
-      missing = [];
-      lines = sym is.lines.0 ∙ sym (append-nil text);
-      ranges = is.lines.1;
-    }
+-- The text of each record is such a prefix.
+first_part : (header text : List ℕ) (cs : List AcceptedCall) → HasFirstLines header text cs → HasPart header text cs
+first_part header text cs is = record {
+  front = is.front;
+  later = is.later;
+  all = is.all;
+  missing = [];
+  lines = rw append-nil (sym is.lines.0);
+  ranges = is.lines.1;
+}
 
--- So is that of each record.
 pub any_part : (header text : List ℕ) (cs : List AcceptedCall) (failed full : Bool)
     → IsRecordOf header failed full (Some text) cs → HasPart header text cs
-any_part header text cs false full is = part_of header text cs full is
+any_part header text cs false false is =
+    first_part header text cs (record { front = cs; later = []; all = rw append-nil; lines = is })
+any_part header text cs false true is = first_part header text cs is
 any_part header text cs true false is = is
 any_part header text cs true true is = is
 
@@ -90,15 +76,15 @@ ended_goes_on header true full (Some text) ended cs more is = torn header text (
 pub record_begins : (failed full : Bool) (x : Option (List ℕ)) → x ≡ Some [] → IsRecordOf [] failed full x []
 unfolding lines_of
 record_begins false full x none = rw none (whole_or_full [] [] [] full (refl, All-nil IsInRange))
-record_begins true full x none = rw none (torn [] [] [] full (part_of [] [] [] false (refl, All-nil IsInRange)))
+record_begins true full x none = rw none (torn [] [] [] full (any_part [] [] [] false false (refl, All-nil IsInRange)))
 
 -- The line of a call was written, or a part of it if the write failed.
 pub record_goes_on : {T E : Type 0} (header : List ℕ) (cs : List AcceptedCall) (c : AcceptedCall)
     (failed full fails is_full : Bool) (x y : Option (List ℕ)) (r : Result T E)
     → (failed || full) ≡ false → IsInRange c → WritesText x y (line_of c) r → fails ≡ is_err r
     → IsRecordOf header failed full x cs → IsRecordOf header fails is_full y (cs ++ c ∷ [])
-record_goes_on header cs c true full fails is_full x y r works small wrote err is = absurd (true≢false works)
-record_goes_on header cs c false true fails is_full x y r works small wrote err is = absurd (true≢false works)
+record_goes_on header cs c true full fails is_full x y r works small wrote err is = absurd cc
+record_goes_on header cs c false true fails is_full x y r works small wrote err is = absurd cc
 record_goes_on header cs c false false fails is_full None y r works small wrote err is = absurd is
 record_goes_on header cs c false false fails is_full (Some text) y (Ok v) works small wrote err is =
     rw (err, wrote) (whole_or_full header (text ++ line_of c) (cs ++ c ∷ []) is_full
@@ -107,10 +93,9 @@ record_goes_on header cs c false false fails is_full (Some text) y (Err e) works
     rw (err, wrote.4) (torn header (text ++ wrote.0) (cs ++ c ∷ []) is_full (record {
       front = cs ++ c ∷ [];
       later = [];
-      all = sym (append-nil (cs ++ c ∷ []));
+      all = rw append-nil;
       missing = wrote.1;
-      lines =
-          text_and_one header cs c text is.0 ∙ ap (λ t. text ++ t) wrote.3 ∙ sym (append_assoc text wrote.0 wrote.1);
+      lines = text_and_one header cs c text is.0 ∙ rw (wrote.3, append_assoc);
       ranges = All-push IsInRange cs c is.1 small;
     }))
 
@@ -126,30 +111,30 @@ pub record_ignores : (failed full : Bool) (x : Option (List ℕ)) → not (faile
     → IsRecordOf header failed full x (cs ++ more)
 record_ignores true full x over more header cs is = ended_goes_on header true full x refl cs more is
 record_ignores false true x over more header cs is = ended_goes_on header false true x refl cs more is
-record_ignores false false x over more header cs is = absurd (true≢false over)
+record_ignores false false x over more header cs is = absurd cc
 
 -- Bytes of the queue were passed on. A write may have failed.
 pub record_flushed : (header : List ℕ) (cs : List AcceptedCall) (failed fails full : Bool)
     (x y : Option (List ℕ)) (queued left : List ℕ)
     → failed ≡ false → WritesUpTo queued left x y → IsRecordOf header failed full (append_known x queued) cs
     → IsRecordOf header fails full (append_known y left) cs
-record_flushed header cs true fails full x y queued left works moved is = absurd (true≢false works)
+record_flushed header cs true fails full x y queued left works moved is = absurd cc
 record_flushed header cs false fails full None y queued left works moved is = absurd is
 record_flushed header cs false fails full (Some w) y queued left works moved is =
-    let same = buffer_goes_on (Some w) y queued left [] left moved (sym (append-nil left)) in
+    let same = buffer_goes_on (Some w) y queued left [] left moved (rw append-nil) in
     rw (same, append-nil) (may_fail (w ++ queued) fails is)
   where
     may_fail : (text : List ℕ) (fails : Bool) → IsRecordOf header false full (Some text) cs
         → IsRecordOf header fails full (Some text) cs
     may_fail text false is = is
-    may_fail text true is = torn header text cs full (part_of header text cs full is)
+    may_fail text true is = torn header text cs full (any_part header text cs false full is)
 
 -- ---- the header
 
 -- The first of no calls.
 no_front : (front later : List AcceptedCall) → [] ≡ front ++ later → front ≡ []
 no_front [] later all = refl
-no_front (c ∷ cs) later all = absurd (omega (arith, ap (λ (ds : List AcceptedCall). length ds) all))
+no_front (c ∷ cs) later all = absurd cc
 
 -- A record without calls has its header alone.
 header_alone : (header text : List ℕ) (full : Bool) → IsRecordOf header false full (Some text) [] → text ≡ header
@@ -176,24 +161,22 @@ pub header_written : {T E : Type 0} (header text : List ℕ) (failed full fails 
     → failed ≡ false → OnOk r (AddsBytes x y text) → OnErr r (WritesPart x y text) → fails ≡ is_err r
     → IsRecordOf header failed full x [] → IsRecordOf (header ++ text) fails is_full y []
 unfolding lines_of
-header_written header text true full fails is_full x y r works all part err is = absurd (true≢false works)
+header_written header text true full fails is_full x y r works all part err is = absurd cc
 header_written header text false full fails is_full None y r works all part err is = absurd is
 header_written header text false full fails is_full (Some w) y (Ok v) works all part err is =
     rw (err, all) (whole_or_full (header ++ text) (w ++ text) [] is_full
-    (ap (λ t. t ++ text) (header_alone header w full is) ∙ sym (append-nil (header ++ text)), All-nil IsInRange))
+    (rw (header_alone header w full is, append-nil), All-nil IsInRange))
 header_written header text false full fails is_full (Some w) y (Err e) works all part err is =
     rw (err, part.4) (torn (header ++ text) (w ++ part.0) [] is_full (header_part (header ++ text) (w ++ part.0) part.1
-    (ap (λ t. t ++ text) (sym (header_alone header w full is)) ∙ ap (λ t. w ++ t) part.3
-    ∙ sym (append_assoc w part.0 part.1))))
+    (rw (← header_alone header w full is, part.3, append_assoc))))
 
 -- A write had failed before a further text.
 pub header_stays : (header text : List ℕ) (failed full : Bool) (x : Option (List ℕ)) → failed ≡ true
     → IsRecordOf header failed full x [] → IsRecordOf (header ++ text) failed full x []
 unfolding lines_of
-header_stays header text false full x ended is = absurd (true≢false (sym ended))
+header_stays header text false full x ended is = absurd cc
 header_stays header text true full None ended is = absurd is
 header_stays header text true full (Some w) ended is =
-    let same : header ≡ w ++ is.missing =
-    sym (append-nil header) ∙ sym (ap (λ ds. header ++ lines_of ds) (no_front is.front is.later is.all)) ∙ is.lines in
+    let same = rw (no_front is.front is.later is.all, append-nil) at is.lines in
     torn (header ++ text) w [] full
     (header_part (header ++ text) w (is.missing ++ text) (ap (λ t. t ++ text) same ∙ append_assoc w is.missing text))

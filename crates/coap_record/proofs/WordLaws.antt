@@ -2,7 +2,7 @@
 use Rattle.std.proofs.Common.{◌≡◌, ℕ, zero, suc, ◌<◌, ◌≤◌, Bool, true, false, not, ◌&&◌, ◌==◌, List, [], ◌∷◌, ◌++◌}
 use Rattle.std.proofs.Common.{length, get_or, map, Option, Some, None, refl, sym, ap, ◌∙◌, arith, nat_le, nat_lt}
 use Rattle.std.proofs.Common.{decimal, All, length-append, append-nil, true≢false, le-leb}
-use Rattle.std.proofs.lemmas.Bool.{agree_below_at, and_from, and_parts, cond-true}
+use Rattle.std.proofs.lemmas.Bool.{agree_below_at, and_parts, cond-true}
 use Rattle.std.proofs.lemmas.Bool.Decides.{nat_tests}
 use Rattle.std.proofs.lemmas.Fmt.{digits_decimal, decimal_nonempty, length-decimal-le, decimal_is_IsNumeral}
 use Rattle.std.proofs.lemmas.List.Elements.{All-nil, All-cons, All-head, All-tail}
@@ -15,11 +15,11 @@ use Rattle.coap_store.specs.declared.links.TheConstants.{ESCAPED}
 use Rattle.coap_store.proofs.EscapeLemmas.{segment_is}
 use Rattle.coap_text.proofs.WordLemmas.{hex_of_some}
 use Rattle.coap_script.proofs.scripting.WordLemmas.{segments_of_some, path_read}
-use Rattle.coap_record.specs.Prelude.{list_all, flat_map, is_ascii_digit, all_ascii_digits}
-use Rattle.coap_record.specs.Prelude.{encode_with, encode_lower, lower_digits, percent_decode}
-use Rattle.coap_record.specs.Prelude.{Path, is_path, encoded_byte, path_bytes, key_for, is_hyphen, parts, decimal_value}
-use Rattle.coap_record.specs.Prelude.{hex_value, bytes_text, slash, format_value, path_value, payload_value}
-use Rattle.coap_record.specs.Prelude.{segments_of, path_word, format_word, IsNumber, AreBytes, IsFormat}
+use Rattle.coap_record.specs.Prelude.{list_all, flat_map, is_ascii_digit, all_ascii_digits, encode_with, encode_lower}
+use Rattle.coap_record.specs.Prelude.{lower_digits, percent_decode, Path, is_path, encoded_byte, path_bytes, key_for}
+use Rattle.coap_record.specs.Prelude.{is_hyphen, parts, decimal_value, hex_value, bytes_text, slash, format_value}
+use Rattle.coap_record.specs.Prelude.{path_value, payload_value, segments_of, path_word, format_word, IsNumber}
+use Rattle.coap_record.specs.Prelude.{AreBytes, IsFormat}
 
 -- ---- words
 
@@ -42,13 +42,21 @@ all_fail p q fail (b ∷ bytes) passes =
 pub all_pass : (p q : ℕ → Bool) → ((b : ℕ) → p b ≡ true → q b ≡ true) → (bytes : List ℕ) → list_all p bytes ≡ true
     → list_all q bytes ≡ true
 all_pass p q pass [] passes = refl
-all_pass p q pass (b ∷ bytes) passes =
-    let both = and_parts (p b) (list_all p bytes) passes in
-    and_from (q b) (list_all q bytes) (pass b both.0) (all_pass p q pass bytes both.1)
+all_pass p q pass (b ∷ bytes) passes = grind (arith, pass b, all_pass p q pass bytes)
 
 pub both_words : (p : ℕ → Bool) (xs ys : List ℕ) → list_all p xs ≡ true → list_all p ys ≡ true
     → list_all p (xs ++ ys) ≡ true
-both_words p xs ys first second = list_all-append p xs ys ∙ and_from (list_all p xs) (list_all p ys) first second
+both_words p xs ys first second = rw (list_all-append p xs ys, first, second)
+
+-- A text that is joined from the texts of values passes a test, if that of each value does.
+each_passes : {A : Type 0} (p : ℕ → Bool) (P : A → Type 0) (text : A → List ℕ) (joined : List A → List ℕ)
+    → ((x : A) → P x → list_all p (text x) ≡ true) → joined [] ≡ []
+    → ((x : A) (xs : List A) → joined (x ∷ xs) ≡ text x ++ joined xs) → (xs : List A) → All P xs
+    → list_all p (joined xs) ≡ true
+each_passes p P text joined passes none more [] are = rw none
+each_passes p P text joined passes none more (x ∷ xs) are =
+    rw (more x xs) (both_words p (text x) (joined xs) (passes x (All-head P x xs are))
+    (each_passes p P text joined passes none more xs (All-tail P x xs are)))
 
 -- Each of these bytes is small.
 pub bytes_small : (bytes : List ℕ) → AreBytes bytes → (k : ℕ) → get_or bytes k 0 < 256
@@ -58,47 +66,34 @@ bytes_small (b ∷ bytes) are (suc k) = bytes_small bytes (All-tail (λ c. c < 2
 
 -- ---- numbers
 
-digits_word : (ds : List ℕ) → all_ascii_digits ds ≡ true → IsWord ds
-digits_word [] all = refl
-digits_word (c ∷ cs) all =
-    let both = and_parts (is_ascii_digit c) (all_ascii_digits cs) all in
-    and_from (word_byte c) (list_all word_byte cs) (grind (arith, nat_tests)) (digits_word cs both.1)
-
 digits_alike : (ds : List ℕ) → all_ascii_digits ds ≡ true → list_all is_ascii_digit ds ≡ true
 digits_alike [] all = refl
-digits_alike (c ∷ cs) all =
-    let both = and_parts (is_ascii_digit c) (all_ascii_digits cs) all in
-    and_from (is_ascii_digit c) (list_all is_ascii_digit cs) both.0 (digits_alike cs both.1)
-
-digits_of_number : (n : ℕ) → IsNumber n → all_ascii_digits (decimal n) ≡ true
-digits_of_number n small = digits_decimal (numerals_by_value _ tells_all_ascii_digits) n small
+digits_alike (c ∷ cs) all = grind (arith, digits_alike cs)
 
 pub number_digits : (n : ℕ) → IsNumber n → list_all is_ascii_digit (decimal n) ≡ true
-number_digits n small = digits_alike (decimal n) (digits_of_number n small)
+number_digits n small =
+    digits_alike (decimal n) (digits_decimal (numerals_by_value _ tells_all_ascii_digits) n small)
+
+digit_in_word : (b : ℕ) → is_ascii_digit b ≡ true → word_byte b ≡ true
+digit_in_word b is = grind (arith, nat_tests)
 
 pub number_word : (n : ℕ) → IsNumber n → IsWord (decimal n)
-number_word n small = digits_word (decimal n) (digits_of_number n small)
+number_word n small = all_pass is_ascii_digit word_byte digit_in_word (decimal n) (number_digits n small)
 
 pub number_back : (n : ℕ) → IsNumber n → decimal_value (decimal n) ≡ Some n
 unfolding decimal_value
 number_back n small =
-    let some = decimal_nonempty n small in
-    let few = length-decimal-le 20 n (omega arith) (omega arith) small in
-    let digits = number_digits n small in
-    let value = (decimal_is_IsNumeral n small).1 in
     rw (
-      digits,
-      value,
-      le-leb 1 (length (decimal n)) some,
-      le-leb (length (decimal n)) 20 few,
+      number_digits n small,
+      (decimal_is_IsNumeral n small).1,
+      le-leb 1 (length (decimal n)) (decimal_nonempty n small),
+      le-leb (length (decimal n)) 20 (length-decimal-le 20 n (omega arith) (omega arith) small),
       le-leb n 18446744073709551615 (omega arith),
-    ) refl
+    )
 
-digits_no_hyphen : (ds : List ℕ) → all_ascii_digits ds ≡ true → is_hyphen ds ≡ false
+digits_no_hyphen : (ds : List ℕ) → list_all is_ascii_digit ds ≡ true → is_hyphen ds ≡ false
 digits_no_hyphen [] all = refl
-digits_no_hyphen (c ∷ cs) all =
-    let both = and_parts (is_ascii_digit c) (all_ascii_digits cs) all in
-    grind (arith, nat_tests)
+digits_no_hyphen (c ∷ cs) all = grind (arith, nat_tests)
 
 -- ---- formats
 
@@ -111,24 +106,19 @@ unfolding format_value
 format_back None small = refl
 format_back (Some n) small =
     rw (
-      digits_no_hyphen (decimal n) (digits_of_number n (omega arith)),
+      digits_no_hyphen (decimal n) (number_digits n (omega arith)),
       number_back n (omega arith),
       le-leb n 65535 (omega arith),
-    ) refl
+    )
 
 -- ---- bytes
 
--- The two digits of a byte are bytes of a word.
-digits_of_byte : (b : ℕ) → b < 256 → IsWord (encode_lower (b ∷ []))
-unfolding encode_with
-digits_of_byte b small = agree_below_at (λ c. list_all word_byte (encode_lower (c ∷ []))) (λ c. true) 256 b refl small
-
 pub bytes_word : (bytes : List ℕ) → AreBytes bytes → IsWord (encode_lower bytes)
 unfolding encode_with
-bytes_word [] are = refl
-bytes_word (b ∷ bytes) are =
-    both_words word_byte (encode_lower (b ∷ [])) (encode_lower bytes)
-    (digits_of_byte b (All-head (λ c. c < 256) b bytes are)) (bytes_word bytes (All-tail (λ c. c < 256) b bytes are))
+bytes_word bytes are =
+    each_passes word_byte (λ b. b < 256) (λ b. encode_lower (b ∷ [])) encode_lower
+    (λ b small. agree_below_at (λ c. list_all word_byte (encode_lower (c ∷ []))) (λ c. true) 256 b refl small)
+    refl (λ b bs. refl) bytes are
 
 pub bytes_back : (byte : ℕ) (bytes : List ℕ) → AreBytes (byte ∷ bytes)
     → hex_value (encode_lower (byte ∷ bytes)) ≡ Some (byte ∷ bytes)
@@ -164,16 +154,12 @@ escaped segment = flat_map encoded_byte segment
 abbrev pub segment_byte : ℕ → Bool
 segment_byte b = word_byte b && not (b == slash)
 
-escaped_byte_passes : (b : ℕ) → b < 256 → list_all segment_byte (encoded_byte b) ≡ true
+escaped_passes : (segment : List ℕ) → AreBytes segment → list_all segment_byte (escaped segment) ≡ true
 unfolding encoded_byte
-escaped_byte_passes b small = agree_below_at (λ c. list_all segment_byte (encoded_byte c)) (λ c. true) 256 b refl small
-
-pub escaped_passes : (segment : List ℕ) → AreBytes segment → list_all segment_byte (escaped segment) ≡ true
-escaped_passes [] are = refl
-escaped_passes (b ∷ bytes) are =
-    both_words segment_byte (encoded_byte b) (escaped bytes)
-    (escaped_byte_passes b (All-head (λ c. c < 256) b bytes are))
-    (escaped_passes bytes (All-tail (λ c. c < 256) b bytes are))
+escaped_passes segment are =
+    each_passes segment_byte (λ b. b < 256) encoded_byte escaped
+    (λ b small. agree_below_at (λ c. list_all segment_byte (encoded_byte c)) (λ c. true) 256 b refl small)
+    refl (λ b bs. refl) segment are
 
 no_slash : (b : ℕ) → segment_byte b ≡ true → (b == slash) ≡ false
 no_slash b passes = grind (arith, nat_tests)
@@ -181,31 +167,27 @@ no_slash b passes = grind (arith, nat_tests)
 in_word : (b : ℕ) → segment_byte b ≡ true → word_byte b ≡ true
 in_word b passes = (and_parts (word_byte b) (not (b == slash)) passes).0
 
-segments_word : (path : Path) → All AreBytes path → IsWord (path_bytes path)
-unfolding path_bytes
-segments_word [] are = refl
-segments_word (s ∷ ss) are =
-    both_words word_byte (slash ∷ escaped s) (path_bytes ss)
-    (all_pass segment_byte word_byte in_word (escaped s) (escaped_passes s (All-head AreBytes s ss are)))
-    (segments_word ss (All-tail AreBytes s ss are))
-
 pub path_is_word : (path : Path) → All AreBytes path → IsWord (path_word path)
-unfolding path_word
+unfolding path_word path_bytes
 path_is_word [] are = refl
-path_is_word (s ∷ ss) are = segments_word (s ∷ ss) are
+path_is_word (s ∷ ss) are =
+    each_passes word_byte AreBytes (λ t. slash ∷ escaped t) path_bytes
+    (λ t small. all_pass segment_byte word_byte in_word (escaped t) (escaped_passes t small))
+    refl (λ t ts. refl) (s ∷ ss) are
 
 -- The parts between the slashes of a path are its escaped segments.
 parts_of_path : (s : List ℕ) (ss : Path) → All AreBytes (s ∷ ss)
     → parts slash (escaped s ++ path_bytes ss) ≡ map escaped (s ∷ ss)
 unfolding path_bytes
 parts_of_path s [] are =
-    let alone =
-    all_fail segment_byte (λ b. b == slash) no_slash (escaped s) (escaped_passes s (All-head AreBytes s [] are)) in
-    ap (parts slash) (append-nil (escaped s)) ∙ slice_split_none (λ b. b == slash) (escaped s) alone
+    let passes = escaped_passes s (All-head AreBytes s [] are) in
+    rw append-nil
+    (slice_split_none (λ b. b == slash) (escaped s)
+    (all_fail segment_byte (λ b. b == slash) no_slash (escaped s) passes))
 parts_of_path s (t ∷ ts) are =
-    let alone = all_fail segment_byte (λ b. b == slash) no_slash (escaped s)
-    (escaped_passes s (All-head AreBytes s (t ∷ ts) are)) in
-    slice_split_at (λ b. b == slash) (escaped s) slash (escaped t ++ path_bytes ts) alone refl
+    let passes = escaped_passes s (All-head AreBytes s (t ∷ ts) are) in
+    slice_split_at (λ b. b == slash) (escaped s) slash (escaped t ++ path_bytes ts)
+    (all_fail segment_byte (λ b. b == slash) no_slash (escaped s) passes) refl
     ∙ ap (λ ps. escaped s ∷ ps) (parts_of_path t ts (All-tail AreBytes s (t ∷ ts) are))
 
 segment_back : (s : List ℕ) → AreBytes s → percent_decode (escaped s) ≡ s
@@ -214,8 +196,7 @@ segment_back s are = ap percent_decode (sym (segment_is s (bytes_small s are))) 
 segments_back : (path : Path) → All AreBytes path → map percent_decode (map escaped path) ≡ path
 segments_back [] are = refl
 segments_back (s ∷ ss) are =
-    ap (λ t. t ∷ map percent_decode (map escaped ss)) (segment_back s (All-head AreBytes s ss are))
-    ∙ ap (λ ts. s ∷ ts) (segments_back ss (All-tail AreBytes s ss are))
+    rw (segment_back s (All-head AreBytes s ss are), segments_back ss (All-tail AreBytes s ss are))
 
 escaped_byte_some : (b : ℕ) → 1 ≤ length (encoded_byte b)
 unfolding encoded_byte
@@ -237,9 +218,8 @@ some_after_slash s (t ∷ ts) is none = omega (arith, length-append (escaped s) 
 segments_read : (s : List ℕ) (ss : Path) → is_path (s ∷ ss) ≡ true → All AreBytes (s ∷ ss)
     → segments_of (escaped s ++ path_bytes ss) ≡ s ∷ ss
 segments_read s ss is are =
-    segments_of_some (escaped s ++ path_bytes ss) (some_after_slash s ss is)
-    ∙ ap (map percent_decode) (parts_of_path s ss are)
-    ∙ segments_back (s ∷ ss) are
+    rw (segments_of_some (escaped s ++ path_bytes ss) (some_after_slash s ss is), parts_of_path s ss are)
+    (segments_back (s ∷ ss) are)
 
 root_back : path_value (path_word []) ≡ Some []
 unfolding path_value path_word key_for is_path segments_of

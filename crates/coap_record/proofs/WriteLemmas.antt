@@ -1,17 +1,16 @@
 -- Writes of the pieces of a text, one after another.
 use Rattle.std.proofs.Common.{◌≡◌, ℕ, ◌+◌, ◌*◌, ◌<◌, ◌≤◌, true, false, ◌==◌, List, [], ◌∷◌, ◌++◌, length, get_or, take}
 use Rattle.std.proofs.Common.{drop, take-append-drop, take-take, take_all, length-drop, length-take, map, Option, Some}
-use Rattle.std.proofs.Common.{None, Result, Ok, Err, refl, sym, ap, ◌∙◌, subst, append_assoc, append-nil, arith, is_err}
-use Rattle.std.proofs.Common.{eqb-true, true≢false, OnOk, OnErr, Bor, codes, decimal}
+use Rattle.std.proofs.Common.{None, Result, Ok, Err, refl, sym, ap, ◌∙◌, append_assoc, append-nil, arith, is_err, OnOk}
+use Rattle.std.proofs.Common.{OnErr, Bor, codes, decimal, eqb-true}
 use Rattle.std.proofs.lemmas.List.{drop_more, take-append-le}
 use Rattle.hex.proofs.HexLemmas.{length-encode_with}
 use Rattle.coap_io.proofs.streams.DeviceLemmas.{bytes_none, bytes_then}
 use Rattle.coap_io.proofs.streams.WriteLemmas.{part_before, part_after}
 use Rattle.coap_record.specs.Prelude.{encode_with, encode_lower, lower_digits, append_known, concat, AddsBytes}
-use Rattle.coap_record.specs.Prelude.{WritesPart}
-use Rattle.coap_record.specs.Prelude.{WritesText, WritesUpTo, QueueValue, room_in, Path, path_word, path_bytes}
-use Rattle.coap_record.specs.Prelude.{flat_map, encoded_byte, slash, took_line}
-use Rattle.coap_record.specs.Prelude.{stored_line, format_word, bytes_text, respond_line, spelling}
+use Rattle.coap_record.specs.Prelude.{WritesPart, WritesText, WritesUpTo, QueueValue, room_in, Path, path_word}
+use Rattle.coap_record.specs.Prelude.{path_bytes, flat_map, encoded_byte, slash, took_line, stored_line, format_word}
+use Rattle.coap_record.specs.Prelude.{bytes_text, respond_line, spelling}
 use Rattle.coap_wire.specs.Message.{Message}
 
 pub nothing_yet : (text : List ℕ) (x : Option (List ℕ)) → WritesUpTo text text x x
@@ -22,7 +21,7 @@ pub piece_written : (text left piece rest : List ℕ) (x y z : Option (List ℕ)
     → left ≡ piece ++ rest → AddsBytes y z piece → WritesUpTo text rest x z
 piece_written text left piece rest x y z so_far split wrote = record {
   front = so_far.front ++ piece;
-  all = so_far.all ∙ ap (λ t. so_far.front ++ t) split ∙ sym (append_assoc so_far.front piece rest);
+  all = rw (append_assoc, ← split) so_far.all;
   written = bytes_then x y z so_far.front piece so_far.written wrote;
 }
 
@@ -30,22 +29,20 @@ piece_written text left piece rest x y z so_far split wrote = record {
 pub all_written : (text left : List ℕ) (x y : Option (List ℕ)) → WritesUpTo text left x y
     → left ≡ [] → AddsBytes x y text
 all_written text left x y so_far none =
-    subst (AddsBytes x y) (sym (so_far.all ∙ ap (λ t. so_far.front ++ t) none ∙ append-nil so_far.front)) so_far.written
+    rw (so_far.all, none, append-nil) so_far.written
 
 -- Only a part of the next piece was written.
 pub piece_cut : (text left piece rest : List ℕ) (x y z : Option (List ℕ)) → WritesUpTo text left x y
     → left ≡ piece ++ rest → WritesPart y z piece → WritesPart x z text
 piece_cut text left piece rest x y z so_far split wrote =
-    subst (WritesPart x z) (sym (so_far.all ∙ ap (λ t. so_far.front ++ t) split))
+    rw (so_far.all, split)
     (part_after x y z so_far.front (piece ++ rest) so_far.written (part_before y z piece rest wrote))
 
 -- A text after a first one.
 pub text_then : {T E : Type 0} (x y z : Option (List ℕ)) (first second text : List ℕ) (r : Result T E)
     → text ≡ first ++ second → AddsBytes x y first → WritesText y z second r → WritesText x z text r
-text_then x y z first second text (Ok v) is before wrote =
-    subst (AddsBytes x z) (sym is) (bytes_then x y z first second before wrote)
-text_then x y z first second text (Err e) is before wrote =
-    subst (WritesPart x z) (sym is) (part_after x y z first second before wrote)
+text_then x y z first second text (Ok v) is before wrote = rw is (bytes_then x y z first second before wrote)
+text_then x y z first second text (Err e) is before wrote = rw is (part_after x y z first second before wrote)
 
 -- A text that `write_all` wrote.
 pub text_of_all : {T E : Type 0} (x y : Option (List ℕ)) (text : List ℕ) (r : Result T E) → OnOk r (AddsBytes x y text)
@@ -56,12 +53,12 @@ text_of_all x y text (Err e) all part = part
 -- The same text by another spelling of it.
 pub text_is : {T E : Type 0} (x y : Option (List ℕ)) (text same : List ℕ) (r : Result T E) → same ≡ text
     → WritesText x y text r → WritesText x y same r
-text_is x y text same r is wrote = subst (λ t. WritesText x y t r) (sym is) wrote
+text_is x y text same r is wrote = rw is wrote
 
 -- A write failed in the middle of a text.
 pub fault_text : {T E : Type 0} (x y : Option (List ℕ)) (text : List ℕ) (r : Result T E) → is_err r ≡ true
     → WritesPart x y text → WritesText x y text r
-fault_text x y text (Ok v) fails part = absurd (true≢false (sym fails))
+fault_text x y text (Ok v) fails part = absurd cc
 fault_text x y text (Err e) fails part = part
 
 -- A write failed after a first text, and before a last one.
@@ -69,16 +66,14 @@ pub fault_then : {T E : Type 0} (x y z : Option (List ℕ)) (first second third 
     → is_err r ≡ true → text ≡ (first ++ second) ++ third → AddsBytes x y first
     → WritesPart y z second → WritesText x z text r
 fault_then x y z first second third text r fails is before part =
-    text_is x z ((first ++ second) ++ third) text r is
-    (fault_text x z ((first ++ second) ++ third) r fails
-    (part_before x z (first ++ second) third (part_after x y z first second before part)))
+    fault_text x z text r fails
+    (rw is (part_before x z (first ++ second) third (part_after x y z first second before part)))
 
 -- A write failed in a first text.
 pub fault_first : {T E : Type 0} (x y : Option (List ℕ)) (first second text : List ℕ) (r : Result T E) → is_err r ≡ true
     → text ≡ first ++ second → WritesPart x y first → WritesText x y text r
 fault_first x y first second text r fails is part =
-    text_is x y (first ++ second) text r is
-    (fault_text x y (first ++ second) r fails (part_before x y first second part))
+    fault_text x y text r fails (rw is (part_before x y first second part))
 
 -- ---- pieces
 
@@ -104,8 +99,7 @@ digits_of_both t (x ∷ xs) ys = grind (arith, digits_of_both t xs ys)
 pub digits_split : (left front back : List ℕ) (n : ℕ) → front ≡ take n left → back ≡ drop n left
     → encode_lower left ≡ encode_lower front ++ encode_lower back
 digits_split left front back n is_front is_back =
-    rw (is_front, is_back)
-    (ap encode_lower (sym (take-append-drop n left)) ∙ digits_of_both lower_digits (take n left) (drop n left))
+    rw (is_front, is_back, ← digits_of_both lower_digits (take n left) (drop n left), take-append-drop)
 
 -- The digits of a piece, which were written before other bytes.
 pub digits_before : (piece out rest : List ℕ) → out ≡ encode_lower piece
@@ -150,7 +144,7 @@ took_none id (b ∷ bytes) none = absurd (omega (arith, eqb-true (length (b ∷ 
 pub took_some : (id : ℕ) (bytes : List ℕ) → false ≡ (length bytes == 0)
     → took_line id bytes ≡ ((codes "in " ++ (decimal id ++ codes " ")) ++ encode_lower bytes) ++ codes "\n"
 unfolding took_line
-took_some id [] some = absurd (true≢false (sym some))
+took_some id [] some = absurd cc
 took_some id (b ∷ bytes) some = simp append_assoc refl
 
 pub stored_parts : (path : Path) (format : Option ℕ) (bytes : List ℕ) → stored_line path format bytes
@@ -171,10 +165,7 @@ pub buffer_goes_on : (x y : Option (List ℕ)) (queued left more all : List ℕ)
     → all ≡ left ++ more → AddsBytes (append_known x queued) (append_known y all) more
 buffer_goes_on None y queued left more all moved is = tt
 buffer_goes_on (Some w) y queued left more all moved is =
-    ap (λ known. append_known known all) moved.written
-    ∙ ap (λ bytes. Some bytes) (append_assoc w moved.front all ∙ ap (λ t. w ++ (moved.front ++ t)) is
-    ∙ ap (λ t. w ++ t) (sym (append_assoc moved.front left more)) ∙ ap (λ t. w ++ (t ++ more)) (sym moved.all)
-    ∙ sym (append_assoc w queued more))
+    rw (moved.written, is, moved.all) (simp append_assoc)
 
 -- The first bytes of a part of a queue, and the other bytes of the queue.
 pub part_of_queue : (waiting whole part : List ℕ) (count : ℕ) → whole ≡ waiting → part ≡ take (length part) whole

@@ -1,5 +1,14 @@
-use Rattle.coap_record.proofs.ReplayLaws.{whole_replays, full_replays, part_replays}
+use Rattle.coap_record.proofs.ReplayLaws.{lines_replay, front_replays, part_replays}
 use Rattle.coap_record.proofs.laws.a_recorded_run_replays.Goals as goal
 
 pub returns : goal.returns
-returns c = record { whole = whole_replays; limit = full_replays; lines = part_replays }
+returns c = record {
+  whole = lines_replay;
+  limit = λ v header text cs turns silent is shows can. (
+    is.front,
+    is.later,
+    is.all,
+    front_replays v header text cs is.front is.later turns silent is.all is.lines shows can,
+  );
+  lines = part_replays;
+}
