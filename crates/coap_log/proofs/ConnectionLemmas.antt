@@ -1,11 +1,11 @@
 -- Bytes are passed to a tap, call by call.
 use Rattle.std.proofs.Common.{◌≡◌, ℕ, zero, suc, ◌-◌, ◌≤◌, ◌<◌, ◌==◌, Bool, true, false, List, [], ◌∷◌, length, take}
-use Rattle.std.proofs.Common.{drop, sym, ap, subst, ◌∙◌, arith, refl, length-drop}
+use Rattle.std.proofs.Common.{drop, sym, ◌∙◌, arith, refl, length-drop}
 use Rattle.std.proofs.lemmas.Bool.{eq-eqb, ne_eqb}
 use Rattle.coap_io.proofs.streams.WriteLemmas.{rest_of}
 use Rattle.coap_log.specs.Taps.{TapValue, taken, tap_after}
 use Rattle.coap_log.specs.Logs.{LogTrace}
-use Rattle.coap_log.specs.Connections.{LogsWhole, LogsTaken, LogsBytes}
+use Rattle.coap_log.specs.Connections.{LogsWhole, LogsBytes}
 
 -- The calls so far are the first ones of those for all bytes: what the others do, all of them do.
 abbrev pub Continues : (nanos : ℕ) (front all : List ℕ) (first : TapValue) (before : LogTrace) (left : List ℕ)
@@ -29,9 +29,7 @@ module _ (nanos : ℕ) (front : List ℕ) where
   stuck zero left tap log fits some none = absurd (omega arith)
   stuck (suc turns) [] tap log fits some none = absurd (omega arith)
   stuck (suc turns) (b ∷ left) tap log fits some none =
-      subst (LogsTaken (λ rest now middle. LogsBytes turns nanos front rest now (tap_after tap (b ∷ left)) middle log)
-      nanos front (b ∷ left) tap (tap_after tap (b ∷ left)) log log)
-      (sym (eq-eqb (taken tap (b ∷ left)) 0 none)) (refl, refl)
+      rw (eq-eqb (taken tap (b ∷ left)) 0 none) (refl, refl)
 
   one : (turns : ℕ) (left : List ℕ) (tap end : TapValue) (log middle after : LogTrace) → 0 < length left
       → (taken tap left ≡ 0 → ⊥)
@@ -41,9 +39,7 @@ module _ (nanos : ℕ) (front : List ℕ) where
   unfolding LogsBytes
   one turns [] tap end log middle after some more whole others = absurd (omega arith)
   one turns (b ∷ left) tap end log middle after some more whole others =
-      subst (LogsTaken (λ rest now middle. LogsBytes turns nanos front rest now end middle after) nanos front
-      (b ∷ left) tap end log after)
-      (sym (ne_eqb (taken tap (b ∷ left)) 0 more)) (middle, whole, others)
+      rw (ne_eqb (taken tap (b ∷ left)) 0 more) (middle, whole, others)
 
   module _ (all : List ℕ) (first : TapValue) (before : LogTrace) where
     pub starts : Continues nanos front all first before all first before
@@ -58,7 +54,7 @@ module _ (nanos : ℕ) (front : List ℕ) where
         → now ≡ tap_after tap left → count ≡ taken tap left → count ≡ 0
         → LogsBytes (length all) nanos front all first now before log
     ends_stuck left tap now log count so some is counts none =
-        subst (λ (t : TapValue). LogsBytes (length all) nanos front all first t before log) (sym is)
+        rw is
         (so.2 (tap_after tap left) log (stuck so.0 left tap log so.1 some (sym counts ∙ none)))
 
     goes_at : (turns : ℕ) (left : List ℕ) (tap : TapValue) (log middle : LogTrace) → length left ≤ turns
@@ -80,12 +76,8 @@ module _ (nanos : ℕ) (front : List ℕ) where
         → LogsWhole nanos front now log middle now.is_whole
         → Continues nanos front all first before (take (length left - count) (drop count left)) now middle
     goes left tap now log middle count so some is counts more within whole =
-        subst (λ (t : TapValue). Continues nanos front all first before
-        (take (length left - count) (drop count left)) t middle) (sym is)
-        (subst (λ (l : List ℕ). Continues nanos front all first before l (tap_after tap left) middle)
-        (ap (λ (n : ℕ). drop n left) (sym counts) ∙ sym (rest_of count left))
-        (goes_at so.0 left tap log middle so.1 so.2 some (λ none. more (counts ∙ none)) (omega (arith, counts, within))
-        (subst (λ (t : TapValue). LogsWhole nanos front t log middle t.is_whole) is whole)))
+        rw (is, rest_of, counts)
+        (goes_at so.0 left tap log middle so.1 so.2 some (λ none. more (counts ∙ none)) (omega arith) (rw is at whole))
 
 -- The test for bytes that are left.
 pub some_left : (left : List ℕ) (empty : Bool) → empty ≡ (length left == 0) → empty ≡ false → 0 < length left
@@ -95,5 +87,4 @@ some_left (b ∷ left) empty is other = omega arith
 pub none_left : (left : List ℕ) (empty : Bool) → empty ≡ (length left == 0) → empty ≡ true → left ≡ []
 none_left [] empty is same = refl
 none_left (b ∷ left) empty is same =
-    let some : (length (b ∷ left) == 0) ≡ false = ne_eqb (length (b ∷ left)) 0 (λ none. absurd (omega (arith, none))) in
-    absurd cc
+    absurd (cc (ne_eqb (length (b ∷ left)) 0 (λ none. absurd (omega arith))))

@@ -5,10 +5,8 @@ use Rattle.std.specs.List.{list_all}
 use Rattle.std.proofs.lemmas.Bool.{and_parts}
 use Rattle.std.proofs.lemmas.Bool.Decides.{nat_tests}
 use Rattle.coap_log.specs.Limits.{fresh, report, after_report, missed, admission, after_admission, last_report}
-use Rattle.coap_log.specs.Limits.{after_end, LimitCall, Admit, Report, End, Miss}
-use Rattle.coap_log.specs.Limits.{after_call, lines_of_admission, lines_of_report, lines_of_call, lines_of, lines_in}
-use Rattle.coap_log.specs.Limits.{IsAt, AreAt, GoesForward, is_before_end}
-use Rattle.coap_log.specs.Limits.{lost_by_admission, lost_by_call, reported_by_admission, reported_in, reported_by_call}
+use Rattle.coap_log.specs.Limits.{after_end, LimitCall, Admit, Report, End, Miss, after_call, lines_of_call, lines_of}
+use Rattle.coap_log.specs.Limits.{lines_in, IsAt, AreAt, GoesForward, is_before_end, lost_by_call, reported_by_call}
 use Rattle.coap_log.specs.Limits.{lost, reported, after_calls}
 use Rattle.coap_log.specs.declared.limit.LineLimit.{LineLimit}
 use Rattle.coap_log.specs.declared.limit.Admission.TheVariants.{Line}
@@ -20,44 +18,28 @@ record Step (l : LineLimit) (n : ℕ) (after : LineLimit) : Type 0 where
   pub earlier : after.second < l.second → after.written ≡ n
   pub most : 1 ≤ n → after.written ≤ 100
 
-of_report : (l : LineLimit) (second : ℕ) → Step l (lines_of_report (report l second)) (after_report l second)
-unfolding report after_report
-of_report l second = record {
-  same = grind (arith, nat_tests);
-  later = grind (arith, nat_tests);
-  earlier = grind (arith, nat_tests);
-  most = grind (arith, nat_tests);
-}
-
-of_admission : (l : LineLimit) (second : ℕ)
-    → Step l (lines_of_admission (admission l second)) (after_admission l second)
-unfolding report after_report missed admission after_admission
-of_admission l second = record {
-  same = grind (arith, nat_tests);
-  later = grind (arith, nat_tests);
-  earlier = grind (arith, nat_tests);
-  most = grind (arith, nat_tests);
-}
-
-of_end : (l : LineLimit) (second : ℕ) → Step l (lines_of_report (last_report l second)) (after_end l second)
-unfolding last_report after_end
-of_end l second = record {
-  same = grind (arith, nat_tests);
-  later = grind (arith, nat_tests);
-  earlier = grind (arith, nat_tests);
-  most = grind (arith, nat_tests);
-}
-
-of_miss : (l : LineLimit) (count : ℕ) → Step l 0 (missed count l)
-unfolding missed
-of_miss l count =
-    record { same = λ e. omega arith; later = λ e. omega arith; earlier = λ e. omega arith; most = λ e. omega arith }
-
 of_call : (l : LineLimit) (call : LimitCall) → Step l (lines_of_call l call) (after_call l call)
-of_call l (Admit second) = of_admission l second
-of_call l (Report second) = of_report l second
-of_call l (End second) = of_end l second
-of_call l (Miss count) = of_miss l count
+unfolding report after_report missed admission after_admission last_report after_end
+of_call l (Admit second) = record {
+  same = grind (arith, nat_tests);
+  later = grind (arith, nat_tests);
+  earlier = grind (arith, nat_tests);
+  most = grind (arith, nat_tests);
+}
+of_call l (Report second) = record {
+  same = grind (arith, nat_tests);
+  later = grind (arith, nat_tests);
+  earlier = grind (arith, nat_tests);
+  most = grind (arith, nat_tests);
+}
+of_call l (End second) = record {
+  same = grind (arith, nat_tests);
+  later = grind (arith, nat_tests);
+  earlier = grind (arith, nat_tests);
+  most = grind (arith, nat_tests);
+}
+of_call l (Miss count) =
+    record { same = λ e. omega arith; later = λ e. omega arith; earlier = λ e. omega arith; most = λ e. omega arith }
 
 -- ---- while the clock shows one second
 
@@ -110,9 +92,9 @@ record Bound (second n : ℕ) (l : LineLimit) : Type 0 where
 of_step : (second more n : ℕ) (l after : LineLimit) → Step l n after → l.second ≤ after.second → Bound second more after
     → Bound second ((if after.second == second then n else 0) + more) l
 of_step second more n l after step grows bound = record {
-  before = grind (arith, nat_tests, grows, step.same, step.later, step.most, bound.before, bound.during, bound.after);
-  during = grind (arith, nat_tests, grows, step.same, step.later, step.most, bound.before, bound.during, bound.after);
-  after = grind (arith, nat_tests, grows, step.same, step.later, step.most, bound.before, bound.during, bound.after);
+  before = grind (arith, nat_tests, step.same, step.later, step.most, bound.before, bound.during, bound.after);
+  during = grind (arith, nat_tests, step.same, step.later, step.most, bound.before, bound.during, bound.after);
+  after = grind (arith, nat_tests, step.same, step.later, step.most, bound.before, bound.during, bound.after);
 }
 
 bounded : (second : ℕ) (l : LineLimit) (calls : List LimitCall) → GoesForward l calls
@@ -151,49 +133,27 @@ open_after l (call ∷ calls) all so =
     let parts = and_parts (is_before_end call) (list_all is_before_end calls) all in
     open_after (after_call l call) calls parts.1 (stays_open l call parts.0 so)
 
-all_reported : (l : LineLimit) (end : ℕ) → IsOpen l → (after_end l end).left_out ≡ 0
-unfolding last_report after_end
-all_reported l end so = grind (arith, nat_tests, so.written)
-
-room_left : (l : LineLimit) (end now : ℕ) → IsOpen l → admission (after_end l end) now ≡ Line
+ending : (l : LineLimit) (end now : ℕ) → IsOpen l
+    → ((after_end l end).left_out ≡ 0) × (admission (after_end l end) now ≡ Line)
 unfolding report after_report admission after_admission last_report after_end
-room_left l end now so = grind (arith, nat_tests, so.written)
+ending l end now so = (grind (arith, nat_tests, so.written), grind (arith, nat_tests, so.written))
 
 pub last_line : (calls : List LimitCall) (end now : ℕ) → list_all is_before_end calls ≡ true
     → ((after_end (after_calls fresh calls) end).left_out ≡ 0)
     × (admission (after_end (after_calls fresh calls) end) now ≡ Line)
 last_line calls end now before =
-    let so = open_after fresh calls before (record { ending = refl; written = omega arith }) in
-    (all_reported (after_calls fresh calls) end so, room_left (after_calls fresh calls) end now so)
+    ending (after_calls fresh calls) end now
+    (open_after fresh calls before (record { ending = refl; written = omega arith }))
 
 -- ---- the lines left out
 
-admission_counts : (l : LineLimit) (second : ℕ) → l.left_out + lost_by_admission (admission l second) < 2 ^ 64
-    → reported_by_admission (admission l second) + (after_admission l second).left_out
-    ≡ l.left_out + lost_by_admission (admission l second)
-unfolding report after_report missed admission after_admission
-admission_counts l second few = grind (arith, nat_tests)
-
-report_counts : (l : LineLimit) (second : ℕ)
-    → reported_in (report l second) + (after_report l second).left_out ≡ l.left_out
-unfolding report after_report
-report_counts l second = grind (arith, nat_tests)
-
-end_counts : (l : LineLimit) (second : ℕ)
-    → reported_in (last_report l second) + (after_end l second).left_out ≡ l.left_out
-unfolding last_report after_end
-end_counts l second = grind (arith, nat_tests)
-
-miss_counts : (l : LineLimit) (count : ℕ) → l.left_out + count < 2 ^ 64 → (missed count l).left_out ≡ l.left_out + count
-unfolding missed
-miss_counts l count few = omega arith
-
 call_counts : (l : LineLimit) (call : LimitCall) → l.left_out + lost_by_call l call < 2 ^ 64
     → reported_by_call l call + (after_call l call).left_out ≡ l.left_out + lost_by_call l call
-call_counts l (Admit second) few = admission_counts l second few
-call_counts l (Report second) few = omega (arith, report_counts l second)
-call_counts l (End second) few = omega (arith, end_counts l second)
-call_counts l (Miss count) few = omega (arith, miss_counts l count few)
+unfolding report after_report missed admission after_admission last_report after_end
+call_counts l (Admit second) few = grind (arith, nat_tests)
+call_counts l (Report second) few = grind (arith, nat_tests)
+call_counts l (End second) few = grind (arith, nat_tests)
+call_counts l (Miss count) few = grind (arith, nat_tests)
 
 pub counted : (l : LineLimit) (calls : List LimitCall) → l.left_out + lost l calls < 2 ^ 64
     → reported l calls + (after_calls l calls).left_out ≡ l.left_out + lost l calls

@@ -220,7 +220,8 @@ dead_output : (v : TapValue) (pieces : List (List ℕ)) → IsDead v → (output
 unfolding output_of
 dead_output v [] d = refl
 dead_output v (p ∷ ps) d =
-    let next = dead_step v p d in rw next.whole (dead_output (tap_after v p) ps next)
+    let next = dead_step v p d in
+    cond-false (tap_after v p).is_whole _ _ next.whole ∙ dead_output (tap_after v p) ps next
 
 -- One piece, and the output for the other pieces.
 module _ (room : ℕ) (v : TapValue) (r p : List ℕ) (n : ℕ) (others : TapOutput) (t : ℕ) (a : TapValue)
