@@ -16,7 +16,7 @@ use Rattle.coap_record.specs.Prelude.{lines_of, events_said, all_events_said, Is
 use Rattle.coap_record.specs.Prelude.{spelling}
 use Rattle.coap_record.proofs.WordLaws.{word_byte, IsWord, all_fail, all_pass, both_words, number_word, number_back}
 use Rattle.coap_record.proofs.WordLaws.{format_is_word, format_back, bytes_word, bytes_back, payload_word, payload_back}
-use Rattle.coap_record.proofs.WordLaws.{path_is_word, path_back, some_bytes_back}
+use Rattle.coap_record.proofs.WordLaws.{path_is_word, path_back}
 
 -- ---- lines of words
 
@@ -77,17 +77,9 @@ of_words : (text word : List ℕ) (others : List (List ℕ)) (es : List ScriptEv
     → IsLine text es
 unfolding events_in event_in
 of_words text word others es same is are says =
-    let bytes = bytes_of_line word others is are in (
-      inr (
-        spaced word others,
-        same,
-        bytes,
-        rw (
-          all_pass line_byte (λ b. nat_lt b 128) is_ascii (spaced word others) bytes,
-          words_of_line word others is are,
-        ) says,
-      )
-    )
+    let bytes = bytes_of_line word others is are in
+    let ascii = all_pass line_byte (λ b. nat_lt b 128) is_ascii (spaced word others) bytes in
+    inr (spaced word others, same, bytes, rw (ascii, words_of_line word others is are) says)
 
 -- A line, and the text after it.
 line_said : (text : List ℕ) (said : List ScriptEventValue) → IsLine text said
@@ -112,7 +104,8 @@ call_line (call.Opened id) is = of_words _ (codes "open") [] _ refl refl tt refl
 call_line (call.Took id []) is = inl (refl, refl)
 call_line (call.Took id (b ∷ bytes)) is =
     of_words _ (codes "in") (decimal id ∷ encode_lower (b ∷ bytes) ∷ []) _ (simp append_assoc) refl
-    (number_word id is.0, (bytes_word (b ∷ bytes) is.1, tt)) (rw (number_back id is.0, bytes_back b bytes is.1))
+    (number_word id is.0, (bytes_word (b ∷ bytes) is.1, tt))
+    (rw (number_back id is.0, bytes_back (b ∷ bytes) is.1 (omega arith)))
 call_line (call.Wrote id count) is =
     of_words _ (codes "drain") (decimal id ∷ decimal count ∷ []) _ (simp append_assoc) refl
     (number_word id is.0, (number_word count is.1, tt)) (rw (number_back id is.0, number_back count is.1))
@@ -138,7 +131,7 @@ call_line (call.Announced id size) is =
 call_line (call.Responded id m) is =
     of_words _ (codes "respond") (decimal id ∷ encode_lower (spelling m) ∷ []) _ (simp append_assoc) refl
     (number_word id is.0, (bytes_word (spelling m) is.1.0, tt))
-    (rw (number_back id is.0, some_bytes_back (spelling m) is.1.0 is.1.1))
+    (rw (number_back id is.0, bytes_back (spelling m) is.1.0 is.1.1))
 call_line (call.Dropped id) is =
     of_words _ (codes "drop") (decimal id ∷ []) _ (simp append_assoc) refl (number_word id is, tt)
     (rw (number_back id is))

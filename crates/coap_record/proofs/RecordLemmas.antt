@@ -1,6 +1,6 @@
 -- The text of a record, call by call.
 use Rattle.std.proofs.Common.{◌≡◌, ℕ, Bool, true, false, List, [], ◌∷◌, ◌++◌, Option, Some, None, Result, Ok, Err, refl}
-use Rattle.std.proofs.Common.{sym, ap, ◌∙◌, not, append_assoc, append-nil, is_err, true≢false, ◌||◌, OnOk, OnErr}
+use Rattle.std.proofs.Common.{sym, ap, ◌∙◌, not, append_assoc, append-nil, is_err, ◌||◌, OnOk, OnErr}
 use Rattle.std.proofs.lemmas.List.Elements.{All-nil, All-push}
 use Rattle.coap_record.specs.Prelude.{append_known, AcceptedCall, line_of, lines_of, HasLines, HasPart, IsRecordOf}
 use Rattle.coap_record.specs.Prelude.{IsInRange, WritesText, WritesUpTo, AddsBytes, WritesPart, HasFirstLines}
@@ -24,12 +24,6 @@ whole_or_full : (header text : List ℕ) (cs : List AcceptedCall) (full : Bool) 
 whole_or_full header text cs false has = has
 whole_or_full header text cs true has = record { front = cs; later = []; all = sym (append-nil cs); lines = has }
 
--- A record after a failed write.
-torn : (header text : List ℕ) (cs : List AcceptedCall) (full : Bool) → HasPart header text cs
-    → IsRecordOf header true full (Some text) cs
-torn header text cs false has = has
-torn header text cs true has = has
-
 -- The text of each record is such a prefix.
 first_part : (header text : List ℕ) (cs : List AcceptedCall) → HasFirstLines header text cs → HasPart header text cs
 first_part header text cs is = record {
@@ -46,29 +40,27 @@ pub any_part : (header text : List ℕ) (cs : List AcceptedCall) (failed full : 
 any_part header text cs false false is =
     first_part header text cs (record { front = cs; later = []; all = rw append-nil; lines = is })
 any_part header text cs false true is = first_part header text cs is
-any_part header text cs true false is = is
-any_part header text cs true true is = is
+any_part header text cs true full is = is
 
 -- A record that has ended is one of any further calls.
 ended_goes_on : (header : List ℕ) (failed full : Bool) (x : Option (List ℕ)) → (failed || full) ≡ true
     → (cs more : List AcceptedCall) → IsRecordOf header failed full x cs → IsRecordOf header failed full x (cs ++ more)
 ended_goes_on header failed full None ended cs more is = absurd is
-ended_goes_on header false false (Some text) ended cs more is = absurd (true≢false (sym ended))
-ended_goes_on header false true (Some text) ended cs more is =
-    record {
-      front = is.front;
-      later = is.later ++ more;
-      all = ap (λ ds. ds ++ more) is.all ∙ append_assoc is.front is.later more;
-      lines = is.lines;
-    }
-ended_goes_on header true full (Some text) ended cs more is = torn header text (cs ++ more) full (record {
+ended_goes_on header false false (Some text) ended cs more is = absurd cc
+ended_goes_on header false true (Some text) ended cs more is = record {
+  front = is.front;
+  later = is.later ++ more;
+  all = ap (λ ds. ds ++ more) is.all ∙ append_assoc is.front is.later more;
+  lines = is.lines;
+}
+ended_goes_on header true full (Some text) ended cs more is = record {
   front = is.front;
   later = is.later ++ more;
   all = ap (λ ds. ds ++ more) is.all ∙ append_assoc is.front is.later more;
   missing = is.missing;
   lines = is.lines;
   ranges = is.ranges;
-})
+}
 
 -- ---- calls of a recorder
 
@@ -76,7 +68,7 @@ ended_goes_on header true full (Some text) ended cs more is = torn header text (
 pub record_begins : (failed full : Bool) (x : Option (List ℕ)) → x ≡ Some [] → IsRecordOf [] failed full x []
 unfolding lines_of
 record_begins false full x none = rw none (whole_or_full [] [] [] full (refl, All-nil IsInRange))
-record_begins true full x none = rw none (torn [] [] [] full (any_part [] [] [] false false (refl, All-nil IsInRange)))
+record_begins true full x none = rw none (any_part [] [] [] false false (refl, All-nil IsInRange))
 
 -- The line of a call was written, or a part of it if the write failed.
 pub record_goes_on : {T E : Type 0} (header : List ℕ) (cs : List AcceptedCall) (c : AcceptedCall)
@@ -90,14 +82,14 @@ record_goes_on header cs c false false fails is_full (Some text) y (Ok v) works 
     rw (err, wrote) (whole_or_full header (text ++ line_of c) (cs ++ c ∷ []) is_full
     (sym (text_and_one header cs c text is.0), All-push IsInRange cs c is.1 small))
 record_goes_on header cs c false false fails is_full (Some text) y (Err e) works small wrote err is =
-    rw (err, wrote.4) (torn header (text ++ wrote.0) (cs ++ c ∷ []) is_full (record {
+    rw (err, wrote.4) (record {
       front = cs ++ c ∷ [];
       later = [];
       all = rw append-nil;
       missing = wrote.1;
       lines = text_and_one header cs c text is.0 ∙ rw (wrote.3, append_assoc);
       ranges = All-push IsInRange cs c is.1 small;
-    }))
+    })
 
 -- The record had ended before a further call.
 pub record_stays : (header : List ℕ) (cs : List AcceptedCall) (c : AcceptedCall) (failed full : Bool)
@@ -127,7 +119,7 @@ record_flushed header cs false fails full (Some w) y queued left works moved is 
     may_fail : (text : List ℕ) (fails : Bool) → IsRecordOf header false full (Some text) cs
         → IsRecordOf header fails full (Some text) cs
     may_fail text false is = is
-    may_fail text true is = torn header text cs full (any_part header text cs false full is)
+    may_fail text true is = any_part header text cs false full is
 
 -- ---- the header
 
@@ -167,8 +159,9 @@ header_written header text false full fails is_full (Some w) y (Ok v) works all 
     rw (err, all) (whole_or_full (header ++ text) (w ++ text) [] is_full
     (rw (header_alone header w full is, append-nil), All-nil IsInRange))
 header_written header text false full fails is_full (Some w) y (Err e) works all part err is =
-    rw (err, part.4) (torn (header ++ text) (w ++ part.0) [] is_full (header_part (header ++ text) (w ++ part.0) part.1
-    (rw (← header_alone header w full is, part.3, append_assoc))))
+    rw (err, part.4)
+    (header_part (header ++ text) (w ++ part.0) part.1
+    (rw (← header_alone header w full is, part.3, append_assoc)))
 
 -- A write had failed before a further text.
 pub header_stays : (header text : List ℕ) (failed full : Bool) (x : Option (List ℕ)) → failed ≡ true
@@ -178,5 +171,4 @@ header_stays header text false full x ended is = absurd cc
 header_stays header text true full None ended is = absurd is
 header_stays header text true full (Some w) ended is =
     let same = rw (no_front is.front is.later is.all, append-nil) at is.lines in
-    torn (header ++ text) w [] full
-    (header_part (header ++ text) w (is.missing ++ text) (ap (λ t. t ++ text) same ∙ append_assoc w is.missing text))
+    header_part (header ++ text) w (is.missing ++ text) (ap (λ t. t ++ text) same ∙ append_assoc w is.missing text)

@@ -268,9 +268,9 @@ unfolding AreAcceptedAfter world_after
 drained_alike v before later id n turns shows can =
     let shown = shows_at turns v (before ++ call.Wrote id n ∷ later) shows in
     let parts = front_accepted (with_turns turns v.config) [] before (call.Wrote id n ∷ later) shown.accepted in
-    let front = (calls_replay (new_server (with_turns turns v.config)) [] before (first_shows _ _ shown) parts.0 can).0 in
-    rw front.1 at (drain_line_is (replayed (new_server (with_turns turns v.config)) (all_events_said before)).server
-    before id n front.0 (rw front.1 parts.1.0))
+    let all = calls_replay (new_server (with_turns turns v.config)) [] before (first_shows _ _ shown) parts.0 can in
+    rw all.0.1 at (drain_line_is (replayed (new_server (with_turns turns v.config)) (all_events_said before)).server
+    before id n all.0.0 (rw all.0.1 parts.1.0))
 
 -- ---- the text of a record
 

@@ -120,17 +120,10 @@ bytes_word bytes are =
     (λ b small. agree_below_at (λ c. list_all word_byte (encode_lower (c ∷ []))) (λ c. true) 256 b refl small)
     refl (λ b bs. refl) bytes are
 
-pub bytes_back : (byte : ℕ) (bytes : List ℕ) → AreBytes (byte ∷ bytes)
-    → hex_value (encode_lower (byte ∷ bytes)) ≡ Some (byte ∷ bytes)
-bytes_back byte bytes are =
-    let all = byte ∷ bytes in
-    hex_of_some (encode_lower all) (λ none. omega (arith, length-encode_with lower_digits all))
-    ∙ rw (decode_of-encode_lower all (bytes_small all are)) refl
-
-pub some_bytes_back : (bytes : List ℕ) → AreBytes bytes → 1 ≤ length bytes
-    → hex_value (encode_lower bytes) ≡ Some bytes
-some_bytes_back [] are some = absurd (omega arith)
-some_bytes_back (b ∷ bytes) are some = bytes_back b bytes are
+pub bytes_back : (bytes : List ℕ) → AreBytes bytes → 1 ≤ length bytes → hex_value (encode_lower bytes) ≡ Some bytes
+bytes_back bytes are some =
+    hex_of_some (encode_lower bytes) (λ none. omega (arith, length-encode_with lower_digits bytes))
+    ∙ rw (decode_of-encode_lower bytes (bytes_small bytes are))
 
 digits_are_no_hyphen : (byte : ℕ) (bytes : List ℕ) → is_hyphen (encode_lower (byte ∷ bytes)) ≡ false
 unfolding encode_with
@@ -143,7 +136,7 @@ payload_word (b ∷ bytes) are = bytes_word (b ∷ bytes) are
 pub payload_back : (bytes : List ℕ) → AreBytes bytes → payload_value (bytes_text bytes) ≡ Some bytes
 unfolding payload_value
 payload_back [] are = refl
-payload_back (b ∷ bytes) are = rw (digits_are_no_hyphen b bytes) (bytes_back b bytes are)
+payload_back (b ∷ bytes) are = rw (digits_are_no_hyphen b bytes) (bytes_back (b ∷ bytes) are (omega arith))
 
 -- ---- paths
 

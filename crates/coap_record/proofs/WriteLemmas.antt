@@ -9,8 +9,8 @@ use Rattle.coap_io.proofs.streams.DeviceLemmas.{bytes_none, bytes_then}
 use Rattle.coap_io.proofs.streams.WriteLemmas.{part_before, part_after}
 use Rattle.coap_record.specs.Prelude.{encode_with, encode_lower, lower_digits, append_known, concat, AddsBytes}
 use Rattle.coap_record.specs.Prelude.{WritesPart, WritesText, WritesUpTo, QueueValue, room_in, Path, path_word}
-use Rattle.coap_record.specs.Prelude.{path_bytes, flat_map, encoded_byte, slash, took_line, stored_line, format_word}
-use Rattle.coap_record.specs.Prelude.{bytes_text, respond_line, spelling}
+use Rattle.coap_record.specs.Prelude.{path_bytes, flat_map, encoded_byte, slash, took_line, spelling, stored_line}
+use Rattle.coap_record.specs.Prelude.{format_word, bytes_text, respond_line}
 use Rattle.coap_wire.specs.Message.{Message}
 
 pub nothing_yet : (text : List ℕ) (x : Option (List ℕ)) → WritesUpTo text text x x
@@ -118,21 +118,21 @@ no_digits (b ∷ bytes) none = absurd (omega (arith, eqb-true (length (b ∷ byt
 
 pub path_root : (path : Path) → path ≡ [] → path_word path ≡ slash ∷ []
 unfolding path_word
-path_root path none = rw none refl
+path_root path none = rw none
 
 pub path_first : (path rest : Path) (segment : List ℕ) → path ≡ segment ∷ rest
     → path_word path ≡ (slash ∷ flat_map encoded_byte segment) ++ path_bytes rest
 unfolding path_word path_bytes
-path_first path rest segment is = rw is refl
+path_first path rest segment is = rw is
 
 pub path_next : (left rest : Path) (segment : List ℕ) → left ≡ segment ∷ rest
     → path_bytes left ≡ (slash ∷ flat_map encoded_byte segment) ++ path_bytes rest
 unfolding path_bytes
-path_next left rest segment is = rw is refl
+path_next left rest segment is = rw is
 
 pub no_segments : (left : Path) → left ≡ [] → path_bytes left ≡ []
 unfolding path_bytes
-no_segments left none = rw none refl
+no_segments left none = rw none
 
 -- ---- lines
 
@@ -145,18 +145,12 @@ pub took_some : (id : ℕ) (bytes : List ℕ) → false ≡ (length bytes == 0)
     → took_line id bytes ≡ ((codes "in " ++ (decimal id ++ codes " ")) ++ encode_lower bytes) ++ codes "\n"
 unfolding took_line
 took_some id [] some = absurd cc
-took_some id (b ∷ bytes) some = simp append_assoc refl
+took_some id (b ∷ bytes) some = simp append_assoc
 
 pub stored_parts : (path : Path) (format : Option ℕ) (bytes : List ℕ) → stored_line path format bytes
     ≡ (((codes "put " ++ path_word path) ++ (codes " " ++ (format_word format ++ codes " "))) ++ bytes_text bytes)
     ++ codes "\n"
-stored_parts path format bytes = simp append_assoc refl
-
-pub after_first : (a b c d e : List ℕ) → (((a ++ b) ++ c) ++ d) ++ e ≡ a ++ (b ++ (c ++ (d ++ e)))
-after_first a b c d e = simp append_assoc
-
-pub after_second : (a b c d : List ℕ) → ((a ++ b) ++ c) ++ d ≡ a ++ (b ++ (c ++ d))
-after_second a b c d = simp append_assoc
+stored_parts path format bytes = simp append_assoc
 
 -- ---- buffers
 
@@ -186,7 +180,7 @@ room_stays before after count is within fits = rw is (omega (arith, length-drop 
 
 pub responded_parts : (id : ℕ) (bytes : List ℕ)
     → respond_line id bytes ≡ ((codes "respond " ++ (decimal id ++ codes " ")) ++ encode_lower bytes) ++ codes "\n"
-responded_parts id bytes = simp append_assoc refl
+responded_parts id bytes = simp append_assoc
 
 -- ---- an encoded response
 

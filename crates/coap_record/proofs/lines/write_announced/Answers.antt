@@ -1,4 +1,4 @@
-use Rattle.std.proofs.Common.{refl, append_assoc}
+use Rattle.std.proofs.Common.{append_assoc}
 use Rattle.coap_record.proofs.WriteLemmas.{text_is}
 use Rattle.coap_record.proofs.lines.write_announced.Goals as goal
 
@@ -11,5 +11,5 @@ returns-clause-text g c =
       c.decimal_digits-id.ensures,
       c.decimal_digits-size.ensures,
       c.from.ensures,
-    ) (simp append_assoc refl))
+    ) (simp append_assoc))
     c.write_pieces.ensures.text

@@ -1,4 +1,4 @@
-use Rattle.std.proofs.Common.{refl, append_assoc}
+use Rattle.std.proofs.Common.{append_assoc}
 use Rattle.coap_record.proofs.WriteLemmas.{text_is}
 use Rattle.coap_record.proofs.lines.write_drain.Goals as goal
 
@@ -10,5 +10,5 @@ returns-clause-text g c =
       c.as_slice-2.ensures.value,
       c.decimal_digits-id.ensures,
       c.decimal_digits-count.ensures,
-    ) (simp append_assoc refl))
+    ) (simp append_assoc))
     c.write_pieces.ensures.text

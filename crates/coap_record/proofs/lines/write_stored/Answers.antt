@@ -1,24 +1,20 @@
-use Rattle.std.proofs.Common.{append_assoc, ◌∙◌, ◌++◌, codes}
+use Rattle.std.proofs.Common.{append_assoc, ◌++◌, codes, ◌∙◌}
 use Rattle.coap_io.proofs.streams.DeviceLemmas.{bytes_then}
 use Rattle.coap_record.specs.Prelude.{path_word, format_word, bytes_text}
-use Rattle.coap_record.proofs.WriteLemmas.{text_then, text_of_all, fault_first, fault_then, stored_parts, after_first}
-use Rattle.coap_record.proofs.WriteLemmas.{after_second}
+use Rattle.coap_record.proofs.WriteLemmas.{text_then, text_of_all, fault_first, fault_then, stored_parts}
 use Rattle.coap_record.proofs.lines.write_stored.Goals as goal
 
 pub returns-in_err-write_all-clause-text : goal.returns-in_err-write_all-clause-text
 returns-in_err-write_all-clause-text g c =
-    fault_first _ _ (codes "put ") _ _ _ c.from_residual.ensures.0
-    (stored_parts c.args.path.now c.args.format c.args.bytes.now
-    ∙ after_first (codes "put ") (path_word c.args.path.now) (codes " " ++ (format_word c.args.format ++ codes " "))
-    (bytes_text c.args.bytes.now) (codes "\n")) c.in_err-write_all.ensures.part
+    let last = codes " " ++ format_word c.args.format ++ codes " " ++ bytes_text c.args.bytes.now ++ codes "\n" in
+    fault_first _ _ (codes "put ") (path_word c.args.path.now ++ last) _ _ c.from_residual.ensures.0
+    (simp append_assoc) c.in_err-write_all.ensures.part
 
 pub returns-in_err-write_path-clause-text : goal.returns-in_err-write_path-clause-text
 returns-in_err-write_path-clause-text g c =
-    fault_then _ _ _ (codes "put ") (path_word c.args.path.now) _ _ _ c.from_residual-in_err-write_path.ensures.0
-    (stored_parts c.args.path.now c.args.format c.args.bytes.now
-    ∙ after_second (codes "put " ++ path_word c.args.path.now) (codes " " ++ (format_word c.args.format ++ codes " "))
-    (bytes_text c.args.bytes.now) (codes "\n"))
-    c.in_ok-write_all.ensures.ok c.in_err-write_path.ensures.text
+    let last = codes " " ++ format_word c.args.format ++ codes " " ++ bytes_text c.args.bytes.now ++ codes "\n" in
+    fault_then _ _ _ (codes "put ") (path_word c.args.path.now) last _ _ c.from_residual-in_err-write_path.ensures.0
+    (simp append_assoc) c.in_ok-write_all.ensures.ok c.in_err-write_path.ensures.text
 
 pub returns-in_err-write_pieces-clause-text : goal.returns-in_err-write_pieces-clause-text
 returns-in_err-write_pieces-clause-text g c =

@@ -1,11 +1,10 @@
 -- `add` does nothing. The walk opens the reference to the value, and closes it at the value with the bytes added.
-use Rattle.std.proofs.Common.{◌++◌, ◌^◌, ◌<◌, List, [], ◌∷◌, length, refl}
+use Rattle.std.proofs.Common.{◌++◌, ◌^◌, ◌<◌, [], ◌∷◌, length, refl}
 use Rattle.std.proofs.raw_atomic.Walks.{proved}
 use base.Logic.{id⊢}
 use base.Fml.{ftrue, flft}
 use mir.Syntax.{named}
-use mir.Val.{Val, vunit}
-use contract.Running.{tables}
+use mir.Val.{vunit}
 use types.Kit.{‵, ◌⊛◌, ◌$◌, ◌∵◌, !, qed, done, move, keep, use1, split, join, fsplit3, feq_i, suffices, frame, group}
 use types.Run.{enter, of_opd, unit_lit, returns}
 use types.ByLocal.{alloc_all, pass_all, free_all, look_at, sets}
