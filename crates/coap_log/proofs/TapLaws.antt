@@ -150,9 +150,9 @@ module _ (v : TapValue) (r piece : List ℕ) (f : Follows v r) where
             rw (lt-ltb M n large, begin_too_large M (r ++ piece) n e large)
             (take_all (length piece) piece (omega arith), dies)
         | inr small ↦ (elim (cases_lt (length (r ++ piece)) n) [
-            | inl less ↦ short n e small less
-            | inr enough ↦ long n e small enough
-          ])
+          | inl less ↦ short n e small less
+          | inr enough ↦ long n e small enough
+        ])
       ]
 
   step_at : (d : Declared) → declared_of (r ++ piece) ≡ d → IsStepAt d
