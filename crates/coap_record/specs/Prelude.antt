@@ -2,18 +2,17 @@
 
 -- ---- std and the kit's crates
 pub use Rattle.std.specs.Io.KnownBytes.{append_known}
-pub use Rattle.std.specs.List.{concat, list_all, flat_map, slice_split}
+pub use Rattle.std.specs.List.{concat, list_all, flat_map}
 pub use Rattle.std.specs.Char.{is_ascii_digit}
 pub use Rattle.std.specs.Str.{all_ascii_digits}
-pub use Rattle.std.specs.Str.Parse.{digits_value}
 unfoldable pub use Rattle.hex.specs.Hex.{encode_with}
-pub use Rattle.hex.specs.Hex.{encode_lower, decode_of, lower_digits}
-unfoldable pub use Rattle.percent_encoding.specs.Percent.{percent_decode, percent_encode}
+pub use Rattle.hex.specs.Hex.{encode_lower, lower_digits}
+unfoldable pub use Rattle.percent_encoding.specs.Percent.{percent_decode}
 -- ---- coap_wire
 pub use Rattle.coap_wire.specs.declared.sizes.TheConstants.{BASE_MESSAGE_SIZE, LARGEST_QUEUE}
 unfoldable pub use Rattle.coap_wire.specs.Spelling.{spelling}
 -- ---- coap_conn
-pub use Rattle.coap_conn.specs.QueueValue.{QueueValue, IsNextPart, free_of}
+pub use Rattle.coap_conn.specs.QueueValue.{QueueValue}
 -- ---- coap_io
 pub use Rattle.coap_io.specs.streams.Device.{AddsBytes, WritesPart, is_failed_write}
 -- ---- coap_path
@@ -31,7 +30,7 @@ unfoldable pub use Rattle.coap_script.specs.script.Events.{drain_event, event_al
 unfoldable pub use Rattle.coap_script.specs.script.Events.{event_with_two, in_event, number_event, put_event}
 unfoldable pub use Rattle.coap_script.specs.script.Events.{remove_event, respond_event}
 pub use Rattle.coap_script.specs.script.Lines.{bytes_text, tick_line, word_line, out_line}
-pub use Rattle.coap_script.specs.script.Script.{script_of, said_after, said_by_line}
+pub use Rattle.coap_script.specs.script.Script.{script_of}
 unfoldable pub use Rattle.coap_script.specs.script.Script.{event_in, events_in, said_by_parts, says_nothing}
 pub use Rattle.coap_script.specs.script.Words.{newline, space, slash, words_of}
 unfoldable pub use Rattle.coap_script.specs.script.Words.{format_value, path_value}
@@ -58,5 +57,5 @@ pub use Rattle.coap_record.specs.Writes.{WritesText, WritesUpTo, room_in}
 pub use Rattle.coap_record.specs.Records.{HasLines, HasFirstLines, HasPart, IsRecordOf, AreWholeLines, SaysNoEvent}
 pub use Rattle.coap_record.specs.Records.{is_printable}
 pub use Rattle.coap_record.specs.Records.{whole_lines_in}
-pub use Rattle.coap_record.specs.Replays.{with_turns, server_with_turns, write_in, lines_of_writes, drain_of, ReplaysTo}
+pub use Rattle.coap_record.specs.Replays.{with_turns, server_with_turns, write_in, lines_of_writes, ReplaysTo}
 unfoldable pub use Rattle.coap_record.specs.Replays.{writes_of, drains_of}

@@ -3,13 +3,12 @@
 
 -- ---- std and the kit's crates
 pub use Rattle.indexmap.specs.IndexMap.{insert_entry, set_value_at, shift_remove_entry}
-pub use Rattle.std.specs.List.{AllByRecursion, All}
+pub use Rattle.std.specs.List.{AllByRecursion}
 pub use Rattle.std.specs.List.{concat}
 unfoldable pub use Rattle.std.specs.List.{IsDistinct}
 pub use Rattle.std.specs.Map.{keys_of, values_of}
-pub use Rattle.std.specs.Prelude.{OnErr, OnOk, is_ok}
 -- ---- coap_wire
-pub use Rattle.coap_server_engine.specs.Prelude.{RefusedBy, AddsBytes, Nothing, RefusedOrMemory, WrittenFault}
+pub use Rattle.coap_server_engine.specs.Prelude.{RefusedBy, AddsBytes, RefusedOrMemory, WrittenFault}
 pub use Rattle.coap_server_engine.specs.Prelude.{AcceptedCall, Stored, Removed, Opened, Took, Dropped, Released}
 pub use Rattle.coap_server_engine.specs.Prelude.{InResult, ShowsMore, in_result, fed_more, took, Answering, Exchange}
 pub use Rattle.coap_server_engine.specs.Prelude.{Gone, AreRequestedLater, IsRequestedLater, Following, IsReasonFor}
@@ -77,7 +76,7 @@ pub use Rattle.coap_serve.specs.listener.Turns.{IsTakenWith, IsWaitAfter, PeerSt
 pub use Rattle.coap_serve.specs.listener.Turns.{activity_after, can_go_on, peer_outcome, has_failed, has_written}
 pub use Rattle.coap_serve.specs.listener.Turns.{read_events, is_read_due, is_over_in, least_with, kept_unless}
 pub use Rattle.coap_serve.specs.listener.Turns.{new_activity, peer_status, readiness, refused_events, kept_rest}
-pub use Rattle.coap_serve.specs.listener.Turns.{server_read, server_wrote, status_with, visit_state, wait_for}
+pub use Rattle.coap_serve.specs.listener.Turns.{server_read, server_wrote, status_with, visit_state}
 pub use Rattle.coap_serve.specs.listener.Turns.{wait_until, waiting_once, interest_in, interest_of, wrote_events}
 pub use Rattle.coap_serve.specs.declared.serve_streams.Report.{Report}
 pub use Rattle.coap_serve.specs.declared.serve_streams.Turn.{Turn}
@@ -101,19 +100,14 @@ pub use Rattle.coap_server_engine.specs.values.Flushes.{IsFlushed, IsFlushedOnce
 pub use Rattle.coap_server_engine.specs.values.ServerDeadlines.{KeepsOthers, KeepsWork, work_of, session_work}
 unfoldable pub use Rattle.coap_server_engine.specs.values.Servers.{session_of, count_taken, server_taken}
 unfoldable pub use Rattle.coap_server_engine.specs.values.Flushes.{flush_turns}
-pub use Rattle.coap_server_engine.specs.values.Exchanges.{Requested, Offered, Given, offers}
-pub use Rattle.coap_server_engine.specs.values.Calls.{call_value}
-unfoldable pub use Rattle.coap_server_session.specs.values.Sessions.{taking}
+pub use Rattle.coap_server_engine.specs.values.Exchanges.{Requested, Offered, Given}
 pub use Rattle.coap_model.specs.streams.Output.{only_id, stream_of, stdio_output, Outcome, more_of, waiting_of}
 pub use Rattle.coap_model.specs.streams.Output.{outcome_on}
 unfoldable pub use Rattle.coap_model.specs.streams.Output.{flushed, flushed_after, outcome, world_for, written_times}
 pub use Rattle.coap_model.specs.world.Events.{Ended, stream_on, Wrote, beyond, spelled_on}
-pub use Rattle.coap_model.specs.world.Events.{Ticked}
-pub use Rattle.coap_model.specs.world.Events.{Announced, Responded}
 unfoldable pub use Rattle.coap_model.specs.world.Events.{size_on, world_after, takes, taken_on, steps_by}
 pub use Rattle.coap_model.specs.world.Connections.{Connection, waiting_on, handles, is_cut, has_room, new_side}
 unfoldable pub use Rattle.coap_model.specs.world.Connections.{side_written, side_ended, settled}
 unfoldable pub use Rattle.coap_model.specs.world.World.{side_of, step}
 pub use Rattle.coap_wire.specs.Message.{Message}
 pub use Rattle.coap_wire.specs.Spelling.{Spells}
-unfoldable pub use Rattle.coap_wire.specs.Spelling.{spelling}
