@@ -17,12 +17,8 @@ use Rattle.c_api.specs.ClientEvents.{token_number}
 -- ---- tokens
 
 shifted : (k : ℕ) (low : List ℕ) → length low ≡ 4 → fold (λ n b. 256 * n + b) k low ≡ k * 4294967296 + uint_of low
-shifted k [] is = absurd (omega (arith, is))
-shifted k (a ∷ []) is = absurd (omega (arith, is))
-shifted k (a ∷ b ∷ []) is = absurd (omega (arith, is))
-shifted k (a ∷ b ∷ c ∷ []) is = absurd (omega (arith, is))
 shifted k (a ∷ b ∷ c ∷ d ∷ []) is = omega arith
-shifted k (a ∷ b ∷ c ∷ d ∷ e ∷ es) is = absurd (omega (arith, is))
+shifted k low is = grind arith
 
 -- A number in two parts, of which the second has 4 bytes unless the first is empty.
 pub uint_in_two : (high low : List ℕ) → length high ≡ length high + length low - 4
@@ -54,25 +50,9 @@ some_event e f is = cc
 -- The frame of a response has its message.
 pub received_response : (h : Received) (read : Result Message FormatFault) (m : Message)
     → Some (Response m) ≡ received_event h read → read ≡ Ok m
-received_response received.Nothing read m is = absurd cc
-received_response received.Ready read m is = absurd cc
-received_response (received.Answer last) (Ok n) m is =
-    ap Ok (event_of_response n m n.token last (first_critical n.options) (some_event _ _ (sym is)))
-received_response (received.Answer last) (Err e) m is = absurd cc
-received_response (received.Pong custody) (Ok n) m is = absurd cc
-received_response (received.Pong custody) (Err e) m is = absurd cc
-received_response received.Stranger read m is = absurd cc
-received_response (received.Stopped why) read m is = absurd cc
+received_response h read m is = grind arith
 
 -- So does that of a notification.
 pub received_notification : (h : Received) (read : Result Message FormatFault) (m : Message)
     → Some (Notification m) ≡ received_event h read → read ≡ Ok m
-received_notification received.Nothing read m is = absurd cc
-received_notification received.Ready read m is = absurd cc
-received_notification (received.Answer last) (Ok n) m is =
-    ap Ok (event_of_notification n m n.token last (first_critical n.options) (some_event _ _ (sym is)))
-received_notification (received.Answer last) (Err e) m is = absurd cc
-received_notification (received.Pong custody) (Ok n) m is = absurd cc
-received_notification (received.Pong custody) (Err e) m is = absurd cc
-received_notification received.Stranger read m is = absurd cc
-received_notification (received.Stopped why) read m is = absurd cc
+received_notification h read m is = grind arith

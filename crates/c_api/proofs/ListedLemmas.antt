@@ -26,20 +26,18 @@ enough turns more [] fits also = refl
 enough zero more (n ∷ rest) fits also = absurd (omega arith)
 enough (suc turns) zero (n ∷ rest) fits also = absurd (omega arith)
 enough (suc turns) (suc more) (n ∷ rest) fits also =
-    let shorter = length-drop n rest in
-    ap (after_first n rest) (enough turns more (drop n rest) (omega arith) (omega arith))
+    rw (enough turns more (drop n rest) (omega (arith, length-drop n rest)) (omega (arith, length-drop n rest)))
 
 first_listed : (n : ℕ) (rest : List ℕ) → listed_segments (n ∷ rest) ≡ after_first n rest (listed_segments (drop n rest))
 unfolding listed_segments listed_by
 first_listed n rest =
-    let shorter = length-drop n rest in
-    ap (after_first n rest) (enough (length rest) (length (drop n rest)) (drop n rest) (omega arith) (omega arith))
+    rw (enough (length rest) (length (drop n rest)) (drop n rest) (omega (arith, length-drop n rest)) (omega arith))
 
 -- A whole segment comes after those so far.
 one_more : (front : Path) (segment : List ℕ) (others : Option Path)
     → after_front (front ++ segment ∷ []) others ≡ after_front front (option_map (λ ss. segment ∷ ss) others)
 one_more front segment None = refl
-one_more front segment (Some ss) = ap (λ (p : Path). Some p) (append_assoc front (segment ∷ []) ss)
+one_more front segment (Some ss) = rw (append_assoc front (segment ∷ []) ss)
 
 one_more_step : (front : Path) (n : ℕ) (rest list : List ℕ) → n ≤ length rest
     → after_front front (listed_segments (n ∷ rest)) ≡ listed_segments list
@@ -47,64 +45,50 @@ one_more_step : (front : Path) (n : ℕ) (rest list : List ℕ) → n ≤ length
 one_more_step front n rest list within so_far =
     let first : after_first n rest (listed_segments (drop n rest))
     ≡ option_map (λ ss. take n rest ∷ ss) (listed_segments (drop n rest)) = grind (arith, nat_tests) in
-    one_more front (take n rest) (listed_segments (drop n rest))
-    ∙ ap (after_front front) (sym first ∙ sym (first_listed n rest)) ∙ so_far
+    one_more front (take n rest) (listed_segments (drop n rest)) ∙ rw (first_listed n rest, first) at so_far
 
 segments_append : (so_far : List (Bor (List ℕ))) (segment : Bor (List ℕ))
     → segment_list (so_far ++ segment ∷ []) ≡ segment_list so_far ++ segment.now ∷ []
 segments_append [] segment = refl
-segments_append (s ∷ ss) segment = ap (λ (p : Path). s.now ∷ p) (segments_append ss segment)
+segments_append (s ∷ ss) segment = rw (segments_append ss segment)
 
 pub goes_on : (so_far : List (Bor (List ℕ))) (segment : Bor (List ℕ)) (n size : ℕ) (rest later left list : List ℕ)
     → left ≡ size ∷ rest → n ≡ size → n ≤ length rest → segment.now ≡ take n rest → later ≡ drop n rest
     → after_front (segment_list so_far) (listed_segments left) ≡ listed_segments list
     → after_front (segment_list (so_far ++ segment ∷ [])) (listed_segments later) ≡ listed_segments list
 goes_on so_far segment n size rest later left list splits is within whole after before =
-    let first : left ≡ n ∷ rest = splits ∙ ap (λ (k : ℕ). k ∷ rest) (sym is) in
-    let all : segment_list (so_far ++ segment ∷ []) ≡ segment_list so_far ++ take n rest ∷ [] =
-    segments_append so_far segment ∙ ap (λ (s : List ℕ). segment_list so_far ++ s ∷ []) whole in
-    ap (λ (p : Path). after_front p (listed_segments later)) all
-    ∙ ap (λ (bytes : List ℕ). after_front (segment_list so_far ++ take n rest ∷ []) (listed_segments bytes)) after
-    ∙ one_more_step (segment_list so_far) n rest list within
-    (ap (λ (bytes : List ℕ). after_front (segment_list so_far) (listed_segments bytes)) (sym first) ∙ before)
+    rw (segments_append so_far segment, whole, after)
+    (one_more_step (segment_list so_far) n rest list within (rw (splits, ← is) at before))
 
 -- No segment is left.
 pub at_end : (so_far : Path) (left list : List ℕ) → length left ≡ 0
     → after_front so_far (listed_segments left) ≡ listed_segments list → listed_segments list ≡ Some so_far
 unfolding listed_segments listed_by
-at_end so_far [] list none before = sym before ∙ ap (λ (p : Path). Some p) (append-nil so_far)
+at_end so_far [] list none before = sym before ∙ rw (append-nil so_far)
 at_end so_far (n ∷ rest) list none before = absurd (omega arith)
 
 -- A truncated segment is in no path.
 pub truncated : (front : Path) (n size : ℕ) (rest left list : List ℕ) → left ≡ size ∷ rest → n ≡ size → length rest < n
     → after_front front (listed_segments left) ≡ listed_segments list → None ≡ listed_path list
 truncated front n size rest left list splits is short before =
-    let split : left ≡ n ∷ rest = splits ∙ ap (λ (k : ℕ). k ∷ rest) (sym is) in
     let first : after_first n rest (listed_segments (drop n rest)) ≡ None = grind (arith, nat_tests) in
-    ap (λ (s : Option Path). option_and_then path_with s)
-    (ap (after_front front) (sym (ap listed_segments split ∙ first_listed n rest ∙ first)) ∙ before)
+    rw (← before, splits, ← is, first_listed n rest, first)
 
 -- A path has no more than 16 segments.
 long : (p : Path) → 16 < length p → None ≡ path_with p
-long p many =
-    elim (is_path p) as (λ b. is_path p ≡ b → None ≡ (if b then Some p else None))
-    [ true ↦ λ is. (let few = few_segments p is in absurd (omega arith)) | false ↦ λ is. refl ] refl
+long p many = grind (arith, few_segments p)
 
 more_than : (front : Path) (segment : List ℕ) (others : Option Path) → length front ≡ 16
     → None ≡ option_and_then path_with (after_front front (option_map (λ ss. segment ∷ ss) others))
 more_than front segment None full = refl
 more_than front segment (Some ss) full =
-    let all = length-append front (segment ∷ ss) in
-    long (front ++ segment ∷ ss) (omega arith)
+    long (front ++ segment ∷ ss) (omega (arith, length-append front (segment ∷ ss)))
 
 pub too_many_listed : (so_far : List (Bor (List ℕ))) (n size : ℕ) (rest left list : List ℕ) → left ≡ size ∷ rest
     → n ≡ size → n ≤ length rest → length so_far ≡ 16
     → after_front (segment_list so_far) (listed_segments left) ≡ listed_segments list → None ≡ listed_path list
 too_many_listed so_far n size rest left list splits is within full before =
-    let split : left ≡ n ∷ rest = splits ∙ ap (λ (k : ℕ). k ∷ rest) (sym is) in
     let first : after_first n rest (listed_segments (drop n rest))
     ≡ option_map (λ ss. take n rest ∷ ss) (listed_segments (drop n rest)) = grind (arith, nat_tests) in
-    more_than (segment_list so_far) (take n rest) (listed_segments (drop n rest))
-    (length-map so_far (λ s. s.now) ∙ full)
-    ∙ ap (λ (s : Option Path). option_and_then path_with s)
-    (ap (after_front (segment_list so_far)) (sym (ap listed_segments split ∙ first_listed n rest ∙ first)) ∙ before)
+    rw (← before, splits, ← is, first_listed n rest, first) (more_than (segment_list so_far) (take n rest)
+    (listed_segments (drop n rest)) (length-map so_far (λ s. s.now) ∙ full))

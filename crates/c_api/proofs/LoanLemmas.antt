@@ -1,7 +1,8 @@
 -- A frame that has no other bytes than those of an input slice is the accepted bytes.
 use Rattle.std.proofs.Common.{◌≡◌, ℕ, ◌-◌, ◌≤◌, Bool, true, false, List, [], ◌∷◌, ◌++◌, length, take, Option, Some}
-use Rattle.std.proofs.Common.{None, Result, Ok, Err, refl, sym, ap, ◌∙◌, arith}
+use Rattle.std.proofs.Common.{None, inl, inr, Result, Ok, Err, refl, sym, ap, ◌∙◌, arith}
 use Rattle.std.specs.Prelude.{if◌then◌else◌}
+use Rattle.std.proofs.lemmas.Bool.{cases_Bool}
 use Rattle.std.proofs.lemmas.List.{length-append, take_at}
 use Rattle.coap_wire.specs.Message.{Message}
 use Rattle.coap_wire.specs.Reading.{message_of}
@@ -28,7 +29,7 @@ use Rattle.c_api.specs.Loans.{IsInPiece}
 -- No byte is kept before a frame that has no more bytes than were accepted.
 alone_kept : (kept piece frame rest : List ℕ) → kept ++ piece ≡ frame ++ rest → 2 ≤ length frame
     → length frame ≡ length piece - length rest → take (length frame) piece ≡ frame
-alone_kept [] piece frame rest is some count = ap (take (length frame)) is ∙ take_at frame rest _ refl
+alone_kept [] piece frame rest is some count = rw is (take_at frame rest _ refl)
 alone_kept (b ∷ kept) piece frame rest is some count =
     absurd (omega (arith, count, some, ap length is, length-append (b ∷ kept) piece, length-append frame rest))
 
@@ -38,19 +39,13 @@ unfolding framing
 found_alone M kept piece frame is count =
     let first = frame_first M kept piece frame is in
     let cut = whole_parts M (kept ++ piece) frame first.0 first.1 in
-    ap (λ (n : ℕ). take n piece) (sym count)
-    ∙ alone_kept kept piece frame first.0 cut.bytes cut.some (count ∙ ap (λ b. (framing_at kept piece b).taken) first.1)
+    rw (← count)
+    (alone_kept kept piece frame first.0 cut.bytes cut.some (count ∙ ap (λ b. (framing_at kept piece b).taken) first.1))
 
 -- ---- a connection
 
 abbrev IsWhole : List ℕ → ℕ → List ℕ → Type 0
 IsWhole piece n frame = length frame ≡ n → take n piece ≡ frame
-
-if_in : (piece frame : List ℕ) (n : ℕ) (t : Bool) → IsWhole piece n frame
-    → IsInPiece piece n (if t then Some frame else None)
-unfolding IsInPiece
-if_in piece frame n true whole = whole
-if_in piece frame n false whole = tt
 
 keeps_in : (piece : List ℕ) (n : ℕ) (t : Bool) (frame : Option (List ℕ)) → IsInPiece piece n frame
     → IsInPiece piece n (if t then frame else None)
@@ -58,95 +53,54 @@ unfolding IsInPiece
 keeps_in piece n true frame is = is
 keeps_in piece n false frame is = tt
 
-module _ (shared : ServerState) (v : SessionValue) (piece : List ℕ) (f : Framing) where
-  read_in : (frame : List ℕ) (read : Result Message FormatFault) → IsWhole piece f.taken frame
-      → IsInPiece piece (taking_read shared v f.taken read).count (handed_read shared v frame read)
+-- The frame that is complete, and the one that is handed to the application.
+abbrev AreIn : List ℕ → ℕ → (complete handed : Option (List ℕ)) → Type 0
+AreIn piece n complete handed = IsInPiece piece n complete × IsInPiece piece n handed
+
+module _ (shared : ServerState) (v : SessionValue) (piece : List ℕ) where
+  read_in : (count : ℕ) (frame : List ℕ) (read : Result Message FormatFault) → IsWhole piece count frame
+      → AreIn piece (taking_read shared v count read).count (Some frame) (handed_read shared v frame read)
   unfolding IsInPiece
-  read_in frame (Ok m) whole = if_in piece frame f.taken (is_handed_over shared v.link m) whole
-  read_in frame (Err e) whole = tt
+  read_in count frame (Ok m) whole = (whole, keeps_in piece count (is_handed_over shared v.link m) (Some frame) whole)
+  read_in count frame (Err e) whole = (whole, tt)
 
-  handed_found_in : (e : FrameEventValue) → ((frame : List ℕ) → e ≡ AFrame frame → IsWhole piece f.taken frame)
-      → IsInPiece piece (taking_found shared v f e).count (handed_found shared v e)
+  found_in : (f : Framing) (e : FrameEventValue) → ((frame : List ℕ) → e ≡ AFrame frame → IsWhole piece f.taken frame)
+      → AreIn piece (taking_found shared v f e).count (found_frame e) (handed_found shared v e)
   unfolding IsInPiece
-  handed_found_in Nothing whole = tt
-  handed_found_in (AFault fault) whole = tt
-  handed_found_in (AFrame frame) whole = read_in frame (message_of frame) (whole frame refl)
+  found_in f Nothing whole = (tt, tt)
+  found_in f (AFault fault) whole = (tt, tt)
+  found_in f (AFrame frame) whole = read_in f.taken frame (message_of frame) (whole frame refl)
 
-  frame_in : (frame : List ℕ) (read : Result Message FormatFault) → IsWhole piece f.taken frame
-      → IsInPiece piece (taking_read shared v f.taken read).count (Some frame)
-  unfolding IsInPiece
-  frame_in frame (Ok m) whole = whole
-  frame_in frame (Err e) whole = whole
-
-  found_frame_in : (e : FrameEventValue) → ((frame : List ℕ) → e ≡ AFrame frame → IsWhole piece f.taken frame)
-      → IsInPiece piece (taking_found shared v f e).count (found_frame e)
-  unfolding IsInPiece
-  found_frame_in Nothing whole = tt
-  found_frame_in (AFault fault) whole = tt
-  found_frame_in (AFrame frame) whole = frame_in frame (message_of frame) (whole frame refl)
-
-  module _ (whole : (frame : List ℕ) → f.finding ≡ AFrame frame → IsWhole piece f.taken frame) where
-    takes_handed : (t : Bool) → IsInPiece piece (if t then taking_found shared v f f.finding
-        else record { count = 0; handled = false; session = v; change = Change.Nothing }).count
-        (if t then handed_found shared v f.finding else None)
-    unfolding IsInPiece
-    takes_handed true = handed_found_in f.finding whole
-    takes_handed false = tt
-
-    takes_frame : (t : Bool) → IsInPiece piece (if t then taking_found shared v f f.finding
-        else record { count = 0; handled = false; session = v; change = Change.Nothing }).count
-        (if t then found_frame f.finding else None)
-    unfolding IsInPiece
-    takes_frame true = found_frame_in f.finding whole
-    takes_frame false = tt
-
-handed_in : (shared : ServerState) (v : SessionValue) (piece : List ℕ)
-    → IsInPiece piece (taking shared v piece).count (handed shared v piece)
-unfolding taking handed
-handed_in shared v piece =
-    takes_handed shared v piece (framing (session_max v) v.frame piece)
-    (found_alone (session_max v) v.frame piece) (session_takes v)
-
-completed_in : (shared : ServerState) (v : SessionValue) (piece : List ℕ)
-    → IsInPiece piece (taking shared v piece).count (completed v piece)
-unfolding taking completed
-completed_in shared v piece =
-    takes_frame shared v piece (framing (session_max v) v.frame piece)
-    (found_alone (session_max v) v.frame piece) (session_takes v)
+  taking_in : AreIn piece (taking shared v piece).count (completed v piece) (handed shared v piece)
+  unfolding taking completed handed IsInPiece
+  taking_in = elim (cases_Bool (session_takes v)) [
+    | inl takes ↦ rw takes (found_in (framing (session_max v) v.frame piece) _ (found_alone _ v.frame piece))
+    | inr stopped ↦ rw stopped (tt, tt)
+  ]
 
 -- ---- the server
 
-handed_on_in : (v : ServerValue) (piece : List ℕ) (s : Option SessionValue) (stop : Option Reason)
+handed_in : (v : ServerValue) (piece : List ℕ) (s : Option SessionValue) (stop : Option Reason)
     → IsInPiece piece (count_on v piece s) (handed_on v piece s stop)
 unfolding IsInPiece
-handed_on_in v piece None stop = tt
-handed_on_in v piece (Some s) None = handed_in v.shared s piece
-handed_on_in v piece (Some s) (Some why) = tt
+handed_in v piece None stop = tt
+handed_in v piece (Some s) None = (taking_in v.shared s piece).1
+handed_in v piece (Some s) (Some why) = tt
 
-changing_on_in : (v : ServerValue) (piece : List ℕ) (s : Option SessionValue)
+changing_in : (v : ServerValue) (piece : List ℕ) (s : Option SessionValue)
     → IsInPiece piece (count_on v piece s) (changing_on v piece s)
 unfolding IsInPiece
-changing_on_in v piece None = tt
-changing_on_in v piece (Some s) =
-    keeps_in piece (taking v.shared s piece).count (changes (taking v.shared s piece).change) (completed s piece)
-    (completed_in v.shared s piece)
-
-handed_frame_in : (v : ServerValue) (id : ℕ) (piece : List ℕ)
-    → IsInPiece piece (count_taken v id piece) (handed_frame v id piece)
-unfolding count_taken handed_frame
-handed_frame_in v id piece =
-    handed_on_in v piece (session_of id v.sessions) (stop_on (session_of id (server_taken v id piece).sessions))
-
-changing_frame_in : (v : ServerValue) (id : ℕ) (piece : List ℕ)
-    → IsInPiece piece (count_taken v id piece) (changing_frame v id piece)
-unfolding count_taken changing_frame
-changing_frame_in v id piece = changing_on_in v piece (session_of id v.sessions)
+changing_in v piece None = tt
+changing_in v piece (Some s) =
+    keeps_in piece _ (changes (taking v.shared s piece).change) (completed s piece) (taking_in v.shared s piece).0
 
 -- The frames that a `take` lends.
 pub handed_lies : (v : ServerValue) (id : ℕ) (piece : List ℕ) (n : ℕ) (frame : Option (List ℕ))
     → n ≡ count_taken v id piece → frame ≡ handed_frame v id piece → IsInPiece piece n frame
-handed_lies v id piece n frame count is = rw (count, is) (handed_frame_in v id piece)
+unfolding count_taken handed_frame
+handed_lies v id piece n frame count is = rw (count, is) (handed_in v piece (session_of id v.sessions) _)
 
 pub changing_lies : (v : ServerValue) (id : ℕ) (piece : List ℕ) (n : ℕ) (frame : Option (List ℕ))
     → n ≡ count_taken v id piece → frame ≡ changing_frame v id piece → IsInPiece piece n frame
-changing_lies v id piece n frame count is = rw (count, is) (changing_frame_in v id piece)
+unfolding count_taken changing_frame
+changing_lies v id piece n frame count is = rw (count, is) (changing_in v piece (session_of id v.sessions))

@@ -1,7 +1,7 @@
 -- A take that handles nothing leaves the output of each connection. One that accepts no byte handles nothing.
 use Rattle.std.proofs.Common.{◌≡◌, ◌≢◌, inl, inr, ℕ, true, false, List, [], take}
 use Rattle.std.proofs.Common.{Option, Some, None, Result, Ok, Err, refl, sym, ap, subst, ◌∙◌, arith, slice_get}
-use Rattle.std.proofs.lemmas.Bool.{and_parts, cases_eq}
+use Rattle.std.proofs.lemmas.Bool.{and_parts, cases_Bool, cases_eq}
 use Rattle.std.proofs.lemmas.Bool.Decides.{nat_tests}
 use Rattle.std.proofs.lemmas.Map.Entries.{length-values_of}
 use denote.Ref.{Bor}
@@ -72,27 +72,19 @@ still_settled shared s frame settled = settled
 rejected_stops : (shared : ServerState) (s : SessionValue) (fault : Reject) → takes_messages s.link.phase ≡ true
     → stop_of (session_settled shared (session_rejected s fault)).link.phase ≡ Some (reject_reason fault)
 rejected_stops shared s fault live =
-    let r : SessionValue = session_rejected s fault in
     let stopped : SessionValue =
     record {
       frame = [];
       link = link_with s.link (abort (state_in s.link) (reject_reason fault));
       observers = [];
     } in
-    let is : r ≡ stopped = rw live refl in
+    let is : session_rejected s fault ≡ stopped = rw live in
     let settled : IsSettled shared stopped =
     settled_quiet shared stopped (none_is_pending shared.now [] (omega arith)) refl in
-    ap (λ (t : SessionValue). stop_of t.link.phase)
-    (settled_stays shared r (subst (IsSettled shared) (sym is) settled) ∙ is)
+    rw is (ap (λ (t : SessionValue). stop_of t.link.phase) (settled_stays shared stopped settled))
 
 message_handled : (stop : Option Reason) → handled_so true true stop ≡ handled.Nothing → ⊥
-message_handled None nothing = absurd cc
-message_handled (Some why) nothing = absurd cc
-
-stop_handled : (stop : Option Reason) (why : Reason) → stop ≡ Some why
-    → handled_so true false stop ≡ handled.Nothing → ⊥
-stop_handled None why is nothing = absurd cc
-stop_handled (Some other) why is nothing = absurd cc
+message_handled stop nothing = grind arith
 
 module _ (v : ServerValue) (id i : ℕ) (piece : List ℕ) (settled : AreSettled v.shared v.sessions)
     (lies : LiesAt id i v.sessions) where
@@ -115,23 +107,17 @@ module _ (v : ServerValue) (id i : ℕ) (piece : List ℕ) (settled : AreSettled
       let f : SessionValue → SessionValue = λ _. t.session in
       let shared : shared_changed v.shared t.change ≡ v.shared =
       shared_stays v.shared t.change (rw unhandled.change refl) in
-      let after : server_taken_so v id t ≡ server_settled (on_session id f v) =
-      ap (λ (sh : ServerState). server_settled (record (on_session id f v) { shared = sh })) shared in
       let others = keeps_others v id f settled in
       let own : IsSettled v.shared t.session =
-      subst (IsSettled v.shared) (sym unhandled.session)
+      rw unhandled.session
       (still_settled v.shared s unhandled.frame (one_of_all (IsSettled v.shared) i v.sessions s settled one.1)) in
-      subst (IsQuiet v) (sym after) (record {
+      rw shared (record {
         keys = others.keys;
         same =
             λ other.
             elim (cases_eq other id) [
-              | inl same ↦
-                  subst (λ (k : ℕ). waiting_at k (server_settled (on_session id f v)) ≡ waiting_at k v) (sym same)
-                  (ap waiting_in (becomes_settled v.shared id f v.sessions s here)
-                  ∙ ap (λ (u : SessionValue). u.link.waiting)
-                  (settled_stays v.shared t.session own ∙ unhandled.session)
-                  ∙ sym (ap waiting_in here))
+              | inl same ↦ rw (same, becomes_settled v.shared id f v.sessions s here, here,
+                  settled_stays v.shared t.session own, unhandled.session)
               | inr apart ↦ ap waiting_in (others.same other apart)
             ];
       })
@@ -151,7 +137,7 @@ module _ (v : ServerValue) (id i : ℕ) (piece : List ℕ) (settled : AreSettled
     rejects count fault nothing =
         let stop = ap stop_on (becomes_settled v.shared id (λ _. session_rejected s fault) v.sessions s here)
         ∙ rejected_stops v.shared s fault live in
-        stop_handled _ (reject_reason fault) stop (rw takes at nothing)
+        cc (rw (takes, stop) at nothing)
 
     read_unhandled : (count : ℕ) (r : Result Message FormatFault) → Results (taking_read v.shared s count r)
         → IsUnhandled s (taking_read v.shared s count r)
@@ -173,17 +159,14 @@ module _ (v : ServerValue) (id i : ℕ) (piece : List ℕ) (settled : AreSettled
 
     takes_unhandled : Results (taking v.shared s piece) → IsUnhandled s (taking v.shared s piece)
     takes_unhandled nothing =
-        subst (IsUnhandled s) (sym taking_is) (found_unhandled framed framed.finding (subst Results taking_is nothing))
+        rw taking_is (found_unhandled framed framed.finding (rw taking_is at nothing))
 
   unhandled : Results (taking v.shared s piece) → IsUnhandled s (taking v.shared s piece)
-  unhandled =
-      elim (session_takes s) as (λ b. session_takes s ≡ b → Results (taking v.shared s piece)
-      → IsUnhandled s (taking v.shared s piece)) [
-        | true ↦ λ takes. takes_unhandled takes
-        | false ↦ λ stopped nothing.
-            subst (IsUnhandled s) (sym (taking_stopped v.shared s piece stopped))
-            (record { frame = s.frame; session = refl; change = refl })
-      ] refl
+  unhandled nothing = elim (cases_Bool (session_takes s)) [
+    | inl takes ↦ takes_unhandled takes nothing
+    | inr stopped ↦
+        rw (taking_stopped v.shared s piece stopped) (record { frame = s.frame; session = refl; change = refl })
+  ]
 
   after_take : (bytes : List ℕ) → server_taken v id bytes ≡ server_taken_so v id (taking v.shared s bytes)
   unfolding server_taken
@@ -193,44 +176,32 @@ module _ (v : ServerValue) (id i : ℕ) (piece : List ℕ) (settled : AreSettled
   nothing_quiet : handled_by v id piece ≡ handled.Nothing → IsQuiet v (server_taken v id piece)
   unfolding handled_by
   nothing_quiet nothing =
-      let results : Results (taking v.shared s piece) =
-      sym (ap (λ (u : ServerValue). handled_on v piece (Some s) (stop_on (session_of id u.sessions)))
-      (after_take piece))
-      ∙ sym (ap (λ (o : Option SessionValue).
-      handled_on v piece o (stop_on (session_of id (server_taken v id piece).sessions))) here)
-      ∙ nothing in
-      subst (IsQuiet v) (sym (after_take piece)) (quiet_so (taking v.shared s piece) (unhandled results))
+      rw (after_take piece) (quiet_so (taking v.shared s piece) (unhandled (rw (here, after_take piece) at nothing)))
 
   -- A take in which an allocation failed.
   refused_quiet : (count : ℕ) → RefusesPieceOn v piece count (session_of id v.sessions)
       → IsQuiet v (server_taken v id (take count piece))
   refused_quiet count refuses =
       let on : RefusesPiece v.shared s piece count = rw here at refuses in
-      let kept : (frame : List ℕ) × ((taking v.shared s (take count piece)).session ≡ record s { frame = frame }) =
-      refused_kept v.shared s piece count on
+      let kept = refused_kept v.shared s piece count on
       (λ (w : SessionValue). (frame : List ℕ) × (w ≡ record s { frame = frame })) (λ frame. (frame, refl)) in
-      subst (IsQuiet v) (sym (after_take (take count piece))) (quiet_so (taking v.shared s (take count piece)) (record {
-        frame = kept.0;
-        session = kept.1;
-        change = refused_changes_nothing v.shared s piece count on;
-      }))
+      let change = refused_changes_nothing v.shared s piece count on in
+      rw (after_take (take count piece))
+      (quiet_so (taking v.shared s (take count piece)) (record { frame = kept.0; session = kept.1; change = change }))
 
 -- ---- the result of a take
 
 code_nothing : (h : Handled) → handled_code h ≡ 0 → h ≡ handled.Nothing
-code_nothing handled.Nothing zero = refl
-code_nothing handled.Message zero = absurd (omega (arith, zero))
-code_nothing (handled.Stopped why) zero = absurd (omega (arith, zero))
+code_nothing h zero = grind arith
 
 -- If it reports that nothing was handled, no output changed.
 pub taken_quiet : (id i : ℕ) (piece : Bor (List ℕ)) (t : TookResult) (v after : ServerValue)
     → AreSettled v.shared v.sessions → LiesAt id i v.sessions → IsTakenOn id piece t v after → t.handled ≡ 0
     → IsQuiet v after
 taken_quiet id i piece t v after settled lies (inl (m, (o, (n, (says, (why, (lent, (changed, (is, shows))))))))) none =
-    subst (IsQuiet v) (sym is)
-    (nothing_quiet v id i piece.now settled lies (code_nothing (handled_by v id piece.now) (sym says ∙ none)))
+    rw is (nothing_quiet v id i piece.now settled lies (code_nothing _ (sym says ∙ none)))
 taken_quiet id i piece t v after settled lies (inr (refuses, (took, (is, shows)))) none =
-    subst (IsQuiet v) (sym is) (refused_quiet v id i piece.now settled lies t.bytes refuses)
+    rw is (refused_quiet v id i piece.now settled lies t.bytes refuses)
 
 -- If it reports that something was handled, the server is that after the take.
 pub taken_whole : (id : ℕ) (piece : Bor (List ℕ)) (t : TookResult) (v after : ServerValue)
@@ -242,28 +213,20 @@ taken_whole id piece t v after (inr (refuses, ((bytes, (says, rest)), does))) so
 
 same_handles_nothing : (o : Option Connection) → handled_between o o ≡ handled.Nothing
 same_handles_nothing None = refl
-same_handles_nothing (Some c) =
-    elim (stop_of c.history.phase) as (λ stop. stop_of c.history.phase ≡ stop
-    → handled_between (Some c) (Some c) ≡ handled.Nothing) [
-      | None ↦ λ is. rw is (grind (arith, nat_tests))
-      | Some why ↦ λ is. rw is refl
-    ] refl
+same_handles_nothing (Some c) = grind (arith, nat_tests)
 
 no_bytes_handle_nothing : (c : ConfigValues) (events : List AcceptedCall) (id : ℕ)
     → handled_in c events (Took id []) id ≡ handled.Nothing
 no_bytes_handle_nothing c events id =
-    ap (λ (w : World). handled_between (side_of id (world_after c events).sides) (side_of id w.sides))
-    (world_same c events (Took id []) (no_bytes_steps c.limits.max_message id events))
-    ∙ same_handles_nothing (side_of id (world_after c events).sides)
+    rw (world_same c events (Took id []) (no_bytes_steps c.limits.max_message id events))
+    (same_handles_nothing (side_of id (world_after c events).sides))
 
 -- A take that accepts no byte, on a server that shows events, handles nothing.
 nothing_without_bytes : (v : ServerValue) (id : ℕ) (piece : List ℕ) (events : List AcceptedCall) → Shows v events
     → count_taken v id piece ≡ 0 → handled_by v id piece ≡ handled.Nothing
 nothing_without_bytes v id piece events shows none =
     take_says (Ok (record { bytes = count_taken v id piece; handled = handled_by v id piece })) v id piece refl refl
-    events shows
-    ∙ ap (λ (n : ℕ). handled_in v.config events (Took id (take n piece)) id) none
-    ∙ no_bytes_handle_nothing v.config events id
+    events shows ∙ rw none (no_bytes_handle_nothing v.config events id)
 
 pub taken_nothing : (id : ℕ) (piece : Bor (List ℕ)) (t : TookResult) (v after : ServerValue)
     → IsTakenOn id piece t v after → (events : List AcceptedCall) → Shows v events → t.bytes ≡ 0 → t.handled ≡ 0

@@ -35,26 +35,17 @@ holds_front whole at within = record {
 }
 
 -- A part is copied to the end of a front.
-pub holds_more : (whole front bytes old new : List ℕ) (at at' : ℕ) → Holds whole front at old → at' ≡ at + length bytes
+pub holds_more : {whole front old new : List ℕ} {at at' : ℕ} (bytes : List ℕ) → Holds whole front at old → at' ≡ at + length bytes
     → new ≡ take at old ++ (bytes ++ drop (at + length bytes) old) → Holds whole (front ++ bytes) at' new
-holds_more whole front bytes old new at at' h later put =
+holds_more {whole = whole} {front = front} {old = old} {at = at} bytes h later put =
     let n = length bytes in
-    let before : take at old ≡ front = ap (take at) h.is ∙ take_at front (drop at whole) at (sym h.end) in
+    let before : take at old ≡ front = rw h.is (take_at front (drop at whole) at (sym h.end)) in
     let after : drop (at + n) old ≡ drop (at + n) whole =
-    sym (drop-drop n at old)
-    ∙ ap (λ (y : List ℕ). drop n y) (ap (drop at) h.is ∙ drop_at front (drop at whole) at (sym h.end))
-    ∙ drop-drop n at whole in
+    rw (← drop-drop n at old, h.is, drop_at front (drop at whole) at (sym h.end)) (drop-drop n at whole) in
     record {
       end = omega (arith, later, h.end, length-append front bytes);
-      is =
-          put ∙ ap (λ (y : List ℕ). y ++ (bytes ++ drop (at + n) old)) before
-          ∙ ap (λ (y : List ℕ). front ++ (bytes ++ y)) after ∙ sym (append_assoc front bytes (drop (at + n) whole))
-          ∙ ap (λ (k : ℕ). (front ++ bytes) ++ drop k whole) (sym later);
+      is = rw (put, later, before, after) (sym (append_assoc front bytes (drop (at + n) whole)));
     }
-
--- The first bytes that are appended to an empty list.
-pub from_empty : (old new bytes : List ℕ) → old ≡ [] → new ≡ old ++ bytes → new ≡ bytes
-from_empty old new bytes empty is = is ∙ ap (λ (y : List ℕ). y ++ bytes) empty
 
 -- ---- an option
 
@@ -63,8 +54,7 @@ pub head_then_value : (last next number : ℕ) (value old head : List ℕ) → o
     → head ≡ old ++ option_head_spelling last next (length value) → next ≡ number
     → head ++ value ≡ option_bytes last number value
 head_then_value last next number value old head empty is same =
-    ap (λ (y : List ℕ). y ++ value) (from_empty old head _ empty is) ∙ option_head_then_value last next value
-    ∙ ap (λ (n : ℕ). option_bytes last n value) same
+    rw (is, empty, ← same) (option_head_then_value last next value)
 
 pub append_none : (room count last number : ℕ) (value : List ℕ) → number < 65536 → last ≤ number
     → length value ≤ MAX_EXTENDED_LENGTH
@@ -82,21 +72,17 @@ pub appended : (bytes head value spelled new : List ℕ) (count end : ℕ) → c
     → (end ≡ count + length spelled) × (new ≡ take count bytes ++ (spelled ++ drop end bytes))
 appended bytes head value spelled new count end within is h =
     let front = take count bytes in
-    let all : (front ++ head) ++ value ≡ front ++ spelled =
-    append_assoc front head value ∙ ap (λ (y : List ℕ). front ++ y) is in (
+    let all : (front ++ head) ++ value ≡ front ++ spelled = rw (append_assoc front head value, is) in (
       omega (arith, h.end, ap length all, length-append front spelled, length-take-le count bytes within),
-      h.is ∙ ap (λ (y : List ℕ). y ++ drop end bytes) all ∙ append_assoc front spelled (drop end bytes),
+      rw (h.is, all) (append_assoc front spelled (drop end bytes)),
     )
 
 -- ---- a message
 
-alone_of : (os : List CoapOption) (payload : List ℕ) → is_some (only_options os payload) ≡ true → payload ≡ []
-alone_of os [] is = refl
-alone_of os (b ∷ bs) is = absurd cc
-
 alone_parts : (r : Result (List CoapOption × List ℕ) FormatFault) → is_some (options_alone r) ≡ true
     → (os : List CoapOption) × (r ≡ Ok (os, []))
-alone_parts (Ok x) is = (x.0, ap (λ (p : List ℕ). Ok (x.0, p)) (alone_of x.0 x.1 is))
+alone_parts (Ok (os, [])) is = (os, refl)
+alone_parts (Ok (os, b ∷ bs)) is = absurd cc
 alone_parts (Err f) is = absurd cc
 
 -- Encoded options are the encodings of the options.
@@ -124,20 +110,17 @@ length-spelling m = length-append (head_spelling m.code m.token (length (body_sp
 write_large : (m : Message) (coded : Option (List CoapOption)) (room : ℕ) → m.code < 256
     → length m.token ≤ greatest_token → is_some coded ≡ true
     → LARGEST_MESSAGE < length (body_spelling m) → write_refusal m coded room ≡ Some 135
-write_large m None room code token is large = absurd cc
-write_large m (Some os) room code token is large = grind (arith, nat_tests)
+write_large m coded room code token is large = grind (arith, nat_tests)
 
 write_full : (m : Message) (coded : Option (List CoapOption)) (room : ℕ) → m.code < 256
     → length m.token ≤ greatest_token → is_some coded ≡ true
     → length (body_spelling m) ≤ LARGEST_MESSAGE → room < length (spelling m) → write_refusal m coded room ≡ Some 7
-write_full m None room code token is large full = absurd cc
-write_full m (Some os) room code token is large full = grind (arith, nat_tests)
+write_full m coded room code token is large full = grind (arith, nat_tests)
 
 write_none : (m : Message) (coded : Option (List CoapOption)) (room : ℕ) → m.code < 256
     → length m.token ≤ greatest_token → is_some coded ≡ true
     → length (body_spelling m) ≤ LARGEST_MESSAGE → length (spelling m) ≤ room → write_refusal m coded room ≡ None
-write_none m None room code token is large space = absurd cc
-write_none m (Some os) room code token is large space = grind (arith, nat_tests)
+write_none m coded room code token is large space = grind (arith, nat_tests)
 
 -- A message with encoded options, whose code and token are in range. Its body has `body` bytes.
 module _ (code : ℕ) (token options payload : List ℕ) (body : ℕ) (fits : AreBytes options)
@@ -153,7 +136,7 @@ module _ (code : ℕ) (token options payload : List ℕ) (body : ℕ) (fits : Ar
   count = omega (arith, body_is, ap length spelled, length-body message)
 
   size : length (spelling message) ≡ length (head_spelling code token body) + body
-  size = length-spelling message ∙ ap (λ (n : ℕ). length (head_spelling code token n) + n) (sym count)
+  size = rw (length-spelling message, ← count)
 
   pub refused_large : (room : ℕ) → LARGEST_MESSAGE < body
       → write_refusal message (coded_options options) room ≡ Some 135
@@ -170,7 +153,6 @@ module _ (code : ℕ) (token options payload : List ℕ) (body : ℕ) (fits : Ar
       → marker ≡ payload_marker payload → Holds whole (((head ++ options) ++ marker) ++ payload) at buffer
       → IsWritten (write_refusal message (coded_options options) (length whole)) message whole buffer old at 0
   written whole head marker buffer at old small space head_is marker_is h =
-      let same = whole_spelled message head options marker (head_is ∙ ap (head_spelling code token) count) spelled
-      marker_is in
+      let same = whole_spelled message head options marker (rw (← count) head_is) spelled marker_is in
       rw (write_none message (coded_options options) (length whole) code_fits short some (omega (arith, count))
-      (omega (arith, size))) (refl, (h.end ∙ ap length same, h.is ∙ ap (λ (y : List ℕ). y ++ drop at whole) same))
+      (omega (arith, size))) (refl, (h.end ∙ ap length same, rw same at h.is))

@@ -9,6 +9,7 @@ use std::alloc::Global;
 
 /// Gives the first connection that is due and has unwritten output. It is no longer due.
 #[unsafe(no_mangle)]
+#[tactic(auto, using(crate::proofs::ServerLemmas::reports_empty))]
 pub extern "C" fn dachreup_server_next_output(
     alloc: Global,
     handle: &mut ServerHandle,

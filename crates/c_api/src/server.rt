@@ -63,6 +63,7 @@ pub struct ConnectionStatus {
 
 /// Makes a server, if the handle is empty.
 #[unsafe(no_mangle)]
+#[tactic(auto, using(crate::proofs::ServerLemmas::keeps_empty, crate::proofs::ServerLemmas::keeps_back, crate::proofs::ServerLemmas::keeps_made))]
 pub extern "C" fn dachreup_server_new(
     alloc: Global,
     handle: &mut ServerHandle,
@@ -91,6 +92,7 @@ pub extern "C" fn dachreup_server_new(
 
 /// Opens a connection, and gives its id.
 #[unsafe(no_mangle)]
+#[tactic(auto, using(crate::proofs::ServerLemmas::keeps_empty))]
 pub extern "C" fn dachreup_server_open(
     alloc: Global,
     handle: &mut ServerHandle,
@@ -229,6 +231,7 @@ fn took_bytes(bytes: usize, memory: u32) -> Took
 
 /// Queues a response of the application, and gives what was queued.
 #[unsafe(no_mangle)]
+#[tactic(auto, using(crate::proofs::ServerLemmas::keeps_empty))]
 pub extern "C" fn dachreup_raw_server_respond(
     alloc: Global,
     handle: &mut ServerHandle,
@@ -282,6 +285,7 @@ pub extern "C" fn dachreup_server_parts(
 
 /// Removes the first bytes of the queue of a connection, after the program has written them.
 #[unsafe(no_mangle)]
+#[tactic(auto, using(crate::proofs::ServerLemmas::keeps_empty))]
 pub extern "C" fn dachreup_server_written(
     alloc: Global,
     handle: &mut ServerHandle,
@@ -305,6 +309,7 @@ pub extern "C" fn dachreup_server_written(
 
 /// Sets the time, in seconds.
 #[unsafe(no_mangle)]
+#[tactic(auto, using(crate::proofs::ServerLemmas::keeps_empty))]
 pub extern "C" fn dachreup_server_tick(alloc: Global, handle: &mut ServerHandle, now: u64) -> u32
     ensures call { IsTicked now handle.old.value handle.new.value result }
     ensures output { KeepsReported handle.old.value handle.new.value }
@@ -319,6 +324,7 @@ pub extern "C" fn dachreup_server_tick(alloc: Global, handle: &mut ServerHandle,
 
 /// Records the end of the input of a connection.
 #[unsafe(no_mangle)]
+#[tactic(auto, using(crate::proofs::ServerLemmas::keeps_empty))]
 pub extern "C" fn dachreup_server_ended(alloc: Global, handle: &mut ServerHandle, id: u64) -> u32
     ensures call { IsEnded id handle.old.value handle.new.value result }
     ensures output { KeepsReported handle.old.value handle.new.value }
@@ -333,6 +339,7 @@ pub extern "C" fn dachreup_server_ended(alloc: Global, handle: &mut ServerHandle
 
 /// Queues a Release on a connection.
 #[unsafe(no_mangle)]
+#[tactic(auto, using(crate::proofs::ServerLemmas::keeps_empty))]
 pub extern "C" fn dachreup_server_release(alloc: Global, handle: &mut ServerHandle, id: u64) -> u32
     ensures call { IsReleased id handle.old.value handle.new.value result }
     ensures output { KeepsReported handle.old.value handle.new.value }
@@ -350,6 +357,7 @@ pub extern "C" fn dachreup_server_release(alloc: Global, handle: &mut ServerHand
 
 /// Removes a connection.
 #[unsafe(no_mangle)]
+#[tactic(auto, using(crate::proofs::ServerLemmas::keeps_empty))]
 pub extern "C" fn dachreup_server_drop(alloc: Global, handle: &mut ServerHandle, id: u64) -> u32
     ensures call { IsDropped id handle.old.value handle.new.value result }
     ensures output { KeepsReported handle.old.value handle.new.value }
@@ -364,6 +372,7 @@ pub extern "C" fn dachreup_server_drop(alloc: Global, handle: &mut ServerHandle,
 
 /// Announces a size as the largest message accepted on a connection.
 #[unsafe(no_mangle)]
+#[tactic(auto, using(crate::proofs::ServerLemmas::keeps_empty))]
 pub extern "C" fn dachreup_server_announce(
     alloc: Global,
     handle: &mut ServerHandle,

@@ -6,6 +6,3 @@ returns-in-Ok-clause-call c =
     written_ok c.args.id c.args.count _ _ c.in-Some.server.value c.deref_mut.result.now c.written-answer.new.self
     c.in-Some.ensures.value c.deref_mut.ensures.value c.put_back.ensures
     c.in-Ok.ensures.answer c.in-Ok.ensures.ok c.in-Ok.ensures.shows
-
-pub returns-in_default-clause-output : goal.returns-in_default-clause-output
-returns-in_default-clause-output c = keeps_empty _ _ c.take_server.ensures.empty
