@@ -1,9 +1,8 @@
 -- The search for the first connection that is due and has unwritten output.
 use Rattle.std.proofs.Common.{◌≡◌, ◌≢◌, ◌⊎◌, inl, inr, ℕ, ◌+◌, ◌<◌, ◌≤◌, List, [], ◌∷◌, length, Some, None}
-use Rattle.std.proofs.Common.{refl, sym, ap, subst, ◌∙◌, arith}
+use Rattle.std.proofs.Common.{refl, sym, ap, ◌∙◌, arith}
 use Rattle.std.proofs.lemmas.Bool.{cases_eq, cases_lt}
 use Rattle.coap_server_engine.specs.Prelude.{IsOutside, LiesAt, ServerValue, bit_of, waiting_at}
-use Rattle.coap_server_engine.specs.values.Flushes.{waiting_in}
 use Rattle.coap_server_polled.specs.declared.polled_server.PolledServer.{PolledServer}
 use Rattle.coap_server_polled.specs.Reports.{IsDue, Reports, Yields}
 use Rattle.coap_server_polled.proofs.ReportLemmas.{key_at}
@@ -33,7 +32,7 @@ removed_at at y z removed = record { within = removed.small; bit = removed.clear
 
 still_outside : (at : ℕ) (y z : List ℕ) → IsRemoved at y z → (i : ℕ) → IsOutside y i → IsOutside z i
 still_outside at y z removed i outside = elim (cases_eq i at) [
-  | inl same ↦ subst (IsOutside z) (sym same) (removed_at at y z removed)
+  | inl same ↦ rw same (removed_at at y z removed)
   | inr apart ↦ record { within = outside.within; bit = removed.others i apart ∙ outside.bit }
 ]
 
@@ -45,19 +44,17 @@ outside_before at y z removed i apart outside =
 one_at_index : (id other at : ℕ) (v : ServerValue) → LiesAt id at v.sessions → LiesAt other at v.sessions
     → (id ≡ other) × (waiting_at other v ≡ waiting_at id v)
 one_at_index id other at v one two =
-    let both : Some id ≡ Some other = sym (key_at id at v.sessions one) ∙ key_at other at v.sessions two in
-    let same : id ≡ other = cc in
-    (same, ap waiting_in (two.found ∙ sym one.found))
+    (cc (key_at id at v.sessions one, key_at other at v.sessions two), rw (one.found, two.found))
 
 module _ (x y : PolledServer) (at id count : ℕ) (z : PolledServer) (so : IsSearched x at y)
     (within : at < length x.engine.sessions) (removed : IsRemoved at y.due.words z.due.words)
     (engine : z.engine ≡ y.engine) (lies : LiesAt id at y.engine.sessions)
     (counted : count ≡ length (waiting_at id y.engine)) where
   lies_first : LiesAt id at x.engine.sessions
-  lies_first = subst (λ (v : ServerValue). LiesAt id at v.sessions) so.engine lies
+  lies_first = rw so.engine at lies
 
   count_first : count ≡ length (waiting_at id x.engine)
-  count_first = counted ∙ ap (λ (v : ServerValue). length (waiting_at id v)) so.engine
+  count_first = rw so.engine at counted
 
   -- The connection at the index has no unwritten output.
   pub search_continues : count ≤ 0 → (next : ℕ) → next ≤ length x.engine.sessions
@@ -74,7 +71,7 @@ module _ (x y : PolledServer) (at id count : ℕ) (z : PolledServer) (so : IsSea
             elim (cases_lt i at) [
               | inl before ↦ still_outside at y.due.words z.due.words removed i (so.passed i before)
               | inr after ↦ elim (cases_eq i at) [
-                | inl same ↦ subst (IsOutside z.due.words) (sym same) (removed_at at y.due.words z.due.words removed)
+                | inl same ↦ rw same (removed_at at y.due.words z.due.words removed)
                 | inr apart ↦ between i (omega (arith, after, apart)) less
               ]
             ];
@@ -85,7 +82,7 @@ module _ (x y : PolledServer) (at id count : ℕ) (z : PolledServer) (so : IsSea
             elim (cases_eq i at) [
               | inl same ↦ inr (λ other there.
                   (one_at_index id other at x.engine lies_first
-                  (subst (λ (k : ℕ). LiesAt other k x.engine.sessions) same there)).1 ∙ empty)
+                  (rw same at there)).1 ∙ empty)
               | inr apart ↦ so.left i (outside_before at y.due.words z.due.words removed i apart outside)
             ];
       }
@@ -109,13 +106,13 @@ module _ (x y : PolledServer) (at id count : ℕ) (z : PolledServer) (so : IsSea
     due = due_there;
     reported = record {
       at = at;
-      lies = subst (λ (v : ServerValue). LiesAt id at v.sessions) (sym engine) lies;
+      lies = rw engine lies;
       outside = removed_at at y.due.words z.due.words removed;
     };
     first =
         λ other i there less due.
         elim (so.left i (so.passed i less)) [
-          | inl outside ↦ absurd (due.inside (subst (IsOutside x.due.words) (sym there.index ∙ due.lies.index) outside))
+          | inl outside ↦ absurd (due.inside (rw (← due.lies.index, there.index) outside))
           | inr quiet ↦ quiet other there
         ];
   }
@@ -124,10 +121,10 @@ module _ (x y : PolledServer) (at id count : ℕ) (z : PolledServer) (so : IsSea
   unfolding Reports
   search_reports other reported =
       let whole = engine ∙ so.engine in
-      let there = subst (λ (v : ServerValue). LiesAt other reported.at v.sessions) whole reported.lies in
+      let there = rw whole at reported.lies in
       elim (cases_eq reported.at at) [
         | inl same ↦ inl (ap Some (one_at_index id other at x.engine lies_first
-            (subst (λ (k : ℕ). LiesAt other k x.engine.sessions) same there)).0)
+            (rw same at there)).0)
         | inr apart ↦
             elim (so.left reported.at (outside_before at y.due.words z.due.words removed reported.at apart
             reported.outside)) [
@@ -142,7 +139,7 @@ module _ (x y : PolledServer) (at id count : ℕ) (z : PolledServer) (so : IsSea
 pub all_reported : (x y : PolledServer) (at : ℕ) → IsSearched x at y → Reports None (Some x) (Some y)
 unfolding Reports
 all_reported x y at so other reported =
-    let there = subst (λ (v : ServerValue). LiesAt other reported.at v.sessions) so.engine reported.lies in
+    let there = rw so.engine at reported.lies in
     elim (so.left reported.at reported.outside) [
       | inl outside ↦ inr (inr (
         record { at = reported.at; lies = there; outside = outside },

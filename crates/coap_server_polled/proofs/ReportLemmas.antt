@@ -1,9 +1,9 @@
 -- The connections that a call leaves as they were reported.
 use Rattle.std.proofs.Common.{◌≡◌, ◌≢◌, ℕ, zero, suc, ◌+◌, ◌<◌, ◌≤◌, nat_eq, List, [], ◌∷◌, ◌++◌, length, remove, map}
-use Rattle.std.proofs.Common.{Option, Some, None, refl, sym, ap, subst, ◌∙◌, inl, inr, arith, slice_get, true}
+use Rattle.std.proofs.Common.{Option, Some, None, refl, sym, ap, ◌∙◌, inl, inr, arith, slice_get}
 use Rattle.std.proofs.Common.{add-one, false}
 use Rattle.std.specs.List.{AllByRecursion, IsDistinct}
-use Rattle.std.proofs.lemmas.Bool.{cases_lt, cond_both, eqb-true}
+use Rattle.std.proofs.lemmas.Bool.{cases_lt, eqb-true}
 use Rattle.std.proofs.lemmas.List.{length_push, map-append}
 use Rattle.std.proofs.lemmas.Map.Entries.{length-keys_of, length-values_of}
 use Rattle.coap_server_engine.specs.Prelude.{AddsAffected, AreSettled, IsOutside, KeepsOthers, KeepsWork}
@@ -24,13 +24,11 @@ use Rattle.coap_server_polled.specs.Reports.{IsReported, KeepsReported}
 
 pub keeps_same : (x y : PolledServer) → y ≡ x → KeepsReported (Some x) (Some y)
 unfolding KeepsReported
-keeps_same x y is id reported =
-    (subst (IsReported id) is reported, ap (λ (z : PolledServer). waiting_at id z.engine) is)
+keeps_same x y is id reported = rw (← is) (reported, refl)
 
 pub keeps_engine : (x : PolledServer) (v : ServerValue) → v ≡ x.engine
     → KeepsReported (Some x) (Some (record x { engine = v }))
-keeps_engine x v is =
-    keeps_same x (record x { engine = v }) (ap (λ (w : ServerValue). record x { engine = w }) is)
+keeps_engine x v is = keeps_same x (record x { engine = v }) (rw is)
 
 pub keeps_handle : (h h' : Option PolledServer) → h' ≡ h → KeepsReported h h'
 unfolding KeepsReported
@@ -46,8 +44,7 @@ pub keeps_new : (h : Option PolledServer) (x : PolledServer) (c : ConfigValues) 
     → KeepsReported h (Some x)
 unfolding KeepsReported
 keeps_new h x c is id reported =
-    let few : length x.engine.sessions ≡ 0 = ap (λ (v : ServerValue). length v.sessions) is in
-    absurd (omega (arith, reported.lies.within, few))
+    absurd (omega (arith, reported.lies.within, ap (λ (v : ServerValue). length v.sessions) is))
 
 -- ---- a call on one connection
 
@@ -55,7 +52,7 @@ pub one_keeps : (x y : PolledServer) (id : ℕ) → KeepsOthers id x.engine y.en
     → ((i : ℕ) → IsOutside y.due.words i → IsOutside x.due.words i) → KeepsReported (Some x) (Some y)
 unfolding KeepsReported
 one_keeps x y id keeps own others other reported =
-    let apart : other ≢ id = λ is. own (subst (λ (k : ℕ). IsReported k y) is reported) in (
+    let apart : other ≢ id = λ same. own (rw (← same) reported) in (
       record {
         at = reported.at;
         lies = lies_still other reported.at y.engine.sessions x.engine.sessions (sym keeps.keys) reported.lies;
@@ -68,8 +65,7 @@ one_keeps x y id keeps own others other reported =
 pub one_changed : (x y : PolledServer) (id : ℕ) (f : SessionValue → SessionValue) → AreSettled x.engine.shared
     x.engine.sessions → y.engine ≡ server_settled (on_session id f x.engine) → (IsReported id y → ⊥)
     → ((i : ℕ) → IsOutside y.due.words i → IsOutside x.due.words i) → KeepsReported (Some x) (Some y)
-one_changed x y id f settled is =
-    one_keeps x y id (subst (KeepsOthers id x.engine) (sym is) (keeps_others x.engine id f settled))
+one_changed x y id f settled is = one_keeps x y id (rw is (keeps_others x.engine id f settled))
 
 -- The same, if the index of the connection is added to the set.
 pub one_inserted : (x y : PolledServer) (id at : ℕ) (f : SessionValue → SessionValue)
@@ -77,37 +73,33 @@ pub one_inserted : (x y : PolledServer) (id at : ℕ) (f : SessionValue → Sess
     → y.engine ≡ server_settled (on_session id f x.engine) → bit_of y.due.words at ≡ 1
     → ((i : ℕ) → i ≢ at → bit_of y.due.words i ≡ bit_of x.due.words i) → KeepsReported (Some x) (Some y)
 one_inserted x y id at f settled here is own others =
-    let keeps = subst (KeepsOthers id x.engine) (sym is) (keeps_others x.engine id f settled) in
-    one_keeps x y id keeps
-    (λ reported.
+    let keeps : KeepsOthers id x.engine y.engine = rw is (keeps_others x.engine id f settled) in
+    let before = outside_inserted x.due.words y.due.words at (λ (small : at < 256). own) others in
+    one_keeps x y id keeps (λ reported.
     let lies = lies_still id reported.at y.engine.sessions x.engine.sessions (sym keeps.keys) reported.lies in
-    (outside_inserted x.due.words y.due.words at (λ small. own) others reported.at reported.outside).0
-    (sym lies.index ∙ here.index))
-    (λ i outside. (outside_inserted x.due.words y.due.words at (λ small. own) others i outside).1)
+    (before reported.at reported.outside).0 (sym lies.index ∙ here.index)) (λ i outside. (before i outside).1)
 
 -- ---- a call that changes nothing
 
 same_entries : (id : ℕ) (f : SessionValue → SessionValue) (es : Entries) → ((s : SessionValue) → f s ≡ s)
     → map (session_becomes id f) es ≡ es
 same_entries id f [] same = refl
-same_entries id f (e ∷ es) same = cc (
-  cond_both (nat_eq e.0 id) (e.0, f e.1) e (λ (d : ℕ × SessionValue). d ≡ e)
-      (λ _. ap (λ (s : SessionValue). (e.0, s)) (same e.1)) (λ _. refl),
-  same_entries id f es same,
-)
+same_entries id f (e ∷ es) same = grind (arith, same e.1, same_entries id f es same)
+
+same_server : (x y : PolledServer) → y.engine ≡ x.engine → y.due ≡ x.due → y ≡ x
+same_server x y engine due =
+    ap (λ (v : ServerValue). record y { engine = v }) engine ∙ ap (λ d. record x { due = d }) due
 
 -- No byte was written.
 pub none_written : (x y : PolledServer) (id count : ℕ) → count ≡ 0 → AreSettled x.engine.shared x.engine.sessions
     → y.engine ≡ server_written x.engine id count → y.due ≡ x.due → y ≡ x
-none_written x y id count none settled is due =
-    let engine : y.engine ≡ x.engine =
-    is ∙ ap (server_written x.engine id) none
-    ∙ ap (λ (es : Entries). server_settled (record x.engine { sessions = es }))
-    (same_entries id (λ s. session_written s 0) x.engine.sessions (λ s. refl))
-    ∙ ap (λ (es : Entries). record x.engine { sessions = es })
-    (all_settled_stay x.engine.shared x.engine.sessions settled)
-    in
-    ap (λ (v : ServerValue). record y { engine = v }) engine ∙ ap (λ d. record x { due = d }) due
+none_written x y id count none settled is =
+    same_server x y (rw (
+      is,
+      none,
+      same_entries id (λ s. session_written s 0) x.engine.sessions (λ s. refl),
+      all_settled_stay x.engine.shared x.engine.sessions settled,
+    ))
 
 -- ---- a change that concerns some connections
 
@@ -126,21 +118,15 @@ pub some_changed : (x y : PolledServer) (words : List ℕ) (after : ServerValue)
     → KeepsWork words x.engine after
     → ((i : ℕ) → IsOutside y.due.words i → IsOutside x.due.words i × IsOutside words i)
     → KeepsReported (Some x) (Some y)
-some_changed x y words after is keeps =
-    some_keep x y words (subst (KeepsWork words x.engine) (sym is) keeps)
+some_changed x y words after is keeps = some_keep x y words (rw is keeps)
 
 -- The time stays the same.
 pub time_stays : (x y : PolledServer) (now : ℕ) → now ≡ x.engine.shared.now
     → AreSettled x.engine.shared x.engine.sessions → y.engine ≡ server_ticked x.engine now → y.due ≡ x.due
     → KeepsReported (Some x) (Some y)
 time_stays x y now same settled is due =
-    let engine : y.engine ≡ x.engine =
-    is ∙ ap (server_ticked x.engine) same
-    ∙ ap (λ (es : Entries). record x.engine { sessions = es })
-    (all_settled_stay x.engine.shared x.engine.sessions settled)
-    in
     keeps_same x y
-    (ap (λ (v : ServerValue). record y { engine = v }) engine ∙ ap (λ d. record x { due = d }) due)
+    (same_server x y (rw (is, same, all_settled_stay x.engine.shared x.engine.sessions settled)) due)
 
 -- ---- a take
 
@@ -152,14 +138,12 @@ pub take_keeps : (x y : PolledServer) (id at : ℕ) (piece words : List ℕ) →
     → KeepsReported (Some x) (Some y)
 unfolding KeepsReported
 take_keeps x y id at piece words here is adds own others other reported =
-    let keys = ap (λ (v : ServerValue). keys_of v.sessions) is ∙ adds.keys in
+    let keys : keys_of y.engine.sessions ≡ keys_of x.engine.sessions = rw is adds.keys in
     let lies = lies_still other reported.at y.engine.sessions x.engine.sessions (sym keys) reported.lies in
     let before = outside_inserted words y.due.words at (λ small. own) others reported.at reported.outside in
-    let apart : other ≢ id =
-    λ same. before.0 (sym lies.index ∙ ap (λ (k : ℕ). position_or_len (nat_eq k) (keys_of x.engine.sessions)) same
-    ∙ here.index) in (
+    let apart : other ≢ id = λ same. before.0 (rw (← lies.index, same) here.index) in (
       record { at = reported.at; lies = lies; outside = adds.kept reported.at before.1 },
-      ap (waiting_at other) is ∙ ap waiting_in (adds.same reported.at other apart lies before.1),
+      rw is (ap waiting_in (adds.same reported.at other apart lies before.1)),
     )
 
 -- A take that leaves the ids, the output of each connection, and the set.
@@ -171,7 +155,7 @@ quiet_keeps x y keys same due id reported = (
   record {
     at = reported.at;
     lies = lies_still id reported.at y.engine.sessions x.engine.sessions (sym keys) reported.lies;
-    outside = subst (λ (words : List ℕ). IsOutside words reported.at) (ap (λ d. d.words) due) reported.outside;
+    outside = rw (← due) reported.outside;
   },
   same id,
 )
@@ -180,12 +164,8 @@ quiet_keeps x y keys same due id reported = (
 
 key_there : (id i : ℕ) (ks : List ℕ) → position_or_len (nat_eq id) ks ≡ i → i < length ks → slice_get ks i ≡ Some id
 key_there id i [] index within = absurd (omega (arith, within))
-key_there id zero (k ∷ ks) index within =
-    let here : nat_eq id k ≡ true = grind arith in
-    ap Some (sym (eqb-true id k here))
-key_there id (suc i) (k ∷ ks) index within =
-    let later : position_or_len (nat_eq id) ks ≡ i = grind arith in
-    key_there id i ks later (omega (arith, within))
+key_there id zero (k ∷ ks) index within = grind (arith, eqb-true id k)
+key_there id (suc i) (k ∷ ks) index within = grind (arith, key_there id i ks)
 
 pub key_at : (id i : ℕ) (es : Entries) → LiesAt id i es → slice_get (keys_of es) i ≡ Some id
 key_at id i es lies = key_there id i (keys_of es) lies.index (omega (arith, lies.within, length-keys_of es))
@@ -211,16 +191,14 @@ distinct_front (x ∷ xs) ys distinct =
 lies_early : (id i : ℕ) (xs ys : Entries) (last : ℕ × SessionValue) → ys ≡ xs ++ last ∷ [] → LiesAt id i ys
     → i < length xs → LiesAt id i xs × (session_of id ys ≡ session_of id xs)
 lies_early id i xs ys last is lies within =
-    let keys = ap keys_of is ∙ map-append (λ e. e.0) xs (last ∷ []) in
-    let values = ap values_of is ∙ map-append (λ e. e.1) xs (last ∷ []) in
+    let keys : keys_of ys ≡ keys_of xs ++ last.0 ∷ [] = rw is (map-append (λ e. e.0) xs (last ∷ [])) in
+    let values : values_of ys ≡ values_of xs ++ last.1 ∷ [] = rw is (map-append (λ e. e.1) xs (last ∷ [])) in
     let key : slice_get (keys_of xs) i ≡ Some id =
-    sym (early (keys_of xs) (last.0 ∷ []) i (omega (arith, within, length-keys_of xs)))
-    ∙ sym (ap (λ (ks : List ℕ). slice_get ks i) keys) ∙ key_at id i ys lies in
-    let there = lies_by_key id i xs
-    (distinct_front (keys_of xs) (last.0 ∷ []) (subst (IsDistinct nat_eq) keys lies.distinct)) key in (
+    rw (← early (keys_of xs) (last.0 ∷ []) i (omega (arith, length-keys_of xs)), ← keys) (key_at id i ys lies) in
+    let there = lies_by_key id i xs (distinct_front (keys_of xs) (last.0 ∷ []) (rw keys at lies.distinct)) key in (
       there,
-      lies.found ∙ ap (λ (vs : List SessionValue). slice_get vs i) values
-          ∙ early (values_of xs) (last.1 ∷ []) i (omega (arith, within, length-values_of xs)) ∙ sym there.found,
+      rw (lies.found, there.found, values)
+          (early (values_of xs) (last.1 ∷ []) i (omega (arith, length-values_of xs))),
     )
 
 pub open_keeps : (x y : PolledServer) (count : ℕ) → AreSettled x.engine.shared x.engine.sessions
@@ -263,22 +241,18 @@ map_removed : {X Y : Type 0} (f : X → Y) (xs : List X) (i : ℕ) → map f (re
 map_removed f [] zero = refl
 map_removed f [] (suc i) = refl
 map_removed f (x ∷ xs) zero = refl
-map_removed {Y = Y} f (x ∷ xs) (suc i) = ap (λ (ys : List Y). f x ∷ ys) (map_removed f xs i)
+map_removed f (x ∷ xs) (suc i) = rw (map_removed f xs i)
 
 -- The connection at an index of the list without one, which was at the index `j` before.
 lies_where_removed : (id i j at : ℕ) (xs ys : Entries) → ys ≡ remove xs at → IsDistinct nat_eq (keys_of xs)
     → ((X : Type 0) (zs : List X) → slice_get (remove zs at) i ≡ slice_get zs j) → LiesAt id i ys
     → LiesAt id j xs × (session_of id ys ≡ session_of id xs)
 lies_where_removed id i j at xs ys is distinct place lies =
-    let keys = ap keys_of is ∙ map_removed (λ e. e.0) xs at in
-    let values = ap values_of is ∙ map_removed (λ e. e.1) xs at in
-    let key : slice_get (keys_of xs) j ≡ Some id =
-    sym (place ℕ (keys_of xs)) ∙ sym (ap (λ (ks : List ℕ). slice_get ks i) keys) ∙ key_at id i ys lies in
-    let there = lies_by_key id j xs distinct key in (
-      there,
-      lies.found ∙ ap (λ (vs : List SessionValue). slice_get vs i) values
-          ∙ place SessionValue (values_of xs) ∙ sym there.found,
-    )
+    let keys : keys_of ys ≡ remove (keys_of xs) at = rw is (map_removed (λ e. e.0) xs at) in
+    let values : values_of ys ≡ remove (values_of xs) at = rw is (map_removed (λ e. e.1) xs at) in
+    let key : slice_get (keys_of xs) j ≡ Some id = rw (← place ℕ (keys_of xs), ← keys) (key_at id i ys lies) in
+    let there = lies_by_key id j xs distinct key in
+    (there, rw (lies.found, there.found, values) (place SessionValue (values_of xs)))
 
 pub drop_keeps : (x y : PolledServer) (id at count : ℕ) → AreSettled x.engine.shared x.engine.sessions
     → LiesAt id at x.engine.sessions → count ≡ length x.engine.sessions → count ≤ 256
@@ -308,7 +282,7 @@ drop_keeps x y id at count settled here counted few is before later other report
           (λ X zs. kept_after zs at i more) reported.lies in
           let next : i + 1 < count = omega (arith, parts.0.within, counted) in
           let bit : bit_of x.due.words (suc i) ≡ 0 =
-          subst (λ (k : ℕ). bit_of x.due.words k ≡ 0) (add-one i) (sym (later i more next) ∙ reported.outside.bit) in (
+          rw add-one at (sym (later i more next) ∙ reported.outside.bit) in (
             record { at = suc i; lies = parts.0; outside = record { within = omega (arith, next, few); bit = bit } },
             ap waiting_in parts.1,
           )
