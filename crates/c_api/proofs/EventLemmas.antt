@@ -1,17 +1,13 @@
 -- The numbers of tokens, and the frames of events.
 use Rattle.std.proofs.Common.{◌≡◌, ℕ, ◌+◌, ◌-◌, ◌*◌, ◌≤◌, Bool, true, false, List, [], ◌∷◌, ◌++◌, length, Option, Some}
-use Rattle.std.proofs.Common.{None, Result, Ok, Err, sym, ap, ◌∙◌, arith}
+use Rattle.std.proofs.Common.{None, Result, Ok, ◌∙◌, arith}
 use Rattle.std.specs.Prelude.{fold}
 use Rattle.std.proofs.lemmas.Bool.Decides.{nat_tests}
 use Rattle.std.proofs.lemmas.List.Sums.{fold-append}
-use Rattle.coap_wire.specs.Message.{Message}
-use Rattle.coap_wire.specs.Recognition.{first_critical}
-use Rattle.coap_wire.specs.Uint.{uint_of}
-use Rattle.coap_wire.specs.declared.fault.FormatFault.{FormatFault}
-use Rattle.coap_client_engine.specs.ClientValues.{ClientEventValue, response_event, Response, Notification}
-use Rattle.coap_client_engine.specs.EventViews.{received_event}
+use Rattle.coap_client_engine.specs.Prelude.{Message, FormatFault, received_event}
 use Rattle.coap_client_engine.specs.declared.client.Received.{Received}
-use Rattle.coap_client_engine.specs.declared.client.Received.TheVariants as received
+use Rattle.coap_wire.specs.Uint.{uint_of}
+use Rattle.coap_client_engine.specs.ClientValues.{ClientEventValue, response_event, Response, Notification}
 use Rattle.c_api.specs.ClientEvents.{token_number}
 
 -- ---- tokens

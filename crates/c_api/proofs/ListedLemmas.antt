@@ -1,12 +1,10 @@
 -- The segments of a list, one by one.
-use Rattle.std.proofs.Common.{◌≡◌, ℕ, zero, suc, ◌<◌, ◌≤◌, true, false, List, [], ◌∷◌, ◌++◌, length, take, drop, Option}
-use Rattle.std.proofs.Common.{Some, None, refl, sym, ap, ◌∙◌, append_assoc, length-append, length-drop, arith}
+use Rattle.std.proofs.Common.{◌≡◌, ℕ, zero, suc, ◌<◌, ◌≤◌, List, [], ◌∷◌, ◌++◌, length, take, drop, Option, Some, None}
+use Rattle.std.proofs.Common.{refl, sym, ◌∙◌, append_assoc, length-append, length-drop, arith}
 use Rattle.std.specs.Prelude.{nat_le, option_map, option_and_then, if◌then◌else◌}
 use Rattle.std.proofs.lemmas.Bool.Decides.{nat_tests}
 use Rattle.std.proofs.lemmas.List.{append-nil, length-map}
-use Rattle.std.specs.Borrow.{Bor}
-use Rattle.coap_path.specs.Prelude.{segment_list}
-use Rattle.coap_path.specs.Paths.{Path, is_path}
+use Rattle.coap_path.specs.Prelude.{segment_list, Bor, Path}
 use Rattle.coap_path.proofs.PathLemmas.{few_segments}
 use Rattle.c_api.specs.PathTexts.{path_with, listed_by, listed_segments, listed_path}
 

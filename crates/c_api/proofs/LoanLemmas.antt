@@ -1,27 +1,18 @@
 -- A frame that has no other bytes than those of an input slice is the accepted bytes.
 use Rattle.std.proofs.Common.{◌≡◌, ℕ, ◌-◌, ◌≤◌, Bool, true, false, List, [], ◌∷◌, ◌++◌, length, take, Option, Some}
-use Rattle.std.proofs.Common.{None, inl, inr, Result, Ok, Err, refl, sym, ap, ◌∙◌, arith}
+use Rattle.std.proofs.Common.{None, inl, inr, Result, Ok, Err, refl, ap, ◌∙◌, arith}
 use Rattle.std.specs.Prelude.{if◌then◌else◌}
 use Rattle.std.proofs.lemmas.Bool.{cases_Bool}
 use Rattle.std.proofs.lemmas.List.{length-append, take_at}
-use Rattle.coap_wire.specs.Message.{Message}
-use Rattle.coap_wire.specs.Reading.{message_of}
-use Rattle.coap_wire.specs.declared.fault.FormatFault.{FormatFault}
+use Rattle.coap_server_engine.specs.Prelude.{Message, message_of, FormatFault, Reason, changes, ServerState}
+use Rattle.coap_server_engine.specs.Prelude.{SessionValue, session_takes, taking, taking_read, taking_found, handed}
+use Rattle.coap_server_engine.specs.Prelude.{handed_found, handed_read, is_handed_over, completed, found_frame}
+use Rattle.coap_server_engine.specs.Prelude.{ServerValue, session_of, count_on, count_taken, handed_on, handed_frame}
+use Rattle.coap_server_engine.specs.Prelude.{changing_on, changing_frame}
 use Rattle.coap_wire.proofs.StreamSteps.{whole_parts}
 use Rattle.coap_frame.specs.Framing.{FrameEventValue, Nothing, AFrame, AFault, Framing, framing, framing_at}
 use Rattle.coap_frame.proofs.FrontLaws.{frame_first}
-use Rattle.coap_conn.specs.declared.reason.Reason.{Reason}
-use Rattle.coap_store.specs.Answer.{Change}
-use Rattle.coap_store.specs.Changes.{changes}
-use Rattle.coap_server_session.specs.declared.server_state.ServerState.{ServerState}
-use Rattle.coap_server_session.specs.values.Sessions.{SessionValue, session_takes, session_max, taking, taking_read}
-use Rattle.coap_server_session.specs.values.Sessions.{taking_found}
-use Rattle.coap_server_session.specs.values.HandedRequests.{handed, handed_found, handed_read, is_handed_over}
-use Rattle.coap_server_session.specs.values.HandedRequests.{completed, found_frame}
-use Rattle.coap_server_engine.specs.values.Servers.{ServerValue, session_of, count_on, count_taken, server_taken}
-use Rattle.coap_server_engine.specs.values.ServerAnswers.{stop_on}
-use Rattle.coap_server_engine.specs.values.HandedRequests.{handed_on, handed_frame}
-use Rattle.coap_server_engine.specs.values.ChangedRequests.{changing_on, changing_frame}
+use Rattle.coap_server_session.specs.values.Sessions.{session_max}
 use Rattle.c_api.specs.Loans.{IsInPiece}
 
 -- ---- a frame of the framer

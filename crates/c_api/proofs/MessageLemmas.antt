@@ -1,26 +1,22 @@
 -- The places of the parts of a message in its frame, and of the values of options.
-use Rattle.std.proofs.Common.{◌≡◌, ℕ, ◌+◌, ◌-◌, ◌*◌, ◌≤◌, List, [], ◌∷◌, ◌++◌, length, take, drop, Result, Ok, Err}
-use Rattle.std.proofs.Common.{Some, inl, inr, refl, sym, ap, subst, ◌∙◌, append_assoc, arith}
+use Rattle.std.proofs.Common.{◌≡◌, ℕ, ◌+◌, ◌-◌, ◌*◌, ◌≤◌, List, [], ◌∷◌, ◌++◌, length, take, drop, Ok, Some, inl, inr}
+use Rattle.std.proofs.Common.{refl, sym, ap, ◌∙◌, append_assoc, arith}
 use Rattle.std.proofs.lemmas.Bool.{cases_eq}
 use Rattle.std.proofs.lemmas.Bool.Decides.{nat_tests}
 use Rattle.std.proofs.lemmas.List.{length-append, length-take, length-drop, take-append-drop, drop-drop, take_at}
 use Rattle.std.proofs.lemmas.List.{take_all, drop_at, drop_all}
 use Rattle.c_api.specs.Messages.{first_option}
-use Rattle.coap_wire.specs.Message.{CoapOption, Message}
-use Rattle.coap_wire.specs.Layout.{IsLaidOut, outline_of}
-use Rattle.coap_wire.specs.Reading.{Head, message_of, head_at, option_at}
-use Rattle.coap_wire.specs.Spelling.{option_spelling, options_spelling, payload_bytes, payload_marker}
-use Rattle.coap_wire.specs.Forms.{option_form}
 use Rattle.coap_wire.proofs.BodyLaws.{option_takes}
-use Rattle.coap_wire.specs.declared.fault.FormatFault.{FormatFault}
+use Rattle.coap_wire.specs.declared.layout.Outline.TheVariants.{Unknown, BadToken, Known}
+use Rattle.coap_wire.specs.Prelude.{AreBytes, CoapOption, Message, IsLaidOut, outline_of, Head, message_of, head_at}
+use Rattle.coap_wire.specs.Prelude.{option_at, option_spelling, options_spelling, payload_bytes, payload_marker}
+use Rattle.coap_wire.specs.Prelude.{option_form}
 use Rattle.coap_wire.specs.declared.layout.FrameLayout.{FrameLayout}
 use Rattle.coap_wire.specs.declared.layout.Outline.{Outline}
-use Rattle.coap_wire.specs.declared.layout.Outline.TheVariants.{Unknown, BadToken, Known}
-use Rattle.coap_wire.specs.Prelude.{AreBytes}
 use Rattle.coap_wire.proofs.BodySteps.{ok_is}
 use Rattle.coap_wire.proofs.BuiltLemmas.{marker_then_payload}
 use Rattle.coap_wire.proofs.HeadLaws.{head_again}
-use Rattle.coap_wire.proofs.LayoutLaws.{laid_out_parts, parts_of, head_unknown, head_bad_token, head_other_size}
+use Rattle.coap_wire.proofs.LayoutLaws.{laid_out_parts, head_unknown, head_bad_token, head_other_size}
 use Rattle.coap_wire.proofs.NumberLaws.{AreBytes-drop}
 use Rattle.coap_wire.proofs.ReadingLaws.{message_spelled}
 use Rattle.coap_wire.proofs.SpellingLaws.{option_spelled_as, options_spelled_as}

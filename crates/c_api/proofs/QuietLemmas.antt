@@ -1,46 +1,32 @@
 -- A take that handles nothing leaves the output of each connection. One that accepts no byte handles nothing.
-use Rattle.std.proofs.Common.{◌≡◌, ◌≢◌, inl, inr, ℕ, true, false, List, [], take}
-use Rattle.std.proofs.Common.{Option, Some, None, Result, Ok, Err, refl, sym, ap, subst, ◌∙◌, arith, slice_get}
+use Rattle.std.proofs.Common.{◌≡◌, ◌≢◌, inl, inr, ℕ, true, false, List, [], take, Option, Some, None, Result, Ok, Err}
+use Rattle.std.proofs.Common.{refl, sym, ap, ◌∙◌, arith, slice_get}
 use Rattle.std.proofs.lemmas.Bool.{and_parts, cases_Bool, cases_eq}
 use Rattle.std.proofs.lemmas.Bool.Decides.{nat_tests}
 use Rattle.std.proofs.lemmas.Map.Entries.{length-values_of}
 use denote.Ref.{Bor}
-use Rattle.coap_wire.specs.Message.{Message}
-use Rattle.coap_wire.specs.Reading.{message_of}
-use Rattle.coap_wire.specs.Stream.{OfFrame}
-use Rattle.coap_wire.specs.declared.fault.FormatFault.{FormatFault}
 use Rattle.coap_frame.specs.Framing.{FrameEventValue, Nothing, AFrame, AFault, Framing, framing}
-use Rattle.coap_conn.specs.Phases.{takes_messages, stop_of}
-use Rattle.coap_conn.specs.Reaction.{abort}
-use Rattle.coap_conn.specs.Rejects.{reject_of, reject_reason}
-use Rattle.coap_conn.specs.LinkValue.{link_with, state_in}
+use Rattle.coap_conn.specs.Prelude.{abort, link_with, state_in}
 use Rattle.coap_conn.specs.declared.phase.Reject.{Reject}
 use Rattle.coap_conn.specs.declared.phase.Reject.TheVariants as reject
-use Rattle.coap_conn.specs.declared.reason.Reason.{Reason}
-use Rattle.coap_store.specs.Answer.{Change}
-use Rattle.coap_model.specs.Configs.{ConfigValues}
 use Rattle.coap_model.specs.declared.answers.Handled.{Handled}
 use Rattle.coap_model.specs.declared.answers.Handled.TheVariants as handled
-use Rattle.coap_model.specs.world.Connections.{Connection}
-use Rattle.coap_model.specs.world.Events.{AcceptedCall, Took, world_after}
-use Rattle.coap_model.specs.world.Handling.{handled_between, handled_in}
-use Rattle.coap_model.specs.world.World.{World, side_of}
 use Rattle.coap_model.proofs.OptionLemmas.{there_at}
 use Rattle.coap_model.proofs.world.StepLaws.{world_same}
 use Rattle.coap_model.proofs.world.TookLaws.{no_bytes_steps}
-use Rattle.coap_server_session.specs.declared.server_state.ServerState.{ServerState}
-use Rattle.coap_server_session.specs.values.Sessions.{SessionValue, TakeOutcome, IsSettled, RefusesPiece, taking}
-use Rattle.coap_server_session.specs.values.Sessions.{session_takes, session_ready, session_max, session_rejected}
-use Rattle.coap_server_session.specs.values.Sessions.{session_settled, shared_changed, taking_found, taking_read}
-use Rattle.coap_server_session.specs.values.Sessions.{next_pending_in, next_stale}
+use Rattle.coap_server_session.specs.values.Sessions.{session_ready, session_max, next_pending_in, next_stale}
 use Rattle.coap_server_session.proofs.values.SettleLemmas.{none_is_pending, settled_quiet, settled_stays}
 use Rattle.coap_server_session.proofs.values.TakenLemmas.{refused_changes_nothing, refused_kept, shared_stays}
 use Rattle.coap_server_engine.specs.Prelude.{AreSettled, LiesAt, ServerValue, Shows, count_taken, handled_by}
-use Rattle.coap_server_engine.specs.Prelude.{handled_on, handled_so, keys_of, on_session, server_settled, server_taken}
-use Rattle.coap_server_engine.specs.Prelude.{server_taken_on, server_taken_so, session_of, stop_on, values_of}
-use Rattle.coap_server_engine.specs.Prelude.{waiting_at}
+use Rattle.coap_server_engine.specs.Prelude.{handled_so, keys_of, server_taken, server_taken_on, server_taken_so}
+use Rattle.coap_server_engine.specs.Prelude.{session_of, stop_on, values_of, waiting_at, Message, message_of, OfFrame}
+use Rattle.coap_server_engine.specs.Prelude.{FormatFault, takes_messages, stop_of, reject_of, reject_reason, Reason}
+use Rattle.coap_server_engine.specs.Prelude.{Change, ConfigValues, Connection, AcceptedCall, Took, world_after}
+use Rattle.coap_server_engine.specs.Prelude.{handled_between, handled_in, side_of, ServerState, SessionValue}
+use Rattle.coap_server_engine.specs.Prelude.{TakeOutcome, IsSettled, RefusesPiece, taking, session_takes}
+use Rattle.coap_server_engine.specs.Prelude.{session_rejected, session_settled, shared_changed, taking_found}
+use Rattle.coap_server_engine.specs.Prelude.{taking_read, RefusesPieceOn}
 use Rattle.coap_server_engine.specs.values.Flushes.{waiting_in}
-use Rattle.coap_server_engine.specs.values.ServerAnswers.{RefusesPieceOn}
 use Rattle.coap_server_engine.proofs.values.ServerLemmas.{one_of_all}
 use Rattle.coap_server_engine.proofs.values.WorkLemmas.{keeps_others}
 use Rattle.coap_server_engine.proofs.world.AtOnceLaws.{becomes_settled}
@@ -116,8 +102,13 @@ module _ (v : ServerValue) (id i : ℕ) (piece : List ℕ) (settled : AreSettled
         same =
             λ other.
             elim (cases_eq other id) [
-              | inl same ↦ rw (same, becomes_settled v.shared id f v.sessions s here, here,
-                  settled_stays v.shared t.session own, unhandled.session)
+              | inl same ↦ rw (
+                same,
+                becomes_settled v.shared id f v.sessions s here,
+                here,
+                settled_stays v.shared t.session own,
+                unhandled.session,
+              )
               | inr apart ↦ ap waiting_in (others.same other apart)
             ];
       })

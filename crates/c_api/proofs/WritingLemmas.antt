@@ -5,20 +5,17 @@ use Rattle.std.specs.Prelude.{is_some}
 use Rattle.std.proofs.lemmas.Bool.Decides.{nat_tests}
 use Rattle.std.proofs.lemmas.List.{append-nil, length-append, length-take-le, take-append-drop, drop-drop, take_at}
 use Rattle.std.proofs.lemmas.List.{drop_at}
-use Rattle.coap_wire.specs.Message.{CoapOption, Message}
+use Rattle.coap_wire.specs.Prelude.{AreBytes, CoapOption, Message, greatest_token, body_at, options_in, options_read}
+use Rattle.coap_wire.specs.Prelude.{options_spelling, payload_marker, body_spelling, head_spelling, spelling}
+use Rattle.coap_wire.specs.Prelude.{front_spelling, option_head_spelling}
 use Rattle.coap_wire.specs.declared.fault.FormatFault.{FormatFault}
 use Rattle.coap_wire.specs.declared.sizes.TheConstants.{MAX_EXTENDED_LENGTH, LARGEST_MESSAGE}
-use Rattle.coap_wire.specs.Prelude.{AreBytes}
-use Rattle.coap_wire.specs.Forms.{greatest_token}
-use Rattle.coap_wire.specs.Reading.{body_at, options_in, options_read}
-use Rattle.coap_wire.specs.Spelling.{options_spelling, payload_marker, body_spelling, head_spelling, spelling}
-use Rattle.coap_wire.specs.Spelling.{front_spelling, option_head_spelling}
 use Rattle.coap_wire.proofs.BodyLaws.{body_takes}
 use Rattle.coap_wire.proofs.BuiltLemmas.{front_then_payload, length-body}
 use Rattle.coap_wire.proofs.HeadSizes.{option_head_then_value}
 use Rattle.coap_wire.proofs.SpellingLaws.{options_spelled_as}
-use Rattle.c_api.specs.Messages.{append_refusal, option_bytes, coded_options, options_alone, only_options}
-use Rattle.c_api.specs.Messages.{message_with, write_refusal, IsWritten}
+use Rattle.c_api.specs.Messages.{append_refusal, option_bytes, coded_options, options_alone, message_with}
+use Rattle.c_api.specs.Messages.{write_refusal, IsWritten}
 
 -- The first `at` bytes of a buffer are `front`, and the others are as before.
 pub record Holds (whole front : List ℕ) (at : ℕ) (buffer : List ℕ) : Type 0 where
@@ -35,8 +32,9 @@ holds_front whole at within = record {
 }
 
 -- A part is copied to the end of a front.
-pub holds_more : {whole front old new : List ℕ} {at at' : ℕ} (bytes : List ℕ) → Holds whole front at old → at' ≡ at + length bytes
-    → new ≡ take at old ++ (bytes ++ drop (at + length bytes) old) → Holds whole (front ++ bytes) at' new
+pub holds_more : {whole front old new : List ℕ} {at at' : ℕ} (bytes : List ℕ) → Holds whole front at old
+    → at' ≡ at + length bytes → new ≡ take at old ++ (bytes ++ drop (at + length bytes) old)
+    → Holds whole (front ++ bytes) at' new
 holds_more {whole = whole} {front = front} {old = old} {at = at} bytes h later put =
     let n = length bytes in
     let before : take at old ≡ front = rw h.is (take_at front (drop at whole) at (sym h.end)) in

@@ -63,7 +63,7 @@ pub struct ConnectionStatus {
 
 /// Makes a server, if the handle is empty.
 #[unsafe(no_mangle)]
-#[tactic(auto, using(crate::proofs::ServerLemmas::keeps_empty, crate::proofs::ServerLemmas::keeps_back, crate::proofs::ServerLemmas::keeps_made))]
+#[tactic(auto, using(crate::proofs::ServerLemmas::keeps_empty, crate::proofs::ServerLemmas::keeps_back))]
 pub extern "C" fn dachreup_server_new(
     alloc: Global,
     handle: &mut ServerHandle,

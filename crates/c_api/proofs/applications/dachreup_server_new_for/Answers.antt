@@ -1,6 +1,6 @@
 use Rattle.std.proofs.Common.{ap, ◌∙◌}
 use Rattle.coap_server_polled.specs.declared.polled_server.PolledServer.{PolledServer}
-use Rattle.c_api.proofs.ServerLemmas.{keeps_back, keeps_empty, keeps_made}
+use Rattle.c_api.proofs.ServerLemmas.{keeps_made}
 use Rattle.c_api.proofs.applications.dachreup_server_new_for.Goals as goal
 
 pub returns-clause-output : goal.returns-clause-output

@@ -1,4 +1,4 @@
-use Rattle.std.proofs.Common.{◌+◌, ◌≤◌, ◌++◌, length, arith, ap, refl, ◌∙◌}
+use Rattle.std.proofs.Common.{◌+◌, ◌≤◌, length, arith, ap, refl, ◌∙◌}
 use Rattle.std.proofs.lemmas.List.{length-append}
 use Rattle.c_api.specs.Messages.{option_bytes}
 use Rattle.c_api.proofs.WritingLemmas.{append_none, append_full, appended, head_then_value, holds_front, holds_more}

@@ -1,4 +1,4 @@
-use Rattle.c_api.proofs.ServerLemmas.{keeps_empty, written_ok}
+use Rattle.c_api.proofs.ServerLemmas.{written_ok}
 use Rattle.c_api.proofs.server.dachreup_server_written.Goals as goal
 
 pub returns-in-Ok-clause-call : goal.returns-in-Ok-clause-call
