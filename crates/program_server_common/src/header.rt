@@ -2,7 +2,7 @@
 
 ghost use Rattle.std.specs.Prelude.{◌≡◌, ◌++◌, map, true, IfOk, OnOk, codes, decimal};
 ghost use Rattle.std.specs.List.{flat_map, list_all};
-ghost use Rattle.coap_command_line.specs.declared.arguments.help.TheConstants.{VERSION};
+ghost use Rattle.coap_command_line.specs.declared.arguments.tables.TheConstants.{VERSION};
 ghost use Rattle.coap_print.specs.Texts.{is_text};
 ghost use Rattle.coap_record.specs.Prelude.{SaysNoEvent};
 ghost use Rattle.program_server_common.specs.RecordHeaders.{entry_text, header_text, options_text, starts_text};

@@ -2,7 +2,7 @@
 
 ghost use Rattle.std.specs.Prelude.{◌≡◌, [], map, true, Some, OnOk, IfOk, IfErr, IfSome};
 ghost use Rattle.std.specs.List.{flat_map};
-ghost use Rattle.coap_command_line.specs.declared.arguments.help.TheConstants.{VERSION};
+ghost use Rattle.coap_command_line.specs.declared.arguments.tables.TheConstants.{VERSION};
 ghost use Rattle.coap_print.specs.Lines.{appended};
 ghost use Rattle.coap_print.specs.Texts.{is_text};
 ghost use Rattle.coap_print.specs.declared.line.TheConstants.{LINE_LENGTH};

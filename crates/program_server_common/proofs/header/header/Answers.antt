@@ -1,7 +1,7 @@
 use Rattle.std.proofs.Common.{◌≡◌, [], codes, ◌∙◌, ap, refl, sym, subst}
 use Rattle.std.specs.Prelude.{map}
 use Rattle.std.proofs.lemmas.List.Folds.{flat_map-map}
-use Rattle.coap_command_line.specs.declared.arguments.help.TheConstants.{VERSION}
+use Rattle.coap_command_line.specs.declared.arguments.tables.TheConstants.{VERSION}
 use Rattle.coap_print.specs.Texts.{is_text}
 use Rattle.coap_record.specs.Prelude.{SaysNoEvent}
 use Rattle.program_server_common.specs.RecordHeaders.{entries_text, entry_text, header_text, options_text, shown_name}
