@@ -11,7 +11,8 @@ unfoldable pub use Rattle.coap_wire.specs.StreamPrefix.{prefix_kind}
 pub use Rattle.coap_wire.specs.Codes.{class_of}
 pub use Rattle.coap_wire.specs.Message.{Message}
 unfoldable pub use Rattle.coap_wire.specs.Reading.{message_of}
-unfoldable pub use Rattle.coap_wire.specs.Recognition.{first_critical_given, is_recognised, kind_of, known_given}
+unfoldable pub use Rattle.coap_wire.specs.Recognition.{checked_given, first_critical_in, is_recognised, kind_of}
+unfoldable pub use Rattle.coap_wire.specs.Recognition.{recognised_in}
 pub use Rattle.coap_wire.specs.Refusal.{RefusedBy}
 unfoldable pub use Rattle.coap_wire.specs.Spelling.{spelling}
 pub use Rattle.coap_wire.specs.Stream.{StreamFault, Format, OfFrame, Stream, stream_after, frame_then, continued}

@@ -2,7 +2,7 @@
 use Rattle.std.proofs.Common.{◌≡◌, ℕ, ◌<◌, ◌≤◌, Bool, true, false, ◌&&◌, ◌||◌, ◌==◌, List, [], ◌∷◌, length, map}
 use Rattle.std.proofs.Common.{filter, get_or, Option, Some, None, refl, sym, ap, ◌∙◌, arith}
 use Rattle.coap_store.specs.Prelude.{option_map, nat_le, is_some, IfSome, then_some, list_any, list_all, CoapOption}
-use Rattle.coap_store.specs.Prelude.{Message, Placed, placed, once, kind_of, has_kind, is_recognised, known_given}
+use Rattle.coap_store.specs.Prelude.{Message, once, kind_of, has_kind, is_recognised, checked_given, recognised_in}
 use Rattle.coap_store.specs.Prelude.{known_options, uint_of, bytes_of_uint, OptionKind, same_bytes, Representation}
 use Rattle.coap_store.specs.Prelude.{values_of, has_option, value_of, number_of, is_given, first_or_none}
 use Rattle.coap_store.specs.Prelude.{match_holds, is_digit, digits_mean, is_seconds}
@@ -55,27 +55,28 @@ recognised_fits before o kind is test =
     let known : has_kind before o (Some kind) ≡ true = rw is at test in
     leb-true (length o.value) kind.max (and_parts _ _ (and_parts _ _ known).0).1
 
--- The first value with the number, among the recognised options.
-abbrev first_placed : ℕ → List Placed → Option (List ℕ)
-first_placed number ps =
-    first_or_none (values_in number (map (λ p. p.option) (filter (λ p. is_recognised p.before p.option) ps)))
+-- The first value with the number, among the recognised options of `os`.
+abbrev first_given : ℕ → List CoapOption → List CoapOption → Option (List ℕ)
+first_given number earlier os = first_or_none (values_in number (recognised_in (checked_given earlier os)))
 
-placed_fits : (number : ℕ) (kind : OptionKind) (ps : List Placed) (value : List ℕ) → kind_of number ≡ Some kind
-    → first_placed number ps ≡ Some value → length value ≤ kind.max
-placed_fits number kind [] value is found = let bad : ◌≡◌ {A = Option (List ℕ)} None (Some value) = found in absurd cc
-placed_fits number kind (p ∷ ps) value is found =
-    either (is_recognised p.before p.option) (λ known.
-    either (has_number number p.option) (λ same.
-    let its : p.option.value ≡ value = same_Some _ _ (rw (known, same) at found) in
-    rw (← its) (recognised_fits p.before p.option kind (ap kind_of (eqb-true p.option.number number same) ∙ is) known))
-    (λ other. placed_fits number kind ps value is (rw (known, other) at found)))
-    (λ skipped. placed_fits number kind ps value is (rw skipped at found))
+given_fits : (number : ℕ) (kind : OptionKind) (earlier os : List CoapOption) (value : List ℕ)
+    → kind_of number ≡ Some kind → first_given number earlier os ≡ Some value → length value ≤ kind.max
+unfolding checked_given recognised_in
+given_fits number kind earlier [] value is found =
+    let bad : ◌≡◌ {A = Option (List ℕ)} None (Some value) = found in absurd cc
+given_fits number kind earlier (o ∷ os) value is found =
+    either (is_recognised earlier o) (λ known.
+    either (has_number number o) (λ same.
+    let its : o.value ≡ value = same_Some _ _ (rw (known, same) at found) in
+    rw (← its) (recognised_fits earlier o kind (ap kind_of (eqb-true o.number number same) ∙ is) known))
+    (λ other. given_fits number kind _ os value is (rw (known, other) at found)))
+    (λ skipped. given_fits number kind _ os value is (rw skipped at found))
 
 -- A value of a recognised option has at most the maximum length of its kind.
 pub value_fits : (number : ℕ) (kind : OptionKind) (m : Message) (value : List ℕ) → kind_of number ≡ Some kind
     → Some value ≡ value_of number m → length value ≤ kind.max
-unfolding value_of values_of known_given
-value_fits number kind m value is found = placed_fits number kind (placed [] m.options) value is (sym found)
+unfolding value_of values_of
+value_fits number kind m value is found = given_fits number kind [] m.options value is (sym found)
 
 -- ---- numbers
 

@@ -1,9 +1,9 @@
 -- The relation of requests and responses to the state of a path.
 use Rattle.std.proofs.Common.{◌≡◌, ◌≢◌, inl, inr, ℕ, ◌+◌, ◌≤◌, Bool, true, false, List, [], ◌∷◌, ◌++◌, length, map}
 use Rattle.std.proofs.Common.{rules, filter, Option, Some, None, refl, ap, ◌∙◌, arith}
-use Rattle.coap_store.specs.Prelude.{◌==◌, AllByRecursion, kind_of, is_recognised, known_given}
-use Rattle.coap_store.specs.Prelude.{first_critical_given, Message, CoapOption, Path, is_path, written_length}
-use Rattle.coap_store.specs.Prelude.{Representation, StoreValue, found_in, kind_of_path, key_for}
+use Rattle.coap_store.specs.Prelude.{◌==◌, AllByRecursion, kind_of, is_recognised, checked_given}
+use Rattle.coap_store.specs.Prelude.{first_critical_in, recognised_in, Message, CoapOption, Path, is_path}
+use Rattle.coap_store.specs.Prelude.{written_length, Representation, StoreValue, found_in, kind_of_path, key_for}
 use Rattle.coap_store.specs.Prelude.{state_at, state_of, target_of, values_of, value_of, has_option}
 use Rattle.coap_store.specs.Prelude.{number_of, match_holds, is_get, path_of, etag_of, Answer, Change}
 use Rattle.coap_store.specs.Prelude.{Nothing, Put, Delete, put_of, etag_at, is_among}
@@ -97,8 +97,8 @@ short_within [] fit = tt
 short_within (s ∷ ss) fit = (omega arith, short_within ss (omega arith))
 
 known_plain : (earlier : List CoapOption) (p : Path) → HaveShortSegments p
-    → known_given earlier (each_at numbers.uri_path p) ≡ each_at numbers.uri_path p
-unfolding known_given is_recognised kind_of
+    → recognised_in (checked_given earlier (each_at numbers.uri_path p)) ≡ each_at numbers.uri_path p
+unfolding checked_given recognised_in is_recognised kind_of
 known_plain earlier [] short = refl
 known_plain earlier (s ∷ ss) short =
     rw (le-leb 0 (length s) (omega arith), le-leb (length s) 255 short.0)
@@ -106,8 +106,8 @@ known_plain earlier (s ∷ ss) short =
     (known_plain (earlier ++ record { number = numbers.uri_path; value = s } ∷ []) ss short.1))
 
 critical_plain : (earlier : List CoapOption) (p : Path) → HaveShortSegments p
-    → first_critical_given earlier (each_at numbers.uri_path p) ≡ None
-unfolding first_critical_given is_recognised kind_of
+    → first_critical_in (checked_given earlier (each_at numbers.uri_path p)) ≡ None
+unfolding checked_given first_critical_in is_recognised kind_of
 critical_plain earlier [] short = refl
 critical_plain earlier (s ∷ ss) short =
     rw (le-leb 0 (length s) (omega arith), le-leb (length s) 255 short.0) (critical_plain _ ss short.1)

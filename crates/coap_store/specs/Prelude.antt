@@ -20,10 +20,10 @@ unfoldable pub use Rattle.percent_encoding.specs.AsciiSet.{should_percent_encode
 unfoldable pub use Rattle.percent_encoding.specs.Percent.{percent_encode, percent_encode_byte}
 -- ---- coap_wire
 pub use Rattle.coap_wire.specs.Message.{Message, CoapOption}
-pub use Rattle.coap_wire.specs.Recognition.{known_options, first_critical, Placed, has_kind, once, placed}
-pub use Rattle.coap_wire.specs.Recognition.{checked_options, checked_at, CheckedOptionValue, is_critical}
-unfoldable pub use Rattle.coap_wire.specs.Recognition.{first_critical_given, is_recognised, kind_of, known_given}
-unfoldable pub use Rattle.coap_wire.specs.Recognition.{checked_given}
+pub use Rattle.coap_wire.specs.Recognition.{known_options, first_critical, has_kind, once}
+pub use Rattle.coap_wire.specs.Recognition.{checked_options, CheckedOptionValue, is_critical}
+unfoldable pub use Rattle.coap_wire.specs.Recognition.{checked_given, first_critical_in, is_recognised, kind_of}
+unfoldable pub use Rattle.coap_wire.specs.Recognition.{recognised_in}
 pub use Rattle.coap_wire.specs.Refusal.{RefusedBy}
 pub use Rattle.coap_wire.specs.Uint.{uint_of}
 unfoldable pub use Rattle.coap_wire.specs.Uint.{bytes_of_uint}

@@ -40,7 +40,7 @@ impl<'q, 'r> Model for ParsedRequest<'q, 'r> {
 // Never inlined, so that the fields of `known` stay in memory: an inlined loop would keep each in a
 // register or reload it.
 #[inline(never)]
-#[tactic(auto, using(crate::proofs::CheckedLemmas::recognised_of_all, crate::proofs::CheckedLemmas::bad_of_all))]
+#[tactic(auto, using(crate::proofs::CheckedLemmas::option_turns))]
 fn scan_options<'r>(request: &MessageRef<'r>, known: &mut RequestOptions<'r>) -> bool
     requires { options_value known.old ≡ nothing }
     ensures known { options_value known.new ≡ all_noted nothing (known_options request.now.options) }

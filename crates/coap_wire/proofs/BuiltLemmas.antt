@@ -55,4 +55,6 @@ length-body m =
       length-append (payload_marker m.payload) m.payload,
     )
 
-pub ruleset parts = (front_parts, front_then_payload, length-whole, length-front)
+pub ruleset whole = (front_then_payload, length-whole)
+
+pub ruleset front = (length-whole, length-front)

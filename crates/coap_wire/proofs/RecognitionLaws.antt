@@ -1,12 +1,10 @@
 -- Recognised options: the functions agree with the relations, and in an ordered list the option before is enough.
 use Rattle.coap_wire.specs.Prelude.{All, IsTrue, ◌↔◌, unwrap_or, not, ◌&&◌, ◌==◌, CoapOption, AreOrdered}
 use Rattle.coap_wire.specs.Prelude.{kind_of, IsFirstWithNumber, IsRecognised, is_first_with_number, has_kind}
-use Rattle.coap_wire.specs.Prelude.{is_recognised, known_given, is_critical, first_critical_given, option_before}
-use Rattle.coap_wire.specs.Prelude.{OptionKind, checked_given}
-use Rattle.std.specs.Prelude.{map, filter, find, option_map}
+use Rattle.coap_wire.specs.Prelude.{is_recognised, recognised_in, is_critical, first_critical_in, option_before}
+use Rattle.coap_wire.specs.Prelude.{OptionKind, CheckedOptionValue, checked_given}
 use Rattle.std.proofs.Common.{◌≡◌, ◌≢◌, ℕ, ◌≤◌, List, [], ◌∷◌, ◌++◌, true, cond, Option, Some, None, refl, ap}
-use Rattle.std.proofs.Common.{arith, inl}
-use Rattle.std.proofs.Common.{inr}
+use Rattle.std.proofs.Common.{arith, inl, inr}
 use Rattle.std.proofs.lemmas.Bool.{cases_Bool, eqb-false, ne_eqb, not-true}
 use Rattle.std.proofs.lemmas.Bool.Decides.{nat_tests}
 use Rattle.std.proofs.lemmas.List.Elements.{All-nil, All-push, All-weaker, All-contains, Contains-push, All-cons}
@@ -118,28 +116,6 @@ one_is_enough (Some n) o le q above = grind (arith, nat_tests)
 
 -- ---- the option before is enough
 
--- Recognised options, and the first critical one that is not, by the options with their tests.
-known_by : (earlier os : List CoapOption)
-    → known_given earlier os ≡ map (λ c. c.option) (filter (λ c. c.recognised) (checked_given earlier os))
-unfolding known_given checked_given
-known_by earlier [] = refl
-known_by earlier (o ∷ os) =
-    elim (cases_Bool (is_recognised earlier o)) [
-      | inl is ↦ rw is (ap (λ ks. o ∷ ks) (known_by (earlier ++ o ∷ []) os))
-      | inr not_so ↦ rw not_so (known_by (earlier ++ o ∷ []) os)
-    ]
-
-critical_by : (earlier os : List CoapOption) → first_critical_given earlier os
-    ≡ option_map (λ c. c.option.number)
-    (find (λ c. is_critical c.option && not c.recognised) (checked_given earlier os))
-unfolding first_critical_given checked_given
-critical_by earlier [] = refl
-critical_by earlier (o ∷ os) =
-    elim (cases_Bool (is_critical o && not (is_recognised earlier o))) [
-      | inl is ↦ rw is refl
-      | inr not_so ↦ rw not_so (critical_by (earlier ++ o ∷ []) os)
-    ]
-
 -- The first option of a list, and the others.
 pub checked_turn : (before : Option ℕ) (o : CoapOption) (os : List CoapOption)
     → AreOrdered (unwrap_or before 0) (o ∷ os) → checked_given (option_before before) (o ∷ os)
@@ -151,35 +127,33 @@ checked_turn before o os ordered =
     (checked_agrees o.number (option_before before ++ o ∷ []) (option_before (Some o.number)) os ordered.1
     (one_is_enough before o ordered.0))
 
-pub known_turn : (before : Option ℕ) (o : CoapOption) (os : List CoapOption)
-    → AreOrdered (unwrap_or before 0) (o ∷ os) → known_given (option_before before) (o ∷ os)
-    ≡ cond (is_recognised (option_before before) o) (o ∷ known_given (option_before (Some o.number)) os)
-    (known_given (option_before (Some o.number)) os)
-known_turn before o os ordered =
-    rw (known_by (option_before before) (o ∷ os), checked_turn before o os ordered, known_by _ os)
-    (elim (cases_Bool (is_recognised (option_before before) o)) [ inl is ↦ rw is refl | inr not_so ↦ rw not_so refl ])
-
-pub critical_turn : (before : Option ℕ) (o : CoapOption) (os : List CoapOption)
-    → AreOrdered (unwrap_or before 0) (o ∷ os) → first_critical_given (option_before before) (o ∷ os)
-    ≡ cond (is_critical o && not (is_recognised (option_before before) o)) (Some o.number)
-    (first_critical_given (option_before (Some o.number)) os)
-critical_turn before o os ordered =
-    rw (critical_by (option_before before) (o ∷ os), checked_turn before o os ordered, critical_by _ os)
-    (elim (cases_Bool (is_critical o && not (is_recognised (option_before before) o))) [
-      | inl is ↦ rw is refl
-      | inr not_so ↦ rw not_so refl
-    ])
-
-pub known_end : (earlier : List CoapOption) → known_given earlier [] ≡ []
-unfolding known_given
-known_end earlier = refl
-
 pub checked_end : (earlier : List CoapOption) → checked_given earlier [] ≡ []
 unfolding checked_given
 checked_end earlier = refl
 
-pub critical_end : (earlier : List CoapOption) → first_critical_given earlier [] ≡ None
-unfolding first_critical_given
-critical_end earlier = refl
+pub recognised_turn : (c : CheckedOptionValue) (cs : List CheckedOptionValue)
+    → recognised_in (c ∷ cs) ≡ cond c.recognised (c.option ∷ recognised_in cs) (recognised_in cs)
+unfolding recognised_in
+recognised_turn c cs = elim (cases_Bool c.recognised) [ inl is ↦ rw is refl | inr not_so ↦ rw not_so refl ]
 
-pub ruleset option_turns = (nat_tests, known_turn, known_end, checked_turn, checked_end, critical_turn, critical_end)
+pub recognised_end : recognised_in [] ≡ []
+unfolding recognised_in
+recognised_end = refl
+
+pub critical_turn : (c : CheckedOptionValue) (cs : List CheckedOptionValue)
+    → first_critical_in (c ∷ cs)
+    ≡ cond (is_critical c.option && not c.recognised) (Some c.option.number) (first_critical_in cs)
+unfolding first_critical_in
+critical_turn c cs =
+    elim (cases_Bool (is_critical c.option && not c.recognised)) [
+      | inl is ↦ rw is refl
+      | inr not_so ↦ rw not_so refl
+    ]
+
+pub critical_end : first_critical_in [] ≡ None
+unfolding first_critical_in
+critical_end = refl
+
+pub ruleset checked_turns = (checked_turn, checked_end)
+
+pub ruleset option_turns = (nat_tests, recognised_turn, recognised_end, critical_turn, critical_end)

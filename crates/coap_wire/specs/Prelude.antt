@@ -35,8 +35,7 @@ unfoldable pub use Rattle.coap_wire.specs.Reading.{option_head_at, option_at, bo
 pub use Rattle.coap_wire.specs.Recognition.{kind_of, once, repeated, IsFirstWithNumber, IsRecognised, known_options}
 pub use Rattle.coap_wire.specs.Recognition.{first_critical, option_before, has_kind, is_critical}
 pub use Rattle.coap_wire.specs.Recognition.{is_first_with_number, CheckedOptionValue, checked_options}
-unfoldable pub use Rattle.coap_wire.specs.Recognition.{is_recognised, first_critical_given, known_given}
-unfoldable pub use Rattle.coap_wire.specs.Recognition.{checked_given}
+unfoldable pub use Rattle.coap_wire.specs.Recognition.{is_recognised, checked_given, first_critical_in, recognised_in}
 pub use Rattle.coap_wire.specs.Refusal.{RefusedBy}
 pub use Rattle.coap_wire.specs.Size.{IsDeclaredSize, IsFrame, Declares, HasBadToken, IsSizeHead, IsTokenLengthFault}
 pub use Rattle.coap_wire.specs.Size.{StatesLengths, code_and_extension}

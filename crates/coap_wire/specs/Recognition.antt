@@ -77,55 +77,41 @@ is_recognised before o = has_kind before o (kind_of o.number)
 
 -- ---- the options of a message
 
--- An option, and the options before it in its message.
-pub record Placed : Type 0 where
-  pub before : List CoapOption
-  pub option : CoapOption
-
--- Each option of `os` with the options before it: those in `earlier`, and those before it in `os`.
-abbrev pub placed : List CoapOption → List CoapOption → List Placed
-placed earlier [] = []
-placed earlier (o ∷ os) = record { before = earlier; option = o } ∷ placed (earlier ++ o ∷ []) os
-
--- The recognised options of `os`, in order, if the options in `earlier` come before them.
-unfoldable pub known_given : List CoapOption → List CoapOption → List CoapOption
-known_given earlier os = map (λ p. p.option) (filter (λ p. is_recognised p.before p.option) (placed earlier os))
-
--- The recognised options of a message, in order.
-abbrev pub known_options : List CoapOption → List CoapOption
-known_options os = known_given [] os
-
--- An option with an odd number is critical (RFC 7252 sections 5.4.1, 5.4.6).
-abbrev pub is_critical : CoapOption → Bool
-is_critical o = o.number % 2 == 1
-
--- The number of the first option of `os` that is critical and not recognised, if the options in `earlier` come before
--- them. `None` if there is none.
-unfoldable pub first_critical_given : List CoapOption → List CoapOption → Option ℕ
-first_critical_given earlier os =
-    option_map (λ p. p.option.number)
-    (find (λ p. is_critical p.option && not (is_recognised p.before p.option)) (placed earlier os))
-
--- The number of the first option of a message that is critical and not recognised. `None` if there is none.
-abbrev pub first_critical : List CoapOption → Option ℕ
-first_critical os = first_critical_given [] os
-
 -- An option, and whether it is recognised.
 pub record CheckedOptionValue : Type 0 where
   pub option : CoapOption
   pub recognised : Bool
 
--- An option, and the result of `is_recognised` for it.
-abbrev pub checked_at : Placed → CheckedOptionValue
-checked_at p = record { option = p.option; recognised = is_recognised p.before p.option }
-
 -- Each option of `os`, in order, and whether it is recognised, if the options in `earlier` come before them.
 unfoldable pub checked_given : List CoapOption → List CoapOption → List CheckedOptionValue
-checked_given earlier os = map checked_at (placed earlier os)
+checked_given earlier [] = []
+checked_given earlier (o ∷ os) =
+    record { option = o; recognised = is_recognised earlier o } ∷ checked_given (earlier ++ o ∷ []) os
 
 -- Each option of a message, in order, and whether it is recognised.
 abbrev pub checked_options : List CoapOption → List CheckedOptionValue
 checked_options os = checked_given [] os
+
+-- The recognised ones of these options, in order.
+unfoldable pub recognised_in : List CheckedOptionValue → List CoapOption
+recognised_in cs = map (λ c. c.option) (filter (λ c. c.recognised) cs)
+
+-- The recognised options of a message, in order.
+abbrev pub known_options : List CoapOption → List CoapOption
+known_options os = recognised_in (checked_options os)
+
+-- An option with an odd number is critical (RFC 7252 sections 5.4.1, 5.4.6).
+abbrev pub is_critical : CoapOption → Bool
+is_critical o = o.number % 2 == 1
+
+-- The number of the first of these options that is critical and not recognised. `None` if there is none.
+unfoldable pub first_critical_in : List CheckedOptionValue → Option ℕ
+first_critical_in cs =
+    option_map (λ c. c.option.number) (find (λ c. is_critical c.option && not c.recognised) cs)
+
+-- The number of the first option of a message that is critical and not recognised. `None` if there is none.
+abbrev pub first_critical : List CoapOption → Option ℕ
+first_critical os = first_critical_in (checked_options os)
 
 -- ---- one option after the other
 

@@ -144,7 +144,7 @@ impl<'t, 'p, const N: usize> CompactBuilder<'t, 'p, N> {
     }
 
     /// Returns the payload, or an empty slice if there is none. The encoding ends with these bytes.
-    #[tactic(auto, using(crate::proofs::BuiltLemmas::parts))]
+    #[tactic(auto, using(crate::proofs::BuiltLemmas::whole))]
     pub fn payload_bytes(&self) -> &'p [u8]
         ensures payload { result.now ≡ self.now.payload }
         ensures last { spelling self.now ≡ front_spelling self.now ++ self.now.payload }
@@ -161,7 +161,7 @@ impl<'t, 'p, const N: usize> CompactBuilder<'t, 'p, N> {
     }
 
     /// Returns the length of the encoding without the payload, in bytes: at most `N` + 73.
-    #[tactic(auto, using(crate::proofs::BuiltLemmas::parts))]
+    #[tactic(auto, using(crate::proofs::BuiltLemmas::front))]
     pub fn front_size(&self) -> u64
         ensures size { result ≡ length (front_spelling self.now) }
         ensures whole { result + length self.now.payload ≡ length (spelling self.now) }
@@ -178,7 +178,6 @@ impl<'t, 'p, const N: usize> CompactBuilder<'t, 'p, N> {
     ///
     /// The sink has space for these bytes.
     #[inline(always)]
-    #[tactic(auto, using(crate::proofs::BuiltLemmas::parts))]
     pub fn write_front<S: Sink>(&self, out: &mut S)
         requires { length (front_spelling self.now) ≤ S.space out.old }
         ensures appended { S.contents out.new ≡ S.contents out.old ++ front_spelling self.now }
@@ -196,7 +195,7 @@ impl<'t, 'p, const N: usize> CompactBuilder<'t, 'p, N> {
     /// # Preconditions
     ///
     /// The sink has space for the encoding.
-    #[tactic(auto, using(crate::proofs::BuiltLemmas::parts))]
+    #[tactic(auto, using(crate::proofs::BuiltLemmas::whole))]
     pub fn write<S: Sink>(&self, out: &mut S)
         requires { length (spelling self.now) ≤ S.space out.old }
         ensures appended { S.contents out.new ≡ S.contents out.old ++ spelling self.now }

@@ -43,75 +43,6 @@ fn recognises_by_table(before: Option<u16>, option: &OptionRef) -> bool
     kind.repeatable || before != Some(option.number)
 }
 
-/// Returns the number of the first critical option that is not recognised, or `None` if there is none.
-#[tactic(auto, using(crate::proofs::RecognitionLaws::option_turns))]
-pub(crate) fn first_unrecognised_critical(options: Options) -> Option<u16>
-    requires { AreOrdered 0 options }
-    ensures { result ≡ first_critical options.entry }
-{
-    let mut before = None;
-    for option in options {
-        if option.number % 2 == 1 && !recognises(before, &option) {
-            return Some(option.number);
-        }
-        before = Some(option.number);
-    }
-    None
-}
-
-/// Iterator over the recognised options of a message, in order of number. Contracts see the list of those that are
-/// left.
-#[derive(Drop)]
-pub struct RecognisedOptions<'a> {
-    before: Option<u16>,
-    options: Options<'a>,
-}
-
-impl<'a> Model for RecognisedOptions<'a> {
-    ghost use Rattle.std.specs.Prelude.{List, unwrap_or};
-    ghost use Rattle.coap_wire.specs.Message.{CoapOption, AreOrdered};
-    ghost use Rattle.coap_wire.specs.Recognition.{known_given, option_before};
-
-    ghost Value = { List CoapOption };
-
-    ghost view = { λ k. known_given (option_before k.before) k.options };
-
-    ghost invariant = { λ k. AreOrdered (unwrap_or k.before 0) k.options };
-}
-
-impl<'a> RecognisedOptions<'a> {
-    /// Returns an iterator over the recognised ones of all options of a message.
-    pub(crate) fn of_options(options: Options<'a>) -> RecognisedOptions<'a>
-        requires { AreOrdered 0 options }
-        ensures { result ≡ known_options options.entry }
-    {
-        RecognisedOptions {
-            before: None,
-            options,
-        }
-    }
-}
-
-impl<'a> Iterator for RecognisedOptions<'a> {
-    type Item = OptionRef<'a>;
-
-    ghost next_gives = { YieldsFirstBy coap_option (λ os. os) };
-
-    ghost remaining = { item_count (λ os. os) };
-
-    #[tactic(auto, using(crate::proofs::RecognitionLaws::option_turns))]
-    fn next(&mut self) -> Option<OptionRef<'a>> {
-        while let Some(option) = self.options.next() {
-            let is_known = recognises(self.before, &option);
-            self.before = Some(option.number);
-            if is_known {
-                return Some(option);
-            }
-        }
-        None
-    }
-}
-
 /// Option of a message, and whether it is recognised.
 #[derive(Clone, Copy)]
 pub struct CheckedOption<'a> {
@@ -161,7 +92,8 @@ impl<'a> Iterator for CheckedOptions<'a> {
 
     ghost remaining = { item_count (λ os. os) };
 
-    #[tactic(auto, using(crate::proofs::RecognitionLaws::option_turns))]
+    #[tactic(auto, using(crate::proofs::RecognitionLaws::checked_turns))]
+    #[inline(always)]
     fn next(&mut self) -> Option<CheckedOption<'a>> {
         let option = self.options.next()?;
         let is_recognised = recognises(self.before, &option);
@@ -171,4 +103,65 @@ impl<'a> Iterator for CheckedOptions<'a> {
             is_recognised,
         })
     }
+}
+
+/// Iterator over the recognised options of a message, in order of number. Contracts see the list of those that are
+/// left.
+#[derive(Drop)]
+pub struct RecognisedOptions<'a> {
+    checked: CheckedOptions<'a>,
+}
+
+impl<'a> Model for RecognisedOptions<'a> {
+    ghost use Rattle.std.specs.Prelude.{List};
+    ghost use Rattle.coap_wire.specs.Message.{CoapOption};
+    ghost use Rattle.coap_wire.specs.Recognition.{recognised_in};
+
+    ghost Value = { List CoapOption };
+
+    ghost view = { λ k. recognised_in k.checked };
+}
+
+impl<'a> RecognisedOptions<'a> {
+    /// Returns an iterator over the recognised ones of all options of a message.
+    pub(crate) fn of_options(options: Options<'a>) -> RecognisedOptions<'a>
+        requires { AreOrdered 0 options }
+        ensures { result ≡ known_options options.entry }
+    {
+        RecognisedOptions {
+            checked: CheckedOptions::of_options(options),
+        }
+    }
+}
+
+impl<'a> Iterator for RecognisedOptions<'a> {
+    type Item = OptionRef<'a>;
+
+    ghost next_gives = { YieldsFirstBy coap_option (λ os. os) };
+
+    ghost remaining = { item_count (λ os. os) };
+
+    #[tactic(auto, using(crate::proofs::RecognitionLaws::option_turns))]
+    fn next(&mut self) -> Option<OptionRef<'a>> {
+        while let Some(checked) = self.checked.next() {
+            if checked.is_recognised {
+                return Some(checked.option);
+            }
+        }
+        None
+    }
+}
+
+/// Returns the number of the first critical option that is not recognised, or `None` if there is none.
+#[tactic(auto, using(crate::proofs::RecognitionLaws::option_turns))]
+pub(crate) fn first_unrecognised_critical(options: Options) -> Option<u16>
+    requires { AreOrdered 0 options }
+    ensures { result ≡ first_critical options.entry }
+{
+    for checked in CheckedOptions::of_options(options) {
+        if checked.option.number % 2 == 1 && !checked.is_recognised {
+            return Some(checked.option.number);
+        }
+    }
+    None
 }

@@ -2,7 +2,7 @@
 -- pending entries, and the fates of requests for the application.
 use Rattle.std.proofs.Common.{◌≡◌, ℕ, Bool, true, false, List, [], ◌∷◌, ◌++◌, map, Some, None, refl, sym, codes, inl}
 use Rattle.std.proofs.Common.{inr, true≢false}
-use Rattle.coap_model.specs.Prelude.{digits, kind_of, is_recognised, known_given, first_critical_given, announced}
+use Rattle.coap_model.specs.Prelude.{digits, kind_of, is_recognised, checked_given, recognised_in, first_critical_in, announced}
 use Rattle.coap_model.specs.Prelude.{due_index, first_due, without_due, react, live_reaction, is_path, found_in, put_at}
 use Rattle.coap_model.specs.Prelude.{removed_at, encoded_byte, path_bytes, entry_bytes, listing, kind_of_path, key_for}
 use Rattle.coap_model.specs.Prelude.{state_at, has_option, value_of, number_of, match_holds, is_seconds, get_answer}
@@ -37,8 +37,8 @@ computed : Unit {0}
 unfolding split sized_split sized_frames frames_within framing prefix_kind declared_of length_at one_byte_at
     two_bytes_at four_bytes_at message_of head_at option_number_at option_head_at option_at body_at body_within spelling
     bytes_of_uint prompt_answer application_deadline immediate_answer answer_of answer_at resource_answer method_answer
-    get_answer store_answer kind_of is_recognised known_given first_critical_given values_of has_option value_of
-    number_of match_holds is_seconds is_path kind_of_path key_for state_at found_in put_at removed_at listing
+    get_answer store_answer kind_of is_recognised checked_given recognised_in first_critical_in values_of has_option
+    value_of number_of match_holds is_seconds is_path kind_of_path key_for state_at found_in put_at removed_at listing
     entry_bytes path_bytes encoded_byte digits notification_at put_refusal announced react live_reaction due_index
     first_due without_due is_due without_token first_becomes side_after change_after side_faulted side_written
     side_ended side_released side_announced settled_once settled_within settled side_of acted step after_steps taken_on

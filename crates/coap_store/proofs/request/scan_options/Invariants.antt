@@ -1,6 +1,7 @@
 use Rattle.std.proofs.Common.{◌≡◌, ◌||◌}
 use Rattle.coap_store.specs.Prelude.{is_some, known_options, first_critical, nothing, all_noted, options_value}
-use Rattle.coap_store.proofs.CheckedLemmas.{recognised_in, has_bad}
+use Rattle.coap_store.specs.Prelude.{recognised_in}
+use Rattle.coap_store.proofs.CheckedLemmas.{has_bad}
 use Rattle.coap_store.proofs.request.scan_options.Given as goal
 
 -- The options collected so far, with the remaining ones, are all options. The same holds for the flag.
