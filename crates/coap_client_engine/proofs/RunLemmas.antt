@@ -91,7 +91,7 @@ pub record Takes (plan : ClientPlan) (now : RunDevices) (r r' : Run) (o e : Opti
   pub kept : (r'.token ≡ r.token) × (r'.started ≡ r.started) × (r'.moment ≡ r.moment) × (r'.cancelled ≡ r.cancelled)
   pub first : r'.first ≡ event_first (taken_of r).event r.first r.moment
   pub cause : r'.cause ≡ cause_after r.cause (event_cause (taken_of r).event)
-  pub out : AddsBytes now.out o (event_output (taken_of r).event plan.newline)
+  pub out : AddsBytes now.out o (event_output (taken_of r).event plan)
   pub err : AddsBytes now.err e (event_errors (taken_of r).event)
 
 -- `Run::send_request`.

@@ -63,7 +63,7 @@ pub use Rattle.coap_io.specs.streams.Device.{AddsBytes}
 pub use Rattle.coap_io.specs.streams.DeviceTraces.{AddsCalls}
 pub use Rattle.coap_io.specs.streams.Wires.{bytes_passed, count_passed}
 -- ---- coap_request
-pub use Rattle.coap_request.specs.RequestViews.{extras_value}
+pub use Rattle.coap_request.specs.RequestViews.{extras_value, planned_extras}
 pub use Rattle.coap_request.specs.Requests.{ExtrasValue}
 unfoldable pub use Rattle.coap_request.specs.Requests.{cancel_of}
 unfoldable pub use Rattle.coap_request.specs.Requests.{request_of}
@@ -118,7 +118,7 @@ pub use Rattle.coap_client_engine.specs.RunSteps.{calls_read, calls_written, can
 pub use Rattle.coap_client_engine.specs.RunSteps.{client_cancelling, client_read, ended_by, event_errors, event_first}
 pub use Rattle.coap_client_engine.specs.RunSteps.{must_send_request, is_to_cancel, may_take}
 pub use Rattle.coap_client_engine.specs.RunSteps.{event_output}
-pub use Rattle.coap_client_engine.specs.RunSteps.{planned_extras, refusal_text, event_status, stop_after, stop_written}
+pub use Rattle.coap_client_engine.specs.RunSteps.{refusal_text, event_status, stop_after, stop_written}
 pub use Rattle.coap_client_engine.specs.RunSteps.{token_asking, watched}
 -- ---- coap_client_engine, declared
 pub use Rattle.coap_client_engine.specs.declared.client.Client.TheInside.{Inside}

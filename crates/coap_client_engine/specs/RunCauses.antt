@@ -7,11 +7,12 @@ use Rattle.coap_conn.specs.declared.phase.RequestFault.{RequestFault}
 use Rattle.coap_conn.specs.declared.phase.RequestFault.TheVariants.{NotOpen, TooMany, TooBig, NoRoom, TokensSpent}
 use Rattle.coap_conn.specs.declared.phase.RequestFault.TheVariants.{NoSuchToken}
 use Rattle.coap_conn.specs.declared.reason.Reason.{Reason}
+use Rattle.coap_request.specs.RequestViews.{planned_extras}
 use Rattle.coap_request.specs.declared.plan.ClientPlan.{ClientPlan}
 use Rattle.coap_client_engine.specs.ClientValues.{request_size, cancellation_size}
 use Rattle.coap_client_engine.specs.ClientValues.{ClientEventValue, Ready, Response, Notification, Rejected, Pong}
 use Rattle.coap_client_engine.specs.ClientValues.{Stranger, Stopped}
-use Rattle.coap_client_engine.specs.RunSteps.{planned_extras, has_passed, is_to_cancel, stop_written}
+use Rattle.coap_client_engine.specs.RunSteps.{has_passed, is_to_cancel, stop_written}
 use Rattle.coap_client_engine.specs.RunTrace.{RunTrace, Begins, Turns, Reads, Calls, Refuses, GivesUp, Rests, Writes}
 use Rattle.coap_client_engine.specs.RunTrace.{client_in, phase_in, event_in, token_in, cancelled_in, stop_read}
 use Rattle.coap_client_engine.specs.RunTrace.{status_in}

@@ -1,8 +1,7 @@
 -- Defined by this project: the results of the steps of a client's run.
-use Rattle.std.specs.Prelude.{ℕ, ◌-◌, ◌==◌, nat_le, Bool, true, false, List, [], ◌∷◌, length, Vec, Option, Some, None}
-use Rattle.std.specs.Prelude.{is_some, unwrap_or, option_map, if◌then◌else◌}
+use Rattle.std.specs.Prelude.{ℕ, ◌-◌, ◌==◌, nat_le, Bool, true, false, List, [], ◌∷◌, length, Option, Some, None}
+use Rattle.std.specs.Prelude.{unwrap_or, if◌then◌else◌}
 use Rattle.coap_wire.specs.Codes.{class_of}
-use Rattle.coap_wire.specs.Message.{CoapOption}
 use Rattle.coap_conn.specs.Phases.{stop_of}
 use Rattle.coap_conn.specs.declared.reason.Reason.{Reason}
 use Rattle.coap_conn.specs.declared.reason.Reason.TheVariants as reason
@@ -20,7 +19,7 @@ use Rattle.coap_client_engine.specs.ClientWorld.{ClientCall, Wrote, Ended}
 use Rattle.coap_io.specs.declared.wire.Got.{Got}
 use Rattle.coap_io.specs.declared.wire.Got.TheVariants.{Bytes, Later, End, Failed}
 use Rattle.coap_conn.specs.RequestState.{next_token}
-use Rattle.coap_request.specs.Requests.{ExtrasValue}
+use Rattle.coap_request.specs.RequestViews.{planned_extras}
 use Rattle.coap_client_engine.specs.RunTexts.{stop_line, fault_line, option_line, response_line, payload_text}
 use Rattle.coap_request.specs.declared.plan.ClientPlan.{ClientPlan}
 use Rattle.coap_client_engine.specs.declared.run.state.EventOutcome.{EventOutcome}
@@ -48,21 +47,6 @@ abbrev pub may_take : {T : Type 0} → ClientValue → List ℕ → Option T →
 may_take client rest token =
     if length rest == 0 then false
     else (if must_send_request client.link.phase token then false else client_takes client)
-
--- The extra option of a plan.
-abbrev pub planned_option : {A : Type 0} → ℕ × Vec ℕ A → CoapOption
-planned_option o = record { number = o.0; value = o.1.items }
-
--- The extras of the request that a plan describes.
-abbrev pub planned_extras : ClientPlan → ExtrasValue
-planned_extras plan = record {
-  observe = is_some plan.observe;
-  plain = plan.plain;
-  content_format = plan.content_format;
-  accept = plan.accept;
-  extra = option_map planned_option plan.option;
-  payload = plan.payload.items;
-}
 
 -- The error of the request, if it must be sent and is refused.
 abbrev pub asking_refusal : {T : Type 0} → ClientValue → Option T → ClientPlan → Option RequestFault
@@ -197,14 +181,14 @@ outcome_of Stranger = Nothing
 outcome_of (Stopped reason) = Ended 3
 
 -- The bytes that the run writes to the outlet for payloads.
-abbrev pub output_of : ClientEventValue → Bool → List ℕ
-output_of Ready newline = []
-output_of (Response m) newline = if class_of m.code == 2 then payload_text m.payload newline else []
-output_of (Notification m) newline = payload_text m.payload newline
-output_of (Rejected token number) newline = []
-output_of (Pong token custody) newline = []
-output_of Stranger newline = []
-output_of (Stopped reason) newline = []
+abbrev pub output_of : ClientEventValue → ClientPlan → List ℕ
+output_of Ready plan = []
+output_of (Response m) plan = if class_of m.code == 2 then payload_text m.payload plan else []
+output_of (Notification m) plan = payload_text m.payload plan
+output_of (Rejected token number) plan = []
+output_of (Pong token custody) plan = []
+output_of Stranger plan = []
+output_of (Stopped reason) plan = []
 
 -- The bytes that the run writes to the outlet for reports.
 abbrev pub errors_of : ClientEventValue → List ℕ
@@ -239,9 +223,9 @@ abbrev pub event_first : Option ClientEventValue → Option ℕ → ℕ → Opti
 event_first None first moment = first
 event_first (Some event) first moment = outcome_first (outcome_of event) first moment
 
-abbrev pub event_output : Option ClientEventValue → Bool → List ℕ
-event_output None newline = []
-event_output (Some event) newline = output_of event newline
+abbrev pub event_output : Option ClientEventValue → ClientPlan → List ℕ
+event_output None plan = []
+event_output (Some event) plan = output_of event plan
 
 abbrev pub event_errors : Option ClientEventValue → List ℕ
 event_errors None = []

@@ -1,12 +1,13 @@
 -- Defined by this project: the texts that a run of the client writes. Lines end with a newline, and numbers are
 -- decimal.
-use Rattle.std.specs.Prelude.{ℕ, ◌+◌, ◌/◌, ◌%◌, Bool, List, [], ◌∷◌, ◌++◌, codes, decimal, if◌then◌else◌}
+use Rattle.std.specs.Prelude.{ℕ, ◌+◌, ◌/◌, ◌%◌, List, [], ◌∷◌, ◌++◌, codes, decimal, if◌then◌else◌}
 use Rattle.coap_wire.specs.Codes.{class_of, detail_of}
 use Rattle.coap_conn.specs.Reasons.{reason_number}
 use Rattle.coap_conn.specs.declared.reason.Reason.{Reason}
 use Rattle.coap_conn.specs.declared.phase.RequestFault.{RequestFault}
 use Rattle.coap_conn.specs.declared.phase.RequestFault.TheVariants.{NotOpen, TooMany, TooBig, NoRoom, TokensSpent}
 use Rattle.coap_conn.specs.declared.phase.RequestFault.TheVariants.{NoSuchToken}
+use Rattle.coap_request.specs.declared.plan.ClientPlan.{ClientPlan}
 
 -- A text, followed by a number and a newline.
 abbrev pub number_line : List ℕ → ℕ → List ℕ
@@ -50,7 +51,7 @@ spaced_payload (byte ∷ bytes) = codes " " ++ byte ∷ bytes
 abbrev pub response_line : ℕ → List ℕ → List ℕ
 response_line code payload = code_text code ++ spaced_payload payload ++ codes "\n"
 
--- The payload as it is, followed by a newline if `newline` is true. An empty payload gives no text.
-abbrev pub payload_text : List ℕ → Bool → List ℕ
-payload_text [] newline = []
-payload_text (byte ∷ bytes) newline = (byte ∷ bytes) ++ (if newline then codes "\n" else [])
+-- The payload as it is, followed by a newline if the plan has one. An empty payload gives no text.
+abbrev pub payload_text : List ℕ → ClientPlan → List ℕ
+payload_text [] plan = []
+payload_text (byte ∷ bytes) plan = (byte ∷ bytes) ++ (if plan.newline then codes "\n" else [])

@@ -16,10 +16,11 @@ use Rattle.coap_client_engine.specs.ClientWorld.{ClientCall, Took, Sent, Cancell
 use Rattle.coap_client_engine.specs.ClientWorld.{Announced, Ended, taken_by}
 use Rattle.coap_client_engine.specs.ClientWorld.{client_after, client_of, takes, event_of}
 use Rattle.coap_client_engine.specs.RunTexts.{stop_line}
-use Rattle.coap_client_engine.specs.RunSteps.{has_passed, must_send_request, is_to_cancel, planned_extras}
+use Rattle.coap_client_engine.specs.RunSteps.{has_passed, must_send_request, is_to_cancel}
 use Rattle.coap_client_engine.specs.RunSteps.{asking_refusal, cancelling_refusal, ended_by, refusal_text, event_status}
 use Rattle.coap_client_engine.specs.RunSteps.{event_first, event_output, event_errors, stop_after, stop_written}
 use Rattle.coap_client_engine.specs.RunSteps.{calls_read, calls_written}
+use Rattle.coap_request.specs.RequestViews.{planned_extras}
 use Rattle.coap_request.specs.declared.plan.ClientPlan.{ClientPlan}
 
 -- A trace of a run. Each event follows the trace `before` it.
@@ -310,7 +311,7 @@ abbrev pub output_in : ClientPlan → RunTrace → List ℕ
 output_in plan (Begins moment) = []
 output_in plan (Turns before moment) = output_in plan before
 output_in plan (Reads before got bytes) = output_in plan before
-output_in plan (Calls before call) = output_in plan before ++ event_output (event_in before call) plan.newline
+output_in plan (Calls before call) = output_in plan before ++ event_output (event_in before call) plan
 output_in plan (Refuses before fault) = output_in plan before
 output_in plan (GivesUp before) = output_in plan before
 output_in plan (Rests before) = output_in plan before

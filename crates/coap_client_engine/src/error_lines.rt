@@ -6,6 +6,7 @@ ghost use Rattle.coap_client_engine.specs.RunTexts as text;
 
 use coap_conn::{Reason, RequestFault};
 use coap_io::{Outlet, WriteFailed, write_all};
+use coap_request::ClientPlan;
 use coap_wire::{Code, MessageRef};
 use itoa::Buffer;
 
@@ -66,22 +67,22 @@ pub(crate) fn report_response<E: Outlet>(
     write_all(err, b"\n")
 }
 
-/// Writes a payload, followed by a newline if `newline` is set. An empty payload writes nothing.
+/// Writes a payload, followed by a newline if the plan has one. An empty payload writes nothing.
 pub(crate) fn write_payload<O: Outlet>(
     out: &mut O,
     payload: &[u8],
-    newline: bool,
+    plan: &ClientPlan,
 ) -> Result<(), WriteFailed>
     requires { O.is_failed out.old ≡ false }
     ensures ok { OnOk result (AddsBytes (O.written out.old) (O.written out.new)
-        (text.payload_text payload.now newline)) }
+        (text.payload_text payload.now plan.now)) }
     ensures failure { O.is_failed out.new ≡ is_err result }
 {
     if payload.is_empty() {
         return Ok(());
     }
     write_all(out, payload)?;
-    if newline {
+    if plan.newline {
         write_all(out, b"\n")?;
     }
     Ok(())

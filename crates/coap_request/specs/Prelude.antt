@@ -31,7 +31,7 @@ pub use Rattle.coap_wire.specs.declared.fault.BuildFault.TheVariants.{TooLong}
 pub use Rattle.coap_wire.specs.declared.option.OptionRef.{OptionRef}
 pub use Rattle.coap_wire.specs.declared.sizes.TheConstants.{MAX_EXTENDED_LENGTH}
 -- ---- coap_request
-pub use Rattle.coap_request.specs.RequestViews.{extras_value, AreFormatsOf, IsRow, given_option}
+pub use Rattle.coap_request.specs.RequestViews.{extras_value, AreFormatsOf, IsRow, given_option, planned_extras}
 pub use Rattle.coap_request.specs.Requests.{ExtrasValue, code_of_method, deregister, is_long_option, option_with}
 pub use Rattle.coap_request.specs.Requests.{options_with, uint_sent}
 unfoldable pub use Rattle.coap_request.specs.Requests.{cancel_of, has_long_extra, host_sent, insert_option, is_too_long}

@@ -1,10 +1,11 @@
 -- Defined by this project: the values of the extras, the formats and the options of a request.
-use Rattle.std.specs.Prelude.{◌≡◌, ℕ, ◌≤◌, List, option_map}
+use Rattle.std.specs.Prelude.{◌≡◌, ℕ, ◌≤◌, List, Vec, is_some, option_map}
 use Rattle.std.specs.Borrow.{Bor}
 use Rattle.std.specs.List.{AllByRecursion}
 use Rattle.coap_wire.specs.Message.{CoapOption, AreOrdered, last_number}
 use Rattle.coap_wire.specs.Spelling.{HasOptionForm}
 use Rattle.coap_request.specs.Requests.{ExtrasValue, uint_sent}
+use Rattle.coap_request.specs.declared.plan.ClientPlan.{ClientPlan}
 use Rattle.coap_request.specs.declared.request.Extras.{Extras}
 use Rattle.coap_request.specs.declared.request.Formats.{Formats}
 
@@ -21,6 +22,21 @@ extras_value e = record {
   accept = e.accept;
   extra = option_map given_option e.option;
   payload = e.payload.now;
+}
+
+-- The extra option of a plan.
+abbrev pub planned_option : {A : Type 0} → ℕ × Vec ℕ A → CoapOption
+planned_option o = record { number = o.0; value = o.1.items }
+
+-- The extras of the request that a plan describes.
+abbrev pub planned_extras : ClientPlan → ExtrasValue
+planned_extras plan = record {
+  observe = is_some plan.observe;
+  plain = plan.plain;
+  content_format = plan.content_format;
+  accept = plan.accept;
+  extra = option_map planned_option plan.option;
+  payload = plan.payload.items;
 }
 
 -- Says that `f` holds the encoded content formats of these extras.

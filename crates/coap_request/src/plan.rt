@@ -1,6 +1,9 @@
 //! Settings of a run of `coap-server` or `coap-client`, as a command line gives them.
 
-use crate::request::Method;
+ghost use Rattle.std.specs.Prelude.{◌≡◌};
+ghost use Rattle.coap_request.specs.Prelude.{extras_value, planned_extras};
+
+use crate::request::{Extras, Method};
 use crate::target::Target;
 use coap_conn::Limits;
 use coap_path::Applications;
@@ -85,4 +88,24 @@ pub struct ClientPlan {
     pub output: Option<String>,
     /// Level of the log on standard error.
     pub log: LogLevel,
+}
+
+impl ClientPlan {
+    /// Returns the properties of the request besides its method and its target.
+    pub fn extras(&self) -> Extras
+        ensures { extras_value result ≡ planned_extras self.now }
+    {
+        let option = match &self.option {
+            Some((number, value)) => Some((*number, value.as_slice())),
+            None => None,
+        };
+        Extras {
+            observe: self.observe.is_some(),
+            plain: self.plain,
+            content_format: self.content_format,
+            accept: self.accept,
+            option,
+            payload: &self.payload,
+        }
+    }
 }

@@ -35,8 +35,8 @@ pub enum Method {
     Delete,
 }
 
-/// Properties of a request besides its method and its target.
-#[derive(Clone, Copy)]
+/// Properties of a request besides its method and its target. By default, a request has none of them.
+#[derive(Clone, Copy, Default)]
 pub struct Extras<'a> {
     /// Registration as an observer of the target (RFC 7641 section 3.1).
     pub observe: bool,

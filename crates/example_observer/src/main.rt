@@ -22,16 +22,6 @@ const SECONDS: u32 = 30;
 /// Number of bytes that a read returns at most.
 const READ_ROOM: usize = 4_096;
 
-/// The request: a GET that observes.
-const OBSERVATION: Extras<'static> = Extras {
-    observe: true,
-    plain: false,
-    content_format: None,
-    accept: None,
-    option: None,
-    payload: &[],
-};
-
 /// Step after an event.
 #[derive(Clone, Copy)]
 enum Next {
@@ -110,13 +100,17 @@ impl Observer {
 
     /// Sends the observation, or its cancellation if no more notifications are wanted.
     fn send(&mut self, next: Next) -> Result<()> {
+        let extras = Extras {
+            observe: true,
+            ..Extras::default()
+        };
         if let Next::Observe = next {
-            let token = self.client.send(Method::Get, &self.target, &OBSERVATION)?;
+            let token = self.client.send(Method::Get, &self.target, &extras)?;
             self.token = Some(token);
         }
         if self.left == 0 {
             if let Some(token) = self.token.take() {
-                self.client.cancel(&token, &self.target, &OBSERVATION)?;
+                self.client.cancel(&token, &self.target, &extras)?;
             }
         }
         Ok(())

@@ -296,15 +296,7 @@ fn sends_when_ready(rt: impl Abort + AllocGlobal + Copy, client: &mut Client) ->
     let taken = client.take(b"\x00\xe1");
     assert!(&rt; matches!(taken.event(), Some(Event::Ready)));
     let target = Target::read(rt.alloc(), "coap+tcp://127.0.0.1/time")?;
-    let extras = Extras {
-        observe: false,
-        plain: false,
-        content_format: None,
-        accept: None,
-        option: None,
-        payload: &[],
-    };
-    let token = client.send(Method::Get, &target, &extras)?;
+    let token = client.send(Method::Get, &target, &Extras::default())?;
     assert!(&rt; token.as_slice() == b"\x01".as_slice());
     // The client's CSM, and the request.
     assert!(&rt; client.front().ends_with(b"\x51\x01\x01\xb4time"));

@@ -94,7 +94,7 @@ impl Run {
             if !self.may_take() {
                 return Ok(None);
             }
-            if let Some(status) = self.take(out, err, plan.newline)? {
+            if let Some(status) = self.take(out, err, plan)? {
                 return Ok(Some(status));
             }
             if let Some(status) = self.send_request(err, plan)? {
@@ -105,13 +105,18 @@ impl Run {
     }
 
     /// Processes input up to the end of one message, and reports its event.
-    fn take<O: Outlet, E: Outlet>(&mut self, out: &mut O, err: &mut E, newline: bool) -> StepResult
+    fn take<O: Outlet, E: Outlet>(
+        &mut self,
+        out: &mut O,
+        err: &mut E,
+        plan: &ClientPlan,
+    ) -> StepResult
         requires out_works { O.is_failed out.old ≡ false }
         requires err_works { E.is_failed err.old ≡ false }
         ensures next { IfOk result (λ next. next ≡ spec.event_status
             (value.taking self.old.client self.old.rest).event) }
         ensures out { OnOk result (AddsBytes (O.written out.old) (O.written out.new)
-            (spec.event_output (value.taking self.old.client self.old.rest).event newline)) }
+            (spec.event_output (value.taking self.old.client self.old.rest).event plan.now)) }
         ensures err { OnOk result (AddsBytes (E.written err.old) (E.written err.new)
             (spec.event_errors (value.taking self.old.client self.old.rest).event)) }
         ensures client { self.new.client ≡ (value.taking self.old.client self.old.rest).client }
@@ -131,7 +136,7 @@ impl Run {
         let taken = self.client.take(self.rest.bytes());
         let bytes = taken.bytes;
         let (outcome, cause) = match taken.event() {
-            Some(event) => (handle_event(&event, out, err, newline)?, cause_of(&event)),
+            Some(event) => (handle_event(&event, out, err, plan)?, cause_of(&event)),
             None => (EventOutcome::Nothing, None),
         };
         self.rest.advance(bytes);

@@ -15,6 +15,7 @@ use crate::run::state::{ANSWERED, CONNECTION_FAILED, ERROR_RESPONSE, EventOutcom
 use crate::run_end::Cause;
 use coap_conn::{Reason, RequestFault};
 use coap_io::{Outlet, WriteFailed};
+use coap_request::ClientPlan;
 use coap_wire::MessageRef;
 
 /// Reports an event, and returns its effect on the run.
@@ -22,22 +23,22 @@ pub(super) fn handle_event<O: Outlet, E: Outlet>(
     event: &Event,
     out: &mut O,
     err: &mut E,
-    newline: bool,
+    plan: &ClientPlan,
 ) -> Result<EventOutcome, WriteFailed>
     requires out_works { O.is_failed out.old ≡ false }
     requires err_works { E.is_failed err.old ≡ false }
     ensures outcome { IfOk result (λ outcome. outcome ≡ spec.outcome_of (event_value event.now)) }
     ensures out { OnOk result (AddsBytes (O.written out.old) (O.written out.new)
-        (spec.output_of (event_value event.now) newline)) }
+        (spec.output_of (event_value event.now) plan.now)) }
     ensures err { OnOk result (AddsBytes (E.written err.old) (E.written err.new)
         (spec.errors_of (event_value event.now))) }
     ensures status { IfOk result EndsWithStatus }
     ensures output { (O.is_failed out.new || E.is_failed err.new) ≡ is_err result }
 {
     match event {
-        Event::Response(message) => Ok(EventOutcome::Ended(answered(message, out, err, newline)?)),
+        Event::Response(message) => Ok(EventOutcome::Ended(answered(message, out, err, plan)?)),
         Event::Notification(message) => {
-            write_payload(out, message.payload(), newline)?;
+            write_payload(out, message.payload(), plan)?;
             Ok(EventOutcome::Notified)
         }
         Event::Rejected { number, .. } => {
@@ -74,20 +75,20 @@ fn answered<O: Outlet, E: Outlet>(
     response: &MessageRef,
     out: &mut O,
     err: &mut E,
-    newline: bool,
+    plan: &ClientPlan,
 ) -> Result<u8, WriteFailed>
     requires out_works { O.is_failed out.old ≡ false }
     requires err_works { E.is_failed err.old ≡ false }
     ensures answer { IfOk result (λ status. status ≡ spec.response_status response.now.code) }
     ensures out { OnOk result (AddsBytes (O.written out.old) (O.written out.new)
-        (spec.output_of (value.Response response.now) newline)) }
+        (spec.output_of (value.Response response.now) plan.now)) }
     ensures err { OnOk result (AddsBytes (E.written err.old) (E.written err.new)
         (spec.errors_of (value.Response response.now))) }
     ensures status { IfOk result IsStatus }
     ensures output { (O.is_failed out.new || E.is_failed err.new) ≡ is_err result }
 {
     if response.code().class() == 2 {
-        write_payload(out, response.payload(), newline)?;
+        write_payload(out, response.payload(), plan)?;
         return Ok(ANSWERED);
     }
     report_response(err, response)?;

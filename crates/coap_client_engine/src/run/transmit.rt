@@ -1,7 +1,7 @@
 //! Output of a run: the request, the cancellation of its observation, and one write to the wire.
 
 ghost use Rattle.std.specs.Prelude.{◌≡◌, ◌++◌, ◌∷◌, ℕ, List, false, is_err, [], option_map, IfOk, IfSome, OnOk};
-ghost use Rattle.coap_client_engine.specs.Prelude.{AddsCalls, bytes_passed, count_passed, AddsBytes, extras_value};
+ghost use Rattle.coap_client_engine.specs.Prelude.{AddsCalls, bytes_passed, count_passed, AddsBytes};
 ghost use Rattle.coap_client_engine.specs.Prelude.{IsStatus, ClientCall, ClientShows, with_wire, Flushes};
 ghost use Rattle.coap_client_engine.specs.ClientValues as value;
 ghost use Rattle.coap_client_engine.specs.RunCauses as causes;
@@ -12,7 +12,7 @@ use crate::run::state::{Run, StepResult};
 use crate::run_end::Cause;
 use coap_conn::{Phase, Reason, RequestFault, first_part};
 use coap_io::{Got, Outlet, Wire};
-use coap_request::{ClientPlan, Extras};
+use coap_request::ClientPlan;
 
 impl Run {
     /// Returns `true` if the request must be sent: the connection is open, and the request was not sent before.
@@ -49,7 +49,7 @@ impl Run {
         }
         match self
             .client
-            .send_or_refuse(plan.method, &plan.target, &extras_of(plan))
+            .send_or_refuse(plan.method, &plan.target, &plan.extras())
         {
             Ok(token) => {
                 self.token = Some(token);
@@ -92,7 +92,7 @@ impl Run {
         };
         match self
             .client
-            .cancel_or_refuse(token, &plan.target, &extras_of(plan))
+            .cancel_or_refuse(token, &plan.target, &plan.extras())
         {
             Ok(()) => {
                 self.cancelled = Some(self.moment);
@@ -175,23 +175,5 @@ fn stop_written(next: Option<u8>, got: Got) -> Option<Reason>
         Got::Later => None,
         Got::End => Some(Reason::Ended),
         Got::Failed => Some(Reason::Ended),
-    }
-}
-
-/// Returns the properties of the request that the plan gives besides its method and target.
-fn extras_of<'a>(plan: &'a ClientPlan) -> Extras<'a>
-    ensures { extras_value result ≡ spec.planned_extras plan.now }
-{
-    let option = match &plan.option {
-        Some((number, value)) => Some((*number, value.as_slice())),
-        None => None,
-    };
-    Extras {
-        observe: plan.observe.is_some(),
-        plain: plan.plain,
-        content_format: plan.content_format,
-        accept: plan.accept,
-        option,
-        payload: &plan.payload,
     }
 }

@@ -2,12 +2,12 @@
 -- pending entries, and the fates of requests for the application.
 use Rattle.std.proofs.Common.{◌≡◌, ℕ, Bool, true, false, List, [], ◌∷◌, ◌++◌, map, Some, None, refl, sym, codes, inl}
 use Rattle.std.proofs.Common.{inr, true≢false}
-use Rattle.coap_model.specs.Prelude.{digits, kind_of, is_recognised, checked_given, recognised_in, first_critical_in, announced}
-use Rattle.coap_model.specs.Prelude.{due_index, first_due, without_due, react, live_reaction, is_path, found_in, put_at}
-use Rattle.coap_model.specs.Prelude.{removed_at, encoded_byte, path_bytes, entry_bytes, listing, kind_of_path, key_for}
-use Rattle.coap_model.specs.Prelude.{state_at, has_option, value_of, number_of, match_holds, is_seconds, get_answer}
-use Rattle.coap_model.specs.Prelude.{store_answer, method_answer, resource_answer, answer_at, answer_of}
-use Rattle.coap_model.specs.Prelude.{immediate_answer, prompt_answer, application_deadline, notification_at}
+use Rattle.coap_model.specs.Prelude.{digits, kind_of, is_recognised, checked_given, recognised_in, first_critical_in}
+use Rattle.coap_model.specs.Prelude.{announced, due_index, first_due, without_due, react, live_reaction, is_path}
+use Rattle.coap_model.specs.Prelude.{found_in, put_at, removed_at, encoded_byte, path_bytes, entry_bytes, listing}
+use Rattle.coap_model.specs.Prelude.{kind_of_path, key_for, state_at, has_option, value_of, number_of, match_holds}
+use Rattle.coap_model.specs.Prelude.{is_seconds, get_answer, store_answer, method_answer, resource_answer, answer_at}
+use Rattle.coap_model.specs.Prelude.{answer_of, immediate_answer, prompt_answer, application_deadline, notification_at}
 use Rattle.coap_model.specs.Prelude.{put_refusal, is_due, without_token, first_becomes, side_after, change_after}
 use Rattle.coap_model.specs.Prelude.{side_faulted, side_written, side_ended, side_released, settled_once}
 use Rattle.coap_model.specs.Prelude.{settled_within, settled, side_announced, side_of, acted, step, after_steps}

@@ -131,11 +131,7 @@ fn observes_a_resource(rt: HostRuntime) -> Result<(), Fail> {
     let target = Target::read(rt.alloc(), "coap+tcp://127.0.0.1/time")?;
     let extras = Extras {
         observe: true,
-        plain: false,
-        content_format: None,
-        accept: None,
-        option: None,
-        payload: &[],
+        ..Extras::default()
     };
     let mut payload = Vec::new(rt.alloc());
     let (count, stop) = observe(

@@ -38,12 +38,8 @@ fn to_server(joined: &mut Joined) -> usize {
 /// Sends a request to the root resource.
 fn send(alloc: Global, client: &mut Client, method: Method, payload: &[u8]) -> bool {
     let extras = Extras {
-        observe: false,
-        plain: false,
-        content_format: None,
-        accept: None,
-        option: None,
         payload,
+        ..Extras::default()
     };
     match Target::read(alloc, "coap+tcp://127.0.0.1/") {
         Ok(target) => client.send(method, &target, &extras).is_ok(),
