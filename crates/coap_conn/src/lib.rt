@@ -23,7 +23,7 @@ mod pending;
 mod phase;
 mod reason;
 mod ring;
-mod signals;
+mod signal_messages;
 
 pub use limits::{LimitFault, Limits, LimitsBuilder};
 pub use link::Link;

@@ -15,7 +15,7 @@ use crate::out_queue::OutQueue;
 use crate::outstanding::Outstanding;
 use crate::pending::{PendingEntry, next_of};
 use crate::phase::{Phase, Role};
-use crate::signals::announce_first;
+use crate::signal_messages::announce_first;
 use coap_wire::BASE_MESSAGE_SIZE;
 use std::alloc::{AllocError, Global};
 use std::marker::Model;

@@ -1,7 +1,7 @@
 -- The options of a request, each with a flag that states if it is recognised.
 use Rattle.std.proofs.Common.{arith, ◌≡◌, Bool, not, ◌&&◌, List, [], ◌∷◌, refl}
 use Rattle.coap_store.specs.Prelude.{is_some, list_any, is_critical, first_critical_in, recognised_in}
-use Rattle.coap_store.specs.Prelude.{CheckedOptionValue}
+use Rattle.coap_store.specs.Prelude.{CheckedOptionValue, if◌then◌else◌}
 
 abbrev pub has_bad : List CheckedOptionValue → Bool
 has_bad cs = list_any (λ c. is_critical c.option && not c.recognised) cs

@@ -13,7 +13,7 @@ use super::Link;
 use crate::pending::{PendingEntry, Responder, request_in};
 use crate::phase::{Full, Reply, RespondFault};
 use crate::reason::Reason;
-use crate::signals::bare_of;
+use crate::signal_messages::bare_of;
 use coap_wire::option_numbers::OBSERVE;
 use coap_wire::{Code, MessageRef, Token, parse};
 

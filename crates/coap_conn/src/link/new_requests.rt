@@ -10,7 +10,7 @@ ghost use Rattle.coap_conn.specs.Calls as call;
 use super::Link;
 use crate::outstanding::{Outstanding, cancel_in, has_entry_in, may_cancel_in, remove_entry_in};
 use crate::phase::{NotOutstanding, Phase, RequestFault};
-use crate::signals::ping_to;
+use crate::signal_messages::ping_to;
 use coap_wire::{Builder, MessageBuilder, Token, TokenRef, copy_of, uint_bytes};
 
 impl Link {

@@ -18,7 +18,7 @@ use crate::outstanding::{has_ping_in, last_in, remove_ping_in, remove_request_in
 use crate::pending::PendingEntry;
 use crate::phase::{Phase, Reject, Role, Verdict};
 use crate::reason::Reason;
-use crate::signals::bare_of;
+use crate::signal_messages::bare_of;
 use coap_wire::{Code, MessageRef, ShortBuilder};
 
 impl Link {

@@ -13,7 +13,7 @@ ghost use Rattle.coap_conn.specs.Calls as call;
 use super::Link;
 use crate::phase::{Phase, Reply, SendFault, Verdict};
 use crate::reason::Reason;
-use crate::signals::{
+use crate::signal_messages::{
     abort_text, abort_with, announce, announcement_size, bad_csm_number, bare_of, pong_to,
     queue_release,
 };
