@@ -110,7 +110,7 @@ NUMBERS = [
     (REQUEST, "MAX_DIGITS: usize = 4;", MODEL, "not 1 to 4 digits of at most 3,600"),
     (REQUEST, "MAX_SECONDS: u16 = 3600;", MODEL, "not 1 to 4 digits of at most 3,600"),
     (REQUEST, "USUAL_SECONDS: u32 = 5;", MODEL, "after that many seconds, by default 5"),
-    ("crates/coap_request/src/target.rt", "DEFAULT_PORT: u16 = 5_683;", MODEL, "port 5683 by default"),
+    ("crates/coap_client_request/src/target.rt", "DEFAULT_PORT: u16 = 5_683;", MODEL, "port 5683 by default"),
     (CONFIGS, "c.dynamic_max ≤ 1000", DECISIONS, "at most 1,000 paths"),
     (PATH, "MAX_BYTES: usize = 255;", DECISIONS, "A `PathKey` has 255 bytes"),
     ("crates/coap_sockets/src/server_wire.rt", "for _ in 0..64 {", DECISIONS, "at most a mebibyte"),

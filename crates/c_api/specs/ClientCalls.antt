@@ -7,9 +7,9 @@ use Rattle.coap_conn.specs.Limits.{LimitValues, limit_refusal}
 use Rattle.coap_conn.specs.Calls.{may_forget}
 use Rattle.coap_conn.specs.Release.{release_refusal}
 use Rattle.coap_conn.specs.RequestState.{next_token}
-use Rattle.coap_request.specs.Requests.{ExtrasValue}
-use Rattle.coap_request.specs.Targets.{TargetValue, target_of}
-use Rattle.coap_request.specs.declared.request.Method.{Method}
+use Rattle.coap_client_request.specs.Requests.{ExtrasValue}
+use Rattle.coap_client_request.specs.Targets.{TargetValue, target_of}
+use Rattle.coap_client_request.specs.declared.request.Method.{Method}
 use Rattle.coap_client_engine.specs.ClientValues.{ClientValue, new_client, taking, client_written, client_ended}
 use Rattle.coap_client_engine.specs.ClientValues.{client_sent, client_cancelled, client_pinged, send_refusal}
 use Rattle.coap_client_engine.specs.ClientValues.{cancelling_refusal, ping_refusal, client_released}

@@ -41,8 +41,8 @@ use Rattle.coap_conn.specs.declared.phase.RequestFault.{RequestFault}
 use Rattle.coap_conn.specs.declared.phase.RequestFault.TheVariants as requesting
 use Rattle.coap_conn.specs.declared.phase.SendFault.{SendFault}
 use Rattle.coap_conn.specs.declared.phase.SendFault.TheVariants as sending
-use Rattle.coap_request.specs.declared.target.TargetFault.{TargetFault}
-use Rattle.coap_request.specs.declared.target.TargetFault.TheVariants as naming
+use Rattle.coap_client_request.specs.declared.target.TargetFault.{TargetFault}
+use Rattle.coap_client_request.specs.declared.target.TargetFault.TheVariants as naming
 use Rattle.coap_store.specs.declared.fault.StoreFault.{StoreFault}
 use Rattle.coap_store.specs.declared.fault.StoreFault.TheVariants as storing
 

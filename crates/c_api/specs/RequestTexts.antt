@@ -2,11 +2,11 @@
 use Rattle.std.specs.Prelude.{◌≡◌, ℕ, ◌+◌, Bool, true, false, List, ◌∷◌, ◌++◌, length, drop, Option, Some, None, Result}
 use Rattle.std.specs.Prelude.{Ok, Err, nat_lt, ◌==◌, if◌then◌else◌, ◌⊎◌}
 use Rattle.std.specs.Str.{IsUtf8}
-use Rattle.coap_request.specs.Requests.{ExtrasValue}
-use Rattle.coap_request.specs.Targets.{TargetValue, target_of}
-use Rattle.coap_request.specs.declared.request.Method.{Method}
-use Rattle.coap_request.specs.declared.request.Method.TheVariants as method
-use Rattle.coap_request.specs.declared.target.TargetFault.{TargetFault}
+use Rattle.coap_client_request.specs.Requests.{ExtrasValue}
+use Rattle.coap_client_request.specs.Targets.{TargetValue, target_of}
+use Rattle.coap_client_request.specs.declared.request.Method.{Method}
+use Rattle.coap_client_request.specs.declared.request.Method.TheVariants as method
+use Rattle.coap_client_request.specs.declared.target.TargetFault.{TargetFault}
 use Rattle.c_api.specs.Numbers.{target_code}
 use Rattle.c_api.specs.PathTexts.{format_named}
 use Rattle.c_api.specs.declared.requests.Place.{Place}

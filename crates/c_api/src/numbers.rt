@@ -4,12 +4,12 @@ ghost use Rattle.std.specs.Prelude.{◌≡◌};
 ghost use Rattle.c_api.specs.Numbers as spec;
 
 use coap_client_engine::ClientAnnounceFault;
+use coap_client_request::TargetFault;
 use coap_conn::{LimitFault, Phase, Reply, RequestFault, SendFault};
 use coap_model::{
     AnnounceFault, ConfigFault, Handled, OpenFault, ReleaseFault, ResponseFault, WrittenFault,
 };
 use coap_path::ApplicationFault;
-use coap_request::TargetFault;
 use coap_store::StoreFault;
 use coap_wire::FormatFault;
 

@@ -2,12 +2,12 @@
 
 ghost use Rattle.std.specs.Prelude.{◌≡◌, option_map};
 ghost use Rattle.c_api.specs.RequestTexts as spec;
-ghost use Rattle.coap_request.specs.RequestViews.{extras_value};
+ghost use Rattle.coap_client_request.specs.RequestViews.{extras_value};
 
 use crate::bytes::put;
 use crate::numbers::{NO_ROOM, SUCCESS, URI_URL, target_number};
 use crate::paths::format_of;
-use coap_request::{Extras, Method, Target};
+use coap_client_request::{Extras, Method, Target};
 use std::alloc::Global;
 use std::str::from_utf8;
 

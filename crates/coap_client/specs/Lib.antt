@@ -1,7 +1,7 @@
-pub use Rattle.coap_request.specs.Targets
-pub use Rattle.coap_request.specs.TargetViews
-pub use Rattle.coap_request.specs.Requests
-pub use Rattle.coap_request.specs.RequestViews
+pub use Rattle.coap_client_request.specs.Targets
+pub use Rattle.coap_client_request.specs.TargetViews
+pub use Rattle.coap_client_request.specs.Requests
+pub use Rattle.coap_client_request.specs.RequestViews
 pub use Rattle.coap_command_line.specs.CommandLines
 pub use Rattle.coap_command_line.specs.ServerWords
 pub use Rattle.coap_command_line.specs.ClientWords

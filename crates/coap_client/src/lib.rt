@@ -1,9 +1,9 @@
 //! CoAP client over reliable transports (RFC 8323), and the command lines of both programs. This crate re-exports the
 //! public names of three crates:
 //!
-//! - `coap_request`: targets, requests and plans (`Target`, `Method`, `Extras`, `ClientPlan`, `ServerPlan`).
-//! - `coap_command_line`: parsers of command lines (`client_words`, `server_words`, `WordsFault`), and reasons for
-//!   their errors (`client_reason`, `server_reason`).
+//! - `coap_client_request`: targets, requests and plans (`Target`, `Method`, `Extras`, `ClientPlan`).
+//! - `coap_command_line`: parsers of command lines (`client_words`, `server_words`, `WordsFault`), the plan of a server
+//!   (`ServerPlan`), and reasons for errors (`client_reason`, `server_reason`).
 //! - `coap_client_engine`: the connection and its run (`Client`, `Event`, `run_client`, `run_to_end`), and the
 //!   theorems in `laws`.
 //!
@@ -20,15 +20,16 @@ pub use coap_client_engine::{
     Awaited, Cause, Client, ClientAnnounceFault, ClientFault, Event, Refusal, RunEnd, Taken,
     explain, run_client, run_to_end,
 };
-pub use coap_command_line::{WordsFault, client_reason, client_words, server_reason, server_words};
+pub use coap_client_request::{ClientPlan, Extras, Method, Target, TargetFault};
+pub use coap_command_line::{
+    Mode, ServerPlan, StartCounts, WordsFault, client_reason, client_words, server_reason,
+    server_words,
+};
 pub use coap_conn::{
     LimitFault, Limits, LimitsBuilder, NotOutstanding, Phase, Reason, RequestFault, SendFault,
 };
 pub use coap_io::{Clock, Got, Outlet, Wire, WriteFailed, WriteOutlet};
 pub use coap_print::Line;
-pub use coap_request::{
-    ClientPlan, Extras, Method, Mode, ServerPlan, StartCounts, Target, TargetFault,
-};
 pub use coap_wire::{Code, MessageRef, OptionRef, Token, TokenRef};
 
 /// Theorems over all clients.

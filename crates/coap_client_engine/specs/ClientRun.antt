@@ -13,7 +13,7 @@ use Rattle.coap_client_engine.specs.RunTrace.{given_in, rest_in, waiting_in, wri
 use Rattle.coap_client_engine.specs.RunTrace.{errors_in, has_looked, IsRequestedWhereDue, IsTakenUp, IsResting}
 use Rattle.coap_client_engine.specs.RunTrace.{IsBetween}
 use Rattle.coap_client_engine.specs.RunTrace.{MayWrite, HasWritten, IsRunTrace}
-use Rattle.coap_request.specs.declared.plan.ClientPlan.{ClientPlan}
+use Rattle.coap_client_request.specs.declared.plan.ClientPlan.{ClientPlan}
 use Rattle.coap_client_engine.specs.RunCauses.{cause_in}
 use Rattle.coap_client_engine.specs.declared.run.state.Run.{Run}
 use Rattle.coap_client_engine.specs.declared.run_end.RunEnd.{RunEnd}

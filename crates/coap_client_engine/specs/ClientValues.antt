@@ -27,9 +27,9 @@ use Rattle.coap_conn.specs.RequestState.{next_token, with_token, ping_with}
 use Rattle.coap_conn.specs.LinkValue.{LinkValue, new_link, free_in, limit_in, state_in, asking_in, own_csm}
 use Rattle.coap_conn.specs.Calls.{link_after}
 use Rattle.coap_conn.specs.Calls as call
-use Rattle.coap_request.specs.declared.request.Method.{Method}
-use Rattle.coap_request.specs.Targets.{TargetValue}
-use Rattle.coap_request.specs.Requests.{ExtrasValue, request_of, cancel_of, is_too_long, has_long_extra}
+use Rattle.coap_client_request.specs.declared.request.Method.{Method}
+use Rattle.coap_client_request.specs.Targets.{TargetValue}
+use Rattle.coap_client_request.specs.Requests.{ExtrasValue, request_of, cancel_of, is_too_long, has_long_extra}
 use Rattle.coap_client_engine.specs.declared.client.signals.ClientAnnounceFault.{ClientAnnounceFault}
 use Rattle.coap_client_engine.specs.declared.client.signals.ClientAnnounceFault.TheVariants as announcing
 

@@ -16,9 +16,9 @@ use Rattle.coap_conn.specs.Calls.{may_forget}
 use Rattle.coap_conn.specs.Calls as call
 use Rattle.coap_conn.specs.LinkValue.{free_in}
 use Rattle.coap_conn.specs.Release.{release_refusal}
-use Rattle.coap_request.specs.declared.request.Method.{Method}
-use Rattle.coap_request.specs.Targets.{TargetValue}
-use Rattle.coap_request.specs.Requests.{ExtrasValue, request_of, cancel_of}
+use Rattle.coap_client_request.specs.declared.request.Method.{Method}
+use Rattle.coap_client_request.specs.Targets.{TargetValue}
+use Rattle.coap_client_request.specs.Requests.{ExtrasValue, request_of, cancel_of}
 use Rattle.coap_client_engine.specs.ClientValues.{ClientValue, ClientEventValue, Stopped, verdict_event, is_cut}
 use Rattle.coap_client_engine.specs.ClientValues.{send_refusal, cancelling_refusal, ping_refusal, announce_refusal}
 

@@ -62,14 +62,14 @@ pub use Rattle.coap_io.specs.declared.wire.Got.TheVariants.{Bytes, End}
 pub use Rattle.coap_io.specs.streams.Device.{AddsBytes}
 pub use Rattle.coap_io.specs.streams.DeviceTraces.{AddsCalls}
 pub use Rattle.coap_io.specs.streams.Wires.{bytes_passed, count_passed}
--- ---- coap_request
-pub use Rattle.coap_request.specs.RequestViews.{extras_value, planned_extras}
-pub use Rattle.coap_request.specs.Requests.{ExtrasValue}
-unfoldable pub use Rattle.coap_request.specs.Requests.{cancel_of}
-unfoldable pub use Rattle.coap_request.specs.Requests.{request_of}
-pub use Rattle.coap_request.specs.Targets.{TargetValue}
-pub use Rattle.coap_request.specs.declared.plan.ClientPlan.{ClientPlan}
-pub use Rattle.coap_request.specs.declared.request.Method.{Method}
+-- ---- coap_client_request
+pub use Rattle.coap_client_request.specs.RequestViews.{extras_value, planned_extras}
+pub use Rattle.coap_client_request.specs.Requests.{ExtrasValue}
+unfoldable pub use Rattle.coap_client_request.specs.Requests.{cancel_of}
+unfoldable pub use Rattle.coap_client_request.specs.Requests.{request_of}
+pub use Rattle.coap_client_request.specs.Targets.{TargetValue}
+pub use Rattle.coap_client_request.specs.declared.plan.ClientPlan.{ClientPlan}
+pub use Rattle.coap_client_request.specs.declared.request.Method.{Method}
 -- ---- coap_client_engine
 pub use Rattle.coap_client_engine.specs.ClientLaws.{AreDifferent, KeepsSize, tokens_given, token_given, later_tokens}
 pub use Rattle.coap_client_engine.specs.ClientRun.{IsReady, IsClientRun, IsExplainedRun, FailedBeforeStart, records}

@@ -7,8 +7,8 @@ use Rattle.coap_conn.specs.declared.phase.RequestFault.{RequestFault}
 use Rattle.coap_conn.specs.declared.phase.RequestFault.TheVariants.{NotOpen, TooMany, TooBig, NoRoom, TokensSpent}
 use Rattle.coap_conn.specs.declared.phase.RequestFault.TheVariants.{NoSuchToken}
 use Rattle.coap_conn.specs.declared.reason.Reason.{Reason}
-use Rattle.coap_request.specs.RequestViews.{planned_extras}
-use Rattle.coap_request.specs.declared.plan.ClientPlan.{ClientPlan}
+use Rattle.coap_client_request.specs.RequestViews.{planned_extras}
+use Rattle.coap_client_request.specs.declared.plan.ClientPlan.{ClientPlan}
 use Rattle.coap_client_engine.specs.ClientValues.{request_size, cancellation_size}
 use Rattle.coap_client_engine.specs.ClientValues.{ClientEventValue, Ready, Response, Notification, Rejected, Pong}
 use Rattle.coap_client_engine.specs.ClientValues.{Stranger, Stopped}

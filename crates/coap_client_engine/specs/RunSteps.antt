@@ -19,9 +19,9 @@ use Rattle.coap_client_engine.specs.ClientWorld.{ClientCall, Wrote, Ended}
 use Rattle.coap_io.specs.declared.wire.Got.{Got}
 use Rattle.coap_io.specs.declared.wire.Got.TheVariants.{Bytes, Later, End, Failed}
 use Rattle.coap_conn.specs.RequestState.{next_token}
-use Rattle.coap_request.specs.RequestViews.{planned_extras}
+use Rattle.coap_client_request.specs.RequestViews.{planned_extras}
 use Rattle.coap_client_engine.specs.RunTexts.{stop_line, fault_line, option_line, response_line, payload_text}
-use Rattle.coap_request.specs.declared.plan.ClientPlan.{ClientPlan}
+use Rattle.coap_client_request.specs.declared.plan.ClientPlan.{ClientPlan}
 use Rattle.coap_client_engine.specs.declared.run.state.EventOutcome.{EventOutcome}
 use Rattle.coap_client_engine.specs.declared.run.state.EventOutcome.TheVariants.{Nothing, Notified, Ended}
 

@@ -7,7 +7,7 @@ use Rattle.coap_conn.specs.declared.reason.Reason.{Reason}
 use Rattle.coap_conn.specs.declared.phase.RequestFault.{RequestFault}
 use Rattle.coap_conn.specs.declared.phase.RequestFault.TheVariants.{NotOpen, TooMany, TooBig, NoRoom, TokensSpent}
 use Rattle.coap_conn.specs.declared.phase.RequestFault.TheVariants.{NoSuchToken}
-use Rattle.coap_request.specs.declared.plan.ClientPlan.{ClientPlan}
+use Rattle.coap_client_request.specs.declared.plan.ClientPlan.{ClientPlan}
 
 -- A text, followed by a number and a newline.
 abbrev pub number_line : List ℕ → ℕ → List ℕ

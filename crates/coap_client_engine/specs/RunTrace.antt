@@ -20,8 +20,8 @@ use Rattle.coap_client_engine.specs.RunSteps.{has_passed, must_send_request, is_
 use Rattle.coap_client_engine.specs.RunSteps.{asking_refusal, cancelling_refusal, ended_by, refusal_text, event_status}
 use Rattle.coap_client_engine.specs.RunSteps.{event_first, event_output, event_errors, stop_after, stop_written}
 use Rattle.coap_client_engine.specs.RunSteps.{calls_read, calls_written}
-use Rattle.coap_request.specs.RequestViews.{planned_extras}
-use Rattle.coap_request.specs.declared.plan.ClientPlan.{ClientPlan}
+use Rattle.coap_client_request.specs.RequestViews.{planned_extras}
+use Rattle.coap_client_request.specs.declared.plan.ClientPlan.{ClientPlan}
 
 -- A trace of a run. Each event follows the trace `before` it.
 pub data RunTrace : Type 0 where

@@ -4,9 +4,9 @@ ghost use Rattle.std.specs.Prelude.{◌≡◌, false, is_err, OnOk};
 ghost use Rattle.coap_client_engine.specs.Prelude.{AddsBytes};
 ghost use Rattle.coap_client_engine.specs.RunTexts as text;
 
+use coap_client_request::ClientPlan;
 use coap_conn::{Reason, RequestFault};
 use coap_io::{Outlet, WriteFailed, write_all};
-use coap_request::ClientPlan;
 use coap_wire::{Code, MessageRef};
 use itoa::Buffer;
 

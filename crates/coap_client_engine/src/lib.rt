@@ -10,7 +10,7 @@
 //! The contracts use the definitions of `specs/ClientWorld.antt` for the calls of a client, and those of
 //! `specs/ClientRun.antt` for a run.
 //!
-//! This crate opens no socket and reads no command line. Requests and plans are made by `coap_request`, framing is in
+//! This crate opens no socket and reads no command line. `coap_client_request` makes requests and plans, framing is in
 //! `coap_frame`, and signalling and the output queue are in `coap_conn`. Programs import all this from `coap_client`.
 //! Continue with `client.rt`, and then `run.rt`.
 //!

@@ -13,8 +13,8 @@ mod state;
 mod transmit;
 
 use crate::run_end::RunEnd;
+use coap_client_request::ClientPlan;
 use coap_io::{Clock, Outlet, Wire};
-use coap_request::ClientPlan;
 pub use state::ClientFault;
 use state::{Run, StepResult, TIMED_OUT};
 use std::alloc::Global;

@@ -13,10 +13,10 @@ use Rattle.coap_print.specs.declared.level.LogLevel.TheVariants.{Nothing}
 use Rattle.coap_command_line.specs.CommandLines.{◌>>=◌, WordsFaultValue, Clash, Target, Value, is_used, letter_flag}
 use Rattle.coap_command_line.specs.CommandLines.{letter_option, level_in, number_within, option_value, unless_refused}
 use Rattle.coap_command_line.specs.CommandLines.{word_option}
-use Rattle.coap_request.specs.Targets.{TargetValue, target_of}
-use Rattle.coap_request.specs.declared.request.Method.{Method}
-use Rattle.coap_request.specs.declared.request.Method.TheVariants.{Get, Put, Post, Delete}
-use Rattle.coap_request.specs.declared.target.TargetFault.{TargetFault}
+use Rattle.coap_client_request.specs.Targets.{TargetValue, target_of}
+use Rattle.coap_client_request.specs.declared.request.Method.{Method}
+use Rattle.coap_client_request.specs.declared.request.Method.TheVariants.{Get, Put, Post, Delete}
+use Rattle.coap_client_request.specs.declared.target.TargetFault.{TargetFault}
 use Rattle.coap_command_line.specs.declared.arguments.client.RequestValues.{RequestValues}
 
 -- ---- the plan

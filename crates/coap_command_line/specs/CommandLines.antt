@@ -11,7 +11,7 @@ use Rattle.coap_conn.specs.Limits.{is_within}
 use Rattle.coap_text.specs.Words.{decimal_value, parts}
 use Rattle.coap_print.specs.Levels.{level_of}
 use Rattle.coap_print.specs.declared.level.LogLevel.{LogLevel}
-use Rattle.coap_request.specs.declared.target.TargetFault.{TargetFault}
+use Rattle.coap_client_request.specs.declared.target.TargetFault.{TargetFault}
 use Rattle.coap_command_line.specs.declared.arguments.tables.Form.{Form}
 use Rattle.coap_command_line.specs.declared.arguments.tables.Form.TheVariants as form
 use Rattle.coap_command_line.specs.declared.arguments.option_values.BadValue.{BadValue}

@@ -9,10 +9,10 @@ use Rattle.coap_command_line.specs.CommandLines as fault
 use Rattle.coap_command_line.specs.ClientWords.{ClientPlanValue, client_plan_of, spoken}
 use Rattle.coap_command_line.specs.ServerWords.{ModeValue, ServerPlanValue, server_plan_of}
 use Rattle.coap_command_line.specs.ServerWords as mode
-use Rattle.coap_request.specs.declared.plan.ClientPlan.{ClientPlan}
-use Rattle.coap_request.specs.declared.plan.Mode.{Mode}
-use Rattle.coap_request.specs.declared.plan.Mode.TheVariants as modes
-use Rattle.coap_request.specs.declared.plan.ServerPlan.{ServerPlan}
+use Rattle.coap_client_request.specs.declared.plan.ClientPlan.{ClientPlan}
+use Rattle.coap_command_line.specs.declared.server_plan.Mode.{Mode}
+use Rattle.coap_command_line.specs.declared.server_plan.Mode.TheVariants as modes
+use Rattle.coap_command_line.specs.declared.server_plan.ServerPlan.{ServerPlan}
 use Rattle.coap_command_line.specs.declared.arguments.applications.EntryFault.{EntryFault}
 use Rattle.coap_command_line.specs.declared.arguments.applications.EntryFault.TheVariants as entries
 use Rattle.coap_command_line.specs.declared.arguments.WordsFault.{WordsFault}

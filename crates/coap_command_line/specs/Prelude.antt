@@ -17,10 +17,10 @@ pub use Rattle.coap_print.specs.Texts.{is_text, escaped_text}
 unfoldable pub use Rattle.coap_print.specs.Lines.{appended}
 pub use Rattle.coap_print.specs.declared.line.TheConstants.{LINE_LENGTH}
 pub use Rattle.coap_print.specs.declared.level.LogLevel.TheVariants.{Nothing}
--- ---- coap_request
-pub use Rattle.coap_request.specs.Targets.{GivesUnlessMemory, target_of}
-pub use Rattle.coap_request.specs.declared.plan.ClientPlan.{ClientPlan}
-pub use Rattle.coap_request.specs.declared.plan.ServerPlan.{ServerPlan}
+-- ---- coap_client_request
+pub use Rattle.coap_client_request.specs.Targets.{GivesUnlessMemory, target_of}
+pub use Rattle.coap_client_request.specs.declared.plan.ClientPlan.{ClientPlan}
+pub use Rattle.coap_command_line.specs.declared.server_plan.ServerPlan.{ServerPlan}
 -- ---- coap_command_line
 pub use Rattle.coap_command_line.specs.ClientWords.{client_app, AreHalves, client_plan_in, is_comma}
 unfoldable pub use Rattle.coap_command_line.specs.ClientWords.{client_plan_of}

@@ -9,8 +9,8 @@ use Rattle.coap_print.specs.Texts.{is_text, escaped_text}
 use Rattle.coap_print.specs.Lines.{appended}
 use Rattle.coap_print.specs.declared.line.TheConstants.{LINE_LENGTH}
 use Rattle.coap_wire.specs.declared.sizes.TheConstants.{BASE_MESSAGE_SIZE, LARGEST_SENT_MESSAGE}
-use Rattle.coap_request.specs.declared.target.TargetFault.{TargetFault}
-use Rattle.coap_request.specs.declared.target.TargetFault.TheVariants as target
+use Rattle.coap_client_request.specs.declared.target.TargetFault.{TargetFault}
+use Rattle.coap_client_request.specs.declared.target.TargetFault.TheVariants as target
 use Rattle.coap_command_line.specs.CommandLines.{after, before, is_used, number_within, option_value}
 use Rattle.coap_command_line.specs.ApplicationWords.{applications_said, refused_value}
 use Rattle.coap_command_line.specs.ServerWords.{server_app, lacks_record, records_to_output}

@@ -16,7 +16,7 @@ use Rattle.coap_command_line.specs.CommandLines.{◌>>=◌, WordsFaultValue, Cla
 use Rattle.coap_command_line.specs.CommandLines.{level_in, number_within, option_value, repeated_option, unless_refused}
 use Rattle.coap_command_line.specs.CommandLines.{word_flag, word_option}
 use Rattle.coap_command_line.specs.ApplicationWords.{applications_said}
-use Rattle.coap_request.specs.declared.plan.StartCounts.{StartCounts}
+use Rattle.coap_command_line.specs.declared.server_plan.StartCounts.{StartCounts}
 use Rattle.coap_command_line.specs.declared.arguments.server.ServerValues.{ServerValues}
 use Rattle.coap_wire.specs.declared.sizes.TheConstants.{BASE_MESSAGE_SIZE, LARGEST_MESSAGE, LARGEST_SENT_MESSAGE}
 use Rattle.coap_wire.specs.declared.sizes.TheConstants.{LARGEST_QUEUE, DEFAULT_QUEUE}

@@ -15,11 +15,12 @@ mod reasons;
 mod server;
 mod tables;
 
+use crate::server_plan::ServerPlan;
 use clap::Error as UsageError;
 use clap::error::ErrorKind;
 use client::client_plan;
+use coap_client_request::{ClientPlan, TargetFault};
 use coap_print::Line;
-use coap_request::{ClientPlan, ServerPlan, TargetFault};
 use commands::matches_in;
 use option_values::BadValue;
 use reasons::{client_line, server_line};

@@ -11,11 +11,13 @@
 //! The contracts use the definitions of `specs/CommandLines.antt`, `specs/ServerWords.antt`, `specs/ClientWords.antt`,
 //! `specs/ExplainWords.antt`, `specs/DirectoryWords.antt` and `specs/Reasons.antt`.
 //!
-//! This crate opens no file and runs nothing. Plans, targets and methods are types of `coap_request`. The crate
-//! `program_common` has everything else that the programs need, such as exit statuses. Continue with `arguments.rt`.
+//! This crate opens no file and runs nothing. The plan of a client, targets and methods are types of
+//! `coap_client_request`. The crate `program_common` has everything else that the programs need, such as exit statuses.
+//! Continue with `arguments.rt`.
 #![tactic(auto)]
 
 mod arguments;
+mod server_plan;
 
 pub use arguments::applications::{EntryFault, entries_in};
 pub use arguments::directory::{DirectoryPlan, directory_reason, directory_words};
@@ -23,3 +25,4 @@ pub use arguments::explain::{ExplainPlan, explain_reason, explain_words};
 pub use arguments::{
     VERSION, WordsFault, client_reason, client_words, server_reason, server_words,
 };
+pub use server_plan::{Mode, ServerPlan, StartCounts};

@@ -10,18 +10,18 @@
 //! list of links) and `specs/Reading.antt` (what a text is read as).
 //!
 //! This crate does not check the structure of a URI, nor the form of single attributes such as `sz`. Continue with
-//! `links.rt`, then `read.rt`.
+//! `parser.rt`, then `parts.rt`.
 #![tactic(auto)]
 
 mod attribute;
 mod characters;
 mod fault;
-mod links;
-mod read;
+mod parser;
+mod parts;
 mod text;
 
 pub use attribute::{AttributeRef, ValueRef};
 pub use characters::{is_parmname, is_same_name, is_target_char};
 pub use fault::LinkFault;
-pub use links::{Attributes, LinkRef, Links, parse};
+pub use parser::{Attributes, LinkRef, Links, parse};
 pub use text::{AttributeText, LinkText};

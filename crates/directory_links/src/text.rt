@@ -6,7 +6,7 @@ ghost use Rattle.directory_links.specs.Prelude.{GivesAt, links_from, is_attribut
 
 use crate::attribute::{AttributeRef, ValueRef};
 use crate::fault::LinkFault;
-use crate::links::{Attributes, Links, parse};
+use crate::parser::{Attributes, Links, parse};
 use std::alloc::{AllocError, Global};
 use std::marker::Model;
 

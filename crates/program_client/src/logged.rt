@@ -7,11 +7,11 @@ ghost use Rattle.program_client.specs.Ends as spec;
 
 use crate::{PROGRAM, print_end};
 use coap_client_engine::{Cause, ClientFault, RunEnd, explain, run_to_end};
+use coap_client_request::ClientPlan;
 use coap_conn::{Reason, RequestFault};
 use coap_io::{Clock, Outlet};
 use coap_log::{LineWriter, Log, LoggedWire, Stderr};
 use coap_print::Line;
-use coap_request::ClientPlan;
 use coap_sockets::ClientWire;
 use program_common::FAULT;
 use std::net::Net;

@@ -12,10 +12,10 @@ ghost use Rattle.coap_client_engine.specs.Prelude.{IsStatus};
 mod logged;
 
 use coap_client_engine::{ClientFault, RunEnd, explain, run_to_end};
+use coap_client_request::{ClientPlan, Target};
 use coap_command_line::{client_reason, client_words};
 use coap_io::WriteOutlet;
 use coap_print::{Line, LogLevel};
-use coap_request::{ClientPlan, Target};
 use coap_sockets::{ClientWire, ConnectError, ConnectFault};
 use coap_wire::LARGEST_MESSAGE;
 use logged::run_logged;

@@ -7,9 +7,9 @@ ghost use Rattle.std.specs.Prelude.{IsErr};
 ghost use Rattle.program_server_common.specs.Planned.{planned, starts_of};
 
 use crate::PROGRAM;
+use coap_command_line::ServerPlan;
 use coap_io::{Clock, Outlet};
 use coap_model::{Config, Starts};
-use coap_request::ServerPlan;
 use coap_serve::{Clocks, ServiceConfig, serve_door_with};
 use coap_server_engine::{IoFault, Monitor, NoApplication, NoMonitor};
 use coap_sockets::{RunClock, SocketDoor, SocketWire, SystemClock};

@@ -13,8 +13,7 @@ mod listening;
 mod script;
 mod standard;
 
-use coap_command_line::{server_reason, server_words};
-use coap_request::{Mode, ServerPlan};
+use coap_command_line::{Mode, ServerPlan, server_reason, server_words};
 use program_common::{Program, USAGE, occupy_standard_descriptors};
 use program_server_common::config_in;
 use std::net::{Net, SocketAddr};

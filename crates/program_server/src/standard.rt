@@ -3,9 +3,9 @@
 ghost use Rattle.std.specs.Prelude.{◌<◌, ◌+◌, ◌^◌};
 
 use crate::PROGRAM;
+use coap_command_line::ServerPlan;
 use coap_io::{Outlet, ReadSource, WriteOutlet};
 use coap_model::Config;
-use coap_request::ServerPlan;
 use coap_serve::{Report, serve_one_with};
 use coap_server_engine::{IoFault, Monitor, NoMonitor};
 use program_common::{ENDED, FAULT};

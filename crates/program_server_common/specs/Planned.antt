@@ -1,6 +1,6 @@
 -- Defined by this project: the configuration of the server for a plan of its command line.
 use Rattle.std.specs.Prelude.{ℕ, ◌*◌, ◌-◌, ◌^◌, min}
-use Rattle.coap_request.specs.declared.plan.ServerPlan.{ServerPlan}
+use Rattle.coap_command_line.specs.declared.server_plan.ServerPlan.{ServerPlan}
 use Rattle.coap_model.specs.Configs.{ConfigValues, config_of}
 use Rattle.coap_model.specs.declared.config.Starts.{Starts}
 use Rattle.coap_model.specs.views.ConfigViews.{start_values}

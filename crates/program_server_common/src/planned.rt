@@ -4,8 +4,8 @@ ghost use Rattle.std.specs.Prelude.{◌≡◌, true, is_some, IfSome, IfNone};
 ghost use Rattle.coap_model.specs.Configs.{config_refusal};
 ghost use Rattle.program_server_common.specs.Planned.{planned, starts_in};
 
+use coap_command_line::ServerPlan;
 use coap_model::{Config, Starts};
-use coap_request::ServerPlan;
 
 /// Maximum length of a representation, in bytes.
 const REP_MAX: usize = 65_000;

@@ -12,8 +12,8 @@ use crate::limits::limits_of;
 use crate::row_line::RowLine;
 use crate::row_words::{cut, number, numbers, read_hex};
 use coap_client_engine::{Client, Event};
+use coap_client_request::Target;
 use coap_conn::{RequestFault, first_part};
-use coap_request::Target;
 use coap_wire::{MessageRef, Token};
 use std::alloc::{AllocError, Global};
 

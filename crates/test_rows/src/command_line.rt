@@ -8,9 +8,9 @@ use crate::row_line::RowLine;
 use crate::row_words::{cut, put_for};
 use crate::target::tell_target;
 use arrayvec::ArrayVec;
-use coap_command_line::{WordsFault, client_words, server_words};
+use coap_client_request::ClientPlan;
+use coap_command_line::{Mode, ServerPlan, WordsFault, client_words, server_words};
 use coap_path::ApplicationEntry;
-use coap_request::{ClientPlan, Mode, ServerPlan};
 use std::alloc::Global;
 
 /// Maximum number of arguments.

@@ -5,7 +5,7 @@
 //! fields BYTES are the lengths of the first two.
 
 use crate::row_words::{cut, numbers, read_hex};
-use coap_request::{Extras, Method};
+use coap_client_request::{Extras, Method};
 
 /// Fields of a request, read from a row.
 #[derive(Drop)]

@@ -12,8 +12,8 @@ use crate::row_words::{cut, read_hex};
 use crate::wires::{Moments, Reads, Writes};
 use arrayvec::ArrayVec;
 use coap_client_engine::run_client;
+use coap_client_request::ClientPlan;
 use coap_command_line::client_words;
-use coap_request::ClientPlan;
 use devices::{Line, ScriptedOutlet};
 use std::alloc::Global;
 

@@ -1,7 +1,7 @@
 //! Rows for targets: `= target`. Each row is a URI.
 
 use crate::row_line::RowLine;
-use coap_request::Target;
+use coap_client_request::Target;
 use std::alloc::Global;
 
 /// Writes the number of parts, and each part.

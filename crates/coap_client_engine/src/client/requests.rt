@@ -5,8 +5,10 @@ ghost use Rattle.coap_client_engine.specs.ClientValues as value;
 
 use super::Client;
 use crate::run_end::Refusal;
+use coap_client_request::{
+    Extras, Method, Target, cancellation_message, formats_of, request_message,
+};
 use coap_conn::{NotOutstanding, RequestFault};
-use coap_request::{Extras, Method, Target, cancellation_message, formats_of, request_message};
 use coap_wire::{Token, uint_bytes};
 
 impl Client {

@@ -7,9 +7,9 @@ ghost use Rattle.coap_client_engine.specs.RunSteps as spec;
 
 use crate::run::state::{Run, StepResult, TIMED_OUT};
 use crate::run_end::{Awaited, Cause};
+use coap_client_request::ClientPlan;
 use coap_conn::Phase;
 use coap_io::Outlet;
-use coap_request::ClientPlan;
 
 impl Run {
     /// Checks the deadlines: cancels the observation if its seconds have passed, or ends the run if a response is

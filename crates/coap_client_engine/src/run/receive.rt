@@ -11,9 +11,9 @@ ghost use Rattle.coap_client_engine.specs.RunSteps as spec;
 use crate::run::report::{cause_of, handle_event, stopped};
 use crate::run::state::{EventOutcome, Run, StepResult};
 use crate::run_end::Cause;
+use coap_client_request::ClientPlan;
 use coap_conn::{Phase, Reason};
 use coap_io::{Got, Outlet, Wire};
-use coap_request::ClientPlan;
 
 impl Run {
     /// Reads once if no input is left to process. The run ends if the input has ended or the wire has failed.

@@ -13,9 +13,9 @@ use crate::error_lines::{
 };
 use crate::run::state::{ANSWERED, CONNECTION_FAILED, ERROR_RESPONSE, EventOutcome, StepResult};
 use crate::run_end::Cause;
+use coap_client_request::ClientPlan;
 use coap_conn::{Reason, RequestFault};
 use coap_io::{Outlet, WriteFailed};
-use coap_request::ClientPlan;
 use coap_wire::MessageRef;
 
 /// Reports an event, and returns its effect on the run.

@@ -10,9 +10,9 @@ ghost use Rattle.coap_client_engine.specs.RunSteps as spec;
 use crate::run::report::{refused, stopped};
 use crate::run::state::{Run, StepResult};
 use crate::run_end::Cause;
+use coap_client_request::ClientPlan;
 use coap_conn::{Phase, Reason, RequestFault, first_part};
 use coap_io::{Got, Outlet, Wire};
-use coap_request::ClientPlan;
 
 impl Run {
     /// Returns `true` if the request must be sent: the connection is open, and the request was not sent before.

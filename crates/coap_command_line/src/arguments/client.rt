@@ -5,15 +5,15 @@ ghost use Rattle.coap_command_line.specs.Prelude.{after_first, before_first, lis
 ghost use Rattle.coap_command_line.specs.Prelude.{named, number_within, option_value, GivesClientPlan, client_value};
 ghost use Rattle.coap_command_line.specs.Prelude.{TellsExtra, extra_value, GivesUnlessMemory, target_of};
 ghost use Rattle.coap_command_line.specs.ClientWords as spec;
-ghost use Rattle.coap_request.specs.declared.request.Method.TheVariants.{Get};
+ghost use Rattle.coap_client_request.specs.declared.request.Method.TheVariants.{Get};
 
 use crate::arguments::WordsFault;
 use crate::arguments::option_values::{
     BadValue, file_name, is_used, log, named_value, number, number_within, text_of,
 };
 use clap::ArgMatches;
+use coap_client_request::{ClientPlan, Method, Target, TargetFault};
 use coap_print::LogLevel;
-use coap_request::{ClientPlan, Method, Target, TargetFault};
 use coap_text::bytes_in;
 use percent_encoding::percent_decode;
 use std::alloc::{AllocError, Global};

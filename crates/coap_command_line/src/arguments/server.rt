@@ -8,10 +8,10 @@ ghost use Rattle.coap_command_line.specs.ServerWords as spec;
 use crate::arguments::WordsFault;
 use crate::arguments::applications::{EntryFault, applications};
 use crate::arguments::option_values::{BadValue, file_name, is_used, log, number, text_of};
+use crate::server_plan::{Mode, ServerPlan, StartCounts};
 use clap::ArgMatches;
 use coap_conn::Limits;
 use coap_print::LogLevel;
-use coap_request::{Mode, ServerPlan, StartCounts};
 use coap_text::{number_in, split_once};
 use coap_wire::{
     BASE_MESSAGE_SIZE, DEFAULT_QUEUE, LARGEST_MESSAGE, LARGEST_QUEUE, LARGEST_SENT_MESSAGE,

@@ -8,8 +8,8 @@ ghost use Rattle.coap_command_line.specs.Reasons as spec;
 
 use crate::arguments::option_values::{after, before};
 use crate::arguments::reasons::{append_given, around, line_of};
+use coap_client_request::TargetFault;
 use coap_print::Line;
-use coap_request::TargetFault;
 
 /// Returns the reason for a URI that is no target.
 #[tactic(auto, unfolding(crate::specs::Reasons::target_reason))]
