@@ -16,6 +16,7 @@ A crate differs from its run in each of these cases. Comments and line breaks do
 import contextlib
 import datetime
 import functools
+import glob
 import io
 import os
 import re
@@ -45,7 +46,7 @@ MARKS = re.compile(r"[,;](?=[)}\]])|(?<=\[)\|")
 IMPORT = re.compile(r"((?:pub|unfoldable|ghost)*use[^{};]*\.)\{([^{}]*)\};?")
 
 # The folder with the edits of each crate, in a file CRATE.edits, and the line before an edit.
-EDITS = "tests/mutants/edits"
+EDITS = "tests/mutants"
 HEADING = re.compile(r"^= (\w+)\n", re.M)
 
 
@@ -92,12 +93,18 @@ def split_edits(text):
     return [(name, body.strip("\n")) for name, body in zip(parts[1::2], parts[2::2])]
 
 
+def edits_in(file, text):
+    """Returns the texts of the edits in the file of a crate, by crate and name."""
+    crate = os.path.basename(file).removesuffix(".edits")
+    return {(crate, name): body for name, body in split_edits(text)}
+
+
 def edits_now():
     """Returns the texts of all edits, by crate and name."""
     found = {}
-    for file in sorted(os.listdir(f"{ROOT}/{EDITS}")):
-        with open(f"{ROOT}/{EDITS}/{file}", encoding="utf-8") as it:
-            found |= {(file.removesuffix(".edits"), name): text for name, text in split_edits(it.read())}
+    for file in glob.glob(f"{ROOT}/{EDITS}/*.edits"):
+        with open(file, encoding="utf-8") as it:
+            found |= edits_in(file, it.read())
     return found
 
 
@@ -111,14 +118,11 @@ def files_at(commit, folder):
 
 
 def edits_at(commit):
-    """Returns the same for a commit. (Until 2026-11-30 there was a file EDITS/CRATE/NAME.edit for each edit.)"""
+    """Returns the same for a commit. (Until 2026-11-30 the files were in a folder `edits` of EDITS.)"""
     found = {}
     for file, text in files_at(commit, EDITS):
-        crate, slash, name = file.removeprefix(f"{EDITS}/").removesuffix(".edit").rpartition("/")
-        if slash:
-            found[crate, name] = text.strip("\n")
-        else:
-            found |= {(name.removesuffix(".edits"), it): body for it, body in split_edits(text)}
+        if os.path.dirname(file) in (EDITS, f"{EDITS}/edits") and file.endswith(".edits"):
+            found |= edits_in(file, text)
     return found
 
 

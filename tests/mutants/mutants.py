@@ -14,7 +14,7 @@ These try no edit:
     tests/mutants/mutants.py --quotes [CRATE ..]  checks that each quotes a clause and applies, in a second
     tests/mutants/mutants.py --list [CRATE ..]    prints for each its function, the clause that rejects it, and its name
 
-The edits of a crate are in the file tests/mutants/edits/CRATE.edits, one after another. A line `= NAME` begins an edit.
+The edits of a crate are in the file tests/mutants/CRATE.edits, one after another. A line `= NAME` begins an edit.
 The next line has what detects it. Then each of its parts has four lines:
 
     clause: 'after' of Link::on  the clause that rejects it; or, if no clause can reject it,
@@ -232,8 +232,8 @@ def main(words):
     modes, names = {it for it in words if it.startswith("--")}, [it for it in words if not it.startswith("--")]
     if unknown := (modes - MODES) | (set(names) - below.keys()):
         raise SystemExit(f"no crate {min(unknown)}\n0 passed, 1 failed")
-    if strange := set(os.listdir(f"{ROOT}/{changes.EDITS}")) - {f"{it}.edits" for it in below}:
-        raise SystemExit(f"{changes.EDITS}/{min(strange)} is of no crate\n0 passed, 1 failed")
+    if strange := {it for it, _ in changes.edits_now()} - below.keys():
+        raise SystemExit(f"{changes.EDITS}/{min(strange)}.edits is of no crate\n0 passed, 1 failed")
     every = edits_of(f"{ROOT}/{changes.EDITS}", names or below)
     unquoted = tell_wrong_quotes(every)
     miscounted = 0 if names else tell_wrong_counts(every)

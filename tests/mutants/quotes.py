@@ -1,5 +1,5 @@
 """Reads the contracts of functions from the sources, and checks that a function has the clause that an edit of
-tests/mutants/edits quotes.
+tests/mutants quotes.
 
 The first line of an edit quotes in one of these forms. `..` in a quoted text matches any words:
 

@@ -16,7 +16,7 @@ The text of docs/GUARANTEES.md and docs/MODEL.md has these names:
 
 - `crate::function` or `crate::Type::function` (`clause`, `clause`), also as a list: crate: `function`, `Type::function`
   (`clause`);
-- `crate/mutant` ('clause' of `function`): an edit of tests/mutants/edits, and what its first line quotes. Each promise
+- `crate/mutant` ('clause' of `function`): an edit of tests/mutants, and what its first line quotes. Each promise
   of docs/GUARANTEES.md has one;
 - `name` or `Type::name`: each word occurs in the sources, the definitions, or the tests of the programs;
 - `tests/..` and other paths of files; [`name`](FILE), where the file of definitions defines the name.
@@ -149,7 +149,7 @@ def words_of_sources():
 @functools.cache
 def mutants(crate):
     """Returns what the first line of each edit of a crate quotes, by the name of the edit."""
-    return {it.name: it.detected_by for it in edit_files.edits_of(f"{TESTS}/mutants/edits", [crate])}
+    return {it.name: it.detected_by for it in edit_files.edits_of(f"{TESTS}/mutants", [crate])}
 
 
 def wrong_text(text):
