@@ -2,7 +2,7 @@
 use Rattle.std.specs.Prelude.{◌≡◌, ℕ, ◌+◌, Bool, true, false, List, ◌∷◌, ◌++◌, length, drop, Option, Some, None, Result}
 use Rattle.std.specs.Prelude.{Ok, Err, nat_lt, ◌==◌, if◌then◌else◌, ◌⊎◌}
 use Rattle.std.specs.Str.{IsUtf8}
-use Rattle.coap_client_request.specs.Requests.{ExtrasValue}
+use Rattle.coap_client_request.specs.Requests.{ExtrasValue, no_extras}
 use Rattle.coap_client_request.specs.Targets.{TargetValue, target_of}
 use Rattle.coap_client_request.specs.declared.request.Method.{Method}
 use Rattle.coap_client_request.specs.declared.request.Method.TheVariants as method
@@ -30,12 +30,11 @@ flags_named n =
 abbrev pub call_with : Request → List ℕ → Option Method → Option (Bool × Bool) → Option (Method × ExtrasValue)
 call_with r payload (Some m) (Some flags) = Some (
   m,
-  record {
+  record no_extras {
     observe = flags.0;
     plain = flags.1;
     content_format = format_named r.content_format;
     accept = format_named r.accept;
-    extra = None;
     payload = payload;
   },
 )

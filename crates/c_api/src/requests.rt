@@ -76,8 +76,8 @@ pub(crate) fn call_of<'a>(request: &Request, payload: &'a [u8]) -> Option<(Metho
         plain,
         content_format: format_of(request.content_format),
         accept: format_of(request.accept),
-        option: None,
         payload,
+        ..Extras::default()
     };
     Some((method, extras))
 }

@@ -21,6 +21,17 @@ pub record ExtrasValue : Type 0 where
   pub extra : Option CoapOption
   pub payload : List ℕ
 
+-- The extras of a request that has none.
+abbrev pub no_extras : ExtrasValue
+no_extras = record {
+  observe = false;
+  plain = false;
+  content_format = None;
+  accept = None;
+  extra = None;
+  payload = [];
+}
+
 -- The code of a method (RFC 7252 section 5.8).
 abbrev pub code_of_method : Method → ℕ
 code_of_method Get = codes.get

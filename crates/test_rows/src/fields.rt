@@ -45,6 +45,7 @@ pub(crate) fn read_fields<'a>(text: &str, bytes: &'a mut Vec<u8>) -> RequestFiel
             accept: u16::try_from(accept).ok(),
             option,
             payload,
+            ..Extras::default()
         },
     }
 }
