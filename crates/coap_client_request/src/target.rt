@@ -209,7 +209,7 @@ fn url_fault(fault: ParseError) -> TargetFault
 }
 
 /// Returns the target of a parsed URI.
-#[tactic(auto, using(crate::proofs::TargetLemmas::form_has_host), unfolding(crate::specs::Targets::target_in))]
+#[tactic(auto, unfolding(crate::specs::Targets::target_in, crate::specs::Targets::size_refusal))]
 fn target_in(alloc: Global, url: &Url) -> Result<Target, TargetFault>
     ensures { spec.GivesUnlessMemory result (spec.target_in url.now) }
 {
@@ -305,6 +305,7 @@ fn written_host(url: &Url) -> &str
 }
 
 /// Returns the host as used to connect and in Uri-Host.
+#[tactic(auto, using(crate::proofs::TargetLemmas::in_brackets), unfolding(crate::specs::Targets::host_named))]
 fn host_bytes(alloc: Global, url: &Url, host: &Host<&str>) -> Result<Vec<u8>, AllocError>
     requires some { has_host url.now ≡ true }
     requires same { borrowed_host host.now ≡ host_or_empty url.now }
