@@ -1,16 +1,14 @@
-use Rattle.std.proofs.Common.{◌∙◌, map, refl}
-use Rattle.coap_command_line.specs.Prelude.{found_of, rows_of}
-use Rattle.coap_command_line.proofs.ReasonLemmas.{client_found, client_rejected}
+use Rattle.std.proofs.Common.{◌∙◌}
+use Rattle.coap_command_line.specs.Reasons.{client_reason, client_reason_in}
+use Rattle.coap_command_line.proofs.ReasonLemmas.{reason_read, rejected}
 use Rattle.coap_command_line.proofs.arguments.client_reason.Goals as goal
 
 pub returns-in-Ok : goal.returns-in-Ok
+unfolding client_reason
 returns-in-Ok g c =
     c.client_line.ensures
-    ∙ client_found _ (map g.S.AsStr.text c.args.words.now) (rows_of (found_of c.in-Ok.matches)) c.args.fault.now refl
-    c.in-Ok.ensures.kinds c.in-Ok.ensures.rows
+    ∙ reason_read _ _ _ (λ rows. client_reason_in rows c.args.fault.now) c.in-Ok.ensures.kinds c.in-Ok.ensures.rows
 
 pub returns-in-Err-Usage : goal.returns-in-Err-Usage
-returns-in-Err-Usage g c =
-    client_rejected _ (map g.S.AsStr.text c.args.words.now) c.in-Err-Usage.field-0
-    c.in-Err-Usage.field-0-0 c.args.fault.now
-    refl c.in-Err-Usage.field-0-is c.in-Err-Usage.ensures.refusal
+unfolding client_reason
+returns-in-Err-Usage g c = rejected _ _ _ _ c.in-Err-Usage.field-0-is c.in-Err-Usage.ensures.refusal

@@ -1,13 +1,15 @@
-use Rattle.std.proofs.Common.{map, refl}
-use Rattle.coap_command_line.specs.Prelude.{found_of, rows_of}
-use Rattle.coap_command_line.proofs.PlanLemmas.{server_refused, server_gives}
+use Rattle.std.proofs.Common.{subst}
+use Rattle.coap_command_line.specs.PlanViews.{GivesServerPlan}
+use Rattle.coap_command_line.specs.ServerWords.{server_plan_in, server_plan_of}
+use Rattle.coap_command_line.proofs.PlanLemmas.{turned_down, accepted}
 use Rattle.coap_command_line.proofs.arguments.server_words.Goals as goal
 
 pub returns-in-Err-clause-plan : goal.returns-in-Err-clause-plan
-returns-in-Err-clause-plan g c =
-    server_refused _ (map g.S.AsStr.text c.args.words.now) c.in-Err.fault refl c.in-Err.ensures.refusal
+unfolding server_plan_of
+returns-in-Err-clause-plan g c = turned_down _ _ c.in-Err.fault c.in-Err.ensures.refusal
 
 pub returns-clause-plan : goal.returns-clause-plan
+unfolding server_plan_of
 returns-clause-plan g c =
-    server_gives _ (map g.S.AsStr.text c.args.words.now) (rows_of (found_of c.in-Ok.matches)) c.server_plan.result refl
-    c.in-Ok.ensures.kinds c.in-Ok.ensures.rows c.server_plan.ensures.plan
+    subst (λ a. GivesServerPlan a c.server_plan.result)
+    (accepted _ _ _ server_plan_in c.in-Ok.ensures.kinds c.in-Ok.ensures.rows) c.server_plan.ensures.plan

@@ -1,13 +1,14 @@
-use Rattle.std.proofs.Common.{map, refl}
-use Rattle.coap_command_line.specs.Prelude.{found_of, rows_of}
-use Rattle.coap_command_line.proofs.PlanLemmas.{explain_refused, explain_gives}
+use Rattle.std.proofs.Common.{subst}
+use Rattle.coap_command_line.specs.ExplainWords.{explain_plan_in, explain_plan_of, GivesExplainPlan}
+use Rattle.coap_command_line.proofs.PlanLemmas.{turned_down, accepted}
 use Rattle.coap_command_line.proofs.arguments.explain.explain_words.Goals as goal
 
 pub returns-in-Err : goal.returns-in-Err
-returns-in-Err g c =
-    explain_refused _ (map g.S.AsStr.text c.args.words.now) c.in-Err.fault refl c.in-Err.ensures.refusal
+unfolding explain_plan_of
+returns-in-Err g c = turned_down _ _ c.in-Err.fault c.in-Err.ensures.refusal
 
 pub returns : goal.returns
+unfolding explain_plan_of
 returns g c =
-    explain_gives _ (map g.S.AsStr.text c.args.words.now) (rows_of (found_of c.in-Ok.matches)) c.explain_plan.result
-    refl c.in-Ok.ensures.kinds c.in-Ok.ensures.rows c.explain_plan.ensures
+    subst (λ a. GivesExplainPlan a c.explain_plan.result)
+    (accepted _ _ _ explain_plan_in c.in-Ok.ensures.kinds c.in-Ok.ensures.rows) c.explain_plan.ensures
