@@ -1,7 +1,6 @@
 -- An explainer prints the lines of an explanation.
-use Rattle.std.proofs.Common.{◌≡◌, ℕ, ◌+◌, true, false, List, [], ◌++◌, ◌≤◌, length, length-append, length-take, take}
-use Rattle.std.proofs.Common.{drop, Option, Some, None, is_some, nat_eq, nat_lt, refl, sym, ap, ◌∙◌, arith, codes}
-use Rattle.std.proofs.Common.{if◌then◌else◌}
+use Rattle.std.proofs.Common.{◌≡◌, ℕ, [], take, ◌+◌, true, false, List, ◌++◌, ◌≤◌, length, length-append, length-take}
+use Rattle.std.proofs.Common.{Option, Some, None, is_some, nat_eq, refl, ap, arith, codes}
 use Rattle.std.specs.Prelude.{Vec}
 use Rattle.std.specs.declared.alloc.Global.{Global}
 use Rattle.std.proofs.lemmas.Bool.{le-ltb}
@@ -10,7 +9,6 @@ use Rattle.indexmap.specs.IndexMap.{IndexMap, get, WritesThrough}
 use Rattle.coap_conn.specs.Phases.{stop_of}
 use Rattle.coap_conn.specs.declared.reason.Reason.{Reason}
 use Rattle.coap_model.specs.declared.answers.WrittenFault.{WrittenFault}
-use Rattle.coap_model.specs.declared.answers.WrittenFault.TheVariants.{TooMany}
 use Rattle.coap_script.specs.declared.event.Event.{Event}
 use Rattle.coap_script.specs.declared.event.Event.TheVariants as events
 use Rattle.coap_script.specs.script.EventViews.{event_value}
@@ -20,11 +18,9 @@ use Rattle.coap_server_engine.specs.values.Flushes.{waiting_in}
 use Rattle.coap_server_engine.specs.values.InResults.{InResult}
 use Rattle.coap_server_engine.specs.values.Servers.{ServerValue, is_there, server_written, session_of}
 use Rattle.coap_server_session.specs.values.Sessions.{SessionValue}
-use Rattle.program_explain.specs.Explanations.{Explains, Explanation, Messages, messages_of, passes_bytes}
-use Rattle.program_explain.specs.Explanations.{with_messages}
-use Rattle.program_explain.specs.Explanations.{passing, rejected_line, stop_in, stop_line, received_by, queued_line}
-use Rattle.program_explain.specs.Explanations.{drained}
-use Rattle.program_explain.specs.Printed.{OutputLine, Prints, listed}
+use Rattle.program_explain.specs.Explanations.{Explains, messages_of, passes_bytes, with_messages, passing, stop_line}
+use Rattle.program_explain.specs.Explanations.{queued_line, drained, rejected_line, stop_in, received_by}
+use Rattle.program_explain.specs.Printed.{Prints, listed}
 use Rattle.program_explain.specs.declared.explainer.Explainer.{Explainer}
 use Rattle.program_explain.specs.declared.layout.Way.TheVariants as way
 use Rattle.program_explain.specs.declared.messages.Followed.{Followed}
@@ -56,14 +52,15 @@ module _ {O : Type 0} (written : O → Option (List ℕ)) (before after : Explai
       → messages_of after ≡ (passing (messages_of before) id way.Out first second (messages_of before id)).messages
       → (cut : ℕ) × Explains written before after (drained cut (messages_of before) id most o)
   sends one most None first second is same p last messages = absurd cc
-  sends one most (Some s) first second is same p last messages =
-      let front : take (length first) (drained_bytes most s.link.waiting) ≡ first =
-      ap (take (length first)) (sym same) ∙ take_at first second (length first) refl in
-      let back : drop (length first) (drained_bytes most s.link.waiting) ≡ second =
-      ap (drop (length first)) (sym same) ∙ drop_at first second (length first) refl in
-      let all : length (drained_bytes most s.link.waiting) ≡ length first + length second =
-      ap length (sym same) ∙ length-append first second in
-      (length first, rw (front, back, all) (record { prints = printed_then written p last; messages = messages }))
+  sends one most (Some s) first second is same p last messages = (
+    length first,
+    rw (
+      ← same,
+      take_at first second (length first) refl,
+      drop_at first second (length first) refl,
+      length-append first second,
+    ) (record { prints = printed_then written p last; messages = messages }),
+  )
 
 -- A connection that had stopped stops no more.
 pub stopped_before : (id : ℕ) (before after : Option Reason) → is_some before ≡ true → stop_line id before after ≡ None
@@ -95,16 +92,12 @@ never_too_many most None first second fault is same refused = absurd cc
 never_too_many most (Some s) first second fault is same refused =
     let fits : length first + length second ≤ length s.link.waiting =
     omega (arith, length-append first second, ap length same, at_most_waiting most s.link.waiting) in
-    let none : nat_lt (length s.link.waiting) (length first + length second) ≡ false = le-ltb _ _ fits in
-    none_refused _ _ fault none refused
+    let e : None ≡ Some fault = rw (le-ltb (length s.link.waiting) (length first + length second) fits) at refused in
+    absurd cc
   where
     at_most_waiting : (most : Option ℕ) (bytes : List ℕ) → length (drained_bytes most bytes) ≤ length bytes
     at_most_waiting None bytes = omega arith
     at_most_waiting (Some n) bytes = omega (arith, length-take n bytes)
-
-    none_refused : (size count : ℕ) (fault : WrittenFault) → nat_lt size count ≡ false
-        → (if nat_lt size count then Some TooMany else None) ≡ Some fault → ⊥
-    none_refused size count fault none refused = let e : None ≡ Some fault = rw none at refused in absurd cc
 
 -- The server after a `drain`.
 pub drained_server : (v : ServerValue) (id : ℕ) (most : Option ℕ) (o : Option SessionValue) (first second : List ℕ)
@@ -114,26 +107,12 @@ pub drained_server : (v : ServerValue) (id : ℕ) (most : Option ℕ) (o : Optio
     (λ (s : SessionValue). drain_ran v id (drained_bytes most s.link.waiting)) o).server
 drained_server v id most None first second is same = absurd cc
 drained_server v id most (Some s) first second is same =
-    ap (server_written v id) (sym (length-append first second) ∙ ap length same)
+    rw (← same, length-append first second)
 
 -- An event that is no `in` and no `drain`.
 pub passes_none : (e : Event) → ((id : ℕ) (bytes : Vec ℕ Global) → e ≡ events.In id bytes → ⊥)
     → ((id : ℕ) (most : Option ℕ) → e ≡ events.Drain id most → ⊥)
     → passes_bytes (event_value e) ≡ false
-passes_none events.Open not_in not_drain = refl
 passes_none (events.In id bytes) not_in not_drain = absurd (not_in id bytes refl)
 passes_none (events.Drain id most) not_in not_drain = absurd (not_drain id most refl)
-passes_none (events.Tick now) not_in not_drain = refl
-passes_none (events.Put path format bytes) not_in not_drain = refl
-passes_none (events.Remove path text) not_in not_drain = refl
-passes_none (events.End id) not_in not_drain = refl
-passes_none (events.Release id) not_in not_drain = refl
-passes_none (events.Respond id bytes) not_in not_drain = refl
-passes_none (events.Drop id) not_in not_drain = refl
-passes_none (events.Status id) not_in not_drain = refl
-
--- An explanation with these lines and these messages.
-pub same_explanation : (e : Explanation) (lines : List OutputLine) (messages : Messages)
-    → lines ≡ e.lines → messages ≡ e.messages
-    → e ≡ record { lines = lines; messages = messages }
-same_explanation e lines messages is are = rw (is, are) refl
+passes_none other not_in not_drain = refl

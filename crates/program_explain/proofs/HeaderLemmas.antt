@@ -1,5 +1,5 @@
 -- The words of a header's options.
-use Rattle.std.proofs.Common.{◌≡◌, ℕ, List, [], ◌∷◌, ◌++◌, ap, ◌∙◌, subst}
+use Rattle.std.proofs.Common.{◌≡◌, ℕ, List, [], ◌∷◌, ◌++◌}
 use Rattle.std.specs.Str.{IsUtf8}
 use Rattle.program_explain.specs.Header.{AreUtf8}
 
@@ -11,5 +11,4 @@ word_after (first ∷ before) after word all = word_after before after word all.
 -- A word that is not UTF-8 comes next.
 pub not_utf8 : (words before parts rest : List (List ℕ)) (word : List ℕ) → words ≡ before ++ parts → parts ≡ word ∷ rest
     → (IsUtf8 word → ⊥) → AreUtf8 words → ⊥
-not_utf8 words before parts rest word is next not all =
-    not (word_after before rest word (subst AreUtf8 (is ∙ ap (λ t. before ++ t) next) all))
+not_utf8 words before parts rest word is next not all = not (word_after before rest word (rw (is, next) at all))

@@ -3,7 +3,6 @@ pub mod PrintedLemmas
 pub mod MessageLemmas
 pub mod ExplainLemmas
 pub mod HeaderLemmas
-pub mod LayoutLemmas
 pub mod RecordLemmas
 pub mod OptionWalk
 pub mod StatedLemmas

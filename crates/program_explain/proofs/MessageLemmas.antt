@@ -1,10 +1,10 @@
 -- Bytes are passed to a tap, call by call, and the lines of whole messages are printed.
 use Rattle.std.proofs.Common.{◌≡◌, ℕ, zero, suc, ◌-◌, ◌≤◌, ◌<◌, List, [], ◌∷◌, ◌++◌, length, take, drop, Option, sym}
-use Rattle.std.proofs.Common.{ap, subst, ◌∙◌, arith, refl, length-drop, append_assoc, append-nil}
+use Rattle.std.proofs.Common.{◌∙◌, arith, refl, length-drop, append_assoc, append-nil}
 use Rattle.std.proofs.lemmas.Bool.{eq-eqb, ne_eqb}
 use Rattle.coap_io.proofs.streams.WriteLemmas.{rest_of}
 use Rattle.coap_log.specs.Taps.{TapValue, taken, tap_after}
-use Rattle.program_explain.specs.Messages.{Passed, passed, lines_before, whole_line}
+use Rattle.program_explain.specs.Messages.{passed, lines_before, whole_line}
 use Rattle.program_explain.specs.Printed.{OutputLine, PrintsTo, listed}
 use Rattle.program_explain.specs.declared.layout.Way.{Way}
 use Rattle.program_explain.proofs.PrintedLemmas.{prints_nothing, prints_then}
@@ -36,19 +36,17 @@ module _ (id : ℕ) (way : Way) (only pending : Option ℕ) where
         same = refl;
       }
 
-  nothing : (calls : ℕ) (left : List ℕ) (tap : TapValue) → left ≡ []
-      → passed calls id way tap left ≡ record { tap = tap; lines = [] }
+  nothing : (calls : ℕ) (tap : TapValue) → passed calls id way tap [] ≡ record { tap = tap; lines = [] }
   unfolding passed
-  nothing zero left tap none = refl
-  nothing (suc calls) [] tap none = refl
-  nothing (suc calls) (b ∷ left) tap none = absurd cc
+  nothing zero tap = refl
+  nothing (suc calls) tap = refl
 
   stuck : (calls : ℕ) (left : List ℕ) (tap : TapValue) → length left ≤ calls → 0 < length left → taken tap left ≡ 0
       → passed calls id way tap left ≡ record { tap = tap_after tap left; lines = [] }
   unfolding passed
-  stuck zero left tap fits some none = absurd (omega arith)
-  stuck (suc calls) [] tap fits some none = absurd (omega arith)
-  stuck (suc calls) (b ∷ left) tap fits some none = rw (eq-eqb (taken tap (b ∷ left)) 0 none) refl
+  stuck calls [] tap fits some none = absurd (omega arith)
+  stuck zero (b ∷ left) tap fits some none = absurd (omega arith)
+  stuck (suc calls) (b ∷ left) tap fits some none = rw (eq-eqb (taken tap (b ∷ left)) 0 none)
 
   one : (calls : ℕ) (left : List ℕ) (tap : TapValue) → 0 < length left → (taken tap left ≡ 0 → ⊥)
       → passed (suc calls) id way tap left
@@ -56,34 +54,23 @@ module _ (id : ℕ) (way : Way) (only pending : Option ℕ) where
       (passed calls id way (tap_after tap left) (drop (taken tap left) left))
   unfolding passed
   one calls [] tap some more = absurd (omega arith)
-  one calls (b ∷ left) tap some more = rw (ne_eqb (taken tap (b ∷ left)) 0 more) refl
-
-  lines_of_both : (first second : List OutputLine) (others : Passed)
-      → lines_before first (lines_before second others) ≡ lines_before (first ++ second) others
-  lines_of_both first second others =
-      ap (λ (l : List OutputLine). record { tap = others.tap; lines = l })
-      (sym (append_assoc first second others.lines))
+  one calls (b ∷ left) tap some more = rw (ne_eqb (taken tap (b ∷ left)) 0 more)
 
   module _ (all : List ℕ) (first : TapValue) (x : Option (List ℕ)) where
     ends_so : (y : Option (List ℕ)) (later : Option ℕ) (left : List ℕ) (tap now : TapValue)
         (so : Passes all first x y later left tap)
         → passed so.calls id way tap left ≡ record { tap = now; lines = [] } → IsPassed all first x y later now
-    ends_so y later left tap now so is =
-        let whole = so.same ∙ ap (lines_before so.lines) is in (
-          sym (ap (λ (p : Passed). p.tap) whole),
-          subst (λ (l : List OutputLine). PrintsTo only pending l x y later)
-              (sym (ap (λ (p : Passed). p.lines) whole ∙ append-nil so.lines)) so.prints,
-        )
+    ends_so y later left tap now so is = rw (so.same, is, append-nil) (refl, so.prints)
 
     pub ends : (y : Option (List ℕ)) (later : Option ℕ) (left : List ℕ) (tap : TapValue)
         → Passes all first x y later left tap → left ≡ [] → IsPassed all first x y later tap
-    ends y later left tap so none = ends_so y later left tap tap so (nothing so.calls left tap none)
+    ends y later left tap so none = ends_so y later left tap tap so (rw none (nothing so.calls tap))
 
     pub ends_stuck : (y : Option (List ℕ)) (later : Option ℕ) (left : List ℕ) (tap now : TapValue) (count : ℕ)
         → Passes all first x y later left tap → 0 < length left
         → now ≡ tap_after tap left → count ≡ taken tap left → count ≡ 0 → IsPassed all first x y later now
     ends_stuck y later left tap now count so some is counts none =
-        subst (IsPassed all first x y later) (sym is)
+        rw is
         (ends_so y later left tap (tap_after tap left) so (stuck so.calls left tap so.enough some (sym counts ∙ none)))
 
     goes_at : (y z : Option (List ℕ)) (later last : Option ℕ) (left : List ℕ) (tap : TapValue)
@@ -97,11 +84,7 @@ module _ (id : ℕ) (way : Way) (only pending : Option ℕ) where
       enough = omega (arith, so.enough, is, within, more, length-drop (taken tap left) left);
       lines = so.lines ++ listed (whole_line id way (tap_after tap left));
       prints = prints_then only so.prints wrote;
-      same =
-          so.same ∙ ap (λ n. lines_before so.lines (passed n id way tap left)) is
-          ∙ ap (lines_before so.lines) (one calls left tap some more)
-          ∙ lines_of_both so.lines (listed (whole_line id way (tap_after tap left)))
-          (passed calls id way (tap_after tap left) (drop (taken tap left) left));
+      same = rw (so.same, is, one calls left tap some more, append_assoc so.lines);
     }
 
     pub goes : (y z : Option (List ℕ)) (later last : Option ℕ) (left : List ℕ) (tap now : TapValue) (count : ℕ)
@@ -110,9 +93,6 @@ module _ (id : ℕ) (way : Way) (only pending : Option ℕ) where
         → PrintsTo only later (listed (whole_line id way now)) y z last
         → Passes all first x z last (take (length left - count) (drop count left)) now
     goes y z later last left tap now count so some is counts more within wrote =
-        subst (λ (t : TapValue). Passes all first x z last (take (length left - count) (drop count left)) t) (sym is)
-        (subst (λ (l : List ℕ). Passes all first x z last l (tap_after tap left))
-        (ap (λ (n : ℕ). drop n left) (sym counts) ∙ sym (rest_of count left))
-        (goes_at y z later last left tap so so.calls refl some (λ none. more (counts ∙ none))
-        (omega (arith, counts, within))
-        (subst (λ (t : TapValue). PrintsTo only later (listed (whole_line id way t)) y z last) is wrote)))
+        rw (is, rest_of, counts)
+        (goes_at y z later last left tap so so.calls refl some (λ none. more (counts ∙ none)) (omega arith)
+        (rw is at wrote))

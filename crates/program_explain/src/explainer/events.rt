@@ -31,6 +31,7 @@ use std::alloc::{AllocError, Global};
 /// # Errors
 ///
 /// Returns `AllocError` if allocation fails.
+#[tactic(auto, unfolding(crate::specs::Explanations::explained))]
 pub(super) fn run_event(
     alloc: Global,
     server: &mut Server,

@@ -1,5 +1,3 @@
-use Rattle.std.proofs.Common.{◌≡◌, ◌++◌, ◌∷◌, [], sym, subst, true}
-use Rattle.coap_print.specs.Texts.{is_text}
 use Rattle.coap_record.proofs.WriteLemmas.{text_of_all}
 use Rattle.program_explain.proofs.ShownLemmas.{line_shown}
 use Rattle.program_explain.proofs.printer.Printer.print.Goals as goal
@@ -7,6 +5,5 @@ use Rattle.program_explain.proofs.printer.Printer.print.Goals as goal
 pub returns-clause-shown : goal.returns-clause-shown
 returns-clause-shown g c =
     line_shown _ _ c.as_bytes.result.now c.write_parts.result
-    (subst (λ l. is_text l ≡ true) (sym c.as_bytes.ensures.bytes) c.as_bytes.ensures.line.printable)
-    (text_of_all _ _ (c.as_bytes.result.now ++ 10 ∷ []) c.write_parts.result c.write_parts.ensures.ok
-    c.write_parts.ensures.part)
+    (rw c.as_bytes.ensures.bytes c.as_bytes.ensures.line.printable)
+    (text_of_all _ _ _ c.write_parts.result c.write_parts.ensures.ok c.write_parts.ensures.part)

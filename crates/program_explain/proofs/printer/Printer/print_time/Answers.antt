@@ -1,6 +1,6 @@
 use Rattle.std.proofs.Common.{refl, None}
 use Rattle.program_explain.specs.Printed.{Time}
-use Rattle.program_explain.proofs.PrintedLemmas.{one_printed, prints_nothing, adds_of, so_on}
+use Rattle.program_explain.proofs.PrintedLemmas.{one_printed, prints_nothing, if_written}
 use Rattle.program_explain.proofs.printer.Printer.print_time.Goals as goal
 
 pub returns-in_default-clause-prints : goal.returns-in_default-clause-prints
@@ -9,6 +9,5 @@ returns-in_default-clause-prints g c = rw c.in_default.is (prints_nothing None N
 pub returns-clause-prints : goal.returns-clause-prints
 returns-clause-prints g c =
     rw c.in-Some.is
-    (so_on c.print.result
-    (one_printed None None None (Time c.in-Some.seconds) c.time_line.result _ _ refl refl c.time_line.ensures)
-    (adds_of _ _ _ c.print.result c.print.ensures.text))
+    (if_written _ _ _ c.print.result c.print.ensures.text
+    (one_printed None None None (Time c.in-Some.seconds) _ _ _ refl refl c.time_line.ensures))

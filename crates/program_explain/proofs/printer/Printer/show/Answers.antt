@@ -1,17 +1,16 @@
 use Rattle.std.proofs.Common.{refl, ap, not, ◌∙◌, arith}
 use Rattle.program_explain.specs.Printed.{Text}
-use Rattle.program_explain.proofs.PrintedLemmas.{one_printed, prints_no_other, prints_after, adds_of, so_on}
+use Rattle.program_explain.proofs.PrintedLemmas.{one_printed, prints_no_other, prints_after, if_written}
 use Rattle.program_explain.proofs.printer.Printer.show.Goals as goal
 
 pub returns-then-is_none-clause-prints : goal.returns-then-is_none-clause-prints
 returns-then-is_none-clause-prints g c =
-    so_on c.print.result
+    if_written _ _ _ c.print.result c.print.ensures.text
     (λ adds. (
-      one_printed _ _ _ (Text c.args.id c.args.line.now) c.args.line.now _ _
-          (c.is_none.ensures ∙ ap not c.if-is_none.true) c.print.ensures.time refl adds,
+      one_printed _ _ _ (Text c.args.id c.args.line.now) _ _ _ (c.is_none.ensures ∙ ap not c.if-is_none.true)
+          c.print.ensures.time refl adds,
       c.print.ensures.only,
     ))
-    (adds_of _ _ _ c.print.result c.print.ensures.text)
 
 pub returns-then-ne-clause-prints : goal.returns-then-ne-clause-prints
 returns-then-ne-clause-prints g c = (
@@ -22,11 +21,10 @@ returns-then-ne-clause-prints g c = (
 
 pub returns-clause-prints : goal.returns-clause-prints
 returns-clause-prints g c =
-    so_on c.print-2.result
+    if_written _ _ _ c.print-2.result c.print-2.ensures.text
     (λ adds. (
       prints_after _ _ _ _ _ _ _ _ (c.is_none.ensures ∙ ap not c.if-is_none.false)
           (grind (arith, c.ne.ensures, c.if-ne.false))
           (c.print-2.ensures.time ∙ c.in_ok-print_time.ensures.none) c.in_ok-print_time.ensures.prints adds,
       c.print-2.ensures.only ∙ c.in_ok-print_time.ensures.only,
     ))
-    (adds_of _ _ _ c.print-2.result c.print-2.ensures.text)
