@@ -1,13 +1,13 @@
 -- The numbers of tokens, and the frames of events.
-use Rattle.std.proofs.Common.{◌≡◌, ℕ, ◌+◌, ◌-◌, ◌*◌, ◌≤◌, Bool, true, false, List, [], ◌∷◌, ◌++◌, length, Option, Some}
-use Rattle.std.proofs.Common.{None, Result, Ok, ◌∙◌, arith}
+use Rattle.std.proofs.Common.{◌≡◌, ℕ, ◌+◌, ◌-◌, ◌*◌, ◌≤◌, List, [], ◌∷◌, ◌++◌, length, Some}
+use Rattle.std.proofs.Common.{Result, Ok, ◌∙◌, arith}
 use Rattle.std.specs.Prelude.{fold}
 use Rattle.std.proofs.lemmas.Bool.Decides.{nat_tests}
 use Rattle.std.proofs.lemmas.List.Sums.{fold-append}
 use Rattle.coap_client_engine.specs.Prelude.{Message, FormatFault, received_event}
 use Rattle.coap_client_engine.specs.declared.client.Received.{Received}
 use Rattle.coap_wire.specs.Uint.{uint_of}
-use Rattle.coap_client_engine.specs.ClientValues.{ClientEventValue, response_event, Response, Notification}
+use Rattle.coap_client_engine.specs.ClientValues.{Response, Notification}
 use Rattle.c_api.specs.ClientEvents.{token_number}
 
 -- ---- tokens
@@ -27,21 +27,6 @@ pub token_short : (bytes : List ℕ) → length bytes ≤ 8 → token_number byt
 token_short bytes short = grind (arith, nat_tests)
 
 -- ---- the frames of responses
-
-event_of_response : (n m : Message) (token : List ℕ) (last : Bool) (critical : Option ℕ)
-    → response_event n token last critical ≡ Response m → n ≡ m
-event_of_response n m token last (Some number) is = absurd cc
-event_of_response n m token true None is = cc
-event_of_response n m token false None is = absurd cc
-
-event_of_notification : (n m : Message) (token : List ℕ) (last : Bool) (critical : Option ℕ)
-    → response_event n token last critical ≡ Notification m → n ≡ m
-event_of_notification n m token last (Some number) is = absurd cc
-event_of_notification n m token true None is = absurd cc
-event_of_notification n m token false None is = cc
-
-some_event : (e f : ClientEventValue) → Some e ≡ Some f → e ≡ f
-some_event e f is = cc
 
 -- The frame of a response has its message.
 pub received_response : (h : Received) (read : Result Message FormatFault) (m : Message)

@@ -6,3 +6,4 @@ pub mod ListedLemmas
 pub mod MessageLemmas
 pub mod WritingLemmas
 pub mod EventLemmas
+pub mod HandleTypes

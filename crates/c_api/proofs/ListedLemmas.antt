@@ -31,6 +31,10 @@ unfolding listed_segments listed_by
 first_listed n rest =
     rw (enough (length rest) (length (drop n rest)) (drop n rest) (omega (arith, length-drop n rest)) (omega arith))
 
+first_fits : (n : ℕ) (rest : List ℕ) → n ≤ length rest
+    → listed_segments (n ∷ rest) ≡ option_map (λ ss. take n rest ∷ ss) (listed_segments (drop n rest))
+first_fits n rest within = first_listed n rest ∙ grind (arith, nat_tests)
+
 -- A whole segment comes after those so far.
 one_more : (front : Path) (segment : List ℕ) (others : Option Path)
     → after_front (front ++ segment ∷ []) others ≡ after_front front (option_map (λ ss. segment ∷ ss) others)
@@ -41,9 +45,7 @@ one_more_step : (front : Path) (n : ℕ) (rest list : List ℕ) → n ≤ length
     → after_front front (listed_segments (n ∷ rest)) ≡ listed_segments list
     → after_front (front ++ take n rest ∷ []) (listed_segments (drop n rest)) ≡ listed_segments list
 one_more_step front n rest list within so_far =
-    let first : after_first n rest (listed_segments (drop n rest))
-    ≡ option_map (λ ss. take n rest ∷ ss) (listed_segments (drop n rest)) = grind (arith, nat_tests) in
-    one_more front (take n rest) (listed_segments (drop n rest)) ∙ rw (first_listed n rest, first) at so_far
+    one_more front (take n rest) (listed_segments (drop n rest)) ∙ rw (first_fits n rest within) at so_far
 
 segments_append : (so_far : List (Bor (List ℕ))) (segment : Bor (List ℕ))
     → segment_list (so_far ++ segment ∷ []) ≡ segment_list so_far ++ segment.now ∷ []
@@ -86,7 +88,5 @@ pub too_many_listed : (so_far : List (Bor (List ℕ))) (n size : ℕ) (rest left
     → n ≡ size → n ≤ length rest → length so_far ≡ 16
     → after_front (segment_list so_far) (listed_segments left) ≡ listed_segments list → None ≡ listed_path list
 too_many_listed so_far n size rest left list splits is within full before =
-    let first : after_first n rest (listed_segments (drop n rest))
-    ≡ option_map (λ ss. take n rest ∷ ss) (listed_segments (drop n rest)) = grind (arith, nat_tests) in
-    rw (← before, splits, ← is, first_listed n rest, first) (more_than (segment_list so_far) (take n rest)
+    rw (← before, splits, ← is, first_fits n rest within) (more_than (segment_list so_far) (take n rest)
     (listed_segments (drop n rest)) (length-map so_far (λ s. s.now) ∙ full))

@@ -95,3 +95,5 @@ pub changing_lies : (v : ServerValue) (id : ℕ) (piece : List ℕ) (n : ℕ) (f
     → n ≡ count_taken v id piece → frame ≡ changing_frame v id piece → IsInPiece piece n frame
 unfolding count_taken changing_frame
 changing_lies v id piece n frame count is = rw (count, is) (changing_in v piece (session_of id v.sessions))
+
+pub ruleset frames_lie = (handed_lies, changing_lies)

@@ -1,5 +1,5 @@
 -- The segments of a path as text.
-use Rattle.std.proofs.Common.{◌≡◌, ℕ, suc, ◌+◌, ◌-◌, ◌/◌, ◌%◌, ◌<◌, ◌≤◌, Bool, true, false, List, [], ◌∷◌, ◌++◌, length}
+use Rattle.std.proofs.Common.{◌≡◌, ℕ, suc, ◌+◌, ◌-◌, ◌/◌, ◌%◌, ◌<◌, ◌≤◌, List, [], ◌∷◌, ◌++◌, length}
 use Rattle.std.proofs.Common.{drop, Some, None, refl, sym, ap, ◌∙◌, arith}
 use Rattle.std.specs.Prelude.{◌≢◌, ◌==◌, if◌then◌else◌}
 use Rattle.std.specs.List.{join_with_byte}
@@ -32,12 +32,7 @@ segments_joined [] = refl
 segments_joined (b ∷ bs) = join_with_byte-slice_split 47 (b ∷ bs)
 
 named : (text : List ℕ) (path : Path) → text_path text ≡ Some path → text_segments text ≡ path
-named text path =
-    elim (is_path (text_segments text))
-    as (λ b. (if b then Some (text_segments text) else None) ≡ Some path → text_segments text ≡ path) [
-      | true ↦ λ e. cc
-      | false ↦ λ e. absurd cc
-    ]
+named text path is = grind arith
 
 -- If the segments with slashes between them do not name a path, no text does.
 pub no_text : (path : Path) → text_path (drop 1 (slashed path)) ≢ Some path → HasNoText path
@@ -47,16 +42,15 @@ no_text path none text is =
     none (ap text_path (sym same) ∙ is)
 
 -- The codes whose bits are left, one by one.
-one : (count n bits : ℕ) (set : Bool) → (bits % 2 == 1) ≡ set
+one : (count n bits : ℕ)
     → set_bits (suc count) bits n ≡ (if bits % 2 == 1 then n ∷ [] else []) ++ set_bits count (bits / 2) (n + 1)
-one count n bits true is = rw is refl
-one count n bits false is = rw is refl
+one count n bits = grind arith
 
 pub bits_more : (n bits : ℕ) → n < 32
     → set_bits (32 - n) bits n ≡ (if bits % 2 == 1 then n ∷ [] else []) ++ set_bits (32 - (n + 1)) (bits / 2) (n + 1)
 bits_more n bits within =
     let more : 32 - n ≡ suc (32 - (n + 1)) = omega (arith, within) in
-    ap (λ (k : ℕ). set_bits k bits n) more ∙ one (32 - (n + 1)) n bits (bits % 2 == 1) refl
+    ap (λ (k : ℕ). set_bits k bits n) more ∙ one (32 - (n + 1)) n bits
 
 pub bits_none : (n bits : ℕ) → 32 ≤ n → set_bits (32 - n) bits n ≡ []
 bits_none n bits past = let none : 32 - n ≡ 0 = omega (arith, past) in ap (λ (k : ℕ). set_bits k bits n) none

@@ -25,6 +25,8 @@ keeps_empty h h' none = rw none (keeps_none h)
 pub keeps_back : (h h' : Option PolledServer) (v : PolledServer) → h ≡ Some v → h' ≡ Some v → KeepsReported h h'
 keeps_back h h' v is put = keeps_handle h h' (put ∙ sym is)
 
+pub ruleset keeps = (keeps_empty, keeps_back)
+
 -- The handle has a new server.
 pub keeps_made : (h h' : Option PolledServer) (v : PolledServer) (config : ConfigValues) → h' ≡ Some v
     → v.engine ≡ new_server config → KeepsReported h h'

@@ -1,7 +1,7 @@
 -- The bytes of a buffer after parts are copied into it one after the other, and the numbers of refused calls.
 use Rattle.std.proofs.Common.{◌≡◌, ℕ, ◌+◌, ◌≤◌, ◌<◌, List, [], ◌∷◌, ◌++◌, length, take, drop, true, Result, Ok, Err}
 use Rattle.std.proofs.Common.{Option, Some, None, refl, sym, ap, ◌∙◌, append_assoc, arith}
-use Rattle.std.specs.Prelude.{is_some}
+use Rattle.std.specs.Prelude.{is_some, nat_lt, if◌then◌else◌}
 use Rattle.std.proofs.lemmas.Bool.Decides.{nat_tests}
 use Rattle.std.proofs.lemmas.List.{append-nil, length-append, length-take-le, take-append-drop, drop-drop, take_at}
 use Rattle.std.proofs.lemmas.List.{drop_at}
@@ -105,20 +105,12 @@ length-spelling : (m : Message)
 unfolding spelling
 length-spelling m = length-append (head_spelling m.code m.token (length (body_spelling m))) (body_spelling m)
 
-write_large : (m : Message) (coded : Option (List CoapOption)) (room : ℕ) → m.code < 256
-    → length m.token ≤ greatest_token → is_some coded ≡ true
-    → LARGEST_MESSAGE < length (body_spelling m) → write_refusal m coded room ≡ Some 135
-write_large m coded room code token is large = grind (arith, nat_tests)
-
-write_full : (m : Message) (coded : Option (List CoapOption)) (room : ℕ) → m.code < 256
-    → length m.token ≤ greatest_token → is_some coded ≡ true
-    → length (body_spelling m) ≤ LARGEST_MESSAGE → room < length (spelling m) → write_refusal m coded room ≡ Some 7
-write_full m coded room code token is large full = grind (arith, nat_tests)
-
-write_none : (m : Message) (coded : Option (List CoapOption)) (room : ℕ) → m.code < 256
-    → length m.token ≤ greatest_token → is_some coded ≡ true
-    → length (body_spelling m) ≤ LARGEST_MESSAGE → length (spelling m) ≤ room → write_refusal m coded room ≡ None
-write_none m coded room code token is large space = grind (arith, nat_tests)
+-- The refusals of a message whose code, token and options are in range.
+size_refusal : (m : Message) (coded : Option (List CoapOption)) (room : ℕ) → m.code < 256
+    → length m.token ≤ greatest_token → is_some coded ≡ true → write_refusal m coded room
+    ≡ (if nat_lt LARGEST_MESSAGE (length (body_spelling m)) then Some 135
+    else (if nat_lt room (length (spelling m)) then Some 7 else None))
+size_refusal m coded room code token is = grind (arith, nat_tests)
 
 -- A message with encoded options, whose code and token are in range. Its body has `body` bytes.
 module _ (code : ℕ) (token options payload : List ℕ) (body : ℕ) (fits : AreBytes options)
@@ -136,15 +128,19 @@ module _ (code : ℕ) (token options payload : List ℕ) (body : ℕ) (fits : Ar
   size : length (spelling message) ≡ length (head_spelling code token body) + body
   size = rw (length-spelling message, ← count)
 
+  refusal : (room : ℕ) → write_refusal message (coded_options options) room
+      ≡ (if nat_lt LARGEST_MESSAGE body then Some 135
+      else (if nat_lt room (length (head_spelling code token body) + body) then Some 7 else None))
+  refusal room =
+      rw (size, ← count) at (size_refusal message (coded_options options) room code_fits short some)
+
   pub refused_large : (room : ℕ) → LARGEST_MESSAGE < body
       → write_refusal message (coded_options options) room ≡ Some 135
-  refused_large room large =
-      write_large message (coded_options options) room code_fits short some (omega (arith, count))
+  refused_large room large = refusal room ∙ grind (arith, nat_tests)
 
   pub refused_full : (room : ℕ) → body ≤ LARGEST_MESSAGE → room < length (head_spelling code token body) + body
       → write_refusal message (coded_options options) room ≡ Some 7
-  refused_full room small full =
-      write_full message (coded_options options) room code_fits short some (omega (arith, count)) (omega (arith, size))
+  refused_full room small full = refusal room ∙ grind (arith, nat_tests)
 
   pub written : (whole head marker buffer : List ℕ) (at old : ℕ) → body ≤ LARGEST_MESSAGE
       → length (head_spelling code token body) + body ≤ length whole → head ≡ head_spelling code token body
@@ -152,5 +148,6 @@ module _ (code : ℕ) (token options payload : List ℕ) (body : ℕ) (fits : Ar
       → IsWritten (write_refusal message (coded_options options) (length whole)) message whole buffer old at 0
   written whole head marker buffer at old small space head_is marker_is h =
       let same = whole_spelled message head options marker (rw (← count) head_is) spelled marker_is in
-      rw (write_none message (coded_options options) (length whole) code_fits short some (omega (arith, count))
-      (omega (arith, size))) (refl, (h.end ∙ ap length same, rw same at h.is))
+      let none : write_refusal message (coded_options options) (length whole) ≡ None =
+      refusal (length whole) ∙ grind (arith, nat_tests) in
+      rw none (refl, (h.end ∙ ap length same, rw same at h.is))

@@ -83,7 +83,7 @@ pub extern "C" fn dachreup_applications_free(alloc: Global, handle: &mut Applica
 /// Makes a server whose application answers the requests of the entries, if its handle is empty. Takes the entries out
 /// of their handle.
 #[unsafe(no_mangle)]
-#[tactic(auto, using(crate::proofs::ServerLemmas::keeps_empty, crate::proofs::ServerLemmas::keeps_back))]
+#[tactic(auto, using(crate::proofs::ServerLemmas::keeps))]
 pub extern "C" fn dachreup_server_new_for(
     alloc: Global,
     handle: &mut ServerHandle,

@@ -75,6 +75,7 @@ fn message_event(bytes: usize, kind: u32, message: &MessageRef, frame: &[u8]) ->
 }
 
 /// Returns the event of a `take`.
+#[tactic(auto, using(crate::proofs::EventLemmas::received_response, crate::proofs::EventLemmas::received_notification))]
 pub(crate) fn event_of(taken: &Taken) -> ClientEvent
     ensures bytes { result.bytes ≡ taken.now.bytes }
     ensures event { spec.ShowsEvent (taken_event taken.now) result }
@@ -104,6 +105,7 @@ pub(crate) fn event_of(taken: &Taken) -> ClientEvent
 }
 
 /// Returns the number that the bytes of a token encode in network order, or 0 if there are more than 8.
+#[tactic(auto, using(crate::proofs::EventLemmas::uint_in_two, crate::proofs::EventLemmas::token_short))]
 pub(crate) fn token_number(bytes: &[u8]) -> u64
     ensures { result ≡ spec.token_number bytes.now }
 {

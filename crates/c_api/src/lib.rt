@@ -8,8 +8,8 @@
 //! - `numbers.rt` has the numbers that the calls return, `settings.rt` a configuration, `paths.rt` paths as text, and
 //!   `bytes.rt` the copying into a buffer.
 //!
-//! The three files of handles and their proofs differ in names alone. They cannot be one: an export accepts no generic
-//! struct, and `rt ci` accepts no `impl` block that a macro wrote.
+//! The three files of handles differ in names alone. They cannot be one: an export accepts no generic struct, and
+//! `rt ci` accepts no `impl` block that a macro wrote. Their proofs are one, in `c_handle` (`proofs/Handles.antt`).
 //!
 //! The contract of an export is that of the engine's call over the value of the handle (`specs/ServerCalls.antt`,
 //! `specs/ApplicationCalls.antt`, `specs/ClientCalls.antt`). Those of the calls on messages are in

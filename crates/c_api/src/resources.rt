@@ -25,7 +25,7 @@ pub struct ResourceState {
 }
 
 /// Stores a representation at the path that the program named, if it named one, and gives its version.
-#[tactic(auto, using(crate::proofs::ServerLemmas::keeps_empty, crate::proofs::ServerLemmas::keeps_back))]
+#[tactic(auto, using(crate::proofs::ServerLemmas::keeps))]
 fn put_named(
     alloc: Global,
     handle: &mut ServerHandle,
@@ -93,7 +93,7 @@ fn state_named(
 }
 
 /// Removes the resource at the path that the program named, if it named one.
-#[tactic(auto, using(crate::proofs::ServerLemmas::keeps_empty, crate::proofs::ServerLemmas::keeps_back))]
+#[tactic(auto, using(crate::proofs::ServerLemmas::keeps))]
 fn remove_named(alloc: Global, handle: &mut ServerHandle, path: Option<PathKey>) -> u32
     ensures call { IsRemoved path handle.old.value handle.new.value result }
     ensures output { KeepsReported handle.old.value handle.new.value }

@@ -63,7 +63,7 @@ pub struct ConnectionStatus {
 
 /// Makes a server, if the handle is empty.
 #[unsafe(no_mangle)]
-#[tactic(auto, using(crate::proofs::ServerLemmas::keeps_empty, crate::proofs::ServerLemmas::keeps_back))]
+#[tactic(auto, using(crate::proofs::ServerLemmas::keeps))]
 pub extern "C" fn dachreup_server_new(
     alloc: Global,
     handle: &mut ServerHandle,
@@ -117,7 +117,7 @@ pub extern "C" fn dachreup_server_open(
 
 /// Accepts the first bytes of those that a connection received.
 #[unsafe(no_mangle)]
-#[tactic(auto, using(crate::proofs::LoanLemmas::handed_lies, crate::proofs::LoanLemmas::changing_lies))]
+#[tactic(auto, using(crate::proofs::LoanLemmas::frames_lie, crate::proofs::ServerLemmas::keeps))]
 pub extern "C" fn dachreup_raw_server_take(
     alloc: Global,
     handle: &mut ServerHandle,

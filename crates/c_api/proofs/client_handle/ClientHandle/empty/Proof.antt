@@ -1,36 +1,7 @@
--- `empty` makes a null handle.
-use Rattle.std.proofs.Common.{◌≡◌, [], ◌∷◌, refl, lit<}
-use base.Logic.{emp}
-use base.Fml.{ftrue}
-use types.Kit.{‵, raw, ◌⊛◌, ◌$◌, ◌∵◌, !, qed, by, keep, split, use0}
-use types.Run.{lit, no_more, and_then, returns, enter}
-use types.ByLocal.{alloc_all, pass_all, free_all, look_at, sets}
-use types.Part.{agg}
-use contract.Monad.{fact, fact_i}
-use contract.Running.{tables}
-use denote.RattleType.{owns}
-use denote.Signature.{types_at}
-use denote.RawPtr.{null_ptr}
-use denote.Steps.{nothing}
-use denote.Triple.Walked.{walk_of}
-use Rattle.std.specs.declared.option.Option.TheVariants.{None}
-use Rattle.std.proofs.raw_atomic.Walks.{proved_at, leaves}
-use Rattle.c_handle.proofs.Slots.{handle_val, handle_in}
-use Rattle.c_api.specs.contracts.client_handle.ClientHandle.empty as f
+use Rattle.c_handle.proofs.Handles.{empty_meets}
+use Rattle.c_api.proofs.HandleTypes.{client_handle}
 use Rattle.c_api.proofs.client_handle.ClientHandle.empty.Statement.{statement}
-use Rattle.c_api.proofs.client_handle.ClientHandle.empty.Code as code
+use Rattle.c_api.proofs.client_handle.ClientHandle.empty.Code.{unfolded}
 
 pub empty_spec : {M : Type 1} → statement M
-empty_spec 𝓤 𝓛 𝓜 𝓡 wired =
-    let H = 𝓛.H in let 𝓣 = tables 𝓤 H 𝓜 𝓡 𝓡.env in let En = f.ended in let c = f.clauses 𝓛 𝓜.mem 𝓡.returns in
-    proved_at 𝓛 En tt c 𝓜 𝓡 tt f.Key.name code.function (code.unfolded 𝓤 H 𝓜 𝓡 wired) (λ z are.
-    let Post = (walk_of 𝓛 En tt c).post z in
-    qed 𝓛
-    ((‵ ftrue ⊛ ‵ (owns (types_at En.signature.params z.0.0) z.0.3 z.0.4)) ∷ raw ((c z.0.0 z.0.3).requires z.1) ∷ [])
-    ∵ split ! $
-    enter ! 𝓣.C 𝓣.Λ code.function [] Post $ alloc_all ! (λ l. pass_all ! refl tt $
-    sets ! (agg ! (and_then ! (lit ! tt) (no_more !))) refl (tt, (record { fits = lit< tt }, tt)) $
-    nothing ! $ handle_in ! null_ptr ftrue
-    $ use0 𝓛 (raw (fact 𝓤 (None ≡ None))) (fact_i 𝓤 (None ≡ None) (emp 𝓤) refl) $ nothing ! $
-    returns ! (look_at ! 0 refl) $ free_all ! refl $ keep ! (3 ∷ 0 ∷ 2 ∷ 1 ∷ [])
-    $ by ! (leaves 𝓛 En tt c z (handle_val null_ptr) (record { at = null_ptr; value = None }) tt tt)))
+empty_spec 𝓤 𝓛 𝓜 𝓡 wired = empty_meets client_handle 𝓤 𝓛 𝓜 𝓡 (unfolded 𝓤 𝓛.H 𝓜 𝓡 wired)
