@@ -149,9 +149,9 @@ pub ruleset put_steps = (absent_path, count_resources, found_place, put_by_index
 
 pub ruleset replace_steps = (count_resources, replaced_list, by_head, head_is)
 
-pub ruleset remove_at_steps = (count_resources, removed_index, texts_removed, texts_count, common_steps)
+pub ruleset remove_at_steps = (count_resources, removed_index, texts_removed, texts_count)
 
-pub ruleset remove_steps = (found_within, removed_list, removed_absent, texts_removed, texts_count)
+pub ruleset remove_steps = (removed_absent, removed_by_index)
 
 pub ruleset create_steps = (stored_list, texts_of_created, texts_length)
 

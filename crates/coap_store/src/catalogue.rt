@@ -214,11 +214,9 @@ impl Catalogue {
     pub(crate) fn remove(&mut self, path: &PathKey)
         ensures { self.new ≡ record self.old { resources = removed_at self.old.resources path.now } }
     {
-        let Some(index) = self.resources.get_index_of(path) else {
-            return;
-        };
-        self.listing.remove(text_index(&self.resources, index));
-        self.resources.shift_remove_index(index);
+        if let Some(index) = self.resources.get_index_of(path) {
+            self.remove_at(index);
+        }
     }
 }
 
