@@ -1,5 +1,5 @@
-//! CoAP client over reliable transports (RFC 8323), and the command lines of both programs. This crate re-exports the
-//! public names of three crates:
+//! CoAP client over reliable transports (RFC 8323), and the command lines of a client and a server. This crate
+//! re-exports the public names of three crates:
 //!
 //! - `coap_client_request`: targets, requests and plans (`Target`, `Method`, `Extras`, `ClientPlan`).
 //! - `coap_command_line`: parsers of command lines (`client_words`, `server_words`, `WordsFault`), the plan of a server
@@ -10,10 +10,8 @@
 //! The types of arguments and results are re-exported too. `coap_conn` defines limits, phases and errors, `coap_wire`
 //! tokens and messages, `coap_io` the traits for transports and clocks, and `coap_print` the line of `explain`.
 //!
-//! This crate contains no function. A program that embeds a client imports these names from here, as `program_client`
-//! does. `program_server` imports from the first two crates, so that its build does not wait for the proof of the
-//! client.
-//! Continue with `coap_client_engine/src/client.rt`.
+//! This crate contains no function. A program that embeds a client imports these names from here, as `example_observer`
+//! does. `program_client` and `program_server` use the crates below. Continue with `coap_client_engine/src/client.rt`.
 #![tactic(auto)]
 
 pub use coap_client_engine::{

@@ -7,9 +7,9 @@ pub use Rattle.clap.specs.declared.parser.matches.Found.{Found}
 pub use Rattle.std.specs.Borrow.{Bor}
 pub use Rattle.std.specs.List.{list_any, after_first, before_first}
 pub use Rattle.std.specs.Net.Addr.{ipv4_octets, ipv6_segments}
-pub use Rattle.std.specs.Net.Grammar.{IsColonHex, IsDotted, IsIpText, Parses}
+pub use Rattle.std.specs.Net.Grammar.{IsColonHex, IsIpText, Parses}
 pub use Rattle.std.specs.Net.Reader.{Read, whole_value}
-unfoldable pub use Rattle.std.specs.Net.Reader.{read_ipv4, read_ipv6}
+unfoldable pub use Rattle.std.specs.Net.Reader.{read_ipv6}
 pub use Rattle.std.specs.Result.{result_ok}
 pub use Rattle.std.specs.declared.net.ip_addr.IpAddr.{IpAddr}
 -- ---- coap_print
@@ -19,18 +19,15 @@ pub use Rattle.coap_print.specs.declared.line.TheConstants.{LINE_LENGTH}
 pub use Rattle.coap_print.specs.declared.level.LogLevel.TheVariants.{Nothing}
 -- ---- coap_client_request
 pub use Rattle.coap_client_request.specs.Targets.{GivesUnlessMemory, target_of}
-pub use Rattle.coap_client_request.specs.declared.plan.ClientPlan.{ClientPlan}
-pub use Rattle.coap_command_line.specs.declared.server_plan.ServerPlan.{ServerPlan}
 -- ---- coap_command_line
-pub use Rattle.coap_command_line.specs.ClientWords.{client_app, AreHalves, client_plan_in, is_comma}
-unfoldable pub use Rattle.coap_command_line.specs.ClientWords.{client_plan_of}
+pub use Rattle.coap_command_line.specs.ClientWords.{AreHalves, is_comma}
 pub use Rattle.coap_command_line.specs.CommandLines.{named, option_value, WordsFaultValue}
 unfoldable pub use Rattle.coap_command_line.specs.CommandLines.{number_within}
 pub use Rattle.coap_command_line.specs.PlanViews.{IsClientPlan, IsServerPlan, is_help_or_version, words_fault_number}
 pub use Rattle.coap_command_line.specs.PlanViews.{GivesClientPlan, TellsExtra, client_value, extra_value, IsTurnedDown}
 pub use Rattle.coap_command_line.specs.PlanViews.{GivesServerPlan, mode_value, GivesEntries}
 pub use Rattle.coap_command_line.specs.ServerWords.{server_app}
-unfoldable pub use Rattle.coap_command_line.specs.ServerWords.{address_of, server_plan_in, server_plan_of, three_in}
+unfoldable pub use Rattle.coap_command_line.specs.ServerWords.{address_of, three_in}
 pub use Rattle.coap_command_line.specs.ApplicationWords.{AddsText, no_entries, refused_value}
 unfoldable pub use Rattle.coap_command_line.specs.ApplicationWords.{applications_said, codes_of, method_in, with_text}
 unfoldable pub use Rattle.coap_command_line.specs.ApplicationWords.{with_texts}

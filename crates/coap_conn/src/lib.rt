@@ -13,7 +13,6 @@
 //! `coap_server_session` and `coap_client_engine` have a link each. Continue with `link.rt`.
 #![tactic(auto)]
 
-mod csm;
 pub mod laws;
 mod limits;
 mod link;
@@ -24,6 +23,7 @@ mod phase;
 mod reason;
 mod ring;
 mod signal_messages;
+mod signal_options;
 
 pub use limits::{LimitFault, Limits, LimitsBuilder};
 pub use link::Link;

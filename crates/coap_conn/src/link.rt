@@ -9,13 +9,13 @@ mod new_requests;
 mod receive;
 mod transmit;
 
-use crate::csm::BASE_TOKEN;
 use crate::limits::Limits;
 use crate::out_queue::OutQueue;
 use crate::outstanding::Outstanding;
 use crate::pending::{PendingEntry, next_of};
 use crate::phase::{Phase, Role};
 use crate::signal_messages::announce_first;
+use crate::signal_options::BASE_TOKEN;
 use coap_wire::BASE_MESSAGE_SIZE;
 use std::alloc::{AllocError, Global};
 use std::marker::Model;

@@ -7,9 +7,9 @@ ghost use Rattle.coap_conn.specs.Prelude.{abort_option, ping_with, pong_with, ba
 ghost use Rattle.coap_conn.specs.Prelude.{bytes_of, csm_with as csm_of, own_csm, first_csm_with as first_csm_of};
 ghost use Rattle.coap_conn.specs.Prelude.{first_csm, release, free_of};
 
-use crate::csm::{CUSTODY, EXTENDED_TOKEN_LENGTH, MAX_MESSAGE_SIZE};
 use crate::out_queue::OutQueue;
 use crate::reason::Reason;
+use crate::signal_options::{CUSTODY, EXTENDED_TOKEN_LENGTH, MAX_MESSAGE_SIZE};
 use coap_wire::{Code, MessageBuilder, ShortBuilder, Token, TokenRef, UintBytes, uint_bytes};
 
 /// Bad-CSM-Option, an option of Abort (RFC 8323 section 5.6).

@@ -30,9 +30,9 @@ unfoldable pub use Rattle.coap_frame.specs.Copying.{AreCounted}
 pub use Rattle.coap_frame.specs.Filling.{IsHead, IsFilled, IsTakenTo}
 pub use Rattle.coap_frame.specs.FramedViews.{finding_of, finding_read, IsFramed}
 pub use Rattle.coap_frame.specs.FramedViews.{finding_of_ref, finding_laid_out, IsFramedRef, lent_of_ref}
-pub use Rattle.coap_frame.specs.FramerViews.{framer_value, is_framer}
+pub use Rattle.coap_frame.specs.FramerViews.{framer_value}
 pub use Rattle.coap_frame.specs.Framing.{framing_of, framer_after, IsFramer, MayUnread, with_frame_back, FramerValue}
-pub use Rattle.coap_frame.specs.Framing.{Nothing, AFrame, AFault, without_last, FrameEventValue, Framing, copied_alone}
+pub use Rattle.coap_frame.specs.Framing.{Nothing, AFrame, AFault, without_last, FrameEventValue, Framing}
 pub use Rattle.coap_frame.specs.Framing.{copied_back, copied_of, count_after, frame_back, framed, framing_at}
 pub use Rattle.coap_frame.specs.Framing.{split_frame}
 unfoldable pub use Rattle.coap_frame.specs.Framing.{framing}
@@ -42,9 +42,6 @@ pub use Rattle.coap_frame.specs.FramerOutput.{stream_given}
 unfoldable pub use Rattle.coap_frame.specs.FramerOutput.{output_of}
 pub use Rattle.coap_frame.specs.Raising.{raised, IsRaiseAnswer, raise_result, raise_refusal, with_size}
 -- ---- coap_frame, declared
-pub use Rattle.coap_frame.specs.declared.fault.RaiseFault.{RaiseFault}
-pub use Rattle.coap_frame.specs.declared.fault.RaiseFault.TheVariants.{Lower}
 pub use Rattle.coap_frame.specs.declared.filling.FrameStatus.{FrameStatus}
 pub use Rattle.coap_frame.specs.declared.frame_ref_event.FrameRefEvent.{FrameRefEvent}
-pub use Rattle.coap_frame.specs.declared.framer.Framer.TheInside.{Inside}
 pub use Rattle.coap_frame.specs.declared.framer.BufferContent.{BufferContent}

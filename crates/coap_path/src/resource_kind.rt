@@ -1,4 +1,17 @@
 //! The kinds of resources.
+//!
+//! To add a built-in resource:
+//!
+//! 1. Add its path here, to `path_match.rt`, to `ResourceKinds.antt` and `PathMatches.antt`, and a clause to
+//!    `built_in_resources_stay` (`laws.rt`).
+//! 2. Add its state to `found_at` (`coap_store/src/answer.rt`) and `state_at`, its link to `BUILT_IN_TEXT` and
+//!    `built_in_bytes`. The bound 16423 of the links then grows.
+//! 3. To make it observable, change `is_observable`. `Observer::of_time` and `is_time_observer`
+//!    (`coap_server_session`) mean `/time`, and `mark_at` makes each second a new state.
+//! 4. Add its path to `built_in` of `gateway/mqtt/options.c`, which no test compares, and of
+//!    `tests/harness/c_library.c`.
+//! 5. All files of `git grep -l 'time>;ct=0;obs'` have the links. Then the manual coap-server(1), docs/MODEL.md and
+//!    docs/EMBEDDING_C.md.
 
 ghost use Rattle.std.specs.Prelude.{◌≡◌};
 ghost use Rattle.coap_path.specs.Prelude.{kind_of_path as place_named, is_dynamic as is_dynamic_place};

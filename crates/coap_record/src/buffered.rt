@@ -80,13 +80,6 @@ impl<O: Outlet + Drop> BufferedOutlet<O> {
         self.count
     }
 
-    /// Returns the other outlet.
-    pub fn outlet(&self) -> &O
-        ensures { result.now ≡ self.now.outlet }
-    {
-        &self.outlet
-    }
-
     /// Passes all bytes in the queue on.
     ///
     /// # Errors

@@ -35,13 +35,6 @@ impl<O: Outlet + Drop> Recorder<O> {
         Recorder { outlet, limit }
     }
 
-    /// Returns the outlet, from which a program learns why a record has ended.
-    pub fn outlet(&self) -> &BufferedOutlet<O>
-        ensures { result.now ≡ self.now.outlet }
-    {
-        &self.outlet
-    }
-
     /// Returns `true` if a write has failed.
     pub fn has_failed(&self) -> bool
         ensures { result ≡ ⟦<BufferedOutlet<O> as Outlet>⟧.is_failed self.now.outlet }

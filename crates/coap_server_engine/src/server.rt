@@ -3,7 +3,7 @@
 //! A call first applies its own effect. Then every connection *settles*: it queues everything that is due, as long as
 //! its queue has room for a message of `max_sent` bytes.
 //!
-//! Each call that changes a `Server`, except `flush_once`, has two kinds of clauses. `after` or `answer`, `ok` and
+//! Each call that changes a `Server`, except `flush_once_at`, has two kinds of clauses. `after` or `answer`, `ok` and
 //! `err` give the exact value after the call. `shows` states that the server still represents its history of events.
 
 ghost use Rattle.std.specs.Prelude.{◌≡◌, [], Some, IfOk};
@@ -43,7 +43,7 @@ pub struct ConnectionWork {
     pub due: Option<u64>,
 }
 
-/// Result of `Server::flush_once`.
+/// Result of `Server::flush_once_at`.
 #[derive(Clone, Copy)]
 pub struct FlushStep {
     /// `true` if bytes were queued before.

@@ -369,11 +369,11 @@ fn entry_for(shared: &ServerState, request: &MessageRef) -> Observer
         format: there.format(),
         mark: mark_at(shared.now, &there),
         hash: hash_of(&path),
-        built_in: !path.kind().is_dynamic(),
+        of_time: !path.kind().is_dynamic(),
         index: 0,
         changed: None,
         previous: None,
-        previous_built_in: None,
+        previous_of_time: None,
         path,
     }
 }

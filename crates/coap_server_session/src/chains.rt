@@ -14,7 +14,7 @@ pub(crate) struct Chains {
     /// Ends of the chains of paths, by the hash of the path.
     hashed: [Option<u8>; 256],
     /// End of the chain of observers of a built-in path. The only observable one is `/time`.
-    built_in: Option<u8>,
+    of_time: Option<u8>,
 }
 
 impl Chains {
@@ -24,7 +24,7 @@ impl Chains {
     {
         Chains {
             hashed: [None; 256],
-            built_in: None,
+            of_time: None,
         }
     }
 
@@ -34,7 +34,7 @@ impl Chains {
     {
         match cause {
             Cause::Path(hash) => self.hashed[usize::from(hash)],
-            Cause::Moment(_) => self.built_in,
+            Cause::Moment(_) => self.of_time,
         }
     }
 
@@ -52,9 +52,9 @@ impl Chains {
         let last = &mut self.hashed[usize::from(observer.hash)];
         observer.previous = *last;
         *last = Some(index);
-        if observer.built_in {
-            observer.previous_built_in = self.built_in;
-            self.built_in = Some(index);
+        if observer.of_time {
+            observer.previous_of_time = self.of_time;
+            self.of_time = Some(index);
         }
     }
 }

@@ -24,15 +24,15 @@ pub(crate) struct Observer {
     pub hash: u8,
     /// Index that the resource had when the observer was notified last. It may have another one now.
     pub index: usize,
-    /// `true` if `path` is built in. It is `/time` then, since no other built-in resource is observable.
-    pub built_in: bool,
+    /// `true` if `path` is `/time`, the only built-in resource that is observable.
+    pub of_time: bool,
     /// Changed mark: `None` if the current state was sent last, otherwise the mark of the current state. If the path is
     /// absent, the changed mark is 0.
     pub changed: Option<u64>,
     /// Index of the nearest earlier observer whose path has the same hash.
     pub previous: Option<u8>,
-    /// Index of the nearest earlier observer of a built-in path, if `path` is built in.
-    pub previous_built_in: Option<u8>,
+    /// Index of the nearest earlier observer of `/time`, if `path` is `/time`.
+    pub previous_of_time: Option<u8>,
 }
 
 impl Observer {
@@ -42,7 +42,7 @@ impl Observer {
     {
         match cause {
             Cause::Path(_) => self.previous,
-            Cause::Moment(_) => self.previous_built_in,
+            Cause::Moment(_) => self.previous_of_time,
         }
     }
 
@@ -52,7 +52,7 @@ impl Observer {
         requires { IsTagged self.now }
         ensures { result ≡ present_mark shared.entry.now self.now.path }
     {
-        if self.built_in {
+        if self.of_time {
             return Some(shared.now);
         }
         shared.mark(&self.path, self.index)
@@ -64,7 +64,7 @@ impl Observer {
         requires { IsTagged self.now }
         ensures { result ≡ kind_of_path self.now.path }
     {
-        if self.built_in {
+        if self.of_time {
             return self.path.kind();
         }
         ResourceKind::Dynamic
@@ -77,7 +77,7 @@ impl Observer {
         requires present { present ≡ present_mark shared.now known.now }
         ensures { result ≡ present_mark shared.entry.now self.now.path }
     {
-        if !self.built_in && self.path == *known {
+        if !self.of_time && self.path == *known {
             return present;
         }
         self.present(shared)

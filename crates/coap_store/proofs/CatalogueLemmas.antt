@@ -15,11 +15,10 @@ use Rattle.std.proofs.lemmas.List.{length-map}
 use Rattle.coap_store.specs.Store as store
 use Rattle.coap_path.specs.contracts.path.PathKeyPartialEq.TheImpl as key_eq
 use Rattle.coap_path.proofs.PathLemmas.{key_equality}
-use Rattle.coap_store.proofs.ListingLemmas.{IsFirstAt, resources_found, resources_put, resources_removed}
-use Rattle.coap_store.proofs.ListingLemmas.{texts_created, first_at, first_within}
+use Rattle.coap_store.proofs.ListingLemmas.{IsFirstAt, resources_found, resources_put}
+use Rattle.coap_store.proofs.ListingLemmas.{texts_created, first_at}
 use Rattle.coap_store.proofs.ListingLemmas.{by_head, head_is}
 use Rattle.coap_store.proofs.ListingLemmas.{texts_removed, texts_count}
-use Rattle.std.proofs.lemmas.Grind.{common_steps}
 use Rattle.coap_store.proofs.ListingLemmas.{texts_length}
 use Rattle.coap_store.proofs.LinkLemmas.{end_within}
 use Rattle.coap_store.proofs.ListingLemmas.{entry_of, text_at, texts_kept, texts_changed}
@@ -74,14 +73,6 @@ module _ (entries after : List (Path × Resource)) (path : Path) (r : Resource)
       → texts_of first (resources_in after) ≡ texts_of first (resources_in entries) ++ entry_bytes path r.format ∷ []
   texts_of_created first absent =
       rw stored_list (texts_created first (resources_in entries) path (representation r) absent)
-
-module _ (entries : List (Path × Resource)) (path : Path) (i : ℕ)
-    (at : position (key_test path) (keys_of entries) ≡ Some i) where
-  pub found_within : i < length entries
-  found_within = first_within (key_test path) entries i (first_at (key_test path) entries i at)
-
-  pub removed_list : resources_in (remove entries i) ≡ removed_at (resources_in entries) path
-  removed_list = resources_removed key_test key_equality entries path i (first_at (key_test path) entries i at)
 
 removed_none : (rs : List store.Resource) (path : Path) → found_in rs path ≡ None → removed_at rs path ≡ rs
 unfolding found_in removed_at

@@ -6,7 +6,6 @@ use Rattle.std.specs.List.{remove}
 use Rattle.coap_store.specs.Prelude.{IfSome, option_map, AllByRecursion, flat_map}
 use Rattle.coap_store.specs.Prelude.{lookup, insert_entry, set_value_at, joined}
 use Rattle.coap_store.specs.Prelude.{Path, same_path, is_path, Representation, found_in, put_at}
-use Rattle.coap_store.specs.Prelude.{removed_at}
 use Rattle.coap_store.specs.Prelude.{entry_bytes, listing, representation, resource_at, resources_in}
 use Rattle.coap_store.specs.Prelude.{ApplicationsValue, first_bytes}
 use Rattle.coap_store.specs.Prelude.{Resource, texts_of, head_of, end_bytes, with_end}
@@ -93,11 +92,6 @@ pub first_at : (test : Path → Bool) (es : List (Path × Resource)) (i : ℕ)
 first_at test es i at =
     let found = position-Some test (keys_of es) i [] at in
     first_from test es i found.0 found.1 found.2
-
-pub first_within : (test : Path → Bool) (es : List (Path × Resource)) (i : ℕ) → IsFirstAt test es i → i < length es
-first_within test [] i first = absurd first
-first_within test (e ∷ es) zero first = omega arith
-first_within test (e ∷ es) (suc i) first = omega (arith, first_within test es i first.1)
 
 -- The texts of the entries of the map.
 abbrev entry_lines : List (Path × Resource) → List (List ℕ)
@@ -195,14 +189,6 @@ module _ (eq : Path → Path → Bool) (same : (p q : Path) → eq p q ≡ same_
   unfolding resources_in put_at
   resources_put [] path r = refl
   resources_put (e ∷ es) path r = grind (arith, same path e.0, resources_put es path r)
-
-  pub resources_removed : (entries : List (Path × Resource)) (path : Path) (i : ℕ) → IsFirstAt (eq path) entries i
-      → resources_in (remove entries i) ≡ removed_at (resources_in entries) path
-  unfolding resources_in removed_at
-  resources_removed [] path i first = absurd first
-  resources_removed (e ∷ es) path zero first = rw (sym (same path e.0) ∙ first)
-  resources_removed (e ∷ es) path (suc i) first =
-      rw (sym (same path e.0) ∙ first.0, resources_removed es path i first.1)
 
   pub resources_found : (entries : List (Path × Resource)) (path : Path)
       → found_in (resources_in entries) path ≡ option_map representation (lookup (eq path) entries)

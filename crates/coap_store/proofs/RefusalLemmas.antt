@@ -12,14 +12,6 @@ use Rattle.coap_store.specs.declared.resource.Resource as lent
 use Rattle.coap_store.proofs.AnswerLaws.{place_dynamic, version_fits, has_room}
 use Rattle.coap_store.proofs.StoreLemmas.{store_put, found_kept}
 
--- ---- checks
-
--- Without an error, the condition of a check does not hold, and the later checks give no error.
-pub passed : {F : Type 0} (holds : Bool) (fault : F) (rest : Option F) → (if holds then Some fault else rest) ≡ None
-    → (holds ≡ false) × (rest ≡ None)
-passed true fault rest none = absurd cc
-passed false fault rest none = (refl, none)
-
 -- ---- put
 
 -- The store accepts a representation that is not rejected.

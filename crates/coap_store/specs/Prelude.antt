@@ -21,7 +21,7 @@ unfoldable pub use Rattle.percent_encoding.specs.Percent.{percent_encode, percen
 -- ---- coap_wire
 pub use Rattle.coap_wire.specs.Message.{Message, CoapOption}
 pub use Rattle.coap_wire.specs.Recognition.{known_options, first_critical, has_kind, once}
-pub use Rattle.coap_wire.specs.Recognition.{checked_options, CheckedOptionValue, is_critical}
+pub use Rattle.coap_wire.specs.Recognition.{CheckedOptionValue, is_critical}
 unfoldable pub use Rattle.coap_wire.specs.Recognition.{checked_given, first_critical_in, is_recognised, kind_of}
 unfoldable pub use Rattle.coap_wire.specs.Recognition.{recognised_in}
 pub use Rattle.coap_wire.specs.Refusal.{RefusedBy}

@@ -1,7 +1,7 @@
 //! The plan for a request.
 
 ghost use Rattle.std.specs.Prelude.{◌≡◌, ◌≢◌, ◌≤◌, true, [], Some, IfSome, length, option_map};
-ghost use Rattle.coap_store.specs.Prelude.{bytes_in, change_value, planned_value, says, only, no_answer, without_hold};
+ghost use Rattle.coap_store.specs.Prelude.{bytes_in, change_value, planned_value, says, only, no_answer};
 ghost use Rattle.coap_store.specs.Prelude.{changes as is_change, is_path, IsAtPath, IsNamedPath, path_or_root};
 ghost use Rattle.coap_store.specs.Prelude.{location_in};
 ghost use Rattle.coap_wire.specs.Codes as code;
@@ -316,21 +316,6 @@ impl<'s, 'r> Plan<'s, 'r> {
         ensures seconds { result ≡ self.now.hold }
     {
         self.hold
-    }
-
-    /// Returns the plan for a full pending list: 5.03 in place of a delayed response.
-    pub fn without_hold(self) -> Plan<'s, 'r>
-        ensures { result ≡ without_hold self.entry }
-    {
-        match self.hold {
-            None => self,
-            Some(_) => Plan {
-                sets_location: false,
-                change: self.change,
-                watch: self.watch,
-                ..Plan::of_code(Code::SERVICE_UNAVAILABLE)
-            },
-        }
     }
 
     /// Returns the change with the code of the response and its path, which are all that the plan has if it makes a

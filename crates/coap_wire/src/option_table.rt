@@ -1,4 +1,19 @@
 //! The table of recognised options: for each number, the range of lengths and whether the option may repeat.
+//!
+//! To add a number:
+//!
+//! 1. **A critical option in this table no longer gets 4.02.** Server, application and client accept it, so each needs
+//!    a check of its own, or ignores the option. No contract notices that.
+//! 2. Add the number to `option_numbers.rt`, `kind`, `OptionNumbers.antt` and `option_kinds` (`Recognition.antt`).
+//! 3. Check it in `coap_store`, as Proxy-Uri: `RequestOptions`, `ParsedRequest`, `Store::check`, with `options_after`
+//!    and `answer_at`. `passes_checks` has the same for applications. These are `directory_core`, `gateway/mqtt` and
+//!    the examples.
+//! 4. A client reports `Rejected` only for unrecognised options (`response_event` of `coap_client_engine`).
+//! 5. Add it to `OPTIONS` of `coap_print`, of `messages.py` and `message_syntax.py` (`tests/harness`), and of
+//!    `tests/vectors/bytes.py`. Then add it to `include/dachreup.h`, or to `UNNAMED` of
+//!    `tests/system/c_library/c_header.py`.
+//! 6. Add rows to `kinds_of_options`, `lengths_of_options` (`wire`), `first_check_decides` (`store`) and `options`
+//!    (`print`), and remove it from `options_that_nobody_knows` (`wire`). Then docs/MODEL.md and docs/conformance.tsv.
 
 ghost use Rattle.std.specs.Prelude.{◌≡◌};
 ghost use Rattle.coap_wire.specs.Prelude.{kind_of, once, repeated};

@@ -5,7 +5,7 @@
 //! run has a cause for its end, a last line on standard error gives it in words.
 #![tactic(auto)]
 
-ghost use Rattle.std.specs.Prelude.{◌≡◌, ◌≤◌, IfOk, IfSome, IfNone};
+ghost use Rattle.std.specs.Prelude.{◌≡◌, ◌≤◌, IfOk, IfErr, IfSome, IfNone};
 ghost use Rattle.std.specs.Str.{IsUtf8};
 ghost use Rattle.coap_client_engine.specs.Prelude.{IsStatus};
 
@@ -102,7 +102,9 @@ fn print_cause(rt: &impl Eprint, end: &RunEnd) -> u8
 /// Writes the cause of the end of a run in words, if it has one, or the error of the run. Returns the exit status.
 pub(crate) fn print_end(rt: &impl Eprint, end: &Result<RunEnd, ClientFault>) -> u8
     requires { IfOk end.now (λ e. IsStatus e.status) }
-    ensures { result ≤ 4 }
+    ensures small { result ≤ 4 }
+    ensures ended { IfOk end.now (λ e. result ≡ e.status) }
+    ensures fault { IfErr end.now (λ _. result ≡ 3) }
 {
     match end {
         Ok(end) => print_cause(rt, end),
@@ -181,10 +183,6 @@ fn start(
 }
 
 fn main(rt: HostRuntime) -> ExitCode {
-    let (_first, _second, _third) = (
-        occupy_standard_descriptors(&rt),
-        occupy_standard_descriptors(&rt),
-        occupy_standard_descriptors(&rt),
-    );
+    let _files = occupy_standard_descriptors(&rt);
     ExitCode::from(start(&rt, rt.stderr()))
 }

@@ -1,6 +1,6 @@
 //! Reads whole files.
 
-ghost use Rattle.std.specs.Prelude.{◌≡◌, ◌≢◌, ◌≤◌, length, IfOk};
+ghost use Rattle.std.specs.Prelude.{◌≡◌, ◌≢◌, ◌≤◌, length, IfOk, IfSome};
 ghost use Rattle.std.specs.IoError.{error_kind};
 ghost use Rattle.std.specs.declared.io.ErrorKind.TheVariants as kind;
 ghost use Rattle.program_common.specs.declared.files.FileError.TheVariants as answer;
@@ -38,8 +38,9 @@ impl FileError {
 }
 
 /// Returns all bytes of a reader, at most `most`.
-fn bytes_of(alloc: Global, reader: &mut impl Read, most: usize) -> Result<Vec<u8>, FileError>
-    ensures { IfOk result (λ bytes. length bytes.items ≤ most) }
+fn bytes_of<R: Read>(alloc: Global, reader: &mut R, most: usize) -> Result<Vec<u8>, FileError>
+    ensures most { IfOk result (λ bytes. length bytes.items ≤ most) }
+    ensures all { IfOk result (λ bytes. IfSome (R.remaining reader.old) (λ rest. bytes.items ≡ rest)) }
 {
     let mut bytes = Vec::new(alloc);
     match reader

@@ -1,8 +1,7 @@
-//! The parts that the programs `coap-server` and `coap-client` share: their arguments, files, messages on standard
-//! error, and exit statuses.
+//! The parts that all programs share: their arguments, files, messages on standard error, and exit statuses.
 //!
-//! The meaning of the arguments is in `coap_command_line`, and sockets are in `coap_sockets`. The programs themselves
-//! are in `program_server` and `program_client`. Continue with `program.rt`.
+//! The meaning of the arguments is in `coap_command_line`, and sockets are in `coap_sockets`. Continue with
+//! `program.rt`.
 #![tactic(auto)]
 
 mod files;

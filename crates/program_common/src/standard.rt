@@ -8,11 +8,10 @@ use std::rt::Files;
 const LAST: i32 = 2;
 
 /// Opens `/dev/null` in place of the first standard descriptor that is closed, if there is one, and returns the file.
-/// While the file exists, no socket gets that number, so no byte written to that descriptor goes to a peer.
 ///
 /// The system gives each opened file the lowest free number. The result is `None` if all three descriptors are open or
 /// if `/dev/null` cannot be opened.
-pub fn occupy_standard_descriptors<R: Files>(rt: &R) -> Option<R::File>
+fn occupy_first<R: Files>(rt: &R) -> Option<R::File>
 where
     R::File: AsRawFd,
 {
@@ -25,4 +24,16 @@ where
         return None;
     }
     Some(null)
+}
+
+/// Opens `/dev/null` in place of each standard descriptor that is closed, and returns the files. While they exist, no
+/// socket gets these numbers, so no byte written to such a descriptor goes to a peer. A file is `None` if it is not
+/// needed or cannot be opened.
+pub fn occupy_standard_descriptors<R: Files>(
+    rt: &R,
+) -> (Option<R::File>, Option<R::File>, Option<R::File>)
+where
+    R::File: AsRawFd,
+{
+    (occupy_first(rt), occupy_first(rt), occupy_first(rt))
 }

@@ -186,10 +186,6 @@ fn start(rt: &(impl Print + Eprint + Env + Files + Net + time::Clock + AllocGlob
 }
 
 fn main(rt: HostRuntime) -> ExitCode {
-    let (_first, _second, _third) = (
-        occupy_standard_descriptors(&rt),
-        occupy_standard_descriptors(&rt),
-        occupy_standard_descriptors(&rt),
-    );
+    let _files = occupy_standard_descriptors(&rt);
     ExitCode::from(start(&rt))
 }

@@ -137,10 +137,6 @@ fn start(rt: &(impl Input + Print + Eprint + Env + Files + AllocGlobal)) -> u8
 }
 
 fn main(rt: HostRuntime) -> ExitCode {
-    let (_first, _second, _third) = (
-        occupy_standard_descriptors(&rt),
-        occupy_standard_descriptors(&rt),
-        occupy_standard_descriptors(&rt),
-    );
+    let _files = occupy_standard_descriptors(&rt);
     ExitCode::from(start(&rt))
 }

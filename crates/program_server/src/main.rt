@@ -62,10 +62,6 @@ fn start(rt: &(impl Input + Print + Eprint + Env + Files + Net + time::Clock + A
 }
 
 fn main(rt: HostRuntime) -> ExitCode {
-    let (_first, _second, _third) = (
-        occupy_standard_descriptors(&rt),
-        occupy_standard_descriptors(&rt),
-        occupy_standard_descriptors(&rt),
-    );
+    let _files = occupy_standard_descriptors(&rt);
     ExitCode::from(start(&rt))
 }

@@ -1,5 +1,24 @@
 //! Tables of the options: the arguments of each program, with their lines in the help, and the values of each option in
 //! words. An option has a row in the first table of its program, and one in the second if it takes a value.
+//!
+//! CONTRIBUTING.md has the steps to add an option of `coap-client`. To add one of `coap-server`, put it last in the
+//! usage line, and read its value last. Bad values are reported in this order.
+//!
+//! 1. Add a row to `install/options.tsv` (columns: `install/completions.py`). If two options exclude each other, the
+//!    upper row has it.
+//! 2. `ServerPlan`, `ServerValues`, `server_values`, `server_plan`; definitions `server_app`, `values_said`,
+//!    `ServerPlanValue`, `with_mode` (`ServerWords.antt`), `server_value` (`PlanViews.antt`).
+//! 3. If it excludes or needs another one: `excludes_mode`, `excludes_record` or `excludes_application`, and the text
+//!    in `script_clash`, `stdio_clash`, `listener_clash` or `alone_clash` (`reasons.rt`, `Reasons.antt`).
+//! 4. Its use in `program_server`. If it is a limit: `Limits` (`coap_conn`) or `Config` (`coap_model`) with builders,
+//!    definitions and views, `planned` (`program_server_common`), and for C `settings.rt` and `include/dachreup.h`.
+//! 5. If a replay depends on it: `options` (`header.rt`) and `options_text` of `program_server_common`,
+//!    `replay_config` and the proof `OptionWalk.antt` of `program_explain`.
+//! 6. `tell_server` (`test_rows/src/command_line.rt`) and `reported_server` (`tests/harness/layers/words.py`).
+//! 7. Rows `words/server_plans` and `server_faults`; `tests/system/program/server_arguments.py`; mutants.
+//! 8. The manual (SYNOPSIS, list, DIAGNOSTICS), docs/DEPLOYING.md, docs/DECISIONS.md, CHANGELOG.md.
+//!
+//! `coap-directory` has plans and tables of its own for the options that both have.
 
 /// Version of the programs.
 pub const VERSION: &str = "0.1.0";

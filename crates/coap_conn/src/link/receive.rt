@@ -13,12 +13,12 @@ ghost use Rattle.coap_conn.specs.declared.phase.Role.TheVariants as role;
 ghost use Rattle.coap_conn.specs.Calls as call;
 
 use super::Link;
-use crate::csm::{announced_size, announced_token, asks_custody, has_critical_option};
 use crate::outstanding::{has_ping_in, last_in, remove_ping_in, remove_request_in};
 use crate::pending::PendingEntry;
 use crate::phase::{Phase, Reject, Role, Verdict};
 use crate::reason::Reason;
 use crate::signal_messages::bare_of;
+use crate::signal_options::{announced_size, announced_token, asks_custody, has_critical_option};
 use coap_wire::{Code, MessageRef, ShortBuilder};
 
 impl Link {

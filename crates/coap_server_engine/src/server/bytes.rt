@@ -229,46 +229,11 @@ impl Server {
         Ok(())
     }
 
-    /// Writes all queued bytes of a connection, if there are any, and settles the connection.
+    /// Writes all queued bytes of the connection at an index, if there are any, and settles the connection.
     ///
     /// # Errors
     ///
     /// Returns `WriteFailed` if a write fails. A prefix of the queued bytes was written then. The server is unchanged.
-    ///
-    /// # Preconditions
-    ///
-    /// The outlet has not failed before.
-    #[tactic(auto, using(crate::proofs::values::ServerLemmas::unmarked_at, crate::proofs::values::ServerLemmas::within_unmarked))]
-    pub fn flush_once<W: Outlet>(
-        &mut self,
-        id: ConnId,
-        writer: &mut W,
-    ) -> Result<FlushStep, WriteFailed>
-        requires { W.is_failed writer.old ≡ false }
-        ensures ok { IfOk result (λ f. IsFlushedOnce id self.old self.new
-            (AddsBytes (W.written writer.old) (W.written writer.new)) f.waited) }
-        ensures more { IfOk result (λ f. f.more ≡ more_at id self.old) }
-        ensures stop { IfOk result (λ f. f.stop ≡ stop_on (session_of id self.new.sessions)) }
-        ensures part { OnErr result (WritesPart (W.written writer.old) (W.written writer.new)
-            (waiting_at id self.old)) }
-        ensures err { OnErr result (self.new ≡ self.old) }
-        ensures failure { W.is_failed writer.new ≡ is_err result }
-    {
-        let Some(at) = find(&self.sessions, self.recent, id) else {
-            return Ok(FlushStep {
-                waited: false,
-                more: 0,
-                stop: None,
-            });
-        };
-        self.flush_once_at(ConnIndex { id, at }, writer)
-    }
-
-    /// Writes all queued bytes as `flush_once` does, on the connection at an index.
-    ///
-    /// # Errors
-    ///
-    /// Returns `WriteFailed` as for `flush_once`.
     ///
     /// # Preconditions
     ///

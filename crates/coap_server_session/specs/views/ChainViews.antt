@@ -14,10 +14,10 @@ use Rattle.coap_server_session.specs.declared.chains.Chains.{Chains}
 pub record Linked : Type 0 where
   pub path : Path
   pub previous : Option ℕ
-  pub previous_built_in : Option ℕ
+  pub previous_of_time : Option ℕ
 
 abbrev pub linked : Observer → Linked
-linked o = record { path = o.path; previous = o.previous; previous_built_in = o.previous_built_in }
+linked o = record { path = o.path; previous = o.previous; previous_of_time = o.previous_of_time }
 
 -- `true` if a change affects the observers of a path.
 abbrev pub concerns_path : Cause → Path → Bool
@@ -27,12 +27,12 @@ concerns_path (cause.Moment before) path = not (is_dynamic (kind_of_path path))
 -- The index of the last observer in the chain of a change.
 abbrev pub last_in : Cause → Chains → Option ℕ
 last_in (cause.Path hash) chains = get_or chains.hashed hash None
-last_in (cause.Moment before) chains = chains.built_in
+last_in (cause.Moment before) chains = chains.of_time
 
 -- The index of the observer before `o` in the chain of a change.
 abbrev pub previous_in : Cause → Linked → Option ℕ
 previous_in (cause.Path hash) o = o.previous
-previous_in (cause.Moment before) o = o.previous_built_in
+previous_in (cause.Moment before) o = o.previous_of_time
 
 -- The index after `k`, or 0 for `None`.
 abbrev pub next_index : Option ℕ → ℕ

@@ -23,7 +23,7 @@ observers_value o =
 -- Holds if an observer stores the hash of its path, and whether the path is built in.
 pub record IsTagged (o : Observer) : Type 0 where
   pub hash : o.hash ≡ path_hash o.path
-  pub built_in : o.built_in ≡ is_time_observer (observer_value o)
+  pub of_time : o.of_time ≡ is_time_observer (observer_value o)
 
 -- The invariant of `Observers`: the capacity was allocated and is not exceeded. The chains link the observers, and the
 -- flags are set for those with a changed mark.

@@ -6,7 +6,7 @@ use Rattle.coap_server_session.proofs.chains.Chains.new.Goals as goal
 
 -- The chains without an observer.
 abbrev empty : Chains
-empty = record { hashed = replicate 256 None; built_in = None }
+empty = record { hashed = replicate 256 None; of_time = None }
 
 none_yet : (why : Cause) → last_in why empty ≡ None
 none_yet (cause.Path hash) = all_default 256 hash None

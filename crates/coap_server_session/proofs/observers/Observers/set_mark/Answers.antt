@@ -22,7 +22,7 @@ invariant_of-self c =
       least = c.self.invariant.least;
       tagged =
           all_set IsTagged items index reported c.self.invariant.tagged
-          (record { hash = tag.hash; built_in = tag.built_in });
+          (record { hash = tag.hash; of_time = tag.of_time });
       chained = rw (
         length-set items index reported,
         map-set_same linked items index reported old (ap linked c.index_mut-observer.ensures.value),

@@ -1,7 +1,7 @@
 use Rattle.std.proofs.Common.{◌≡◌, rules, tests, sym, ◌∙◌}
 use Rattle.coap_conn.specs.Prelude.{is_none, coap_option}
 use Rattle.coap_conn.proofs.CsmLemmas.{announced_is}
-use Rattle.coap_conn.proofs.csm.announced_size.Goals as goal
+use Rattle.coap_conn.proofs.signal_options.announced_size.Goals as goal
 
 pub returns-in-None-bad_option-clause-size : goal.returns-in-None-bad_option-clause-size
 returns-in-None-bad_option-clause-size c =

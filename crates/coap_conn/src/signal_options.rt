@@ -1,4 +1,16 @@
-//! Options of Signalling Messages (RFC 8323 section 5).
+//! Options of Signalling Messages (RFC 8323 section 5). `signal_messages.rt` has the messages that a link sends.
+//!
+//! To add an option of CSM:
+//!
+//! 1. Read it here, with `SignalOptions.antt` and `Announced.antt`. If its number is odd, let `bad_option` and `is_bad`
+//!    accept it.
+//! 2. Keep what the peer announced as `peer_token` is kept: `git grep -lw peer_token crates tests` lists the files.
+//! 3. Announce it in `first_csm_with` (`signal_messages.rt`, `LinkValue.antt`). The first CSM may have 32 bytes. All
+//!    files of `git grep -l 60e1230100004140` have its bytes, among them `install/haproxy.cfg`; so has
+//!    `tests/vectors/bytes.py`.
+//! 4. Add its name to `CSM_OPTIONS` of `coap_print` and to `SIGNAL_OPTIONS` of `tests/harness/messages.py`.
+//! 5. Add rows to `takes_announcements` and `stops_on_codes_and_options` (`link`). Then docs/MODEL.md and
+//!    docs/conformance.tsv.
 
 ghost use Rattle.std.specs.Prelude.{◌≡◌, Some, None, option_map, find, IfOk, IfErr, OnOk};
 ghost use Rattle.coap_conn.specs.Prelude.{uint_of, coap_option, is_bad, first_size as first_size_in};

@@ -2,7 +2,7 @@ use Rattle.std.proofs.Common.{refl, rules, tests}
 use Rattle.coap_conn.specs.Prelude.{coap_option, is_bad}
 use Rattle.std.proofs.lemmas.Iterator.Consumers.{YieldsList-from_first}
 use Rattle.std.proofs.lemmas.Iterator.Search.{find_from_yields_List}
-use Rattle.coap_conn.proofs.csm.bad_option.Goals as goal
+use Rattle.coap_conn.proofs.signal_options.bad_option.Goals as goal
 
 pub returns-in_err-bad : goal.returns-in_err-bad
 returns-in_err-bad c =

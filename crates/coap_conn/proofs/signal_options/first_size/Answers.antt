@@ -2,7 +2,7 @@ use Rattle.std.proofs.Common.{rules, tests}
 use Rattle.std.proofs.lemmas.Iterator.Consumers.{YieldsList-from_first}
 use Rattle.std.proofs.lemmas.Iterator.Search.{find_from_yields_List}
 use Rattle.coap_conn.specs.Prelude.{coap_option, is_size}
-use Rattle.coap_conn.proofs.csm.first_size.Goals as goal
+use Rattle.coap_conn.proofs.signal_options.first_size.Goals as goal
 
 pub returns : goal.returns
 returns c =
