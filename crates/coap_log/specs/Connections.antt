@@ -10,7 +10,6 @@ use Rattle.coap_print.specs.declared.level.LogLevel.TheVariants.{Warnings, Conne
 use Rattle.coap_log.specs.Glimpses.{head_text}
 use Rattle.coap_log.specs.Logs.{LogTrace, LogsLine, LogsEnd}
 use Rattle.coap_log.specs.Taps.{TapValue, taken, tap_after}
-use Rattle.coap_log.specs.declared.tap.TheConstants.{DESCRIBED}
 
 -- The end of the plural, unless there is one thing.
 abbrev pub plural : ℕ → List ℕ
@@ -55,46 +54,50 @@ LogsLast text before after =
 
 -- The text of the present message of a tap.
 abbrev pub tap_text : TapValue → List ℕ
-tap_text tap = head_text (take DESCRIBED tap.kept) tap.passed
+tap_text tap = head_text (take 2048 tap.kept) tap.passed
 
 -- The line of the present message of a tap, after other text.
 abbrev pub message_line : List ℕ → TapValue → List ℕ
 message_line front tap = appended LINE_LENGTH [] (front ++ tap_text tap)
 
--- The present message of a tap is logged, if it is whole.
-abbrev pub LogsWhole : ℕ → List ℕ → TapValue → LogTrace → LogTrace → Bool → Type 0
-LogsWhole nanos front tap before after true = LogsLine Messages nanos (message_line front tap) before after
-LogsWhole nanos front tap before after false = after ≡ before
+-- The present message of a tap is logged, if it is whole. `levels` is the level of a message, by its first bytes.
+abbrev pub LogsWhole : (List ℕ → LogLevel) → ℕ → List ℕ → TapValue → LogTrace → LogTrace → Bool → Type 0
+LogsWhole levels nanos front tap before after true =
+    LogsLine (levels tap.kept) nanos (message_line front tap) before after
+LogsWhole levels nanos front tap before after false = after ≡ before
 
 -- The effect of one call of a tap on these bytes, which takes no byte if the last argument is true. Otherwise a whole
 -- message is logged, and `go` gives the effect of the other bytes.
-abbrev pub LogsTaken : (List ℕ → TapValue → LogTrace → Type 0) → ℕ → List ℕ → List ℕ → TapValue → TapValue
-    → LogTrace → LogTrace → Bool → Type 0
-LogsTaken go nanos front bytes tap end before after true = (end ≡ tap_after tap bytes) × (after ≡ before)
-LogsTaken go nanos front bytes tap end before after false =
-    (middle : LogTrace) × LogsWhole nanos front (tap_after tap bytes) before middle (tap_after tap bytes).is_whole
+abbrev pub LogsTaken : (List ℕ → TapValue → LogTrace → Type 0) → (List ℕ → LogLevel) → ℕ → List ℕ → List ℕ
+    → TapValue → TapValue → LogTrace → LogTrace → Bool → Type 0
+LogsTaken go levels nanos front bytes tap end before after true = (end ≡ tap_after tap bytes) × (after ≡ before)
+LogsTaken go levels nanos front bytes tap end before after false =
+    (middle : LogTrace)
+    × LogsWhole levels nanos front (tap_after tap bytes) before middle (tap_after tap bytes).is_whole
     × go (drop (taken tap bytes) bytes) (tap_after tap bytes) middle
 
 -- Bytes are passed to a tap, and each message that ends with them is logged. This changes the tap from `tap` to `end`,
 -- and the log from `before` to `after`. The first argument limits the recursion: each turn takes a byte.
-unfoldable pub LogsBytes : ℕ → ℕ → List ℕ → List ℕ → TapValue → TapValue → LogTrace → LogTrace → Type 0
-LogsBytes zero nanos front bytes tap end before after = (end ≡ tap) × (after ≡ before)
-LogsBytes (suc turns) nanos front [] tap end before after = (end ≡ tap) × (after ≡ before)
-LogsBytes (suc turns) nanos front (b ∷ bytes) tap end before after =
-    LogsTaken (λ rest now middle. LogsBytes turns nanos front rest now end middle after) nanos front
+unfoldable pub LogsBytes : ℕ → (List ℕ → LogLevel) → ℕ → List ℕ → List ℕ → TapValue → TapValue → LogTrace
+    → LogTrace → Type 0
+LogsBytes zero levels nanos front bytes tap end before after = (end ≡ tap) × (after ≡ before)
+LogsBytes (suc turns) levels nanos front [] tap end before after = (end ≡ tap) × (after ≡ before)
+LogsBytes (suc turns) levels nanos front (b ∷ bytes) tap end before after =
+    LogsTaken (λ rest now middle. LogsBytes turns levels nanos front rest now end middle after) levels nanos front
     (b ∷ bytes) tap end before after
     (taken tap (b ∷ bytes) == 0)
 
 -- Bytes are passed to a tap, and each message that ends with them is logged, at some time.
-abbrev pub LogsPassed : List ℕ → List ℕ → TapValue → TapValue → LogTrace → LogTrace → Type 0
-LogsPassed front bytes tap end before after =
-    (nanos : ℕ) × LogsBytes (length bytes) nanos front bytes tap end before after
+abbrev pub LogsPassed : (List ℕ → LogLevel) → List ℕ → List ℕ → TapValue → TapValue → LogTrace → LogTrace → Type 0
+LogsPassed levels front bytes tap end before after =
+    (nanos : ℕ) × LogsBytes (length bytes) levels nanos front bytes tap end before after
 
 -- The result of a read or a write on a connection is logged. A failure is a warning. Otherwise each message is logged
--- that ends with the bytes passed on. The direction is the text between the number of the connection and the message.
+-- that ends with the bytes passed on, as a line of the level Messages. The direction is the text between the number of
+-- the connection and the message.
 abbrev pub LogsResult : ℕ → List ℕ → Got → List ℕ → TapValue → TapValue → LogTrace → LogTrace → Type 0
 LogsResult number direction (Bytes n) bytes tap end before after =
-    LogsPassed (connection_line number direction) (take n bytes) tap end before after
+    LogsPassed (λ head. Messages) (connection_line number direction) (take n bytes) tap end before after
 LogsResult number direction Later bytes tap end before after = (end ≡ tap) × (after ≡ before)
 LogsResult number direction End bytes tap end before after = (end ≡ tap) × (after ≡ before)
 LogsResult number direction Failed bytes tap end before after =

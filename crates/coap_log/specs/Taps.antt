@@ -1,7 +1,9 @@
 -- Defined by this project: the messages of one direction of a connection, followed from outside. Frames are those of
 -- RFC 8323 section 3.2.
-use Rattle.std.specs.Prelude.{◌≡◌, ℕ, ◌+◌, ◌-◌, ◌≤◌, ◌^◌, Bool, true, false, ◌==◌, nat_lt, min, List, [], ◌∷◌, ◌++◌}
-use Rattle.std.specs.Prelude.{length, take, if◌then◌else◌}
+use Rattle.std.specs.Prelude.{◌≡◌, ℕ, ◌+◌, ◌-◌, ◌≤◌, ◌^◌, Bool, true, false, ◌==◌, nat_le, nat_lt, min, List, [], ◌∷◌}
+use Rattle.std.specs.Prelude.{◌++◌, length, take, if◌then◌else◌}
+use Rattle.coap_print.specs.Levels.{level_number}
+use Rattle.coap_print.specs.declared.level.LogLevel.{LogLevel}
 use Rattle.coap_wire.specs.Reading.{declared_of}
 use Rattle.coap_wire.specs.declared.sizes.TheConstants.{LARGEST_MESSAGE}
 use Rattle.coap_wire.specs.declared.declaration.Declared.{Declared}
@@ -35,6 +37,11 @@ new_tap room = record {
   messages = 0;
   bytes = 0;
 }
+
+-- The number of bytes that a tap keeps of a frame for a log of this level. From the level 3 on, lines describe messages
+-- by at most 2,048 bytes. Below it, only the code is needed.
+abbrev pub room_of : LogLevel → ℕ
+room_of level = if nat_le 3 (level_number level) then 2048 else 16
 
 -- A count of 64 bits after more were counted.
 abbrev pub counted : ℕ → ℕ → ℕ

@@ -1,6 +1,6 @@
 -- Defined by this project: lines offered to a writer.
 use Rattle.std.specs.Prelude.{ℕ, Bool, List, [], ◌∷◌, ◌++◌, Option, option_map, if◌then◌else◌}
-use Rattle.std.specs.List.{flat_map}
+use Rattle.std.specs.List.{flat_map, Contains}
 use Rattle.coap_io.specs.Prelude.{AddsBytes, AddsCalls}
 
 -- A line that was offered to a writer, and whether the writer accepted it.
@@ -27,3 +27,9 @@ AddsOffers offered now_offered accepted now_accepted offers =
 -- if the outlet records no bytes.
 abbrev pub with_rest : Option (List ℕ) → List ℕ → Option (List ℕ)
 with_rest written rest = option_map (λ bytes. bytes ++ rest) written
+
+-- Holds if `case` implies that a write was refused: it had bytes, and returned 0. The arguments before it are the
+-- results of all writes to an outlet, before and after a call, as far as they are recorded.
+abbrev pub RefusedIf : Option (List ℕ) → Option (List ℕ) → Type 0 → Type 0
+RefusedIf answers now_answers case =
+    (counts : List ℕ) × AddsCalls answers now_answers counts × (case → Contains counts 0)

@@ -5,28 +5,30 @@ ghost use Rattle.std.specs.Duration.{as_nanos};
 ghost use Rattle.coap_print.specs.Texts.{is_text};
 ghost use Rattle.coap_print.specs.Lines.{appended};
 ghost use Rattle.coap_print.specs.declared.line.TheConstants.{LINE_LENGTH};
-ghost use Rattle.coap_log.specs.Logs.{trace_of};
+ghost use Rattle.coap_log.specs.Logs.{LogsLine, trace_of};
 ghost use Rattle.coap_log.specs.Connections.{LogsBytes, LogsWhole};
 ghost use Rattle.coap_log.specs.Connections as spec;
 
 use crate::glimpse::describe_head;
+use crate::levels::MessageLevels;
 use crate::log::Log;
 use crate::tap::{DESCRIBED, Tap};
 use crate::writer::LogWriter;
 use coap_print::{Line, LogLevel};
 use std::time::Duration;
 
-/// Passes bytes of one direction of a connection to its tap. With the level `Messages`, writes a line for each message
-/// that ends with them, at a time which counts from the start of 1970. `front` is the text before the message, such as
+/// Passes bytes of one direction of a connection to its tap. For each message that ends with them, writes a line of its
+/// level at a time, which counts from the start of 1970. `front` is the text before the message, such as
 /// `connection 3 in: `.
-pub fn log_messages<W: LogWriter>(
+pub fn log_messages<W: LogWriter, K: MessageLevels>(
     log: &mut Log<W>,
+    levels: &K,
     now: Duration,
     tap: &mut Tap,
     front: &Line,
     bytes: &[u8],
 )
-    ensures { LogsBytes (length bytes.now) (as_nanos now) front.now bytes.now tap.old tap.new
+    ensures { LogsBytes (length bytes.now) (K.level levels.now) (as_nanos now) front.now bytes.now tap.old tap.new
         (trace_of W.offers W.accepted log.old) (trace_of W.offers W.accepted log.new) }
 {
     let mut left = bytes;
@@ -36,17 +38,39 @@ pub fn log_messages<W: LogWriter>(
             return;
         }
         left = &left[taken..];
-        log_message(log, now, tap, front);
+        log_message(log, levels, now, tap, front);
     }
 }
 
-/// Writes a line for the present message of a tap, if it is whole and the log has lines for messages.
-fn log_message<W: LogWriter>(log: &mut Log<W>, now: Duration, tap: &Tap, front: &Line)
-    ensures { LogsWhole (as_nanos now) front.now tap.now
+/// Writes a line for the present message of a tap, if it is whole and the log has lines of its level.
+fn log_message<W: LogWriter, K: MessageLevels>(
+    log: &mut Log<W>,
+    levels: &K,
+    now: Duration,
+    tap: &Tap,
+    front: &Line,
+)
+    ensures { LogsWhole (K.level levels.now) (as_nanos now) front.now tap.now
         (trace_of W.offers W.accepted log.old) (trace_of W.offers W.accepted log.new) tap.now.is_whole }
 {
-    if tap.is_whole() && log.is_on(LogLevel::Messages) {
-        log.line(LogLevel::Messages, now, &message_line(front, tap));
+    if tap.is_whole() {
+        log_whole(log, levels.level_of(tap.head()), now, tap, front);
+    }
+}
+
+/// Writes the present message of a tap as a line of a level, if the log has lines of this level.
+fn log_whole<W: LogWriter>(
+    log: &mut Log<W>,
+    level: LogLevel,
+    now: Duration,
+    tap: &Tap,
+    front: &Line,
+)
+    ensures { LogsLine level (as_nanos now) (spec.message_line front.now tap.now)
+        (trace_of W.offers W.accepted log.old) (trace_of W.offers W.accepted log.new) }
+{
+    if log.is_on(level) {
+        log.line(level, now, &message_line(front, tap));
     }
 }
 

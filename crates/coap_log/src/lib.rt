@@ -3,10 +3,11 @@
 //! - `Log` writes a line of a level, as in
 //!   `2026-11-27T05:18:31.042Z coap-server: connection 3 opened by 127.0.0.1:50022`.
 //! - `LineLimit` limits the number of lines a second, and counts those left out.
-//! - `LogWriter` is a writer of whole lines that never blocks. `LineWriter` makes one of an outlet that may accept a
-//!   part of a line, and `Stderr` is the outlet for standard error.
+//! - `LogWriter` is a writer of whole lines that never blocks. `LineWriter` makes one of a `LogOutlet`, which may take
+//!   only a part of a line. `Stderr` is the outlet for standard error.
 //! - `Tap` follows the messages of one direction of a connection. `log_messages` passes bytes to a tap, and writes a
-//!   line for each message that ends with them. `describe_head` and `head_code` read the first bytes of a message.
+//!   line for each message that ends with them. `MessageLevels` decides its level. `describe_head` and `head_code` read
+//!   the first bytes of a message.
 //! - `LoggedWire` is a wire whose messages are logged.
 //! - `laws` has the theorems on logs and taps.
 //!
@@ -26,6 +27,7 @@
 mod connection;
 mod glimpse;
 pub mod laws;
+mod levels;
 mod limit;
 mod log;
 mod logged_wire;
@@ -36,10 +38,11 @@ mod writer;
 
 pub use connection::{append_counts, append_message, log_messages};
 pub use glimpse::{describe_head, head_code};
+pub use levels::MessageLevels;
 pub use limit::{Admission, LINES_A_SECOND, LineLimit};
 pub use log::Log;
 pub use logged_wire::LoggedWire;
 pub use moment::append_time;
 pub use stderr::Stderr;
-pub use tap::{COUNTED, DESCRIBED, Tap};
-pub use writer::{LineWriter, LogWriter};
+pub use tap::{DESCRIBED, Tap};
+pub use writer::{LineWriter, LogOutlet, LogWriter};

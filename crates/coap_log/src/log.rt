@@ -1,13 +1,14 @@
 //! `Log`, which writes lines with the time, up to the limit of lines a second.
 
-ghost use Rattle.std.specs.Prelude.{◌≡◌, ◌/◌, ◌++◌, List, [], ◌∷◌, Bool, true, false, codes, nat_le};
+ghost use Rattle.std.specs.Prelude.{◌≡◌, ◌≤◌, ◌/◌, ◌++◌, List, [], ◌∷◌, Bool, true, false, codes, nat_le};
+ghost use Rattle.std.specs.Prelude.{length};
 ghost use Rattle.std.specs.Duration.{as_nanos};
 ghost use Rattle.coap_print.specs.Lines.{appended};
 ghost use Rattle.coap_print.specs.Levels.{level_number};
 ghost use Rattle.coap_print.specs.declared.line.TheConstants.{LINE_LENGTH};
 ghost use Rattle.coap_log.specs.Limits.{fresh, admission, after_admission, report, after_report, last_report};
 ghost use Rattle.coap_log.specs.Limits.{after_end};
-ghost use Rattle.coap_log.specs.Writers.{Offer, AddsOffers};
+ghost use Rattle.coap_log.specs.Writers.{Offer, AddsOffers, RefusedIf};
 ghost use Rattle.coap_log.specs.Logs.{IsDated, IsOffered, IsReported, report_text, limit_after};
 
 use crate::limit::{Admission, LineLimit};
@@ -84,6 +85,8 @@ impl<W: LogWriter> Log<W> {
             (after_report self.old.limit (as_nanos now / 1_000_000_000)) self.new.limit offers
             × AddsOffers (W.offers self.old.writer) (W.offers self.new.writer)
             (W.accepted self.old.writer) (W.accepted self.new.writer) offers }
+        ensures flushed { RefusedIf (W.answers self.old.writer) (W.answers self.new.writer)
+            (1 ≤ length (W.left self.new.writer)) }
         ensures level { self.new.level ≡ self.old.level }
         ensures program { self.new.program ≡ self.old.program }
     {
@@ -101,6 +104,8 @@ impl<W: LogWriter> Log<W> {
             (after_end self.old.limit (as_nanos now / 1_000_000_000)) self.new.limit offers
             × AddsOffers (W.offers self.old.writer) (W.offers self.new.writer)
             (W.accepted self.old.writer) (W.accepted self.new.writer) offers }
+        ensures flushed { RefusedIf (W.answers self.old.writer) (W.answers self.new.writer)
+            (1 ≤ length (W.left self.new.writer)) }
         ensures level { self.new.level ≡ self.old.level }
         ensures program { self.new.program ≡ self.old.program }
     {
@@ -116,6 +121,8 @@ impl<W: LogWriter> Log<W> {
             × (self.new.limit ≡ limit_after count line.accepted self.old.limit)
             × AddsOffers (W.offers self.old.writer) (W.offers self.new.writer)
             (W.accepted self.old.writer) (W.accepted self.new.writer) (line ∷ []) }
+        ensures flushed { RefusedIf (W.answers self.old.writer) (W.answers self.new.writer)
+            (1 ≤ length (W.left self.new.writer)) }
         ensures level { self.new.level ≡ self.old.level }
         ensures program { self.new.program ≡ self.old.program }
     {
@@ -129,6 +136,8 @@ impl<W: LogWriter> Log<W> {
             × (self.new.limit ≡ limit_after count line.accepted self.old.limit)
             × AddsOffers (W.offers self.old.writer) (W.offers self.new.writer)
             (W.accepted self.old.writer) (W.accepted self.new.writer) (line ∷ []) }
+        ensures flushed { RefusedIf (W.answers self.old.writer) (W.answers self.new.writer)
+            (1 ≤ length (W.left self.new.writer)) }
         ensures level { self.new.level ≡ self.old.level }
         ensures program { self.new.program ≡ self.old.program }
     {

@@ -1,20 +1,20 @@
 //! `LoggedWire`, a wire whose messages are written to a log.
 
-ghost use Rattle.std.specs.Prelude.{◌≡◌, ◌≤◌, ◌++◌, ℕ, IfOk, [], ◌∷◌, true, length, codes};
+ghost use Rattle.std.specs.Prelude.{◌≡◌, ◌++◌, IfOk, [], ◌∷◌, true, length, codes};
 ghost use Rattle.coap_io.specs.Prelude.{AddsBytes, AddsCalls, IsWithin, bytes_passed};
 ghost use Rattle.coap_io.specs.streams.Wires.{write_outcome};
 ghost use Rattle.coap_print.specs.Texts.{is_text};
 ghost use Rattle.coap_print.specs.Lines.{appended};
 ghost use Rattle.coap_print.specs.declared.line.TheConstants.{LINE_LENGTH};
-ghost use Rattle.coap_print.specs.declared.level.LogLevel.TheVariants.{Warnings, Connections};
+ghost use Rattle.coap_print.specs.declared.level.LogLevel.TheVariants.{Warnings, Connections, Messages};
 ghost use Rattle.coap_log.specs.Logs.{trace_of};
-ghost use Rattle.coap_log.specs.Taps.{new_tap};
+ghost use Rattle.coap_log.specs.Taps.{new_tap, room_of};
 ghost use Rattle.coap_log.specs.Connections.{LogsAtATime, LogsLast, LogsPassed, LogsResult, number_text};
 ghost use Rattle.coap_log.specs.Connections.{connection_line, end_line};
 
 use crate::connection::{append_counts, log_messages};
 use crate::log::Log;
-use crate::tap::{COUNTED, DESCRIBED, Tap};
+use crate::tap::Tap;
 use crate::writer::LogWriter;
 use coap_io::{Got, Wire};
 use coap_print::{Line, LogLevel};
@@ -64,16 +64,11 @@ impl<'a, W: Wire + Drop, L: LogWriter + Drop, C: time::Clock> LoggedWire<'a, W, 
         ensures log { IfOk result (λ logged.
             LogsAtATime Connections (connection_line number (codes " opened to " ++ peer.now))
             (trace_of L.offers L.accepted log) (trace_of L.offers L.accepted logged.log)) }
-        ensures taps { IfOk result (λ logged. (room : ℕ) × (8 ≤ room) × (logged.incoming ≡ new_tap room)
-            × (logged.outgoing ≡ new_tap room)) }
+        ensures taps { IfOk result (λ logged. (logged.incoming ≡ new_tap (room_of log.level))
+            × (logged.outgoing ≡ new_tap (room_of log.level))) }
     {
-        let room = if log.is_on(LogLevel::Messages) {
-            DESCRIBED
-        } else {
-            COUNTED
-        };
-        let incoming = Tap::new(alloc, room)?;
-        let outgoing = Tap::new(alloc, room)?;
+        let incoming = Tap::at_level(alloc, log.level)?;
+        let outgoing = Tap::at_level(alloc, log.level)?;
         let mut logged = LoggedWire {
             wire,
             log,
@@ -222,11 +217,12 @@ fn pass<L: LogWriter>(
     bytes: &[u8],
 )
     requires { is_text front.direction.now ≡ true }
-    ensures { LogsPassed (connection_line front.number front.direction.now) bytes.now tap.old tap.new
+    ensures { LogsPassed (λ head. Messages) (connection_line front.number front.direction.now) bytes.now tap.old tap.new
         (trace_of L.offers L.accepted log.old) (trace_of L.offers L.accepted log.new) }
 {
     log_messages(
         log,
+        &LogLevel::Messages,
         now(clock),
         tap,
         &connection_line(front.number, front.direction),

@@ -1,8 +1,8 @@
 //! The standard error of the process, which is written without blocking.
 
-ghost use Rattle.std.specs.Prelude.{◌≡◌, ◌≤◌, None, length};
+ghost use Rattle.std.specs.Prelude.{◌≤◌, length};
 
-use coap_io::Outlet;
+use crate::writer::LogOutlet;
 use libc::STDERR_FILENO;
 use libc::types::pollfd;
 
@@ -26,7 +26,6 @@ const OTHER_WRITE: usize = 4_096;
 #[derive(Drop)]
 pub struct Stderr {
     is_terminal: bool,
-    failed: bool,
 }
 
 impl Stderr {
@@ -34,7 +33,6 @@ impl Stderr {
     pub fn new() -> Stderr {
         Stderr {
             is_terminal: libc::isatty(STDERR_FILENO) == 1,
-            failed: false,
         }
     }
 
@@ -50,21 +48,9 @@ impl Stderr {
     }
 }
 
-impl Outlet for Stderr {
-    ghost written = { λ _. None };
-
-    ghost is_failed = { λ s. s.failed };
-
-    fn write(&mut self, bytes: &[u8]) -> Option<usize> {
-        let count = write_if_ready(&bytes[..self.part_of(bytes)]);
-        if count == 0 && !bytes.is_empty() {
-            self.failed = true;
-        }
-        Some(count)
-    }
-
-    fn failed(&self) -> bool {
-        self.failed
+impl LogOutlet for Stderr {
+    fn write(&mut self, bytes: &[u8]) -> usize {
+        write_if_ready(&bytes[..self.part_of(bytes)])
     }
 }
 

@@ -5,6 +5,7 @@ ghost use Rattle.coap_wire.specs.Reading.{declared_of};
 ghost use Rattle.coap_log.specs.Taps as spec;
 
 use arrayvec::ArrayVec;
+use coap_print::LogLevel;
 use coap_wire::{Declared, LARGEST_MESSAGE, declared};
 use std::alloc::{AllocError, Global};
 use std::marker::Model;
@@ -13,7 +14,7 @@ use std::marker::Model;
 pub const DESCRIBED: usize = 2_048;
 
 /// Number of bytes that a tap keeps of a message, if only its code is needed.
-pub const COUNTED: usize = 16;
+const COUNTED: usize = 16;
 
 /// Number of bytes that declare the size of a message.
 const HEAD: usize = 8;
@@ -47,8 +48,8 @@ impl Model for Tap {
 }
 
 impl Tap {
-    /// Creates a tap that keeps at most `room` bytes of a message, such as `DESCRIBED` or `COUNTED`. The memory is
-    /// reserved once.
+    /// Creates a tap that keeps at most `room` bytes of a message, such as `DESCRIBED`. The memory is reserved
+    /// once.
     ///
     /// # Errors
     ///
@@ -70,6 +71,17 @@ impl Tap {
             messages: 0,
             bytes: 0,
         })
+    }
+
+    /// Creates a tap for a log of a level. It keeps as much of a message as the lines of this level need.
+    ///
+    /// # Errors
+    ///
+    /// Returns `AllocError` if allocation fails.
+    pub fn at_level(alloc: Global, level: LogLevel) -> Result<Tap, AllocError>
+        ensures { IfOk result (λ t. t ≡ spec.new_tap (spec.room_of level)) }
+    {
+        Tap::new(alloc, room_of(level))
     }
 
     /// Takes bytes of the next piece of the stream: up to the end of the present message, or all. Returns their number.
@@ -197,6 +209,18 @@ impl Tap {
         let room = self.room - self.kept.len();
         append_first(&mut self.kept, room, bytes);
         self.passed += bytes.len() as u64;
+    }
+}
+
+/// Returns the number of bytes that a tap keeps of a message for a log of a level.
+fn room_of(level: LogLevel) -> usize
+    ensures value { result ≡ spec.room_of level }
+    ensures enough { 8 ≤ result }
+{
+    if level.includes(LogLevel::Messages) {
+        DESCRIBED
+    } else {
+        COUNTED
     }
 }
 

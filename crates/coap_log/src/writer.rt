@@ -1,12 +1,10 @@
 //! Writers of whole lines, which never block.
 
-ghost use Rattle.std.specs.Prelude.{◌≡◌, ◌≤◌, ◌++◌, ℕ, List, [], ◌∷◌, length, take, drop, Bool, Option, None, true};
-ghost use Rattle.std.specs.Prelude.{false};
+ghost use Rattle.std.specs.Prelude.{◌≡◌, ◌≤◌, ◌<◌, ◌++◌, ℕ, List, [], ◌∷◌, length, take, drop, Option, None, false};
 ghost use Rattle.coap_io.specs.Prelude.{AddsBytes, AddsCalls};
-ghost use Rattle.coap_log.specs.Writers.{Offer, bytes_of, ended, with_rest};
+ghost use Rattle.coap_log.specs.Writers.{Offer, RefusedIf, bytes_of, ended, with_rest};
 
 use arrayvec::ArrayVec;
-use coap_io::Outlet;
 use coap_print::{LINE_LENGTH, Line};
 
 /// Maximum number of bytes of a line and its newline.
@@ -23,23 +21,44 @@ pub trait LogWriter {
     /// Bytes of the last line accepted that are not written yet, if the writer records them.
     ghost left: { Self → List ℕ } = { λ _. [] };
 
-    /// `false` if the writer has never failed to write. As long as it is `false`, each line is accepted.
-    ghost is_failed: { Self → Bool } = { λ _. true };
+    /// Results of the writes to the outlet so far, in order, if the writer records them.
+    ghost answers: { Self → Option (List ℕ) } = { λ _. None };
 
     /// Writes a line and a newline, and returns `true`. Returns `false` if the line cannot be written now or fails:
-    /// then none of its bytes is written.
+    /// then none of its bytes is written. Each call tries again.
     fn write(&mut self, line: &Line) -> bool
         ensures offered { AddsCalls (offers self.old) (offers self.new)
             (record { line = line.now; accepted = result } ∷ []) }
         ensures bytes { AddsBytes (accepted self.old) (accepted self.new)
             (bytes_of (record { line = line.now; accepted = result })) }
-        ensures works { is_failed self.new ≡ false → result ≡ true };
+        ensures works { RefusedIf (answers self.old) (answers self.new) (result ≡ false) }
+        ensures whole { RefusedIf (answers self.old) (answers self.new) (1 ≤ length (left self.new)) };
 
     /// Writes what is left of the last line that was accepted, as far as it can be written now.
     fn flush(&mut self)
         ensures offered { AddsCalls (offers self.old) (offers self.new) [] }
         ensures bytes { AddsBytes (accepted self.old) (accepted self.new) [] }
-        ensures works { is_failed self.new ≡ false → left self.new ≡ [] };
+        ensures works { RefusedIf (answers self.old) (answers self.new) (1 ≤ length (left self.new)) };
+}
+
+/// Outlet of a log, such as standard error. Its calls never block.
+pub trait LogOutlet {
+    /// Bytes written so far, if the outlet records them.
+    ghost written: { Self → Option (List ℕ) } = { λ _. None };
+
+    /// Results of the writes so far, in order, if the outlet records them.
+    ghost answers: { Self → Option (List ℕ) } = { λ _. None };
+
+    /// Writes a prefix of `bytes` and returns its length. It is 0 if no byte can be written now, or the write fails.
+    ///
+    /// # Preconditions
+    ///
+    /// There is at least one byte.
+    fn write(&mut self, bytes: &[u8]) -> usize
+        requires { 1 ≤ length bytes.now }
+        ensures within { result ≤ length bytes.now }
+        ensures wrote { AddsBytes (written self.old) (written self.new) (take result bytes.now) }
+        ensures answered { AddsCalls (answers self.old) (answers self.new) (result ∷ []) };
 }
 
 /// Writer of lines to an outlet that may accept only a part of a line.
@@ -52,7 +71,7 @@ pub struct LineWriter<O> {
     rest: ArrayVec<u8, ENDED_LENGTH>,
 }
 
-impl<O: Outlet> LineWriter<O> {
+impl<O: LogOutlet> LineWriter<O> {
     /// Creates a writer to an outlet.
     pub fn new(outlet: O) -> LineWriter<O>
         ensures { ⟦<LineWriter<O> as LogWriter>⟧.accepted result ≡ with_rest (O.written outlet) [] }
@@ -64,12 +83,12 @@ impl<O: Outlet> LineWriter<O> {
     }
 }
 
-impl<O: Outlet> LogWriter for LineWriter<O> {
+impl<O: LogOutlet> LogWriter for LineWriter<O> {
     ghost accepted = { λ writer. with_rest (O.written writer.outlet) writer.rest.items };
 
     ghost left = { λ writer. writer.rest.items };
 
-    ghost is_failed = { λ writer. O.is_failed writer.outlet };
+    ghost answers = { λ writer. O.answers writer.outlet };
 
     fn write(&mut self, line: &Line) -> bool {
         self.flush();
@@ -120,16 +139,14 @@ fn rest_after(bytes: &[u8], count: usize) -> ArrayVec<u8, ENDED_LENGTH>
 }
 
 /// Writes bytes until the outlet accepts no more of them, and returns the number of bytes written.
-fn push<O: Outlet>(outlet: &mut O, bytes: &[u8]) -> usize
+fn push<O: LogOutlet>(outlet: &mut O, bytes: &[u8]) -> usize
     ensures within { result ≤ length bytes.now }
     ensures bytes { AddsBytes (O.written outlet.old) (O.written outlet.new) (take result bytes.now) }
-    ensures works { O.is_failed outlet.new ≡ false → result ≡ length bytes.now }
+    ensures works { RefusedIf (O.answers outlet.old) (O.answers outlet.new) (result < length bytes.now) }
 {
     let mut done = 0;
     while done < bytes.len() {
-        let Some(count) = outlet.write(&bytes[done..]) else {
-            return done;
-        };
+        let count = outlet.write(&bytes[done..]);
         if count == 0 {
             return done;
         }

@@ -1,13 +1,14 @@
 //! The log of a serving server: warnings, connections and messages, up to a level.
 
-ghost use Rattle.std.specs.Prelude.{◌≡◌};
+ghost use Rattle.std.specs.Prelude.{◌≡◌, IfOk, Some};
+ghost use Rattle.coap_log.specs.Taps.{new_tap, room_of};
 ghost use Rattle.program_server_common.specs.ConnectionEnds.{end_text};
-ghost use Rattle.program_server_common.specs.Refusals.{is_refusal};
+ghost use Rattle.program_server_common.specs.Refusals.{is_refusal, level_of_code, message_level};
 
 use crate::text_of;
 use coap_conn::Reason;
 use coap_log::{
-    COUNTED, DESCRIBED, LineWriter, Log, Stderr, Tap, append_counts, append_message, head_code,
+    LineWriter, Log, MessageLevels, Stderr, Tap, append_counts, head_code, log_messages,
 };
 use coap_model::{Config, ConnId, Handled};
 use coap_print::{Line, LogLevel};
@@ -62,6 +63,35 @@ fn is_refusal(code: Code, is_full: bool) -> bool
         || code == Code::REQUEST_ENTITY_TOO_LARGE
         || code == Code::INTERNAL_SERVER_ERROR
         || code == Code::SERVICE_UNAVAILABLE
+}
+
+/// Levels of the messages of a server: a response that refuses a request because of a limit is a warning.
+#[derive(Drop)]
+struct ServerLevels {
+    /// `true` if the server has its maximum number of resources.
+    is_full: bool,
+}
+
+impl MessageLevels for ServerLevels {
+    ghost level = { λ levels. message_level levels.is_full };
+
+    fn level_of(&self, head: &[u8]) -> LogLevel {
+        match head_code(head) {
+            Some(code) => level_of_code(code, self.is_full),
+            None => LogLevel::Messages,
+        }
+    }
+}
+
+/// Returns the level of a message with this code.
+fn level_of_code(code: Code, is_full: bool) -> LogLevel
+    ensures { result ≡ level_of_code is_full (Some code) }
+{
+    if is_refusal(code, is_full) {
+        LogLevel::Warnings
+    } else {
+        LogLevel::Messages
+    }
 }
 
 /// Returns the first words of the lines of a connection.
@@ -138,15 +168,13 @@ impl<'a, R: time::Clock> ServerLog<'a, R> {
     }
 
     /// Returns a new connection of the log.
-    fn followed(&self) -> Result<Followed, AllocError> {
-        let room = if self.log.is_on(LogLevel::Messages) {
-            DESCRIBED
-        } else {
-            COUNTED
-        };
+    fn followed(&self) -> Result<Followed, AllocError>
+        ensures { IfOk result (λ followed. (followed.incoming ≡ new_tap (room_of self.now.log.level))
+            × (followed.outgoing ≡ new_tap (room_of self.now.log.level))) }
+    {
         Ok(Followed {
-            incoming: Tap::new(self.alloc, room)?,
-            outgoing: Tap::new(self.alloc, room)?,
+            incoming: Tap::at_level(self.alloc, self.log.level)?,
+            outgoing: Tap::at_level(self.alloc, self.log.level)?,
             stop: None,
         })
     }
@@ -162,13 +190,13 @@ impl<'a, R: time::Clock> ServerLog<'a, R> {
     fn receive(&mut self, id: ConnId, bytes: &[u8], handled: Handled) {
         let now = self.now();
         if let Some(followed) = self.connections.get_mut(&id) {
-            log_passed(
+            log_messages(
                 &mut self.log,
+                &ServerLevels { is_full: false },
                 now,
                 &mut followed.incoming,
                 &front_of(id, " in: "),
                 bytes,
-                false,
             );
             if let Handled::Stopped(reason) = handled {
                 followed.stop = Some(reason);
@@ -184,13 +212,13 @@ impl<'a, R: time::Clock> ServerLog<'a, R> {
     fn send(&mut self, id: ConnId, bytes: &[u8], is_full: bool) {
         let now = self.now();
         if let Some(followed) = self.connections.get_mut(&id) {
-            log_passed(
+            log_messages(
                 &mut self.log,
+                &ServerLevels { is_full },
                 now,
                 &mut followed.outgoing,
                 &front_of(id, " out: "),
                 bytes,
-                is_full,
             );
         }
     }
@@ -315,49 +343,6 @@ fn reason_of(followed: &Followed, has_failed: bool) -> &'static str
         return "no CSM in time";
     }
     "silent connection that could not be released"
-}
-
-/// Passes bytes of one direction of a connection to its tap, and writes a line for each message that ends with them. A
-/// response that refuses a request because of a limit is a warning.
-fn log_passed(
-    log: &mut Log<LineWriter<Stderr>>,
-    now: Duration,
-    tap: &mut Tap,
-    front: &Line,
-    bytes: &[u8],
-    is_full: bool,
-) {
-    let mut left = bytes;
-    while !left.is_empty() {
-        let taken = tap.take(left);
-        if taken == 0 {
-            return;
-        }
-        left = &left[taken..];
-        if tap.is_whole() {
-            log_message(log, now, tap, front, is_full);
-        }
-    }
-}
-
-/// Writes a line for the whole message of a tap.
-fn log_message(
-    log: &mut Log<LineWriter<Stderr>>,
-    now: Duration,
-    tap: &Tap,
-    front: &Line,
-    is_full: bool,
-) {
-    let level = match head_code(tap.head()) {
-        Some(code) if is_refusal(code, is_full) => LogLevel::Warnings,
-        _ => LogLevel::Messages,
-    };
-    if log.is_on(level) {
-        let mut line = Line::new();
-        line.line(front);
-        append_message(&mut line, tap);
-        log.line(level, now, &line);
-    }
 }
 
 #[tactic(auto, unfolding(coap_record::specs::Prelude::FollowsMore))]

@@ -2,6 +2,7 @@ use Rattle.std.proofs.Common.{[], ◌∷◌, sym, ap, ◌∙◌}
 use Rattle.coap_log.specs.Limits.{last_report, after_end}
 use Rattle.coap_log.specs.Logs.{limit_after}
 use Rattle.coap_log.proofs.LogLemmas.{offers_then, report_alone}
+use Rattle.coap_log.proofs.WriterLemmas.{refused_second}
 use Rattle.coap_log.proofs.log.Log.end.Goals as goal
 
 pub returns-in-Some-clause-reported : goal.returns-in-Some-clause-reported
@@ -17,3 +18,7 @@ returns-in-Some-clause-reported g c =
           ∙ ap (limit_after count first.0.accepted) (c.end.ensures.after ∙ ap (after_end limit) c.as_secs.ensures)),
       offers_then _ _ _ _ _ _ [] (first.0 ∷ []) (c.flush.ensures.offered, c.flush.ensures.bytes) first.3,
     )
+
+pub returns-in-Some-clause-flushed : goal.returns-in-Some-clause-flushed
+returns-in-Some-clause-flushed g c =
+    refused_second _ _ _ _ _ _ c.flush.ensures.works c.offer_report.ensures.flushed (λ left. left)
